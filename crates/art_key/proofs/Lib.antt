@@ -1,0 +1,5 @@
+pub mod Orders
+pub mod Numbers
+pub mod ColumnLaws
+pub mod TupleLaws
+pub mod Loops

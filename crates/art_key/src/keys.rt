@@ -1,0 +1,65 @@
+//! Keys: the bytes that spell a tuple under a schema.
+ghost use Rattle.std.specs.Prelude.{◌≡◌, ◌≤◌, length, List, None, Some, IfSome, IfNone, IfOk, IfErr, OnOk};
+ghost use Rattle.std.specs.Option.{option_map};
+ghost use Rattle.art_model.specs.declared.values.Value.{Value};
+ghost use Rattle.art_key.specs.Columns.{total_width, first_fault, tuple_fault};
+ghost use Rattle.art_key.specs.Spelling.{spelling, IsSpelling, tuple_spelled};
+
+use crate::{Column, Schema, ValueFault};
+use arrayvec::ArrayVec;
+use art_model::{Tuple, Value};
+
+/// The bytes of a tuple, at most 64.
+pub type Key = ArrayVec<u8, 64>;
+
+/// The key of the tuple. Where a column is at fault, the first such column is told.
+pub fn encode(schema: &Schema, tuple: &Tuple) -> Result<Key, ValueFault>
+    ensures key { IfOk result (λ key. IsSpelling schema.now tuple.now.items key.items) }
+    ensures fault { IfErr result (λ f. tuple_fault schema.now tuple.now.items ≡ Some f) }
+{
+    let columns = schema.columns();
+    let values = tuple.as_slice();
+    if columns.len() != values.len() {
+        return Err(ValueFault::WrongColumns);
+    }
+    spell(columns, values)
+}
+
+/// The spellings of the values, one for each column, one after another.
+fn spell(columns: &[Column], values: &[Value]) -> Result<Key, ValueFault>
+    requires same_length { length columns.now ≡ length values.now }
+    requires narrow { total_width columns.now ≤ 64 }
+    ensures stands { OnOk result (first_fault 0 columns.now values.now ≡ None) }
+    ensures bytes { IfOk result (λ key. key.items ≡ spelling columns.now values.now) }
+    ensures fault { IfErr result (λ f. first_fault 0 columns.now values.now ≡ Some f) }
+{
+    let mut key = Key::new();
+    for (place, column) in columns.iter().enumerate() {
+        column.append(place, &values[place], &mut key)?;
+    }
+    Ok(key)
+}
+
+/// The tuple that the bytes spell, all of the bytes.
+pub fn decode(schema: &Schema, bytes: &[u8]) -> Option<Tuple>
+    ensures exact { option_map (λ t. t.items) result ≡ tuple_spelled schema.now bytes.now }
+    ensures found { IfSome result (λ t. IsSpelling schema.now t.items bytes.now) }
+    ensures none { IfNone result ((t : List Value) → IsSpelling schema.now t bytes.now → ⊥) }
+{
+    read(schema.columns(), bytes)
+}
+
+/// The values that the bytes spell, one for each column, and no bytes are left.
+fn read(columns: &[Column], bytes: &[u8]) -> Option<Tuple>
+    requires { length columns.now ≤ 8 }
+    ensures { option_map (λ t. t.items) result ≡ tuple_spelled columns.now bytes.now }
+{
+    let mut tuple = Tuple::new();
+    let mut rest = bytes;
+    for column in columns {
+        let (value, after) = column.front(rest)?;
+        tuple.push(value);
+        rest = after;
+    }
+    if rest.is_empty() { Some(tuple) } else { None }
+}

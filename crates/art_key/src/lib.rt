@@ -1,0 +1,21 @@
+//! Keys of bytes, whose byte order is the order of tuples.
+//!
+//! A schema names the columns of a tuple, and a tuple whose values stand in its columns has one key: the spellings
+//! of its values one after another. Two keys of one schema stand as their tuples do, no key begins another, and a
+//! key is read back as its tuple. Those laws are stated in `laws`, and rest on one law for each kind of column.
+#![tactic(auto)]
+
+mod columns;
+mod faults;
+mod keys;
+mod laws;
+mod schemas;
+
+pub use columns::Column;
+pub use faults::{SchemaFault, ValueFault};
+pub use keys::{Key, decode, encode};
+pub use laws::{keys_stand_as_tuples, no_key_begins_another, spellings_are_read_back};
+pub use schemas::Schema;
+
+#[cfg(test)]
+mod tests;

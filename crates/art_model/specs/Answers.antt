@@ -1,0 +1,43 @@
+-- What the sorted map answers to a command: the reply, and the rows after it.
+use Rattle.std.specs.Prelude.{ℕ, List, ◌≤◌, ◌==◌, Option, Some, None, length, take, ⊤}
+use Rattle.art_model.specs.declared.commands.Command.{Command}
+use Rattle.art_model.specs.declared.commands.Command.TheVariants.{Insert, Remove, Get, Scan}
+use Rattle.art_model.specs.declared.commands.Reply.{Reply}
+use Rattle.art_model.specs.declared.commands.Reply.TheVariants.{Inserted, Present, Removed, Absent, Found, Rows}
+use Rattle.art_model.specs.declared.rows.Row.{Row}
+use Rattle.art_model.specs.Rows.{Tuple, value_at, with_row, without_row, rows_between}
+
+-- a reply, and the rows after it
+abbrev pub Answer : Type 0
+Answer = Reply × List Row
+
+-- An insert adds its row where none with the tuple stands; one that stands stays.
+abbrev pub insert_answer : List Row → Tuple → ℕ → Option ℕ → Answer
+insert_answer rows t v None = (Inserted, with_row rows t v)
+insert_answer rows t v (Some there) = (Present there, rows)
+
+-- A remove takes the row with the tuple out, where one stands.
+abbrev pub remove_answer : List Row → Tuple → Option ℕ → Answer
+remove_answer rows t None = (Absent, rows)
+remove_answer rows t (Some there) = (Removed there, without_row rows t)
+
+abbrev pub get_answer : List Row → Option ℕ → Answer
+get_answer rows None = (Absent, rows)
+get_answer rows (Some there) = (Found there, rows)
+
+-- A scan lists the first rows of its range, and says whether there are as many as the limit.
+abbrev pub scan_answer : List Row → List Row → ℕ → Answer
+scan_answer rows listed limit = (Rows (record { items = listed }) (length listed == limit), rows)
+
+abbrev pub answer : Command → List Row → Answer
+answer (Insert t v) rows = insert_answer rows t v (value_at rows t)
+answer (Remove t) rows = remove_answer rows t (value_at rows t)
+answer (Get t) rows = get_answer rows (value_at rows t)
+answer (Scan lo hi limit) rows = scan_answer rows (take limit (rows_between rows lo hi)) limit
+
+-- a scan asks for at most so many rows as a reply has places for
+abbrev pub HasRoomFor : Command → Type 0
+HasRoomFor (Insert t v) = ⊤
+HasRoomFor (Remove t) = ⊤
+HasRoomFor (Get t) = ⊤
+HasRoomFor (Scan lo hi limit) = limit ≤ 100

@@ -1,0 +1,29 @@
+-- The laws of sorted rows, for the crates above.
+use Rattle.std.specs.Prelude.{◌≡◌, ℕ, List, length, Some, None, Result, MatchResult, insert, remove, slice_index_or}
+use Rattle.std.specs.Cmp.{IsTotalOrder}
+use Rattle.std.specs.List.Sorted.{IsSearchInRange, IsBinarySearchResult}
+use Rattle.art_model.specs.declared.rows.Row.{Row}
+use Rattle.art_model.specs.Rows.{Tuple, tuple_cmp, IsSortedRows, value_at, with_row, without_row}
+use Rattle.art_model.specs.Places.{IsPlaceOf, IsGapFor}
+
+abbrev pub TuplesHaveOneOrder : Type 0
+TuplesHaveOneOrder = IsTotalOrder tuple_cmp
+
+-- a binary search of sorted rows for a tuple ends at its row, or in the gap for it
+abbrev pub SearchesEndAtPlaces : Type 0
+SearchesEndAtPlaces = (rows : List Row) (t : Tuple) (r : Result ℕ ℕ) → IsSortedRows rows → IsSearchInRange r (length rows)
+    → IsBinarySearchResult (λ row. tuple_cmp row.tuple t) rows r → MatchResult r (IsPlaceOf rows t) (IsGapFor rows t)
+
+-- the row at the place has the tuple's value, and the rows without it are those but the one at the place
+abbrev pub RowsAnswerAtPlaces : Type 0
+RowsAnswerAtPlaces = (rows : List Row) (t : Tuple) (i : ℕ) → IsPlaceOf rows t i
+    → ((d : Row) → value_at rows t ≡ Some (slice_index_or rows i d).value) × (without_row rows t ≡ remove rows i)
+
+-- no row has the tuple, and with one the rows are those with it in the gap
+abbrev pub RowsAnswerInGaps : Type 0
+RowsAnswerInGaps = (rows : List Row) (t : Tuple) (i : ℕ) → IsGapFor rows t i
+    → (value_at rows t ≡ None) × ((v : ℕ) → with_row rows t v ≡ insert rows i (record { tuple = t; value = v }))
+
+-- rows stay sorted with one more in its gap
+abbrev pub RowsStaySorted : Type 0
+RowsStaySorted = (rows : List Row) (t : Tuple) (i v : ℕ) → IsSortedRows rows → IsGapFor rows t i → IsSortedRows (with_row rows t v)

@@ -1,0 +1,15 @@
+//! Laws of the definitions, which the proofs of the crates above cite. Nothing here runs.
+ghost use Rattle.art_model.specs.Laws.{TuplesHaveOneOrder, SearchesEndAtPlaces, RowsAnswerAtPlaces, RowsAnswerInGaps, RowsStaySorted};
+
+/// The order of tuples is total, and a binary search of sorted rows ends at the row with the tuple or in the gap for it.
+pub fn rows_are_searched()
+    ensures order { TuplesHaveOneOrder }
+    ensures searched { SearchesEndAtPlaces }
+{}
+
+/// What the map answers where a search of its rows ended, and which rows it then has.
+pub fn rows_answer_at_places()
+    ensures place { RowsAnswerAtPlaces }
+    ensures gap { RowsAnswerInGaps }
+    ensures sorted { RowsStaySorted }
+{}

@@ -1,0 +1,22 @@
+//! What the index promises, as a plain program: typed rows in order, and what one sorted map of them answers.
+//!
+//! Everything above is proved against the definitions of this crate: the order of values and of tuples, sorted
+//! rows, and the answer to a command. `SortedRows` answers commands one after another by those definitions,
+//! slowly and plainly. Nothing here knows of bytes, nodes or threads.
+#![tactic(auto)]
+
+mod commands;
+mod faults;
+mod laws;
+mod rows;
+mod sorted_rows;
+#[cfg(test)]
+mod tests;
+mod values;
+
+pub use commands::{Command, Reply};
+pub use faults::NoMemory;
+pub use laws::{rows_answer_at_places, rows_are_searched};
+pub use rows::{Row, Tuple};
+pub use sorted_rows::SortedRows;
+pub use values::{Text, Value};

@@ -1,0 +1,4 @@
+pub mod Answers
+pub mod Contents
+pub mod Closing
+pub mod Sizes
