@@ -1,3 +1,4 @@
 pub mod Order
 pub mod Parts
 pub mod Places
+pub mod TextOrder

@@ -146,19 +146,33 @@ module _ (rows : List Row) (t : Tuple) (i : ℕ) where
     pub added_sorted : (v : ℕ) → IsSortedRows rows → IsSortedRows (insert rows i (record { tuple = t; value = v }))
     added_sorted v sorted = gap_sorted (take i rows) (drop i rows) t gap.before gap.after v (subst IsSortedRows (sym (take-append-drop i rows)) sorted)
 
--- ---- for a search of the rows that are the map now
+-- ---- for a search of a slice that has the rows, which are the map now
 
-module _ (rows now : List Row) (same : rows ≡ now) (t : Tuple) (i : ℕ) where
-  module _ (place : IsPlaceOf rows t i) where
-    pub there : (row : Row) → row ≡ get_or rows i row → value_at now t ≡ Some row.value
-    there row read = ap (λ l. value_at l t) (sym same) ∙ found_value rows t i place row ∙ ap (λ (r : Row). Some r.value) (sym read)
+module _ {slice rows now : List Row} {t : Tuple} {i : ℕ} (read : slice ≡ rows) (same : rows ≡ now) where
+  module _ (place : IsPlaceOf slice t i) where
+    place_in_rows : IsPlaceOf rows t i
+    place_in_rows = subst (λ l. IsPlaceOf l t i) read place
+
+    pub there : {row : Row} → row ≡ get_or rows i row → value_at now t ≡ Some row.value
+    there {row} at = ap (λ l. value_at l t) (sym same) ∙ found_value rows t i place_in_rows row ∙ ap (λ (r : Row). Some r.value) (sym at)
 
     pub taken_out : without_row now t ≡ remove rows i
-    taken_out = ap (λ l. without_row l t) (sym same) ∙ found_without rows t i place
+    taken_out = ap (λ l. without_row l t) (sym same) ∙ found_without rows t i place_in_rows
 
-  module _ (gap : IsGapFor rows t i) where
+    pub taken_out_sorted : IsSortedRows rows → IsSortedRows (remove rows i)
+    taken_out_sorted sorted = found_sorted rows t i place_in_rows sorted
+
+  module _ (gap : IsGapFor slice t i) where
+    gap_in_rows : IsGapFor rows t i
+    gap_in_rows = subst (λ l. IsGapFor l t i) read gap
+
     pub nowhere : value_at now t ≡ None
-    nowhere = ap (λ l. value_at l t) (sym same) ∙ absent_value rows t i gap
+    nowhere = ap (λ l. value_at l t) (sym same) ∙ absent_value rows t i gap_in_rows
 
-    pub put_in : (v : ℕ) → with_row now t v ≡ insert rows i (record { tuple = t; value = v })
-    put_in v = ap (λ l. with_row l t v) (sym same) ∙ added_with rows t i gap v
+    pub put_in : {copy : Tuple} (v : ℕ) → copy ≡ t → insert rows i (record { tuple = copy; value = v }) ≡ with_row now t v
+    put_in {copy} v copied =
+        ap (λ (u : Tuple). insert rows i (record { tuple = u; value = v })) copied ∙ sym (ap (λ l. with_row l t v) (sym same) ∙ added_with rows t i gap_in_rows v)
+
+    pub put_in_sorted : {copy : Tuple} (v : ℕ) → copy ≡ t → IsSortedRows rows → IsSortedRows (insert rows i (record { tuple = copy; value = v }))
+    put_in_sorted {copy} v copied sorted =
+        subst (λ (u : Tuple). IsSortedRows (insert rows i (record { tuple = u; value = v }))) (sym copied) (added_sorted rows t i gap_in_rows v sorted)

@@ -1,10 +1,17 @@
--- The laws of sorted rows, for the crates above.
+-- The laws of texts and of sorted rows, for the crates above.
 use Rattle.std.specs.Prelude.{◌≡◌, ℕ, List, length, Some, None, Result, MatchResult, insert, remove, slice_index_or}
 use Rattle.std.specs.Cmp.{IsTotalOrder}
+use Rattle.std.specs.Cmp.Lexicographic.{slice_cmp}
 use Rattle.std.specs.List.Sorted.{IsSearchInRange, IsBinarySearchResult}
+use Rattle.std.specs.Ordering.{nat_cmp}
+use Rattle.std.specs.Str.{IsUtf8, chars}
 use Rattle.art_model.specs.declared.rows.Row.{Row}
 use Rattle.art_model.specs.Rows.{Tuple, tuple_cmp, IsSortedRows, value_at, with_row, without_row}
 use Rattle.art_model.specs.Places.{IsPlaceOf, IsGapFor}
+
+-- texts stand by their bytes of UTF-8 as they stand by their code points
+abbrev pub TextsStandByCodePoints : Type 0
+TextsStandByCodePoints = (s t : List ℕ) → IsUtf8 s → IsUtf8 t → slice_cmp nat_cmp s t ≡ slice_cmp nat_cmp (chars s) (chars t)
 
 abbrev pub TuplesHaveOneOrder : Type 0
 TuplesHaveOneOrder = IsTotalOrder tuple_cmp

@@ -1,5 +1,10 @@
 //! Laws of the definitions, which the proofs of the crates above cite. Nothing here runs.
-ghost use Rattle.art_model.specs.Laws.{TuplesHaveOneOrder, SearchesEndAtPlaces, RowsAnswerAtPlaces, RowsAnswerInGaps, RowsStaySorted};
+ghost use Rattle.art_model.specs.Laws.{TextsStandByCodePoints, TuplesHaveOneOrder, SearchesEndAtPlaces, RowsAnswerAtPlaces, RowsAnswerInGaps, RowsStaySorted};
+
+/// Texts stand by their bytes of UTF-8 as they stand by their code points.
+pub fn texts_stand_by_code_points()
+    ensures { TextsStandByCodePoints }
+{}
 
 /// The order of tuples is total, and a binary search of sorted rows ends at the row with the tuple or in the gap for it.
 pub fn rows_are_searched()

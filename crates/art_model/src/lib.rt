@@ -16,7 +16,7 @@ mod values;
 
 pub use commands::{Command, Reply};
 pub use faults::NoMemory;
-pub use laws::{rows_answer_at_places, rows_are_searched};
+pub use laws::{rows_answer_at_places, rows_are_searched, texts_stand_by_code_points};
 pub use rows::{Row, Tuple};
 pub use sorted_rows::SortedRows;
 pub use values::{Text, Value};

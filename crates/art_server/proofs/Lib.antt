@@ -1,0 +1,7 @@
+pub mod LineLaws
+pub mod ReplyLaws
+pub mod StreamLaws
+pub mod ServedLaws
+pub mod SessionLaws
+pub mod StepLaws
+pub mod ReadLaws

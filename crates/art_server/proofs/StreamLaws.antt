@@ -1,0 +1,106 @@
+-- How the lines of bytes grow.
+use Rattle.std.proofs.Common.{◌≡◌, ◌≢◌, ℕ, ◌==◌, ◌≤◌, ◌+◌, ◌<◌, Bool, true, false, List, [], ◌∷◌, ◌++◌, length, take, All, refl, sym, ap, ◌∙◌, arith, append_assoc, append-nil}
+use Rattle.std.specs.List.{flat_map}
+use Rattle.std.proofs.lemmas.Bool.{ne_eqb}
+use Rattle.std.proofs.lemmas.List.{take-append-le, take_all, length_push}
+use Rattle.std.proofs.lemmas.List.Elements.{All-head, All-tail}
+use Rattle.art_server.specs.Streams.{split_after, split_lines, whole_lines, last_part, last_line, lines_of, HasNoFeed, with_feed}
+
+-- ---- a byte more at the end
+
+abbrev pushed : Bool → ℕ → List (List ℕ) × List ℕ → List (List ℕ) × List ℕ
+pushed true b split = (split.0 ++ split.1 ∷ [], [])
+pushed false b split = (split.0, split.1 ++ b ∷ [])
+
+split_after-pushed : (c_feed : Bool) (c : ℕ) (b_feed : Bool) (b : ℕ) (lines : List (List ℕ)) (rest : List ℕ)
+    → split_after c_feed c (pushed b_feed b (lines, rest)) ≡ pushed b_feed b (split_after c_feed c (lines, rest))
+split_after-pushed true c true b lines rest = refl
+split_after-pushed true c false b lines rest = refl
+split_after-pushed false c true b [] rest = refl
+split_after-pushed false c true b (line ∷ lines) rest = refl
+split_after-pushed false c false b [] rest = refl
+split_after-pushed false c false b (line ∷ lines) rest = refl
+
+pushed_alone : (feed : Bool) (b : ℕ) → split_after feed b ([], []) ≡ pushed feed b ([], [])
+pushed_alone true b = refl
+pushed_alone false b = refl
+
+split_lines-push : (bytes : List ℕ) (b : ℕ) → split_lines (bytes ++ b ∷ []) ≡ pushed (b == 10) b (split_lines bytes)
+split_lines-push [] b = pushed_alone (b == 10) b
+split_lines-push (c ∷ bytes) b =
+    ap (split_after (c == 10) c) (split_lines-push bytes b) ∙ split_after-pushed (c == 10) c (b == 10) b (whole_lines bytes) (last_part bytes)
+
+-- a line feed makes the last part a whole line
+pub split_lines-feed : (bytes : List ℕ) → split_lines (bytes ++ 10 ∷ []) ≡ (whole_lines bytes ++ last_part bytes ∷ [], [])
+split_lines-feed bytes = split_lines-push bytes 10
+
+-- another byte makes the last part longer
+pub split_lines-other : (bytes : List ℕ) (b : ℕ) → b ≢ 10 → split_lines (bytes ++ b ∷ []) ≡ (whole_lines bytes, last_part bytes ++ b ∷ [])
+split_lines-other bytes b other = split_lines-push bytes b ∙ ap (λ (t : Bool). pushed t b (split_lines bytes)) (ne_eqb b 10 other)
+
+-- ---- many bytes more at the end
+
+more_after : (feed : Bool) (b : ℕ) (bytes : List ℕ) → (b == 10) ≡ feed
+    → (extra : List (List ℕ)) × (whole_lines (bytes ++ b ∷ []) ≡ whole_lines bytes ++ extra)
+more_after true b bytes e =
+    (last_part bytes ∷ [], ap (λ (s : List (List ℕ) × List ℕ). s.0) (split_lines-push bytes b ∙ ap (λ (t : Bool). pushed t b (split_lines bytes)) e))
+more_after false b bytes e =
+    ([], ap (λ (s : List (List ℕ) × List ℕ). s.0) (split_lines-push bytes b ∙ ap (λ (t : Bool). pushed t b (split_lines bytes)) e) ∙ sym (append-nil (whole_lines bytes)))
+
+-- the whole lines of longer bytes begin with those of the shorter
+pub whole_lines-append : (bytes more : List ℕ) → (extra : List (List ℕ)) × (whole_lines (bytes ++ more) ≡ whole_lines bytes ++ extra)
+whole_lines-append bytes [] = ([], ap whole_lines (append-nil bytes) ∙ sym (append-nil (whole_lines bytes)))
+whole_lines-append bytes (b ∷ more) =
+    let one = more_after (b == 10) b bytes refl in
+    let rest = whole_lines-append (bytes ++ b ∷ []) more in (
+      one.0 ++ rest.0,
+      ap whole_lines (sym (append_assoc bytes (b ∷ []) more)) ∙ rest.1 ∙ ap (λ (l : List (List ℕ)). l ++ rest.0) one.1
+          ∙ append_assoc (whole_lines bytes) one.0 rest.0,
+    )
+
+-- the lines of longer bytes begin with the whole lines of the shorter
+pub lines_of-append : (bytes more : List ℕ) → (extra : List (List ℕ)) × (lines_of (bytes ++ more) ≡ whole_lines bytes ++ extra)
+lines_of-append bytes more =
+    let whole = whole_lines-append bytes more in
+    let last = last_line (last_part (bytes ++ more)) in
+    (whole.0 ++ last, ap (λ (l : List (List ℕ)). l ++ last) whole.1 ∙ append_assoc (whole_lines bytes) whole.0 last)
+
+length_after : (feed : Bool) (b : ℕ) (lines : List (List ℕ)) (rest : List ℕ) → length (split_after feed b (lines, rest)).0 ≤ length lines + 1
+length_after true b lines rest = omega arith
+length_after false b [] rest = omega arith
+length_after false b (line ∷ lines) rest = omega arith
+
+-- each whole line has its feed
+pub length-whole_lines : (bytes : List ℕ) → length (whole_lines bytes) ≤ length bytes
+length-whole_lines [] = omega arith
+length-whole_lines (b ∷ bytes) =
+    omega (arith, length_after (b == 10) b (whole_lines bytes) (last_part bytes), length-whole_lines bytes)
+
+-- ---- lines are read back
+
+split_lines-line : (line rest : List ℕ) → HasNoFeed line → split_lines (line ++ 10 ∷ rest) ≡ (line ∷ whole_lines rest, last_part rest)
+split_lines-line [] rest none = refl
+split_lines-line (b ∷ line) rest none =
+    ap (split_after (b == 10) b) (split_lines-line line rest (All-tail (λ (c : ℕ). c ≢ 10) b line none))
+    ∙ ap (λ (t : Bool). split_after t b (line ∷ whole_lines rest, last_part rest)) (ne_eqb b 10 (All-head (λ (c : ℕ). c ≢ 10) b line none))
+
+split_lines-all : (lines : List (List ℕ)) → All HasNoFeed lines → split_lines (flat_map with_feed lines) ≡ (lines, [])
+split_lines-all [] none = refl
+split_lines-all (line ∷ lines) none =
+    ap split_lines (append_assoc line (10 ∷ []) (flat_map with_feed lines))
+    ∙ split_lines-line line (flat_map with_feed lines) (All-head HasNoFeed line lines none)
+    ∙ ap (λ (s : List (List ℕ) × List ℕ). (line ∷ s.0, s.1)) (split_lines-all lines (All-tail HasNoFeed line lines none))
+
+pub lines_of-all : (lines : List (List ℕ)) → All HasNoFeed lines → lines_of (flat_map with_feed lines) ≡ lines
+lines_of-all lines none =
+    ap (λ (s : List (List ℕ) × List ℕ). s.0 ++ last_line s.1) (split_lines-all lines none) ∙ append-nil lines
+
+-- ---- the front of a line
+
+-- a list at its limit keeps its front, and another takes the byte
+pub take-push_past : (n : ℕ) (xs : List ℕ) (b : ℕ) → n ≤ length xs → take n (xs ++ b ∷ []) ≡ take n xs
+take-push_past n xs b long = take-append-le n xs (b ∷ []) long
+
+pub take-push_within : (n : ℕ) (xs : List ℕ) (b : ℕ) → length xs < n → take n (xs ++ b ∷ []) ≡ take n xs ++ b ∷ []
+take-push_within n xs b short =
+    take_all n (xs ++ b ∷ []) (omega (arith, length_push xs b)) ∙ ap (λ (l : List ℕ). l ++ b ∷ []) (sym (take_all n xs (omega arith)))

@@ -1,0 +1,295 @@
+//! From the bytes of a reader to the bytes of a writer.
+ghost use Rattle.std.specs.Prelude.{◌≡◌, ◌≢◌, ◌+◌, ◌<◌, ◌≤◌, ◌^◌, [], ◌∷◌, ◌++◌, length, take, true, false, Ok};
+ghost use Rattle.std.specs.Io.KnownBytes.{IsAtEnd};
+ghost use Rattle.art_model.specs.declared.commands.Command.TheVariants.{Insert, Get};
+ghost use Rattle.art_table.specs.Answers.{table_answer};
+ghost use Rattle.art_table.specs.Contents.{IsPassOf};
+ghost use Rattle.art_server.specs.Lines.{line_says};
+ghost use Rattle.art_server.specs.Replies.{reply_of};
+ghost use Rattle.art_server.specs.Sessions.{refused, line_answer, RunsSession};
+ghost use Rattle.art_server.specs.Steps.{IsServed, SendsReply, SendsLine, AnswersBytes, Finishes};
+
+use crate::replies::{Answer, print_answer};
+use crate::streams::{read_piece, write_text};
+use crate::{LineFault, Refusal, parse_line};
+use arrayvec::ArrayVec;
+use art_model::{Command, Tuple};
+use art_table::{Inserted, Pass, Table, get, insert};
+use std::alloc::Global;
+use std::io::{Read, Write};
+
+/// The most reads of one session.
+const READS: u32 = 1_000_000;
+
+/// The most turns of one command.
+const TURNS: u32 = 1_000_000;
+
+/// Why a session ended.
+#[derive(Clone, Copy, Debug, PartialEq, Eq)]
+pub enum EndCause {
+    /// The input ended.
+    Ended,
+    /// A read failed.
+    ReadFault,
+    /// A write failed.
+    WriteFault,
+    /// There was no memory.
+    NoMemory,
+    /// A session's reads were used up.
+    ReadsUsed,
+}
+
+/// How a session ended.
+#[derive(Clone, Copy, Debug, PartialEq, Eq)]
+pub struct SessionEnd {
+    pub why: EndCause,
+    /// How many replies were wholly written.
+    pub answered: u64,
+    /// One further line had its reply, or its change, and the reply was not wholly written.
+    pub pending: bool,
+}
+
+/// Why a line was not answered.
+#[derive(Clone, Copy, Debug, PartialEq, Eq)]
+struct Stop {
+    why: EndCause,
+    pending: bool,
+}
+
+impl Stop {
+    fn after(self, answered: u64) -> SessionEnd
+        ensures { result ≡ record { why = self.why; answered = answered; pending = self.pending } }
+    {
+        SessionEnd {
+            why: self.why,
+            answered,
+            pending: self.pending,
+        }
+    }
+}
+
+/// Answers each line that the reader gives, by the table, to the writer.
+///
+/// At most 1,000,000 reads are made, each of at most 4,096 bytes; one that a signal interrupts is made again. Memory
+/// is taken for one line's reading and for its reply alone.
+pub fn session<R: Read, W: Write>(
+    alloc: Global,
+    table: &mut Table,
+    pass: Pass,
+    reader: &mut R,
+    writer: &mut W,
+) -> (Pass, SessionEnd)
+    requires { IsPassOf table.old pass }
+    ensures pass { result.0 ≡ pass }
+    ensures sizes { table.new.sizes ≡ table.old.sizes }
+    ensures session { RunsSession (R.remaining reader.old) (R.remaining reader.new)
+        (W.contents writer.old) (W.contents writer.new) table.old table.new result.1 }
+    ensures end { result.1.why ≡ EndCause.Ended → IsAtEnd (R.remaining reader.new) }
+{
+    let mut pass = pass;
+    let end = answer_reads(alloc, table, &mut pass, reader, writer);
+    (pass, end)
+}
+
+fn answer_reads<R: Read, W: Write>(
+    alloc: Global,
+    table: &mut Table,
+    pass: &mut Pass,
+    reader: &mut R,
+    writer: &mut W,
+) -> SessionEnd
+    requires { IsPassOf table.old pass.old }
+    ensures pass { pass.new ≡ pass.old }
+    ensures sizes { table.new.sizes ≡ table.old.sizes }
+    ensures session { RunsSession (R.remaining reader.old) (R.remaining reader.new)
+        (W.contents writer.old) (W.contents writer.new) table.old table.new result }
+    ensures end { result.why ≡ EndCause.Ended → IsAtEnd (R.remaining reader.new) }
+{
+    let mut piece = [0u8; 4096];
+    let mut line = ArrayVec::new();
+    let mut answered = 0;
+    'reads: for _ in 0..READS {
+        match read_piece(reader, &mut piece) {
+            Ok(0) => return finish(alloc, table, pass, line.as_slice(), writer, answered),
+            Ok(count) => {
+                match answer_bytes(
+                    alloc,
+                    table,
+                    pass,
+                    &mut line,
+                    &piece[..count],
+                    writer,
+                    answered,
+                ) {
+                    Ok(more) => answered = more,
+                    Err(end) => return end,
+                }
+            }
+            Err(_) => return ended(EndCause::ReadFault, answered),
+        }
+    }
+    ended(EndCause::ReadsUsed, answered)
+}
+
+fn ended(why: EndCause, answered: u64) -> SessionEnd
+    ensures { result ≡ record { why = why; answered = answered; pending = false } }
+{
+    SessionEnd {
+        why,
+        answered,
+        pending: false,
+    }
+}
+
+/// Answers the last line, if one stands with no line feed after it.
+fn finish<W: Write>(
+    alloc: Global,
+    table: &mut Table,
+    pass: &mut Pass,
+    line: &[u8],
+    writer: &mut W,
+    answered: u64,
+) -> SessionEnd
+    requires pass { IsPassOf table.old pass.old }
+    requires room { answered + 1 < 2 ^ 64 }
+    ensures pass { pass.new ≡ pass.old }
+    ensures sizes { table.new.sizes ≡ table.old.sizes }
+    ensures finishes { Finishes (W.contents writer.old) (W.contents writer.new) table.old table.new
+        answered line.now result }
+{
+    if line.is_empty() {
+        return ended(EndCause::Ended, answered);
+    }
+    match answer_line(alloc, table, pass, line, writer) {
+        Ok(()) => ended(EndCause::Ended, answered + 1),
+        Err(stop) => stop.after(answered),
+    }
+}
+
+/// Answers each line that ends in the bytes, and keeps what stands after the last line feed.
+fn answer_bytes<W: Write>(
+    alloc: Global,
+    table: &mut Table,
+    pass: &mut Pass,
+    line: &mut ArrayVec<u8, 4097>,
+    bytes: &[u8],
+    writer: &mut W,
+    answered: u64,
+) -> Result<u64, SessionEnd>
+    requires pass { IsPassOf table.old pass.old }
+    requires room { answered + length bytes.now < 2 ^ 64 }
+    ensures pass { pass.new ≡ pass.old }
+    ensures sizes { table.new.sizes ≡ table.old.sizes }
+    ensures answers { AnswersBytes bytes.now (W.contents writer.old) (W.contents writer.new) table.old table.new
+        answered line.old.items line.new.items result }
+{
+    let mut count = answered;
+    'bytes: for byte in bytes {
+        if *byte == b'\n' {
+            match answer_line(alloc, table, pass, line.as_slice(), writer) {
+                Ok(()) => {
+                    line.clear();
+                    count += 1;
+                }
+                Err(stop) => return Err(stop.after(count)),
+            }
+        } else {
+            keep(line, *byte);
+        }
+    }
+    Ok(count)
+}
+
+/// A byte past the 4,097th changes no answer, and is dropped.
+fn keep(line: &mut ArrayVec<u8, 4097>, byte: u8)
+    ensures { line.new.items ≡ take 4097 (line.old.items ++ byte ∷ []) }
+{
+    if !line.is_full() {
+        line.push(byte);
+    }
+}
+
+fn answer_line<W: Write>(
+    alloc: Global,
+    table: &mut Table,
+    pass: &mut Pass,
+    line: &[u8],
+    writer: &mut W,
+) -> Result<(), Stop>
+    requires { IsPassOf table.old pass.old }
+    ensures pass { pass.new ≡ pass.old }
+    ensures sizes { table.new.sizes ≡ table.old.sizes }
+    ensures sends { SendsLine line.now (W.contents writer.old) (W.contents writer.new) table.old table.new result }
+{
+    let answer = match parse_line(alloc, line) {
+        Ok(command) => run_command(table, pass, &command),
+        Err(fault) => match fault {
+            LineFault::NoMemory => {
+                return Err(Stop {
+                    why: EndCause::NoMemory,
+                    pending: false,
+                });
+            }
+            _ => Answer::Refused(Refusal::from(fault)),
+        },
+    };
+    send_answer(alloc, answer, writer)
+}
+
+fn send_answer<W: Write>(alloc: Global, answer: Answer, writer: &mut W) -> Result<(), Stop>
+    ensures { SendsReply (reply_of answer) (W.contents writer.old) (W.contents writer.new) result }
+{
+    let Ok(text) = print_answer(alloc, answer) else {
+        return Err(Stop {
+            why: EndCause::NoMemory,
+            pending: true,
+        });
+    };
+    match write_text(writer, text.as_slice()) {
+        Ok(()) => Ok(()),
+        Err(_) => Err(Stop {
+            why: EndCause::WriteFault,
+            pending: true,
+        }),
+    }
+}
+
+fn run_command(table: &mut Table, pass: &mut Pass, command: &Command) -> Answer
+    requires pass { IsPassOf table.old pass.old }
+    requires served { IsServed command.now }
+    ensures reply { reply_of result ≡ refused (table_answer command.now table.old).0 }
+    ensures after { table.new ≡ (table_answer command.now table.old).1 }
+    ensures pass { pass.new ≡ pass.old }
+{
+    match command {
+        Command::Insert(tuple, value) => run_insert(table, pass, tuple, *value),
+        Command::Get(tuple) => run_get(table, pass, tuple),
+        _ => unreachable!(),
+    }
+}
+
+fn run_insert(table: &mut Table, pass: &mut Pass, tuple: &Tuple, value: u64) -> Answer
+    requires { IsPassOf table.old pass.old }
+    ensures reply { reply_of result ≡ refused (table_answer (Insert tuple.now value) table.old).0 }
+    ensures after { table.new ≡ (table_answer (Insert tuple.now value) table.old).1 }
+    ensures pass { pass.new ≡ pass.old }
+{
+    match insert(table, pass, tuple, value, TURNS) {
+        Ok(Inserted::New) => Answer::Inserted,
+        Ok(Inserted::Present(stored)) => Answer::Present(stored),
+        Err(fault) => Answer::Refused(Refusal::from(fault)),
+    }
+}
+
+fn run_get(table: &mut Table, pass: &mut Pass, tuple: &Tuple) -> Answer
+    requires { IsPassOf table.old pass.old }
+    ensures reply { reply_of result ≡ refused (table_answer (Get tuple.now) table.old).0 }
+    ensures after { table.new ≡ (table_answer (Get tuple.now) table.old).1 }
+    ensures pass { pass.new ≡ pass.old }
+{
+    match get(table, pass, tuple, TURNS) {
+        Ok(Some(value)) => Answer::Found(value),
+        Ok(None) => Answer::Absent,
+        Err(fault) => Answer::Refused(Refusal::from(fault)),
+    }
+}

@@ -1,0 +1,69 @@
+-- What the matches of `art_index` are, by the words.
+use Rattle.std.proofs.Common.{◌≡◌, ◌∙◌, codes, true, false, refl, sym, ap, subst, ⊎_elim, true≢false, List, [], Option, Some, None, Bor, take, option_map, option_and_then}
+use Rattle.std.specs.Prelude.{unwrap_or}
+use Rattle.std.specs.Str.{bytes_eq}
+use Rattle.clap.specs.Words.{App, HasMatchesOf, Row, Text, fault_of, first_of, first_value, found_of, is_simple_and_free, rows_of, subcommand_name_of, subcommand_of, subcommand_rows_of}
+use Rattle.clap.specs.Simple.{built, built_leaf, help_shape}
+use Rattle.clap.specs.Kinds.{HasKind}
+use Rattle.clap.specs.declared.error.Error.{Error}
+use Rattle.clap.specs.declared.parser.matches.ArgMatches.{ArgMatches}
+use Rattle.clap.specs.declared.parser.matches.ArgMatches.TheViews.{out-ArgMatches}
+use Rattle.clap.proofs.WalkLemmas.{first_value-rows}
+use Rattle.art_tools.specs.declared.settings.Settings.{Settings}
+use Rattle.art_tools.specs.declared.settings.Settings.TheVariants.{Run}
+use Rattle.art_tools.specs.Settings.{IsAskedBy, RunsWith, art_index_app, option_given, subcommand_given}
+use Rattle.art_tools.proofs.Subcommands.{names_own}
+
+-- ---- what clap says, of the command that `art_index` is
+
+module _ (a : App) (words : List Text) (is : a ≡ art_index_app) where
+  pub no_fault : (is_simple_and_free a ≡ true → fault_of a words ≡ []) → fault_of art_index_app words ≡ []
+  no_fault h = subst (λ (a : App). (is_simple_and_free a ≡ true → fault_of a words ≡ []) → fault_of art_index_app words ≡ []) (sym is) (λ h. h refl) h
+
+  pub fault_of_kind : (e : Error) → (is_simple_and_free a ≡ true → HasKind (fault_of a words) e) → HasKind (fault_of art_index_app words) e
+  fault_of_kind e h = subst (λ (a : App). (is_simple_and_free a ≡ true → HasKind (fault_of a words) e) → HasKind (fault_of art_index_app words) e) (sym is) (λ h. h refl) h
+
+  pub same_subcommand : (m : ArgMatches) → HasMatchesOf a words m → subcommand_rows_of m ≡ subcommand_of art_index_app words
+  same_subcommand m h = subst (λ (a : App). HasMatchesOf a words m → subcommand_rows_of m ≡ subcommand_of art_index_app words) (sym is) (λ h. (h refl).1) h
+
+-- words without fault name `run`
+pub asks_for_run : (words : List Text) → fault_of art_index_app words ≡ [] → subcommand_given words ≡ Some (codes "run")
+asks_for_run words taken =
+    let named = names_own art_index_app (take 1 (built art_index_app).subs) (built_leaf help_shape) words refl refl refl refl taken in
+    named.1 ∙ ⊎_elim (λ e. ap (λ t. Some t) e) (λ none. absurd none) named.2
+
+-- ---- what the matches say
+
+-- the name of the subcommand that a parse met
+pub met_name : (m : ArgMatches) (words : List Text) → subcommand_rows_of m ≡ subcommand_of art_index_app words → subcommand_name_of m ≡ subcommand_given words
+met_name m words same = named (out-ArgMatches m).subcommand refl ∙ ap (option_map (λ s. s.0)) same
+  where
+    named : (o : _) → (out-ArgMatches m).subcommand ≡ o → subcommand_name_of m ≡ option_map (λ s. s.0) (subcommand_rows_of m)
+    named None is = rw is refl
+    named (Some b) is = rw is refl
+
+-- the options of the subcommand that a parse met
+pub met_options : (m options : ArgMatches) (words : List Text) → subcommand_rows_of m ≡ subcommand_of art_index_app words
+    → Some (rows_of (found_of options)) ≡ option_map (λ s. s.1) (subcommand_rows_of m) → (name : Text) → first_value (found_of options) name ≡ option_given words name
+met_options m options words same is name =
+    first_value-rows (found_of options) name ∙ (ap (option_and_then (first_of name)) (is ∙ ap (option_map (λ s. s.1)) same) ∙ go (subcommand_of art_index_app words))
+  where
+    go : (o : Option (Text × List Row)) → option_and_then (first_of name) (option_map (λ s. s.1) o) ≡ option_and_then (λ s. first_of name s.1) o
+    go None = refl
+    go (Some s) = refl
+
+-- settings with the options that the words give are those that the words ask for
+pub asked_for : (words : List Text) (given : Text → Option Text) (s : Settings) → subcommand_given words ≡ Some (codes "run") → ((name : Text) → given name ≡ option_given words name)
+    → RunsWith given s → IsAskedBy words s
+asked_for words given (Run schema) named same runs = (named, runs ∙ ap (λ o. unwrap_or o (codes "u64")) (same (codes "schema")))
+
+-- where `run` was met, something was met, and its name is no other
+pub none_met : {X : Type 0} (met : Option (Bor Text × X)) → met ≡ None → option_map (λ p. p.0.now) met ≡ Some (codes "run") → ⊥
+none_met met is run = let none : None ≡ Some (codes "run") = ap (option_map (λ p. p.0.now)) (sym is) ∙ run in cc
+
+pub other_met : {X : Type 0} (met : Option (Bor Text × X)) (p : Bor Text × X) → met ≡ Some p → option_map (λ p. p.0.now) met ≡ Some (codes "run")
+    → bytes_eq p.0.now (codes "run") ≡ false → ⊥
+other_met met p is run other =
+    let same : Some p.0.now ≡ Some (codes "run") = ap (option_map (λ p. p.0.now)) (sym is) ∙ run in
+    let name : p.0.now ≡ codes "run" = cc in
+    true≢false (rw name at other)

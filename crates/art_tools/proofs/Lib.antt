@@ -1,0 +1,6 @@
+pub mod Apps
+pub mod Subcommands
+pub mod Asked
+pub mod Refused
+pub mod Known
+pub mod Runs

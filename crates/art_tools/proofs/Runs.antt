@@ -1,0 +1,49 @@
+-- A session that came to the end of its input wrote the output.
+use Rattle.std.proofs.Common.{◌≡◌, ℕ, List, [], ◌++◌, Option, Some, None, Result, Ok, Err, OnOk, take, sym, ap, subst, ◌∙◌, append-nil}
+use Rattle.std.proofs.Math.Seq.{take-length}
+use Rattle.std.specs.Io.KnownBytes.{Appends, IsAtEnd}
+use Rattle.art_key.specs.declared.columns.Column.{Column}
+use Rattle.art_table.specs.Contents.{Contents}
+use Rattle.art_server.specs.declared.sessions.EndCause.{EndCause}
+use Rattle.art_server.specs.declared.sessions.EndCause.TheVariants as end
+use Rattle.art_server.specs.declared.sessions.SessionEnd.{SessionEnd}
+use Rattle.art_server.specs.Sessions.{replies_to, texts, EndsBy, IsSession, RunsSession}
+use Rattle.art_server.specs.Streams.{lines_of}
+use Rattle.art_tools.specs.Outputs.{empty_table, output_of, Outputs}
+use Rattle.art_tools.specs.Statuses.{fault_at}
+
+-- the only end with no fault is that of the input
+pub ended_without_fault : (why : EndCause) → None ≡ fault_at why → why ≡ end.Ended
+ended_without_fault end.Ended e = λ i. end.Ended
+ended_without_fault end.ReadFault e = absurd (cc)
+ended_without_fault end.WriteFault e = absurd (cc)
+ended_without_fault end.NoMemory e = absurd (cc)
+ended_without_fault end.ReadsUsed e = absurd (cc)
+
+pub on_each : {A E P : Type 0} (r : Result A E) → P → OnOk r P
+on_each (Ok a) p = p
+on_each (Err e) p = tt
+
+-- what was read to the end is what the reader had left
+all_was_read : (input rest read : List ℕ) → input ≡ read ++ rest → rest ≡ [] → read ≡ input
+all_was_read input rest read whole none = sym (append-nil read) ∙ sym (whole ∙ ap (λ xs. read ++ xs) none)
+
+-- all of the output was written
+all_was_written : (schema : List Column) (input read written : List ℕ) (old new : Contents) (e : SessionEnd) → old ≡ empty_table schema → IsSession read written old new e → e.why ≡ end.Ended → read ≡ input → written ≡ output_of schema input
+all_was_written schema input read written old new e start runs ended same =
+    let wrote = runs.lines.whole (λ other. absurd (apart (sym ended ∙ other))) in
+    let cause = subst (λ why. EndsBy why e.answered e.pending read) ended runs.cause in
+    wrote
+    ∙ ap (λ n. texts (replies_to (take n (lines_of read)) old)) cause.0
+    ∙ ap (λ ls. texts (replies_to ls old)) (take-length (lines_of read))
+    ∙ (λ i. texts (replies_to (lines_of (same i)) (start i)))
+  where
+    apart : end.Ended ≡ end.WriteFault → ⊥
+    apart h = cc
+
+pub session_outputs : (schema : List Column) (left left_after held held_after : Option (List ℕ)) (old new : Contents) (e : SessionEnd) → old ≡ empty_table schema → RunsSession left left_after held held_after old new e → IsAtEnd left_after → e.why ≡ end.Ended → Outputs (Ok schema) left held held_after
+session_outputs schema None left_after held held_after old new e start runs at_end ended = tt
+session_outputs schema (Some input) None held held_after old new e start runs at_end ended = absurd runs.2
+session_outputs schema (Some input) (Some rest) held held_after old new e start runs at_end ended =
+    let same = all_was_read input rest runs.0 runs.2 at_end in
+    subst (Appends held held_after) (all_was_written schema input runs.0 runs.1 old new e start runs.4 ended same) runs.3

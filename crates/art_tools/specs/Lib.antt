@@ -1,0 +1,4 @@
+pub mod Faults
+pub mod Outputs
+pub mod Settings
+pub mod Statuses

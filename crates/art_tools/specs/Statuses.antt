@@ -1,0 +1,31 @@
+-- With which status the program ends.
+use Rattle.std.specs.Prelude.{ℕ, Option, Some, None, Result, Ok, Err}
+use Rattle.art_server.specs.declared.sessions.EndCause.{EndCause}
+use Rattle.art_server.specs.declared.sessions.EndCause.TheVariants as end
+use Rattle.art_tools.specs.declared.run_faults.RunFault.{RunFault}
+use Rattle.art_tools.specs.declared.run_faults.RunFault.TheVariants.{ReadFailed, WriteFailed, Refused, NoMemory, ReadsUsed}
+
+abbrev pub status_of : RunFault → ℕ
+status_of ReadFailed = 1
+status_of WriteFailed = 1
+status_of (Refused refusal) = 3
+status_of NoMemory = 4
+status_of ReadsUsed = 5
+
+-- what is wrong where a session ends for a cause
+abbrev pub fault_at : EndCause → Option RunFault
+fault_at end.Ended = None
+fault_at end.ReadFault = Some ReadFailed
+fault_at end.WriteFault = Some WriteFailed
+fault_at end.NoMemory = Some NoMemory
+fault_at end.ReadsUsed = Some ReadsUsed
+
+-- what is wrong with a run, if it failed
+abbrev pub fault_in : {A : Type 0} → Result A RunFault → Option RunFault
+fault_in (Ok done) = None
+fault_in (Err fault) = Some fault
+
+-- the status after a run
+abbrev pub status_after : {A : Type 0} → Result A RunFault → ℕ
+status_after (Ok done) = 0
+status_after (Err fault) = status_of fault

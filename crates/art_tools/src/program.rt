@@ -1,0 +1,132 @@
+//! The program over a reader, a writer and a writer for faults.
+ghost use Rattle.std.specs.Prelude.{◌≡◌, ◌≤◌, [], All, codes, map, unwrap_or, Ok, Err, OnOk};
+ghost use Rattle.clap.specs.Words.{fault_of};
+ghost use Rattle.art_key.specs.declared.faults.SchemaFault.{SchemaFault};
+ghost use Rattle.art_key.specs.Columns.{schema_of};
+ghost use Rattle.art_table.specs.Contents.{IsPassOf};
+ghost use Rattle.art_server.specs.Refusals.{schema_refusal};
+ghost use Rattle.art_tools.specs.Outputs.{Outputs};
+ghost use Rattle.art_tools.specs.Statuses.{fault_at, fault_in, status_after};
+ghost use Rattle.art_tools.specs.Settings.{art_index_app, option_given};
+
+use crate::command_line::settings;
+use crate::run_faults::RunFault;
+use crate::settings::{Settings, SettingsFault};
+use art_key::Schema;
+use art_server::{EndCause, session};
+use art_table::{Config, Pass, Table, close, open};
+use std::alloc::Global;
+use std::io::{self, Read, Write};
+
+/// The sizes of the program's table.
+pub const SIZES: Config = Config {
+    leaves: 4096,
+    n4: 4096,
+    n16: 1024,
+    n48: 512,
+    n256: 128,
+    passes: 1,
+    counter_start: 0,
+};
+
+/// Does what the words ask for, and answers the status that the program ends with.
+///
+/// Replies and help go to `writer`, and what was wrong goes to `faults`, in one line. 0: ended, or help;
+/// 1: a read or a write failed; 2: the words were refused; 3: the schema or a size was; 4: want of memory; 5: a
+/// session's reads were used up.
+pub fn execute<'a, R: Read, W: Write, E: Write>(
+    alloc: Global,
+    words: &'a [&'a str],
+    reader: &mut R,
+    writer: &mut W,
+    faults: &mut E,
+) -> u8
+    ensures status { result ≤ 5 }
+    ensures ran { fault_of art_index_app (map (λ word. word.now) words.entry.now) ≡ [] → result ≡ 0
+        → Outputs (schema_of (unwrap_or (option_given (map (λ word. word.now) words.entry.now) (codes "schema")) (codes "u64")))
+        (R.remaining reader.old) (W.contents writer.old) (W.contents writer.new) }
+{
+    match settings(alloc, words) {
+        Ok(Settings::Run { schema }) => status(faults, run(alloc, schema, reader, writer)),
+        Err(SettingsFault::Usage(error)) => tell_usage(&error, writer, faults),
+        Err(SettingsFault::NoMemory) => status(faults, Err(RunFault::NoMemory)),
+    }
+}
+
+/// One session over an empty table of one pass, from the reader to the writer.
+pub fn run<R: Read, W: Write>(
+    alloc: Global,
+    schema: &str,
+    reader: &mut R,
+    writer: &mut W,
+) -> Result<(), RunFault>
+    ensures output { OnOk result (Outputs (schema_of schema.now) (R.remaining reader.old)
+        (W.contents writer.old) (W.contents writer.new)) }
+    ensures schema { (fault : SchemaFault) → schema_of schema.now ≡ Err fault
+        → result ≡ Err (RunFault.Refused (schema_refusal fault)) }
+{
+    let schema = Schema::parse(schema)?;
+    let (mut table, mut passes) = open(alloc, schema, SIZES)?;
+    let pass = passes.pop().unwrap();
+    let (pass, end) = session(alloc, &mut table, pass, reader, writer);
+    let closed = give_back(alloc, table, passes, pass);
+    check_end(end.why)?;
+    closed
+}
+
+/// What the end of a session means for the run.
+fn check_end(why: EndCause) -> Result<(), RunFault>
+    ensures { fault_in result ≡ fault_at why }
+{
+    match why {
+        EndCause::Ended => Ok(()),
+        EndCause::ReadFault => Err(RunFault::ReadFailed),
+        EndCause::WriteFault => Err(RunFault::WriteFailed),
+        EndCause::NoMemory => Err(RunFault::NoMemory),
+        EndCause::ReadsUsed => Err(RunFault::ReadsUsed),
+    }
+}
+
+/// Closes the table with its passes, of which this one was out.
+fn give_back(alloc: Global, table: Table, mut passes: Vec<Pass>, pass: Pass) -> Result<(), RunFault>
+    requires others { All (IsPassOf table) passes.items }
+    requires own { IsPassOf table pass }
+{
+    passes.push(pass)?;
+    match close(alloc, table, passes) {
+        Ok(_) => Ok(()),
+        Err(fault) => Err(RunFault::from(fault.why)),
+    }
+}
+
+/// Says what was wrong, in one line, and answers the status.
+fn status<E: Write>(faults: &mut E, end: Result<(), RunFault>) -> u8
+    ensures { result ≡ status_after end }
+{
+    match end {
+        Ok(()) => 0,
+        Err(fault) => {
+            let _ = writeln!(faults, "art_index: {fault}");
+            fault.status()
+        }
+    }
+}
+
+/// Writes help where it was asked for, and what is wrong with the words where it was not.
+fn tell_usage<W: Write, E: Write>(error: &clap::Error, writer: &mut W, faults: &mut E) -> u8
+    ensures { result ≤ 2 }
+{
+    if error.use_stderr() {
+        let _ = show(error, faults);
+        return 2;
+    }
+    match show(error, writer) {
+        Ok(()) => 0,
+        Err(_) => status(faults, Err(RunFault::WriteFailed)),
+    }
+}
+
+fn show<W: Write>(error: &clap::Error, writer: &mut W) -> io::Result<()> {
+    write!(writer, "{error}")?;
+    writer.flush()
+}

@@ -1,0 +1,89 @@
+//! Why a run of the program failed, and with which status it ends.
+ghost use Rattle.std.specs.Prelude.{◌≡◌};
+ghost use Rattle.art_tools.specs.Statuses.{status_of};
+
+use art_key::SchemaFault;
+use art_server::Refusal;
+use art_table::{CloseRefusal, OpenFault};
+use std::alloc::AllocFailed;
+use std::error::Error;
+use std::fmt;
+
+/// Why a run failed.
+#[derive(Clone, Copy, Debug, PartialEq, Eq)]
+pub enum RunFault {
+    /// A read failed.
+    ReadFailed,
+    /// A write failed.
+    WriteFailed,
+    /// The schema or a size was refused.
+    Refused(Refusal),
+    /// An allocation was refused.
+    NoMemory,
+    /// A session's reads were used up.
+    ReadsUsed,
+}
+
+impl RunFault {
+    /// The status that the program ends with: 1, 3, 4 or 5.
+    pub fn status(self) -> u8
+        ensures { result ≡ status_of self }
+    {
+        match self {
+            RunFault::ReadFailed | RunFault::WriteFailed => 1,
+            RunFault::Refused(_) => 3,
+            RunFault::NoMemory => 4,
+            RunFault::ReadsUsed => 5,
+        }
+    }
+}
+
+impl fmt::Display for RunFault {
+    fn fmt<W: fmt::Write>(&self, f: &mut fmt::Formatter<W>) -> fmt::Result {
+        match self {
+            RunFault::ReadFailed => f.write_str("read failed"),
+            RunFault::WriteFailed => f.write_str("write failed"),
+            RunFault::Refused(refusal) => write!(f, "{refusal}"),
+            RunFault::NoMemory => f.write_str("no memory"),
+            RunFault::ReadsUsed => f.write_str("reads used up"),
+        }
+    }
+}
+
+impl Error for RunFault {}
+
+impl From<SchemaFault> for RunFault {
+    ghost use Rattle.std.specs.Prelude.{◌≡◌};
+    ghost use Rattle.art_server.specs.Refusals.{schema_refusal};
+    ghost use Rattle.art_tools.specs.declared.run_faults.RunFault.TheVariants.{Refused};
+
+    ghost from_gives = { λ fault e. e ≡ Refused (schema_refusal fault) };
+
+    fn from(fault: SchemaFault) -> RunFault {
+        RunFault::Refused(Refusal::from(fault))
+    }
+}
+
+impl From<OpenFault> for RunFault {
+    fn from(fault: OpenFault) -> RunFault {
+        match fault {
+            OpenFault::BadConfig => RunFault::Refused(Refusal::BadConfig),
+            OpenFault::NoMemory => RunFault::NoMemory,
+        }
+    }
+}
+
+impl From<CloseRefusal> for RunFault {
+    fn from(refusal: CloseRefusal) -> RunFault {
+        match refusal {
+            CloseRefusal::PassesMissing => RunFault::Refused(Refusal::PassesMissing),
+            CloseRefusal::NoMemory => RunFault::NoMemory,
+        }
+    }
+}
+
+impl<T: Drop> From<AllocFailed<T>> for RunFault {
+    fn from(_refused: AllocFailed<T>) -> RunFault {
+        RunFault::NoMemory
+    }
+}

@@ -1,0 +1,46 @@
+//! What the words of the command line ask for, and why they may ask for nothing.
+ghost use Rattle.std.specs.Prelude.{◌≡◌};
+ghost use Rattle.art_tools.specs.Faults.{fault_from};
+ghost use Rattle.art_tools.specs.declared.settings.SettingsFault.TheVariants.{NoMemory};
+
+use clap::error::ErrorKind;
+use std::alloc::AllocError;
+
+/// What the program is asked to do: a variant for each subcommand, with its options.
+#[derive(Clone, Copy, Debug, PartialEq, Eq)]
+pub enum Settings<'a> {
+    /// `run`
+    Run {
+        /// `--schema`
+        schema: &'a str,
+    },
+}
+
+/// Why there are no settings.
+#[derive(Debug, Drop)]
+pub enum SettingsFault {
+    /// The words were refused, or they ask for help. The error has the text for the user, where it
+    /// goes, and the status to exit with.
+    Usage(clap::Error),
+    /// Memory ran out.
+    NoMemory,
+}
+
+impl From<clap::Error> for SettingsFault {
+    ghost from_gives = { λ error fault. fault ≡ fault_from error };
+
+    fn from(error: clap::Error) -> SettingsFault {
+        match error.kind() {
+            ErrorKind::OutOfMemory => SettingsFault::NoMemory,
+            _ => SettingsFault::Usage(error),
+        }
+    }
+}
+
+impl From<AllocError> for SettingsFault {
+    ghost from_gives = { λ _ fault. fault ≡ NoMemory };
+
+    fn from(_error: AllocError) -> SettingsFault {
+        SettingsFault::NoMemory
+    }
+}
