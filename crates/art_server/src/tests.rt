@@ -94,11 +94,21 @@ fn one(number: u64) -> Tuple {
 #[test]
 fn reads_commands(rt: HostRuntime) {
     let alloc = rt.alloc();
-    assert!(rt; parse_line(alloc, b"[\"get\",[5]]") == Ok(Command::Get(one(5))));
-    assert!(rt; parse_line(alloc, b"[\"insert\",[5],9]") == Ok(Command::Insert(one(5), 9)));
-    assert!(rt; parse_line(alloc, b" [ \"get\" , [ 5 ] ] \r") == Ok(Command::Get(one(5))));
-    assert!(rt;
-        parse_line(alloc, b"[\"get\",[18446744073709551615]]") == Ok(Command::Get(one(u64::MAX)))
+    assert_eq!(rt;
+        parse_line(alloc, b"[\"get\",[5]]"),
+        Ok(Command::Get(one(5)))
+    );
+    assert_eq!(rt;
+        parse_line(alloc, b"[\"insert\",[5],9]"),
+        Ok(Command::Insert(one(5), 9))
+    );
+    assert_eq!(rt;
+        parse_line(alloc, b" [ \"get\" , [ 5 ] ] \r"),
+        Ok(Command::Get(one(5)))
+    );
+    assert_eq!(rt;
+        parse_line(alloc, b"[\"get\",[18446744073709551615]]"),
+        Ok(Command::Get(one(u64::MAX)))
     );
 }
 
@@ -106,23 +116,29 @@ fn reads_commands(rt: HostRuntime) {
 fn refuses_lines(rt: HostRuntime) {
     let alloc = rt.alloc();
     let bad_command = Err(LineFault::BadCommand);
-    assert!(rt; parse_line(alloc, b"[\"remove\",[1]]") == bad_command);
-    assert!(rt; parse_line(alloc, b"[\"get\",[18446744073709551616]]") == bad_command);
-    assert!(rt; parse_line(alloc, b"[\"get\",[5.0]]") == bad_command);
-    assert!(rt; parse_line(alloc, b"[\"get\",[-1]]") == bad_command);
-    assert!(rt; parse_line(alloc, b"[\"get\",[5],1]") == bad_command);
-    assert!(rt; parse_line(alloc, b"[\"get\",[]]") == bad_command);
-    assert!(rt; parse_line(alloc, b"[\"get\",[1,2]]") == bad_command);
-    assert!(rt; parse_line(alloc, b"[\"insert\",[5]]") == bad_command);
-    assert!(rt; parse_line(alloc, b"[]") == bad_command);
-    assert!(rt; parse_line(alloc, b"{\"get\":[5]}") == bad_command);
+    assert_eq!(rt; parse_line(alloc, b"[\"remove\",[1]]"), bad_command);
+    assert_eq!(rt;
+        parse_line(alloc, b"[\"get\",[18446744073709551616]]"),
+        bad_command
+    );
+    assert_eq!(rt; parse_line(alloc, b"[\"get\",[5.0]]"), bad_command);
+    assert_eq!(rt; parse_line(alloc, b"[\"get\",[-1]]"), bad_command);
+    assert_eq!(rt; parse_line(alloc, b"[\"get\",[5],1]"), bad_command);
+    assert_eq!(rt; parse_line(alloc, b"[\"get\",[]]"), bad_command);
+    assert_eq!(rt; parse_line(alloc, b"[\"get\",[1,2]]"), bad_command);
+    assert_eq!(rt; parse_line(alloc, b"[\"insert\",[5]]"), bad_command);
+    assert_eq!(rt; parse_line(alloc, b"[]"), bad_command);
+    assert_eq!(rt; parse_line(alloc, b"{\"get\":[5]}"), bad_command);
     let bad_line = Err(LineFault::BadLine);
-    assert!(rt; parse_line(alloc, b"") == bad_line);
-    assert!(rt; parse_line(alloc, b"{") == bad_line);
-    assert!(rt; parse_line(alloc, b"[\"get\",[5]]\xff") == bad_line);
-    assert!(rt; parse_line(alloc, &[b'['; 4096]) == bad_line);
-    assert!(rt; parse_line(alloc, &[b'x'; 4096]) == bad_line);
-    assert!(rt; parse_line(alloc, &[b'x'; 4097]) == Err(LineFault::LineTooLong));
+    assert_eq!(rt; parse_line(alloc, b""), bad_line);
+    assert_eq!(rt; parse_line(alloc, b"{"), bad_line);
+    assert_eq!(rt; parse_line(alloc, b"[\"get\",[5]]\xff"), bad_line);
+    assert_eq!(rt; parse_line(alloc, &[b'['; 4096]), bad_line);
+    assert_eq!(rt; parse_line(alloc, &[b'x'; 4096]), bad_line);
+    assert_eq!(rt;
+        parse_line(alloc, &[b'x'; 4097]),
+        Err(LineFault::LineTooLong)
+    );
 }
 
 #[test]
@@ -243,9 +259,6 @@ fn answers_lines_in_turn(rt: HostRuntime) {
         [\"get\",[5]]\n[\"remove\",[1]]\n[\"insert\",[6],1]\n";
     let mut heard = Vec::new(alloc);
     let (pass, end) = session(alloc, &mut table, pass, &mut said, &mut heard);
-    let want = "[\"absent\"]\n[\"inserted\"]\n[\"found\",9]\n[\"present\",9]\n[\"found\",9]\n\
-        [\"refused\",3,\"BadCommand\"]\n[\"refused\",11,\"Full\"]\n";
-    assert!(rt; heard.as_slice() == want.as_bytes());
     assert_eq!(rt;
         end,
         SessionEnd {
@@ -254,6 +267,9 @@ fn answers_lines_in_turn(rt: HostRuntime) {
             pending: false
         }
     );
+    let want = "[\"absent\"]\n[\"inserted\"]\n[\"found\",9]\n[\"present\",9]\n[\"found\",9]\n\
+        [\"refused\",3,\"BadCommand\"]\n[\"refused\",11,\"Full\"]\n";
+    assert!(rt; heard.as_slice() == want.as_bytes());
     assert_eq!(rt; pass.number(), 0);
 }
 
@@ -273,9 +289,6 @@ fn refuses_bad_lines_and_answers_the_last(rt: HostRuntime) -> Result<(), Fail> {
     };
     let mut heard = Vec::new(alloc);
     let (_, end) = session(alloc, &mut table, pass, &mut said, &mut heard);
-    let want = "[\"refused\",1,\"BadLine\"]\n[\"refused\",1,\"BadLine\"]\n\
-        [\"refused\",3,\"BadCommand\"]\n[\"refused\",2,\"LineTooLong\"]\n[\"absent\"]\n";
-    assert!(rt; heard.as_slice() == want.as_bytes());
     assert_eq!(rt;
         end,
         SessionEnd {
@@ -284,6 +297,9 @@ fn refuses_bad_lines_and_answers_the_last(rt: HostRuntime) -> Result<(), Fail> {
             pending: false
         }
     );
+    let want = "[\"refused\",1,\"BadLine\"]\n[\"refused\",1,\"BadLine\"]\n\
+        [\"refused\",3,\"BadCommand\"]\n[\"refused\",2,\"LineTooLong\"]\n[\"absent\"]\n";
+    assert!(rt; heard.as_slice() == want.as_bytes());
     Ok(())
 }
 
@@ -299,7 +315,6 @@ fn a_failed_read_ends_behind_the_whole_lines(rt: HostRuntime) {
     };
     let mut heard = Vec::new(alloc);
     let (_, end) = session(alloc, &mut table, pass, &mut said, &mut heard);
-    assert!(rt; heard.as_slice() == "[\"absent\"]\n".as_bytes());
     assert_eq!(rt;
         end,
         SessionEnd {
@@ -308,6 +323,7 @@ fn a_failed_read_ends_behind_the_whole_lines(rt: HostRuntime) {
             pending: false
         }
     );
+    assert!(rt; heard.as_slice() == "[\"absent\"]\n".as_bytes());
 }
 
 #[test]
@@ -320,7 +336,6 @@ fn a_failed_write_leaves_the_change(rt: HostRuntime) {
         room: 15,
     };
     let (pass, end) = session(alloc, &mut table, pass, &mut said, &mut cut);
-    assert!(rt; cut.held.as_slice() == "[\"absent\"]\n[\"in".as_bytes());
     assert_eq!(rt;
         end,
         SessionEnd {
@@ -329,10 +344,10 @@ fn a_failed_write_leaves_the_change(rt: HostRuntime) {
             pending: true
         }
     );
+    assert!(rt; cut.held.as_slice() == "[\"absent\"]\n[\"in".as_bytes());
     let mut said: &[u8] = b"[\"get\",[5]]";
     let mut heard = Vec::new(alloc);
     let (_, end) = session(alloc, &mut table, pass, &mut said, &mut heard);
-    assert!(rt; heard.as_slice() == "[\"found\",9]\n".as_bytes());
     assert_eq!(rt;
         end,
         SessionEnd {
@@ -341,4 +356,5 @@ fn a_failed_write_leaves_the_change(rt: HostRuntime) {
             pending: false
         }
     );
+    assert!(rt; heard.as_slice() == "[\"found\",9]\n".as_bytes());
 }

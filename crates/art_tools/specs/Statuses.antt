@@ -1,5 +1,10 @@
--- With which status the program ends.
+-- Why a run fails, and with which status the program ends.
 use Rattle.std.specs.Prelude.{ℕ, Option, Some, None, Result, Ok, Err}
+use Rattle.art_table.specs.declared.closing.CloseRefusal.{CloseRefusal}
+use Rattle.art_table.specs.declared.closing.CloseRefusal.TheVariants as close
+use Rattle.art_table.specs.declared.faults.OpenFault.{OpenFault}
+use Rattle.art_table.specs.declared.faults.OpenFault.TheVariants as opening
+use Rattle.art_server.specs.declared.refusals.Refusal.TheVariants.{BadConfig, PassesMissing}
 use Rattle.art_server.specs.declared.sessions.EndCause.{EndCause}
 use Rattle.art_server.specs.declared.sessions.EndCause.TheVariants as end
 use Rattle.art_tools.specs.declared.run_faults.RunFault.{RunFault}
@@ -11,6 +16,16 @@ status_of WriteFailed = 1
 status_of (Refused refusal) = 3
 status_of NoMemory = 4
 status_of ReadsUsed = 5
+
+-- what is wrong where the table is not opened
+abbrev pub unopened : OpenFault → RunFault
+unopened opening.BadConfig = Refused BadConfig
+unopened opening.NoMemory = NoMemory
+
+-- what is wrong where the table is not closed
+abbrev pub unclosed : CloseRefusal → RunFault
+unclosed close.PassesMissing = Refused PassesMissing
+unclosed close.NoMemory = NoMemory
 
 -- what is wrong where a session ends for a cause
 abbrev pub fault_at : EndCause → Option RunFault

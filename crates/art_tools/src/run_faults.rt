@@ -65,6 +65,11 @@ impl From<SchemaFault> for RunFault {
 }
 
 impl From<OpenFault> for RunFault {
+    ghost use Rattle.std.specs.Prelude.{◌≡◌};
+    ghost use Rattle.art_tools.specs.Statuses.{unopened};
+
+    ghost from_gives = { λ fault e. e ≡ unopened fault };
+
     fn from(fault: OpenFault) -> RunFault {
         match fault {
             OpenFault::BadConfig => RunFault::Refused(Refusal::BadConfig),
@@ -74,6 +79,11 @@ impl From<OpenFault> for RunFault {
 }
 
 impl From<CloseRefusal> for RunFault {
+    ghost use Rattle.std.specs.Prelude.{◌≡◌};
+    ghost use Rattle.art_tools.specs.Statuses.{unclosed};
+
+    ghost from_gives = { λ refusal e. e ≡ unclosed refusal };
+
     fn from(refusal: CloseRefusal) -> RunFault {
         match refusal {
             CloseRefusal::PassesMissing => RunFault::Refused(Refusal::PassesMissing),
@@ -83,6 +93,11 @@ impl From<CloseRefusal> for RunFault {
 }
 
 impl<T: Drop> From<AllocFailed<T>> for RunFault {
+    ghost use Rattle.std.specs.Prelude.{◌≡◌};
+    ghost use Rattle.art_tools.specs.declared.run_faults.RunFault.TheVariants.{NoMemory};
+
+    ghost from_gives = { λ _ e. e ≡ NoMemory };
+
     fn from(_refused: AllocFailed<T>) -> RunFault {
         RunFault::NoMemory
     }
