@@ -1,5 +1,8 @@
-pub mod Orders
-pub mod Numbers
 pub mod ColumnLaws
-pub mod TupleLaws
 pub mod Loops
+pub mod NamedColumns
+pub mod Names
+pub mod Texts
+pub mod TupleLaws
+pub mod Wholes
+pub mod Widths

@@ -7,7 +7,7 @@ use Rattle.art_key.specs.declared.columns.Column.{Column}
 use Rattle.art_key.specs.declared.faults.ValueFault.{ValueFault}
 use Rattle.art_key.specs.Columns.{width, total_width, value_fault, first_fault}
 use Rattle.art_key.specs.Spelling.{value_spelling, spelling, front_value, tuple_spelled}
-use Rattle.art_key.proofs.ColumnLaws.{value_narrow}
+use Rattle.art_key.proofs.ColumnLaws.{column_law}
 
 -- the key has the spellings of the first n values, which stand in their columns, and has room for the others
 pub record IsSpelledTo (cs : List Column) (vs : List Value) (key : List ℕ) (n : ℕ) : Type 0 where
@@ -30,7 +30,7 @@ one_more cs vs key n c v n-lt-cs n-lt-vs c-is v-is stands so_far =
     let room : length key + (width c + total_width (drop (n + 1) cs)) ≤ 64 = subst (λ (ds : List Column). length key + total_width ds ≤ 64) columns so_far.room in
     let bytes : key ++ (value_spelling c v ++ spelling (drop (n + 1) cs) (drop (n + 1) vs)) ≡ spelling cs vs = sym (ap₂_spelling key columns values) ∙ so_far.bytes in
     record {
-      room = omega (arith, length-append key (value_spelling c v), value_narrow c v);
+      room = omega (arith, length-append key (value_spelling c v), (column_law c).narrow n v stands);
       bytes = append_assoc key (value_spelling c v) (spelling (drop (n + 1) cs) (drop (n + 1) vs)) ∙ bytes;
       faults = sym (ap (λ o. option_or o (first_fault (n + 1) (drop (n + 1) cs) (drop (n + 1) vs))) stands) ∙ sym (ap₂_fault n columns values) ∙ so_far.faults;
     }

@@ -12,10 +12,11 @@ use Rattle.art_key.specs.declared.columns.Column.{Column}
 use Rattle.art_key.specs.declared.faults.ValueFault.{ValueFault}
 use Rattle.art_key.specs.declared.faults.ValueFault.TheVariants.{WrongColumns}
 use Rattle.art_key.specs.Columns.{total_width, value_fault, first_fault, tuple_fault}
-use Rattle.art_key.specs.Spelling.{AreBytes, value_spelling, spelling, IsSpelling, front_value, tuple_spelled}
+use Rattle.art_key.specs.Spelling.{value_spelling, spelling, IsSpelling, front_value, tuple_spelled}
 use Rattle.art_key.specs.Laws.{KeysStandAsTuples, NoKeyBeginsAnother, TuplesAreReadBack, WhatIsReadIsSpelled, SpellingsAreBytes, SpellingsAreNarrow}
-use Rattle.art_key.proofs.Numbers.{AreBytes-append, AreBytes_right}
-use Rattle.art_key.proofs.ColumnLaws.{value_order, value_again, value_takes, value_bytes, value_narrow}
+use Rattle.art_key.specs.Numbers.{AreBytes-append, AreBytes_right}
+use Rattle.art_key.specs.Kinds.{AreBytes}
+use Rattle.art_key.proofs.ColumnLaws.{column_law}
 
 -- ---- no fault: as many values as columns, and no first fault
 
@@ -47,7 +48,7 @@ order (c ∷ cs) place (v ∷ a) [] a-len b-len a-stands b-stands = absurd (omeg
 order (c ∷ cs) place (v ∷ a) (w ∷ b) a-len b-len a-stands b-stands =
     let f = or_none (value_fault place c v) (first_fault (place + 1) cs a) a-stands in
     let g = or_none (value_fault place c w) (first_fault (place + 1) cs b) b-stands in
-    value_order c place place v w (spelling cs a) (spelling cs b) f.0 g.0
+    (column_law c).order place place v w (spelling cs a) (spelling cs b) f.0 g.0
     ∙ ap (ordering_then (value_cmp v w)) (order cs (place + 1) a b (omega arith) (omega arith) f.1 g.1)
 
 pub keys_stand : KeysStandAsTuples
@@ -69,7 +70,7 @@ begins (c ∷ cs) place (v ∷ a) (w ∷ b) rest a-len b-len a-stands b-stands e
     let f = or_none (value_fault place c v) (first_fault (place + 1) cs a) a-stands in
     let g = or_none (value_fault place c w) (first_fault (place + 1) cs b) b-stands in
     let regrouped : value_spelling c v ++ (spelling cs a ++ rest) ≡ value_spelling c w ++ spelling cs b = sym (append_assoc (value_spelling c v) (spelling cs a) rest) ∙ e in
-    let read = sym (value_again c place v (spelling cs a ++ rest) f.0) ∙ ap (front_value c) regrouped ∙ value_again c place w (spelling cs b) g.0 in
+    let read = sym ((column_law c).again place v (spelling cs a ++ rest) f.0) ∙ ap (front_value c) regrouped ∙ (column_law c).again place w (spelling cs b) g.0 in
     let first = some_pair_parts v w (spelling cs a ++ rest) (spelling cs b) read in
     let others = begins cs (place + 1) a b rest (omega arith) (omega arith) f.1 g.1 first.1 in
     (ap₂ (λ (u : Value) (us : List Value). u ∷ us) first.0 others.0, others.1)
@@ -88,7 +89,7 @@ again [] place (v ∷ vs) len stands = absurd (omega arith)
 again (c ∷ cs) place [] len stands = absurd (omega arith)
 again (c ∷ cs) place (v ∷ vs) len stands =
     let f = or_none (value_fault place c v) (first_fault (place + 1) cs vs) stands in
-    rw (value_again c place v (spelling cs vs) f.0, again cs (place + 1) vs (omega arith) f.1) refl
+    rw ((column_law c).again place v (spelling cs vs) f.0, again cs (place + 1) vs (omega arith) f.1) refl
 
 pub read_back : TuplesAreReadBack
 read_back schema tuple stands =
@@ -116,7 +117,7 @@ takes (c ∷ cs) place vs bytes are e =
     let v = first.0.0 in
     let after = first.0.1 in
     let others = bind_some (tuple_spelled cs after) (λ us. Some (v ∷ us)) vs first.2 in
-    let one = value_takes c place bytes v after are first.1 in
+    let one = (column_law c).takes place v bytes after are first.1 in
     let rest = takes cs (place + 1) others.0 after (AreBytes_right (value_spelling c v) after (subst AreBytes one.1 are)) others.1 in
     let whole : Reads (c ∷ cs) place (v ∷ others.0) bytes = record {
       len = ap suc rest.len;
@@ -132,21 +133,25 @@ read_is_spelled schema tuple bytes are e =
 
 -- ---- bytes, and how many
 
-spelling_bytes : (cs : List Column) (vs : List Value) → AreBytes (spelling cs vs)
-spelling_bytes [] vs = tt
-spelling_bytes (c ∷ cs) [] = tt
-spelling_bytes (c ∷ cs) (v ∷ vs) = AreBytes-append (value_spelling c v) (spelling cs vs) (value_bytes c v) (spelling_bytes cs vs)
+spelling_bytes : (cs : List Column) (place : ℕ) (vs : List Value) → first_fault place cs vs ≡ None → AreBytes (spelling cs vs)
+spelling_bytes [] place vs stands = tt
+spelling_bytes (c ∷ cs) place [] stands = tt
+spelling_bytes (c ∷ cs) place (v ∷ vs) stands =
+    let f = or_none (value_fault place c v) (first_fault (place + 1) cs vs) stands in
+    AreBytes-append (value_spelling c v) (spelling cs vs) ((column_law c).bytes place v f.0) (spelling_bytes cs (place + 1) vs f.1)
 
 pub are_bytes : SpellingsAreBytes
-are_bytes schema tuple bytes h = subst AreBytes (sym h.spelled) (spelling_bytes schema tuple)
+are_bytes schema tuple bytes h = subst AreBytes (sym h.spelled) (spelling_bytes schema 0 tuple (stands_is schema tuple h.stands).1)
 
-spelling_narrow : (cs : List Column) (vs : List Value) → length (spelling cs vs) ≤ total_width cs
-spelling_narrow [] vs = omega arith
-spelling_narrow (c ∷ cs) [] = omega arith
-spelling_narrow (c ∷ cs) (v ∷ vs) = omega (arith, length-append (value_spelling c v) (spelling cs vs), value_narrow c v, spelling_narrow cs vs)
+spelling_narrow : (cs : List Column) (place : ℕ) (vs : List Value) → first_fault place cs vs ≡ None → length (spelling cs vs) ≤ total_width cs
+spelling_narrow [] place vs stands = omega arith
+spelling_narrow (c ∷ cs) place [] stands = omega arith
+spelling_narrow (c ∷ cs) place (v ∷ vs) stands =
+    let f = or_none (value_fault place c v) (first_fault (place + 1) cs vs) stands in
+    omega (arith, length-append (value_spelling c v) (spelling cs vs), (column_law c).narrow place v f.0, spelling_narrow cs (place + 1) vs f.1)
 
 pub are_narrow : SpellingsAreNarrow
-are_narrow schema tuple bytes h = rw (h.spelled) (spelling_narrow schema tuple)
+are_narrow schema tuple bytes h = rw (h.spelled) (spelling_narrow schema 0 tuple (stands_is schema tuple h.stands).1)
 
 -- ---- what `decode` answers, from its exact answer
 

@@ -1,36 +1,54 @@
--- Which values stand in which columns, and what the text of a schema names.
-use Rattle.std.specs.Prelude.{ℕ, ◌+◌, ◌^◌, List, [], ◌∷◌, length, pos, negsuc, nat_lt, nat_eq, ◌==◌, if◌then◌else◌, Option, Some, None, Result, Ok, Err, codes}
+-- The columns of a schema, and which tuples stand in one.
+use Rattle.std.specs.Prelude.{ℕ, ◌+◌, ◌≤◌, List, [], ◌∷◌, length, ◌==◌, if◌then◌else◌, Option, Some, None, ⊤}
 use Rattle.std.specs.Option.{option_or}
-use Rattle.std.specs.Int.{Width, w64, byte_len}
-use Rattle.std.specs.Cmp.Lexicographic.{pointwise}
 use Rattle.art_model.specs.declared.values.Value.{Value}
-use Rattle.art_model.specs.declared.values.Value.TheVariants.{Bool, Int, Text}
 use Rattle.art_key.specs.declared.columns.Column.{Column}
-use Rattle.art_key.specs.declared.columns.Column.TheVariants.{U64}
-use Rattle.art_key.specs.declared.faults.SchemaFault.{SchemaFault}
-use Rattle.art_key.specs.declared.faults.SchemaFault.TheVariants.{NoColumns, BadColumn}
+use Rattle.art_key.specs.declared.columns.Column.TheVariants.{Bool, U8, U16, U32, U64, I8, I16, I32, I64, Text}
 use Rattle.art_key.specs.declared.faults.ValueFault.{ValueFault}
-use Rattle.art_key.specs.declared.faults.ValueFault.TheVariants.{WrongColumns, WrongType, OutOfRange}
+use Rattle.art_key.specs.declared.faults.ValueFault.TheVariants.{WrongColumns}
+use Rattle.art_key.specs.Kinds.{Kind, truth, unsigned, signed, text}
+
+-- ---- columns
+
+abbrev pub kind_of : Column → Kind
+kind_of Bool = truth
+kind_of U8 = unsigned 1
+kind_of U16 = unsigned 2
+kind_of U32 = unsigned 4
+kind_of U64 = unsigned 8
+kind_of I8 = signed 1
+kind_of I16 = signed 2
+kind_of I32 = signed 4
+kind_of I64 = signed 8
+kind_of (Text longest) = text longest
+
+-- the longest text of a text column: 24 bytes
+abbrev pub IsColumn : Column → Type 0
+IsColumn Bool = ⊤
+IsColumn U8 = ⊤
+IsColumn U16 = ⊤
+IsColumn U32 = ⊤
+IsColumn U64 = ⊤
+IsColumn I8 = ⊤
+IsColumn I16 = ⊤
+IsColumn I32 = ⊤
+IsColumn I64 = ⊤
+IsColumn (Text longest) = (1 ≤ longest) × (longest ≤ 24)
 
 -- how many bytes a value of the column has at most
 abbrev pub width : Column → ℕ
-width U64 = byte_len w64
+width c = (kind_of c).width
 
 -- how many bytes a key has at most
 abbrev pub total_width : List Column → ℕ
 total_width [] = 0
 total_width (c ∷ cs) = width c + total_width cs
 
--- what is wrong with a value at a place where a whole number from 0 stands that fits the bytes of a width
-abbrev pub unsigned_fault : Width → ℕ → Value → Option ValueFault
-unsigned_fault w place (Bool b) = Some (WrongType place)
-unsigned_fault w place (Int (pos n)) = if nat_lt n (256 ^ byte_len w) then None else Some (OutOfRange place)
-unsigned_fault w place (Int (negsuc n)) = Some (OutOfRange place)
-unsigned_fault w place (Text t) = Some (WrongType place)
+-- ---- tuples
 
 -- what is wrong with a value in the column at a place
 abbrev pub value_fault : ℕ → Column → Value → Option ValueFault
-value_fault place U64 v = unsigned_fault w64 place v
+value_fault place c v = (kind_of c).fault place v
 
 -- the first fault of values in their columns, from a place on
 abbrev pub first_fault : ℕ → List Column → List Value → Option ValueFault
@@ -41,17 +59,3 @@ first_fault place (c ∷ cs) (v ∷ vs) = option_or (value_fault place c v) (fir
 -- what is wrong with a tuple under a schema: each column has one value, and each value stands in its column
 abbrev pub tuple_fault : List Column → List Value → Option ValueFault
 tuple_fault schema tuple = if length schema == length tuple then first_fault 0 schema tuple else Some WrongColumns
-
--- the column of a name
-abbrev pub column_of : List ℕ → Option Column
-column_of name = if pointwise nat_eq name (codes "u64") then Some U64 else None
-
--- the schema of one column, if it is of a known kind
-abbrev pub schema_of_one : Option Column → Result (List Column) SchemaFault
-schema_of_one None = Err (BadColumn 0)
-schema_of_one (Some c) = Ok (c ∷ [])
-
--- the schema that a text names
-abbrev pub schema_of : List ℕ → Result (List Column) SchemaFault
-schema_of [] = Err NoColumns
-schema_of (b ∷ bs) = schema_of_one (column_of (b ∷ bs))

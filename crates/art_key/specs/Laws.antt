@@ -6,7 +6,8 @@ use Rattle.art_model.specs.declared.values.Value.{Value}
 use Rattle.art_model.specs.Values.{value_cmp}
 use Rattle.art_key.specs.declared.columns.Column.{Column}
 use Rattle.art_key.specs.Columns.{total_width, tuple_fault}
-use Rattle.art_key.specs.Spelling.{AreBytes, spelling, IsSpelling, tuple_spelled}
+use Rattle.art_key.specs.Kinds.{AreBytes}
+use Rattle.art_key.specs.Spelling.{spelling, IsSpelling, tuple_spelled}
 
 -- keys of one schema stand in byte order as their tuples stand in the order of tuples
 abbrev pub KeysStandAsTuples : Type 0

@@ -1,3 +1,11 @@
+pub mod Bounds
 pub mod Columns
+pub mod KindLaws
+pub mod Kinds
 pub mod Laws
+pub mod Numbers
+pub mod Orders
+pub mod Parts
+pub mod Schemas
 pub mod Spelling
+pub mod TextLaws

@@ -1,8 +1,8 @@
 //! Keys: the bytes that spell a tuple under a schema.
-ghost use Rattle.std.specs.Prelude.{◌≡◌, ◌≤◌, length, List, None, Some, IfSome, IfNone, IfOk, IfErr, OnOk};
+ghost use Rattle.std.specs.Prelude.{◌≡◌, ◌≤◌, All, length, List, None, Some, IfSome, IfNone, IfOk, IfErr, OnOk};
 ghost use Rattle.std.specs.Option.{option_map};
 ghost use Rattle.art_model.specs.declared.values.Value.{Value};
-ghost use Rattle.art_key.specs.Columns.{total_width, first_fault, tuple_fault};
+ghost use Rattle.art_key.specs.Columns.{IsColumn, total_width, first_fault, tuple_fault};
 ghost use Rattle.art_key.specs.Spelling.{spelling, IsSpelling, tuple_spelled};
 
 use crate::{Column, Schema, ValueFault};
@@ -28,6 +28,7 @@ pub fn encode(schema: &Schema, tuple: &Tuple) -> Result<Key, ValueFault>
 /// The spellings of the values, one for each column, one after another.
 fn spell(columns: &[Column], values: &[Value]) -> Result<Key, ValueFault>
     requires same_length { length columns.now ≡ length values.now }
+    requires known { All IsColumn columns.now }
     requires narrow { total_width columns.now ≤ 64 }
     ensures stands { OnOk result (first_fault 0 columns.now values.now ≡ None) }
     ensures bytes { IfOk result (λ key. key.items ≡ spelling columns.now values.now) }
@@ -51,7 +52,8 @@ pub fn decode(schema: &Schema, bytes: &[u8]) -> Option<Tuple>
 
 /// The values that the bytes spell, one for each column, and no bytes are left.
 fn read(columns: &[Column], bytes: &[u8]) -> Option<Tuple>
-    requires { length columns.now ≤ 8 }
+    requires known { All IsColumn columns.now }
+    requires few { length columns.now ≤ 8 }
     ensures { option_map (λ t. t.items) result ≡ tuple_spelled columns.now bytes.now }
 {
     let mut tuple = Tuple::new();

@@ -5,17 +5,22 @@
 //! key is read back as its tuple. Those laws are stated in `laws`, and rest on one law for each kind of column.
 #![tactic(auto)]
 
+mod bounds;
 mod columns;
 mod faults;
 mod keys;
+mod kinds;
 mod laws;
 mod schemas;
 
+pub use bounds::Bound;
 pub use columns::Column;
 pub use faults::{SchemaFault, ValueFault};
 pub use keys::{Key, decode, encode};
 pub use laws::{keys_stand_as_tuples, no_key_begins_another, spellings_are_read_back};
 pub use schemas::Schema;
 
+#[cfg(test)]
+mod schema_tests;
 #[cfg(test)]
 mod tests;

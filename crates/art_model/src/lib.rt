@@ -19,4 +19,4 @@ pub use faults::NoMemory;
 pub use laws::{rows_answer_at_places, rows_are_searched, texts_stand_by_code_points};
 pub use rows::{Row, Tuple};
 pub use sorted_rows::SortedRows;
-pub use values::{Text, Value};
+pub use values::{TEXT_BYTES, Text, Value};

@@ -2,7 +2,7 @@
 ghost use Rattle.std.specs.Prelude.{◌≡◌, ◌≤◌, [], All, codes, map, unwrap_or, Ok, Err, OnOk};
 ghost use Rattle.clap.specs.Words.{fault_of};
 ghost use Rattle.art_key.specs.declared.faults.SchemaFault.{SchemaFault};
-ghost use Rattle.art_key.specs.Columns.{schema_of};
+ghost use Rattle.art_key.specs.Schemas.{schema_of};
 ghost use Rattle.art_table.specs.Contents.{IsPassOf};
 ghost use Rattle.art_server.specs.Refusals.{schema_refusal};
 ghost use Rattle.art_tools.specs.Outputs.{Outputs};

@@ -1,6 +1,6 @@
 use Rattle.std.proofs.Common.{arith, ◌∙◌, ap}
 use Rattle.art_key.specs.Spelling.{tuple_spelled}
-use Rattle.art_key.proofs.Numbers.{AreBytes-from_each}
+use Rattle.art_key.specs.Numbers.{AreBytes-from_each}
 use Rattle.art_key.proofs.TupleLaws.{found_from_exact, none_from_exact}
 use Rattle.art_key.proofs.keys.decode.Goals as goal
 

@@ -1,5 +1,5 @@
 -- The order of numbers, by their digits.
-use Rattle.std.proofs.Common.{◌≡◌, ℕ, suc, ◌+◌, ◌*◌, ◌<◌, ◌≤◌, pos, refl, sym, ap, ◌∙◌, inl, inr, arith, nat_cmp, int_cmp, Ordering, Less, Equal, Greater, lt-ltb, le-ltb, eq-eqb, ne_eqb, mul-le-mul_right}
+use Rattle.std.proofs.Common.{◌≡◌, ℕ, suc, ◌+◌, ◌*◌, ◌<◌, ◌≤◌, pos, refl, sym, ap, subst, ◌∙◌, inl, inr, arith, nat_cmp, int_cmp, Ordering, Less, Equal, Greater, lt-ltb, le-ltb, eq-eqb, ne_eqb, mul-le-mul_right}
 use Rattle.std.proofs.lemmas.Bool.{cases_order}
 use Rattle.std.specs.Ordering.{ordering_then}
 
@@ -60,3 +60,20 @@ nat_cmp_digits unit a b r s r-lt s-lt =
             | inr gt ↦ nat_cmp_greater (a * unit + r) (b * unit + s) (above unit b a s r gt s-lt) ∙ ap (λ o. ordering_then o (nat_cmp r s)) (sym (nat_cmp_greater a b gt))
           ]
     ]
+
+-- numbers with the same digits
+pub same_digits : (unit a b r s : ℕ) → r < unit → s < unit → a * unit + r ≡ b * unit + s → (a ≡ b) × (r ≡ s)
+same_digits unit a b r s r-lt s-lt e =
+    elim (cases_order a b) [
+      | inl same ↦ (same, low same)
+      | inr h ↦
+          elim h [
+            | inl lt ↦ absurd (omega (arith, above unit a b r s lt r-lt))
+            | inr gt ↦ absurd (omega (arith, above unit b a s r gt s-lt))
+          ]
+    ]
+  where
+    low : a ≡ b → r ≡ s
+    low same =
+        let aligned : b * unit + r ≡ b * unit + s = subst (λ (x : ℕ). x * unit + r ≡ b * unit + s) same e in
+        omega arith
