@@ -155,10 +155,10 @@ fn tuple_in(said: &Json) -> Result<Tuple, LineFault>
 fn tuple_of(elements: &[Json]) -> Result<Tuple, ValueFault>
     ensures { result ≡ tuple_said (items_view elements.now) }
 {
-    let mut tuple = Tuple::new();
     if elements.len() > COLUMNS {
         return Err(ValueFault::WrongColumns);
     }
+    let mut tuple = Tuple::new();
     for (place, element) in elements.iter().enumerate() {
         tuple.push(value_in(place, element)?);
     }
