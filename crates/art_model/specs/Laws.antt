@@ -34,3 +34,7 @@ RowsAnswerInGaps = (rows : List Row) (t : Tuple) (i : ℕ) → IsGapFor rows t i
 -- rows stay sorted with one more in its gap
 abbrev pub RowsStaySorted : Type 0
 RowsStaySorted = (rows : List Row) (t : Tuple) (i v : ℕ) → IsSortedRows rows → IsGapFor rows t i → IsSortedRows (with_row rows t v)
+
+-- rows stay sorted without the one at its place
+abbrev pub RowsStaySortedWithout : Type 0
+RowsStaySortedWithout = (rows : List Row) (t : Tuple) (i : ℕ) → IsSortedRows rows → IsPlaceOf rows t i → IsSortedRows (without_row rows t)

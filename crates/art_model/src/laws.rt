@@ -1,5 +1,5 @@
 //! Laws of the definitions, which the proofs of the crates above cite. Nothing here runs.
-ghost use Rattle.art_model.specs.Laws.{TextsStandByCodePoints, TuplesHaveOneOrder, SearchesEndAtPlaces, RowsAnswerAtPlaces, RowsAnswerInGaps, RowsStaySorted};
+ghost use Rattle.art_model.specs.Laws.{TextsStandByCodePoints, TuplesHaveOneOrder, SearchesEndAtPlaces, RowsAnswerAtPlaces, RowsAnswerInGaps, RowsStaySorted, RowsStaySortedWithout};
 
 /// Texts stand by their bytes of UTF-8 as they stand by their code points.
 pub fn texts_stand_by_code_points()
@@ -17,4 +17,5 @@ pub fn rows_answer_at_places()
     ensures place { RowsAnswerAtPlaces }
     ensures gap { RowsAnswerInGaps }
     ensures sorted { RowsStaySorted }
+    ensures sorted_without { RowsStaySortedWithout }
 {}

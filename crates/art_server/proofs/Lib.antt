@@ -1,4 +1,5 @@
 pub mod LineLaws
+pub mod TupleLaws
 pub mod ReplyLaws
 pub mod StreamLaws
 pub mod ServedLaws

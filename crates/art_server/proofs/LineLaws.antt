@@ -9,7 +9,7 @@ use Rattle.serde_json.specs.Read.{read}
 use Rattle.serde_json.specs.View.{view, items_view}
 use Rattle.serde_json.specs.declared.value.Value.{Value}
 use Rattle.art_server.specs.declared.lines.LineFault.TheVariants.{BadLine, LineTooLong, BadCommand}
-use Rattle.art_server.specs.Lines.{data_of_line, data_says, command_said, line_says, insert_said, insert_of, get_said, get_of, tuple_said, tuple_of_one, tuple_in, value_said, number_said}
+use Rattle.art_server.specs.Lines.{data_of_line, data_says, command_said, line_says, insert_said, insert_of, tuple_alone, tuple_in, number_said}
 
 -- a line too long is so, whatever it says
 pub line_says-long : (line : List ℕ) → 4096 < length line → line_says line ≡ Err LineTooLong
@@ -49,25 +49,15 @@ line_says-take line = alike_at line _ refl
 
 -- ---- what stands in arrays of one length or another
 
-pub tuple_said-other : (vs : List Value) → length vs ≢ 1 → tuple_said (items_view vs) ≡ Err BadCommand
-tuple_said-other [] other = refl
-tuple_said-other (v ∷ []) other = absurd (other refl)
-tuple_said-other (v ∷ w ∷ vs) other = refl
+pub tuple_alone-other : (vs : List Value) → length vs ≢ 1 → tuple_alone (items_view vs) ≡ Err BadCommand
+tuple_alone-other [] other = refl
+tuple_alone-other (v ∷ []) other = absurd (other refl)
+tuple_alone-other (v ∷ w ∷ vs) other = refl
 
-pub tuple_said-one : (vs : List Value) (v : Value) → length vs ≡ 1 → v ≡ get_or vs 0 v → tuple_said (items_view vs) ≡ tuple_of_one (value_said (view v))
-tuple_said-one [] v one is = absurd (omega arith)
-tuple_said-one (w ∷ []) v one is = rw is
-tuple_said-one (w ∷ x ∷ vs) v one is = absurd (omega arith)
-
-pub get_said-other : (vs : List Value) → length vs ≢ 1 → get_said (items_view vs) ≡ Err BadCommand
-get_said-other [] other = refl
-get_said-other (v ∷ []) other = absurd (other refl)
-get_said-other (v ∷ w ∷ vs) other = refl
-
-pub get_said-one : (vs : List Value) (v : Value) → length vs ≡ 1 → v ≡ get_or vs 0 v → get_said (items_view vs) ≡ get_of (tuple_in (view v))
-get_said-one [] v one is = absurd (omega arith)
-get_said-one (w ∷ []) v one is = rw is
-get_said-one (w ∷ x ∷ vs) v one is = absurd (omega arith)
+pub tuple_alone-one : (vs : List Value) (v : Value) → length vs ≡ 1 → v ≡ get_or vs 0 v → tuple_alone (items_view vs) ≡ tuple_in (view v)
+tuple_alone-one [] v one is = absurd (omega arith)
+tuple_alone-one (w ∷ []) v one is = rw is
+tuple_alone-one (w ∷ x ∷ vs) v one is = absurd (omega arith)
 
 pub insert_said-other : (vs : List Value) → length vs ≢ 2 → insert_said (items_view vs) ≡ Err BadCommand
 insert_said-other [] other = refl
@@ -76,14 +66,12 @@ insert_said-other (v ∷ w ∷ []) other = absurd (other refl)
 insert_said-other (v ∷ w ∷ x ∷ vs) other = refl
 
 pub insert_said-two : (vs : List Value) (v w : Value) → length vs ≡ 2 → v ≡ get_or vs 0 v → w ≡ get_or vs 1 w
-    → insert_said (items_view vs) ≡ insert_of (tuple_in (view v)) (number_said (view w))
+    → insert_said (items_view vs) ≡ insert_of (number_said (view w)) (tuple_in (view v))
 insert_said-two [] v w two is also = absurd (omega arith)
 insert_said-two (x ∷ []) v w two is also = absurd (omega arith)
 insert_said-two (x ∷ y ∷ []) v w two is also = rw (is, also)
 insert_said-two (x ∷ y ∷ z ∷ vs) v w two is also = absurd (omega arith)
 
-pub ruleset tuple_items = (tuple_said-other, tuple_said-one)
-
-pub ruleset get_items = (get_said-other, get_said-one)
+pub ruleset lone_items = (tuple_alone-other, tuple_alone-one)
 
 pub ruleset insert_items = (insert_said-other, insert_said-two)

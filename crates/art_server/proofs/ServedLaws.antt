@@ -6,7 +6,7 @@ use Rattle.serde_json.specs.Data.{Data, Items, no_items, item}
 use Rattle.serde_json.specs.Find.{as_array, as_str}
 use Rattle.art_server.specs.declared.lines.LineFault.{LineFault}
 use Rattle.art_server.specs.declared.lines.LineFault.TheVariants.{LineTooLong, BadCommand}
-use Rattle.art_server.specs.Lines.{insert_of, insert_said, get_of, get_said, tuple_in, number_said, word_said, first_said, items_said, data_says, data_of_line, line_says}
+use Rattle.art_server.specs.Lines.{insert_of, insert_said, remove_of, get_of, tuple_alone, tuple_in, number_said, word_said, first_said, items_said, data_says, data_of_line, line_says}
 use Rattle.art_server.specs.Steps.{IsServed}
 
 abbrev IsServedWhereSaid : Result Command LineFault → Type 0
@@ -17,30 +17,31 @@ served_either : (b : Bool) (x y : Result Command LineFault) → IsServedWhereSai
 served_either true x y p q = p
 served_either false x y p q = q
 
-served_insert_of : (tuple : Result Tuple LineFault) (value : Result ℕ LineFault) → IsServedWhereSaid (insert_of tuple value)
-served_insert_of (Err fault) value = tt
-served_insert_of (Ok tuple) (Err fault) = tt
-served_insert_of (Ok tuple) (Ok value) = tt
+served_insert_of : (value : Result ℕ LineFault) (tuple : Result Tuple LineFault) → IsServedWhereSaid (insert_of value tuple)
+served_insert_of (Err fault) tuple = tt
+served_insert_of (Ok value) (Err fault) = tt
+served_insert_of (Ok value) (Ok tuple) = tt
 
 served_insert : (ds : Items) → IsServedWhereSaid (insert_said ds)
 served_insert no_items = tt
 served_insert (item t no_items) = tt
-served_insert (item t (item v no_items)) = served_insert_of (tuple_in t) (number_said v)
+served_insert (item t (item v no_items)) = served_insert_of (number_said v) (tuple_in t)
 served_insert (item t (item v (item d ds))) = tt
+
+served_remove_of : (tuple : Result Tuple LineFault) → IsServedWhereSaid (remove_of tuple)
+served_remove_of (Err fault) = tt
+served_remove_of (Ok tuple) = tt
 
 served_get_of : (tuple : Result Tuple LineFault) → IsServedWhereSaid (get_of tuple)
 served_get_of (Err fault) = tt
 served_get_of (Ok tuple) = tt
 
-served_get : (ds : Items) → IsServedWhereSaid (get_said ds)
-served_get no_items = tt
-served_get (item t no_items) = served_get_of (tuple_in t)
-served_get (item t (item d ds)) = tt
-
 served_word : (word : List ℕ) (rest : Items) → IsServedWhereSaid (word_said word rest)
 served_word word rest =
+    let tuple = tuple_alone rest in
     served_either (bytes_eq word (codes "insert")) _ _ (served_insert rest)
-    (served_either (bytes_eq word (codes "get")) (get_said rest) (Err BadCommand) (served_get rest) tt)
+    (served_either (bytes_eq word (codes "remove")) _ _ (served_remove_of tuple)
+    (served_either (bytes_eq word (codes "get")) (get_of tuple) (Err BadCommand) (served_get_of tuple) tt))
 
 served_first : (word : Option (List ℕ)) (rest : Items) → IsServedWhereSaid (first_said word rest)
 served_first None rest = tt

@@ -67,17 +67,18 @@ refusal_text refusal = codes "refused " ++ decimal (refusal_number refusal) ++ c
 
 -- ---- the refusal of each fault, by its name: places of columns, and pools, are dropped
 
-abbrev pub line_refusal : LineFault → Refusal
-line_refusal line.BadLine = BadLine
-line_refusal line.LineTooLong = LineTooLong
-line_refusal line.BadCommand = BadCommand
-line_refusal line.NoMemory = NoMemory
-
 abbrev pub value_refusal : ValueFault → Refusal
 value_refusal value.WrongColumns = WrongColumns
 value_refusal (value.WrongType place) = WrongType
 value_refusal (value.OutOfRange place) = OutOfRange
 value_refusal (value.TextTooLong place) = TextTooLong
+
+abbrev pub line_refusal : LineFault → Refusal
+line_refusal line.BadLine = BadLine
+line_refusal line.LineTooLong = LineTooLong
+line_refusal line.BadCommand = BadCommand
+line_refusal (line.Value fault) = value_refusal fault
+line_refusal line.NoMemory = NoMemory
 
 abbrev pub fault_refusal : Fault → Refusal
 fault_refusal (table.Value fault) = value_refusal fault

@@ -14,10 +14,10 @@ use Rattle.art_server.specs.Replies.{text_of_reply}
 use Rattle.art_server.specs.Sessions.{line_answer, replies_to, table_after, texts, AnswersFront, EndsBy}
 use Rattle.art_server.specs.Streams.{whole_lines, last_part, lines_of}
 
--- the commands that a line may say, which are two for now
+-- the commands that a line may say: all but a scan, for now
 abbrev pub IsServed : Command → Type 0
 IsServed (Insert tuple value) = ⊤
-IsServed (Remove tuple) = ⊥
+IsServed (Remove tuple) = ⊤
 IsServed (Get tuple) = ⊤
 IsServed (Scan lo hi limit) = ⊥
 

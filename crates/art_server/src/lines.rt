@@ -1,16 +1,21 @@
 //! From a line to the command that it says.
 ghost use Rattle.std.specs.Prelude.{◌≡◌, ℕ, ◌≢◌, ◌<◌, ◌≤◌, List, length, take, Ok, Err, MatchResult};
-ghost use Rattle.art_server.specs.Lines.{number_said, value_said, tuple_said, tuple_in, insert_said, get_said, word_said, command_said, line_says};
-ghost use Rattle.serde_json.specs.View.{view, items_view};
+ghost use Rattle.art_server.specs.Lines.{number_said, value_said, tuple_said, tuple_in, tuple_alone, insert_said, word_said, command_said, line_says};
+ghost use Rattle.serde_json.specs.Data.{number, string};
+ghost use Rattle.serde_json.specs.View.{view, number_view, items_view};
 
-use art_model::{Command, Tuple, Value};
-use serde_json::Value as Json;
+use art_key::ValueFault;
+use art_model::{Command, Text, Tuple, Value};
+use serde_json::{Number, Value as Json};
 use std::alloc::Global;
 use std::error::Error;
 use std::fmt;
 
 /// The longest line, in bytes, without its line feed.
 pub const LINE_BYTES: usize = 4096;
+
+/// The most elements of a tuple.
+const COLUMNS: usize = 8;
 
 /// Why a line gives no command.
 #[derive(Clone, Copy, Debug, PartialEq, Eq)]
@@ -19,31 +24,49 @@ pub enum LineFault {
     BadLine,
     /// It has more than `LINE_BYTES` bytes.
     LineTooLong,
-    /// It is a JSON text that says no command.
+    /// It is a JSON text that has not the shape of a command.
     BadCommand,
+    /// Its tuple has more than eight elements, or an element that is no value.
+    Value(ValueFault),
     /// There was no memory to read it.
     NoMemory,
 }
 
 impl fmt::Display for LineFault {
-    ghost use Rattle.std.specs.Prelude.{Some};
     ghost use Rattle.art_server.specs.Lines.{fault_text};
 
-    ghost output = { λ fault. Some (fault_text fault) };
+    ghost output = { fault_text };
 
     fn fmt<W: fmt::Write>(&self, f: &mut fmt::Formatter<W>) -> fmt::Result {
-        f.write_str(match self {
-            LineFault::BadLine => "no JSON text",
-            LineFault::LineTooLong => "line too long",
-            LineFault::BadCommand => "no command",
-            LineFault::NoMemory => "no memory",
-        })
+        match self {
+            LineFault::BadLine => f.write_str("no JSON text"),
+            LineFault::LineTooLong => f.write_str("line too long"),
+            LineFault::BadCommand => f.write_str("no command"),
+            LineFault::Value(fault) => write!(f, "{fault}"),
+            LineFault::NoMemory => f.write_str("no memory"),
+        }
     }
 }
 
 impl Error for LineFault {}
 
+impl From<ValueFault> for LineFault {
+    ghost use Rattle.std.specs.Prelude.{◌≡◌};
+    ghost use Rattle.art_server.specs.declared.lines.LineFault.TheVariants as fault;
+
+    ghost from_gives = { λ v f. f ≡ fault.Value v };
+
+    fn from(fault: ValueFault) -> LineFault {
+        LineFault::Value(fault)
+    }
+}
+
 /// The command that a line says, which stands here without its line feed.
+///
+/// A command is `["insert",[..],v]`, `["remove",[..]]` or `["get",[..]]`, with a whole number `v` from 0 to 2^64 - 1.
+/// This shape is looked at first, and then the elements of the tuple, of which there are at most eight: true or false,
+/// whole numbers from -2^63 to 2^64 - 1, and texts of at most 24 bytes of UTF-8. The first other element is told, by
+/// its place, which counts from 0.
 pub fn parse_line(alloc: Global, line: &[u8]) -> Result<Command, LineFault>
     ensures said { MatchResult result (λ command. line_says line.now ≡ Ok command)
         (λ fault. fault ≢ LineFault.NoMemory → line_says line.now ≡ Err fault) }
@@ -85,11 +108,13 @@ fn command_of(word: &str, rest: &[Json]) -> Result<Command, LineFault>
 {
     match word {
         "insert" => insert_in(rest),
-        "get" => get_in(rest),
+        "remove" => Ok(Command::Remove(tuple_alone(rest)?)),
+        "get" => Ok(Command::Get(tuple_alone(rest)?)),
         _ => Err(LineFault::BadCommand),
     }
 }
 
+/// The value is looked at before the elements of the tuple, so that a wrong shape is told before a wrong element.
 #[tactic(auto, using(crate::proofs::LineLaws::insert_items))]
 fn insert_in(rest: &[Json]) -> Result<Command, LineFault>
     ensures { result ≡ insert_said (items_view rest.now) }
@@ -97,52 +122,78 @@ fn insert_in(rest: &[Json]) -> Result<Command, LineFault>
     if rest.len() != 2 {
         return Err(LineFault::BadCommand);
     }
-    let tuple = tuple_of(&rest[0])?;
-    Ok(Command::Insert(tuple, number_in(&rest[1])?))
+    let value = number_in(&rest[1])?;
+    Ok(Command::Insert(tuple_in(&rest[0])?, value))
 }
 
-#[tactic(auto, using(crate::proofs::LineLaws::get_items))]
-fn get_in(rest: &[Json]) -> Result<Command, LineFault>
-    ensures { result ≡ get_said (items_view rest.now) }
+#[tactic(auto, using(crate::proofs::LineLaws::lone_items))]
+fn tuple_alone(rest: &[Json]) -> Result<Tuple, LineFault>
+    ensures { result ≡ tuple_alone (items_view rest.now) }
 {
     if rest.len() != 1 {
         return Err(LineFault::BadCommand);
     }
-    Ok(Command::Get(tuple_of(&rest[0])?))
-}
-
-fn tuple_of(said: &Json) -> Result<Tuple, LineFault>
-    ensures { result ≡ tuple_in (view said.now) }
-{
-    match said.as_array() {
-        Some(values) => tuple_from(values.as_slice()),
-        None => Err(LineFault::BadCommand),
-    }
-}
-
-#[tactic(auto, using(crate::proofs::LineLaws::tuple_items))]
-fn tuple_from(values: &[Json]) -> Result<Tuple, LineFault>
-    ensures { result ≡ tuple_said (items_view values.now) }
-{
-    if values.len() != 1 {
-        return Err(LineFault::BadCommand);
-    }
-    let mut tuple = Tuple::new();
-    tuple.push(value_in(&values[0])?);
-    Ok(tuple)
-}
-
-fn value_in(said: &Json) -> Result<Value, LineFault>
-    ensures { result ≡ value_said (view said.now) }
-{
-    Ok(Value::Int(i128::from(number_in(said)?)))
+    tuple_in(&rest[0])
 }
 
 fn number_in(said: &Json) -> Result<u64, LineFault>
     ensures { result ≡ number_said (view said.now) }
 {
-    match said.as_u64() {
-        Some(number) => Ok(number),
+    said.as_u64().ok_or(LineFault::BadCommand)
+}
+
+fn tuple_in(said: &Json) -> Result<Tuple, LineFault>
+    ensures { result ≡ tuple_in (view said.now) }
+{
+    match said.as_array() {
+        Some(elements) => Ok(tuple_of(elements.as_slice())?),
         None => Err(LineFault::BadCommand),
+    }
+}
+
+/// A ninth element is a fault whatever the elements are. Else the first one that is no value decides.
+fn tuple_of(elements: &[Json]) -> Result<Tuple, ValueFault>
+    ensures { result ≡ tuple_said (items_view elements.now) }
+{
+    if elements.len() > COLUMNS {
+        return Err(ValueFault::WrongColumns);
+    }
+    let mut tuple = Tuple::new();
+    for (place, element) in elements.iter().enumerate() {
+        tuple.push(value_in(place, element)?);
+    }
+    Ok(tuple)
+}
+
+fn value_in(place: usize, said: &Json) -> Result<Value, ValueFault>
+    ensures { result ≡ value_said place (view said.now) }
+{
+    match said {
+        Json::Bool(truth) => Ok(Value::Bool(*truth)),
+        Json::Number(number) => number_value(place, number),
+        Json::String(text) => text_value(place, text.as_str()),
+        _ => Err(ValueFault::WrongType(place)),
+    }
+}
+
+/// A whole number from -2^63 to 2^64 - 1. Any other number is read as a float, and so is `-0`.
+fn number_value(place: usize, said: &Number) -> Result<Value, ValueFault>
+    ensures { result ≡ value_said place (number (number_view said.now)) }
+{
+    if let Some(whole) = said.as_u64() {
+        return Ok(Value::Int(i128::from(whole)));
+    }
+    match said.as_i64() {
+        Some(whole) => Ok(Value::Int(i128::from(whole))),
+        None => Err(ValueFault::WrongType(place)),
+    }
+}
+
+fn text_value(place: usize, said: &str) -> Result<Value, ValueFault>
+    ensures { result ≡ value_said place (string said.now) }
+{
+    match Text::new(said) {
+        Some(text) => Ok(Value::Text(text)),
+        None => Err(ValueFault::TextTooLong(place)),
     }
 }

@@ -11,7 +11,7 @@ pub enum Refusal {
     BadLine,
     /// The line has more than 4,096 bytes.
     LineTooLong,
-    /// The JSON text is no command.
+    /// The JSON text has not the shape of a command.
     BadCommand,
     /// The tuple has not one value for each column.
     WrongColumns,
@@ -133,6 +133,7 @@ impl From<LineFault> for Refusal {
             LineFault::BadLine => Refusal::BadLine,
             LineFault::LineTooLong => Refusal::LineTooLong,
             LineFault::BadCommand => Refusal::BadCommand,
+            LineFault::Value(fault) => Refusal::from(fault),
             LineFault::NoMemory => Refusal::NoMemory,
         }
     }

@@ -1,7 +1,7 @@
 //! From the bytes of a reader to the bytes of a writer.
 ghost use Rattle.std.specs.Prelude.{◌≡◌, ◌≢◌, ◌+◌, ◌<◌, ◌≤◌, ◌^◌, [], ◌∷◌, ◌++◌, length, take, true, false, Ok};
 ghost use Rattle.std.specs.Io.KnownBytes.{IsAtEnd};
-ghost use Rattle.art_model.specs.declared.commands.Command.TheVariants.{Insert, Get};
+ghost use Rattle.art_model.specs.declared.commands.Command.TheVariants.{Insert, Remove, Get};
 ghost use Rattle.art_table.specs.Answers.{table_answer};
 ghost use Rattle.art_table.specs.Contents.{IsPassOf};
 ghost use Rattle.art_server.specs.Lines.{line_says};
@@ -14,7 +14,7 @@ use crate::streams::{read_piece, write_text};
 use crate::{LineFault, Refusal, parse_line};
 use arrayvec::ArrayVec;
 use art_model::{Command, Tuple};
-use art_table::{Inserted, Pass, Table, get, insert};
+use art_table::{Inserted, Pass, Table, get, insert, remove};
 use std::alloc::Global;
 use std::io::{Read, Write};
 
@@ -263,6 +263,7 @@ fn run_command(table: &mut Table, pass: &mut Pass, command: &Command) -> Answer
 {
     match command {
         Command::Insert(tuple, value) => run_insert(table, pass, tuple, *value),
+        Command::Remove(tuple) => run_remove(table, pass, tuple),
         Command::Get(tuple) => run_get(table, pass, tuple),
         _ => unreachable!(),
     }
@@ -277,6 +278,19 @@ fn run_insert(table: &mut Table, pass: &mut Pass, tuple: &Tuple, value: u64) -> 
     match insert(table, pass, tuple, value, TURNS) {
         Ok(Inserted::New) => Answer::Inserted,
         Ok(Inserted::Present(stored)) => Answer::Present(stored),
+        Err(fault) => Answer::Refused(Refusal::from(fault)),
+    }
+}
+
+fn run_remove(table: &mut Table, pass: &mut Pass, tuple: &Tuple) -> Answer
+    requires { IsPassOf table.old pass.old }
+    ensures reply { reply_of result ≡ refused (table_answer (Remove tuple.now) table.old).0 }
+    ensures after { table.new ≡ (table_answer (Remove tuple.now) table.old).1 }
+    ensures pass { pass.new ≡ pass.old }
+{
+    match remove(table, pass, tuple, TURNS) {
+        Ok(Some(value)) => Answer::Removed(value),
+        Ok(None) => Answer::Absent,
         Err(fault) => Answer::Refused(Refusal::from(fault)),
     }
 }

@@ -1,10 +1,10 @@
 -- What a table answers, by what stands at the tuple.
 use Rattle.std.proofs.Common.{◌≡◌, ℕ, List, length, Bool, true, false, eqb, ◌&&◌, Option, Some, None, Result, Ok, Err, MatchResult, is_none, refl, ap, ◌∙◌}
-use Rattle.art_model.specs.declared.commands.Command.TheVariants.{Insert, Get}
-use Rattle.art_model.specs.declared.commands.Reply.TheVariants.{Inserted, Present, Absent, Found}
+use Rattle.art_model.specs.declared.commands.Command.TheVariants.{Insert, Remove, Get}
+use Rattle.art_model.specs.declared.commands.Reply.TheVariants.{Inserted, Present, Removed, Absent, Found}
 use Rattle.art_model.specs.declared.rows.Row.{Row}
-use Rattle.art_model.specs.Rows.{Tuple, value_at, with_row}
-use Rattle.art_model.specs.Answers.{insert_answer, get_answer}
+use Rattle.art_model.specs.Rows.{Tuple, value_at, with_row, without_row}
+use Rattle.art_model.specs.Answers.{insert_answer, remove_answer, get_answer}
 use Rattle.art_model.specs.Places.{IsPlaceOf, IsGapFor}
 use Rattle.art_model.specs.Laws.{RowsAnswerAtPlaces, RowsAnswerInGaps}
 use Rattle.art_key.specs.declared.columns.Column.{Column}
@@ -17,7 +17,7 @@ use Rattle.art_table.specs.Answers.{table_answer, unless_refused, lacks_leaf}
 
 -- a search that ended at a place of the rows is a look-up
 pub looked_up : RowsAnswerAtPlaces → RowsAnswerInGaps → (rows : List Row) (t : Tuple) (r : Result ℕ ℕ) → MatchResult r (IsPlaceOf rows t) (IsGapFor rows t) → IsLookedUp rows t r
-looked_up at_place in_gap rows t (Ok i) place = (place.within, (at_place rows t i place).0)
+looked_up at_place in_gap rows t (Ok i) place = (place, (at_place rows t i place).0)
 looked_up at_place in_gap rows t (Err i) gap = (gap, (in_gap rows t i gap).0)
 
 module _ (schema : List Column) (sizes : Config) (rows : List Row) (t : Tuple) (stands : tuple_fault schema t.items ≡ None) where
@@ -32,6 +32,14 @@ module _ (schema : List Column) (sizes : Config) (rows : List Row) (t : Tuple) (
   pub get_nowhere : value_at rows t ≡ None → table_answer (Get t) (with_rows rows) ≡ (Ok Absent, with_rows rows)
   get_nowhere absent =
       ap (λ f. unless_refused f false (Get t) (with_rows rows)) stands ∙ ap (λ o. (Ok (get_answer rows o).0, with_rows (get_answer rows o).1)) absent
+
+  pub remove_there : (v : ℕ) → value_at rows t ≡ Some v → table_answer (Remove t) (with_rows rows) ≡ (Ok (Removed v), with_rows (without_row rows t))
+  remove_there v there =
+      ap (λ f. unless_refused f false (Remove t) (with_rows rows)) stands ∙ ap (λ o. (Ok (remove_answer rows t o).0, with_rows (remove_answer rows t o).1)) there
+
+  pub remove_nowhere : value_at rows t ≡ None → table_answer (Remove t) (with_rows rows) ≡ (Ok Absent, with_rows rows)
+  remove_nowhere absent =
+      ap (λ f. unless_refused f false (Remove t) (with_rows rows)) stands ∙ ap (λ o. (Ok (remove_answer rows t o).0, with_rows (remove_answer rows t o).1)) absent
 
   -- an insert, by what stands at its tuple
   inserts : (v : ℕ) (o : Option ℕ) (full : Bool) → value_at rows t ≡ o → eqb (length rows) sizes.leaves ≡ full

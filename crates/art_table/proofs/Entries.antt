@@ -1,5 +1,5 @@
 -- A search of the keys is a search of the rows.
-use Rattle.std.proofs.Common.{◌≡◌, ℕ, ◌<◌, List, [], ◌∷◌, ◌++◌, Some, Result, Ok, Err, MatchResult, length, get_or, take, drop, insert, unwrap_or, sym, ap, ◌∙◌, subst, arith, All}
+use Rattle.std.proofs.Common.{◌≡◌, ℕ, suc, ◌<◌, List, [], ◌∷◌, ◌++◌, Some, Result, Ok, Err, MatchResult, length, get_or, take, drop, insert, remove, unwrap_or, sym, ap, ◌∙◌, subst, arith, All}
 use Rattle.std.proofs.lemmas.List.{length-map, get_or-map, take-map, drop-map, map-append}
 use Rattle.std.proofs.lemmas.List.Elements.{All-get_or, All-append, All-cons, All-take, All-drop}
 use Rattle.std.specs.declared.cmp.Ordering.{Ordering}
@@ -56,7 +56,7 @@ module _ (as_tuples : KeysStandAsTuples) (schema : List Column) (tuple : Tuple) 
 -- the entry at the place of a look-up has the tuple's value
 pub entry_there : (schema : List Column) (entries : List Entry) (t : Tuple) (i : ℕ) (e : Entry) → IsLookedUp (rows_of schema entries) t (Ok i) → e ≡ get_or entries i e → value_at (rows_of schema entries) t ≡ Some e.value
 entry_there schema entries t i e found read =
-    found.1 (row_of schema e) ∙ ap (λ (r : Row). Some r.value) (get_or-map (row_of schema) entries i e (row_of schema e) (omega (arith, found.0, length-map entries (row_of schema)))) ∙ ap (λ (x : Entry). Some x.value) (sym read)
+    found.1 (row_of schema e) ∙ ap (λ (r : Row). Some r.value) (get_or-map (row_of schema) entries i e (row_of schema e) (omega (arith, found.0.within, length-map entries (row_of schema)))) ∙ ap (λ (x : Entry). Some x.value) (sym read)
 
 -- ---- one entry more
 
@@ -84,3 +84,16 @@ module _ (schema : List Column) where
 
     pub rows_with : (entries : List Entry) (i : ℕ) → rows_of schema (insert entries i e) ≡ insert (rows_of schema entries) i (record { tuple = t; value = e.value })
     rows_with entries i = map-insert entries i e ∙ ap (insert (rows_of schema entries) i) entry_row
+
+-- ---- one entry fewer
+
+module _ (schema : List Column) (entries : List Entry) (i : ℕ) where
+  pub rows_without : rows_of schema (remove entries i) ≡ remove (rows_of schema entries) i
+  rows_without =
+      map-append (row_of schema) (take i entries) (drop (suc i) entries)
+      ∙ (λ j. sym (take-map (row_of schema) i entries) j ++ sym (drop-map (row_of schema) (suc i) entries) j)
+
+  pub keys_without : All (HasKey schema) entries → All (HasKey schema) (remove entries i)
+  keys_without keys =
+      let P = HasKey schema in
+      All-append P (take i entries) (drop (suc i) entries) (All-take P i entries keys) (All-drop P (suc i) entries keys)

@@ -62,3 +62,7 @@ insert_reply (Present v) = reply.Present v
 abbrev pub get_reply : Option ℕ → Reply
 get_reply None = reply.Absent
 get_reply (Some v) = reply.Found v
+
+abbrev pub remove_reply : Option ℕ → Reply
+remove_reply None = reply.Absent
+remove_reply (Some v) = reply.Removed v

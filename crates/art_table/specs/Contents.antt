@@ -1,10 +1,10 @@
 -- What contracts see of a table, and how its entries mean its rows.
-use Rattle.std.specs.Prelude.{◌≡◌, ℕ, ◌<◌, ◌≤◌, List, [], All, length, map, unwrap_or, vec_len, vec_capacity, Vec, Some, None, Result, Ok, Err, slice_index_or}
+use Rattle.std.specs.Prelude.{◌≡◌, ℕ, ◌<◌, ◌≤◌, List, [], All, map, unwrap_or, vec_len, vec_capacity, Vec, Some, None, Result, Ok, Err, slice_index_or}
 use Rattle.std.specs.declared.alloc.Global.{Global}
 use Rattle.art_model.specs.declared.rows.Row.{Row}
 use Rattle.art_model.specs.declared.values.Value.{Value}
 use Rattle.art_model.specs.Rows.{Tuple, IsSortedRows, value_at}
-use Rattle.art_model.specs.Places.{IsGapFor}
+use Rattle.art_model.specs.Places.{IsPlaceOf, IsGapFor}
 use Rattle.art_key.specs.declared.columns.Column.{Column}
 use Rattle.art_key.specs.Spelling.{IsSpelling, tuple_spelled}
 use Rattle.art_table.specs.declared.configs.Config.{Config}
@@ -46,7 +46,7 @@ pub record IsTable (schema : List Column) (sizes : Config) (entries : Vec Entry 
   pub within : vec_len entries ≤ sizes.leaves
   pub room : sizes.leaves ≤ vec_capacity entries
 
--- A look-up ended at the place of the tuple's row, whose value it is, or in the gap for it.
+-- A look-up ended at the place of the tuple's row, with its value there, or in the gap for it.
 abbrev pub IsLookedUp : List Row → Tuple → Result ℕ ℕ → Type 0
-IsLookedUp rows tuple (Ok i) = (i < length rows) × ((d : Row) → value_at rows tuple ≡ Some (slice_index_or rows i d).value)
+IsLookedUp rows tuple (Ok i) = IsPlaceOf rows tuple i × ((d : Row) → value_at rows tuple ≡ Some (slice_index_or rows i d).value)
 IsLookedUp rows tuple (Err i) = IsGapFor rows tuple i × (value_at rows tuple ≡ None)

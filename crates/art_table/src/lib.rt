@@ -20,4 +20,4 @@ pub use closing::{CloseFault, CloseRefusal, Closed, PoolCount, close};
 pub use configs::Config;
 pub use faults::{Fault, OpenFault, Pool};
 pub use passes::Pass;
-pub use tables::{Inserted, Table, get, insert, open};
+pub use tables::{Inserted, Table, get, insert, open, remove};

@@ -4,13 +4,13 @@ ghost use Rattle.std.specs.List.{range_with_len};
 ghost use Rattle.std.specs.List.Sorted.{IsSearchInRange, IsBinarySearchResult};
 ghost use Rattle.std.specs.Ordering.{nat_cmp};
 ghost use Rattle.std.specs.Cmp.Lexicographic.{slice_cmp};
-ghost use Rattle.art_model.specs.declared.commands.Command.TheVariants.{Insert, Get};
+ghost use Rattle.art_model.specs.declared.commands.Command.TheVariants.{Insert, Remove, Get};
 ghost use Rattle.art_table.specs.Sizes.{IsConfig};
 ghost use Rattle.art_model.specs.Rows.{IsSortedRows};
 ghost use Rattle.art_key.specs.Columns.{tuple_fault};
 ghost use Rattle.art_key.specs.Spelling.{IsSpelling};
 ghost use Rattle.art_table.specs.Contents.{IsPassOf, HasKey, IsLookedUp, rows_of};
-ghost use Rattle.art_table.specs.Answers.{table_answer, replied, insert_reply, get_reply};
+ghost use Rattle.art_table.specs.Answers.{table_answer, replied, insert_reply, remove_reply, get_reply};
 
 use crate::passes::all_passes;
 use crate::{Config, Fault, OpenFault, Pass, Pool};
@@ -103,6 +103,27 @@ pub fn insert(
     rows_answer_at_places();
     table.entries.insert(at, Entry { key, value }).unwrap();
     Ok(Inserted::New)
+}
+
+/// Takes the row with the tuple out, if one stands, and answers its value. Its leaf is free for another row.
+///
+/// Takes no memory, and counts no steps against `turns` yet.
+pub fn remove(
+    table: &mut Table,
+    _pass: &mut Pass,
+    tuple: &Tuple,
+    _turns: u32,
+) -> Result<Option<u64>, Fault>
+    requires { IsPassOf table.old _pass.old }
+    ensures reply { replied remove_reply result ≡ (table_answer (Remove tuple.now) table.old).0 }
+    ensures after { table.new ≡ (table_answer (Remove tuple.now) table.old).1 }
+    ensures pass { _pass.new ≡ _pass.old }
+{
+    let (_, Ok(at)) = look_up(&table.schema, &table.entries, tuple)? else {
+        return Ok(None);
+    };
+    rows_answer_at_places();
+    Ok(Some(table.entries.remove(at).value))
 }
 
 /// The value of the row with the tuple, if one stands. Takes no memory.

@@ -3,7 +3,7 @@ ghost use Rattle.art_table.specs.Contents.{IsPassOf};
 
 use crate::{
     CloseRefusal, Config, Fault, Inserted, OpenFault, Pass, Pool, PoolCount, Table, close, get,
-    insert, open,
+    insert, open, remove,
 };
 use art_key::{Schema, ValueFault};
 use art_model::{Tuple, Value};
@@ -70,10 +70,32 @@ fn a_third_row_finds_two_leaves_full(rt: HostRuntime) {
 }
 
 #[test]
+fn a_removed_row_is_absent_and_its_leaf_is_free(rt: HostRuntime) {
+    let (mut table, mut pass) = opened(&rt, rt.alloc());
+    let first = insert(&mut table, &mut pass, &tuple_of(20), 7, 9);
+    assert_eq!(rt; first, Ok(Inserted::New));
+    let second = insert(&mut table, &mut pass, &tuple_of(10), 6, 9);
+    assert_eq!(rt; second, Ok(Inserted::New));
+    let third = insert(&mut table, &mut pass, &tuple_of(30), 8, 9);
+    assert_eq!(rt; third, Err(Fault::Full(Pool::Leaves)));
+    let removed = remove(&mut table, &mut pass, &tuple_of(20), 9);
+    assert_eq!(rt; removed, Ok(Some(7)));
+    let again = remove(&mut table, &mut pass, &tuple_of(20), 9);
+    assert_eq!(rt; again, Ok(None));
+    assert_eq!(rt; get(&mut table, &mut pass, &tuple_of(20), 9), Ok(None));
+    let third = insert(&mut table, &mut pass, &tuple_of(30), 8, 9);
+    assert_eq!(rt; third, Ok(Inserted::New));
+    assert_eq!(rt; get(&mut table, &mut pass, &tuple_of(10), 9), Ok(Some(6)));
+    assert_eq!(rt; get(&mut table, &mut pass, &tuple_of(30), 9), Ok(Some(8)));
+}
+
+#[test]
 fn a_value_out_of_its_column_changes_nothing(rt: HostRuntime) {
     let (mut table, mut pass) = opened(&rt, rt.alloc());
     let refused = Err(Fault::Value(ValueFault::OutOfRange(0)));
     assert_eq!(rt; insert(&mut table, &mut pass, &tuple_of(-1), 1, 9), refused);
+    let refused = Err(Fault::Value(ValueFault::OutOfRange(0)));
+    assert_eq!(rt; remove(&mut table, &mut pass, &tuple_of(-1), 9), refused);
     let empty = get(&mut table, &mut pass, &Tuple::new(), 9);
     assert_eq!(rt; empty, Err(Fault::Value(ValueFault::WrongColumns)));
 }
