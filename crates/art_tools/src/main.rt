@@ -4,6 +4,8 @@
 //! writers, and answers the status; `main` hands in the standard streams.
 #![tactic(auto)]
 
+#[cfg(test)]
+mod answers_tests;
 mod command_line;
 mod program;
 mod run_faults;

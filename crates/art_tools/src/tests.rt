@@ -150,8 +150,16 @@ fn a_schema_that_is_none_ends_with_three(rt: HostRuntime) {
     let cases = [
         ("--schema=", b"art_index: refused 20 NoColumns\n".as_slice()),
         (
-            "--schema=u16",
+            "--schema=u8,u8,u8,u8,u8,u8,u8,u8,u8",
+            b"art_index: refused 21 TooManyColumns\n".as_slice(),
+        ),
+        (
+            "--schema=u8,u24",
             b"art_index: refused 23 BadColumn\n".as_slice(),
+        ),
+        (
+            "--schema=text24,text7",
+            b"art_index: refused 22 KeyTooWide\n".as_slice(),
         ),
     ];
     for (option, expected) in cases {
