@@ -1,6 +1,9 @@
 //! The program over a reader, a writer and a writer for faults.
-ghost use Rattle.std.specs.Prelude.{◌≡◌, ◌≤◌, [], All, codes, map, unwrap_or, Ok, Err, OnOk};
+ghost use Rattle.std.specs.Prelude.{◌≡◌, ◌≢◌, ◌⊎◌, ◌≤◌, [], All, codes, map, unwrap_or, Ok, Err, OnOk};
+ghost use Rattle.clap.specs.Kinds.{IsAmong};
+ghost use Rattle.clap.specs.Values.{kind_of};
 ghost use Rattle.clap.specs.Words.{fault_of};
+ghost use Rattle.clap.specs.declared.error.kind.ErrorKind.TheVariants.{DisplayHelp, DisplayVersion};
 ghost use Rattle.art_key.specs.declared.faults.SchemaFault.{SchemaFault};
 ghost use Rattle.art_key.specs.Schemas.{schema_of};
 ghost use Rattle.art_table.specs.Contents.{IsPassOf};
@@ -42,6 +45,12 @@ pub fn execute<'a, R: Read, W: Write, E: Write>(
     faults: &mut E,
 ) -> u8
     ensures status { result ≤ 5 }
+    ensures quiet { result ≡ 2 → writer.new ≡ writer.old }
+    ensures mistake { fault_of art_index_app (map (λ word. word.now) words.entry.now) ≢ []
+        → (¬ (IsAmong DisplayHelp (fault_of art_index_app (map (λ word. word.now) words.entry.now))))
+        → (¬ (IsAmong DisplayVersion (fault_of art_index_app (map (λ word. word.now) words.entry.now))))
+        → (result ≡ 2) ⊎ (result ≡ 4) }
+    ensures words { result ≡ 2 → fault_of art_index_app (map (λ word. word.now) words.entry.now) ≢ [] }
     ensures ran { fault_of art_index_app (map (λ word. word.now) words.entry.now) ≡ [] → result ≡ 0
         → Outputs (schema_of (unwrap_or (option_given (map (λ word. word.now) words.entry.now) (codes "schema")) (codes "u64")))
         (R.remaining reader.old) (W.contents writer.old) (W.contents writer.new) }
@@ -101,7 +110,8 @@ fn give_back(alloc: Global, table: Table, mut passes: Vec<Pass>, pass: Pass) -> 
 
 /// Says what was wrong, in one line, and answers the status.
 fn status<E: Write>(faults: &mut E, end: Result<(), RunFault>) -> u8
-    ensures { result ≡ status_after end }
+    ensures of { result ≡ status_after end }
+    ensures other { result ≢ 2 }
 {
     match end {
         Ok(()) => 0,
@@ -114,7 +124,10 @@ fn status<E: Write>(faults: &mut E, end: Result<(), RunFault>) -> u8
 
 /// Writes help where it was asked for, and what is wrong with the words where it was not.
 fn tell_usage<W: Write, E: Write>(error: &clap::Error, writer: &mut W, faults: &mut E) -> u8
-    ensures { result ≤ 2 }
+    ensures status { result ≤ 2 }
+    ensures mistake { (kind_of error.now ≢ DisplayHelp) → (kind_of error.now ≢ DisplayVersion) → result ≡ 2 }
+    ensures shown { (kind_of error.now ≡ DisplayHelp) ⊎ (kind_of error.now ≡ DisplayVersion) → result ≢ 2 }
+    ensures quiet { result ≡ 2 → writer.new ≡ writer.old }
 {
     if error.use_stderr() {
         let _ = show(error, faults);
