@@ -1,13 +1,16 @@
 //! The program over a reader, a writer and a writer for faults.
-ghost use Rattle.std.specs.Prelude.{◌≡◌, ◌≢◌, ◌⊎◌, ◌≤◌, [], All, codes, map, unwrap_or, Ok, Err, OnOk};
+ghost use Rattle.std.specs.Prelude.{◌≡◌, ◌≢◌, ◌⊎◌, ◌≤◌, [], ◌∷◌, ◌++◌, All, codes, map, unwrap_or, Ok, Err, IsErr, IfErr, OnOk};
+ghost use Rattle.std.specs.Option.{option_or};
 ghost use Rattle.clap.specs.Kinds.{IsAmong};
 ghost use Rattle.clap.specs.Values.{kind_of};
 ghost use Rattle.clap.specs.Words.{fault_of};
 ghost use Rattle.clap.specs.declared.error.kind.ErrorKind.TheVariants.{DisplayHelp, DisplayVersion};
 ghost use Rattle.art_key.specs.declared.faults.SchemaFault.{SchemaFault};
 ghost use Rattle.art_key.specs.Schemas.{schema_of};
+ghost use Rattle.art_table.specs.Closing.{AreAllPasses};
 ghost use Rattle.art_table.specs.Contents.{IsPassOf};
 ghost use Rattle.art_server.specs.Refusals.{schema_refusal};
+ghost use Rattle.art_server.specs.declared.refusals.Refusal.{Refusal};
 ghost use Rattle.art_tools.specs.Outputs.{Outputs};
 ghost use Rattle.art_tools.specs.Statuses.{fault_at, fault_in, status_after};
 ghost use Rattle.art_tools.specs.Settings.{art_index_app, option_given};
@@ -51,6 +54,8 @@ pub fn execute<'a, R: Read, W: Write, E: Write>(
         → (¬ (IsAmong DisplayVersion (fault_of art_index_app (map (λ word. word.now) words.entry.now))))
         → (result ≡ 2) ⊎ (result ≡ 4) }
     ensures words { result ≡ 2 → fault_of art_index_app (map (λ word. word.now) words.entry.now) ≢ [] }
+    ensures refused { result ≡ 3 → (fault_of art_index_app (map (λ word. word.now) words.entry.now) ≡ [])
+        × IsErr (schema_of (unwrap_or (option_given (map (λ word. word.now) words.entry.now) (codes "schema")) (codes "u64"))) }
     ensures ran { fault_of art_index_app (map (λ word. word.now) words.entry.now) ≡ [] → result ≡ 0
         → Outputs (schema_of (unwrap_or (option_given (map (λ word. word.now) words.entry.now) (codes "schema")) (codes "u64")))
         (R.remaining reader.old) (W.contents writer.old) (W.contents writer.new) }
@@ -73,13 +78,21 @@ pub fn run<R: Read, W: Write>(
         (W.contents writer.old) (W.contents writer.new)) }
     ensures schema { (fault : SchemaFault) → schema_of schema.now ≡ Err fault
         → result ≡ Err (RunFault.Refused (schema_refusal fault)) }
+    ensures refused { (refusal : Refusal) → result ≡ Err (RunFault.Refused refusal) → IsErr (schema_of schema.now) }
 {
     let schema = Schema::parse(schema)?;
     let (mut table, mut passes) = open(alloc, schema, SIZES)?;
     let pass = passes.pop().unwrap();
     let (pass, end) = session(alloc, &mut table, pass, reader, writer);
     let closed = give_back(alloc, table, passes, pass);
-    check_end(end.why)?;
+    outcome(end.why, closed)
+}
+
+/// What a session's end and the closing of its table mean for the run. The session's fault is told before that of closing.
+fn outcome(why: EndCause, closed: Result<(), RunFault>) -> Result<(), RunFault>
+    ensures { fault_in result ≡ option_or (fault_at why) (fault_in closed) }
+{
+    check_end(why)?;
     closed
 }
 
@@ -100,6 +113,8 @@ fn check_end(why: EndCause) -> Result<(), RunFault>
 fn give_back(alloc: Global, table: Table, mut passes: Vec<Pass>, pass: Pass) -> Result<(), RunFault>
     requires others { All (IsPassOf table) passes.items }
     requires own { IsPassOf table pass }
+    requires all { AreAllPasses table (passes.items ++ pass ∷ []) }
+    ensures { IfErr result (λ fault. fault ≡ RunFault.NoMemory) }
 {
     passes.push(pass)?;
     match close(alloc, table, passes) {
