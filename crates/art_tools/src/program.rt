@@ -54,6 +54,9 @@ pub fn execute<'a, R: Read, W: Write, E: Write>(
         → (¬ (IsAmong DisplayVersion (fault_of art_index_app (map (λ word. word.now) words.entry.now))))
         → (result ≡ 2) ⊎ (result ≡ 4) }
     ensures words { result ≡ 2 → fault_of art_index_app (map (λ word. word.now) words.entry.now) ≢ [] }
+    ensures schema { (fault : SchemaFault) → fault_of art_index_app (map (λ word. word.now) words.entry.now) ≡ []
+        → schema_of (unwrap_or (option_given (map (λ word. word.now) words.entry.now) (codes "schema")) (codes "u64")) ≡ Err fault
+        → (result ≡ 3) ⊎ (result ≡ 4) }
     ensures refused { result ≡ 3 → (fault_of art_index_app (map (λ word. word.now) words.entry.now) ≡ [])
         × IsErr (schema_of (unwrap_or (option_given (map (λ word. word.now) words.entry.now) (codes "schema")) (codes "u64"))) }
     ensures ran { fault_of art_index_app (map (λ word. word.now) words.entry.now) ≡ [] → result ≡ 0
