@@ -1,5 +1,5 @@
 //! The program over a reader, a writer and a writer for faults.
-ghost use Rattle.std.specs.Prelude.{◌≡◌, ◌≢◌, ◌⊎◌, ◌≤◌, [], ◌∷◌, ◌++◌, All, codes, map, unwrap_or, Ok, Err, IsErr, IfErr, OnOk};
+ghost use Rattle.std.specs.Prelude.{◌≡◌, ◌≢◌, ◌⊎◌, ◌≤◌, [], ◌∷◌, ◌++◌, All, codes, map, unwrap_or, Ok, Err, IsErr, IfErr, IfOk, OnOk};
 ghost use Rattle.std.specs.Option.{option_or};
 ghost use Rattle.clap.specs.Kinds.{IsAmong};
 ghost use Rattle.clap.specs.Values.{kind_of};
@@ -11,7 +11,7 @@ ghost use Rattle.art_table.specs.Closing.{AreAllPasses};
 ghost use Rattle.art_table.specs.Contents.{IsPassOf};
 ghost use Rattle.art_server.specs.Refusals.{schema_refusal};
 ghost use Rattle.art_server.specs.declared.refusals.Refusal.{Refusal};
-ghost use Rattle.art_tools.specs.Outputs.{Outputs};
+ghost use Rattle.art_tools.specs.Outputs.{Outputs, empty_table};
 ghost use Rattle.art_tools.specs.Statuses.{fault_at, fault_in, status_after};
 ghost use Rattle.art_tools.specs.Settings.{art_index_app, option_given};
 
@@ -20,7 +20,7 @@ use crate::run_faults::RunFault;
 use crate::settings::{Settings, SettingsFault};
 use art_key::Schema;
 use art_server::{EndCause, session};
-use art_table::{Config, Pass, Table, close, open};
+use art_table::{Config, OpenFault, Pass, Table, close, open};
 use std::alloc::Global;
 use std::io::{self, Read, Write};
 
@@ -84,11 +84,20 @@ pub fn run<R: Read, W: Write>(
     ensures refused { (refusal : Refusal) → result ≡ Err (RunFault.Refused refusal) → IsErr (schema_of schema.now) }
 {
     let schema = Schema::parse(schema)?;
-    let (mut table, mut passes) = open(alloc, schema, SIZES)?;
+    let (mut table, mut passes) = empty_table(alloc, schema)?;
     let pass = passes.pop().unwrap();
     let (pass, end) = session(alloc, &mut table, pass, reader, writer);
     let closed = give_back(alloc, table, passes, pass);
     outcome(end.why, closed)
+}
+
+/// The program's table under the schema, with no row, and its one pass.
+fn empty_table(alloc: Global, schema: Schema) -> Result<(Table, Vec<Pass>), OpenFault>
+    ensures table { IfOk result (λ opened. opened.0 ≡ empty_table schema) }
+    ensures pass { IfOk result (λ opened. opened.1.items ≡ 0 ∷ []) }
+    ensures memory { IfErr result (λ fault. fault ≡ OpenFault.NoMemory) }
+{
+    open(alloc, schema, SIZES)
 }
 
 /// What a session's end and the closing of its table mean for the run. The session's fault is told before that of closing.
