@@ -53,6 +53,7 @@ pub fn execute<'a, R: Read, W: Write, E: Write>(
         → (¬ (IsAmong DisplayHelp (fault_of art_index_app (map (λ word. word.now) words.entry.now))))
         → (¬ (IsAmong DisplayVersion (fault_of art_index_app (map (λ word. word.now) words.entry.now))))
         → (result ≡ 2) ⊎ (result ≡ 4) }
+    ensures help { fault_of art_index_app (map (λ word. word.now) words.entry.now) ≡ DisplayHelp ∷ [] → result ≢ 2 }
     ensures words { result ≡ 2 → fault_of art_index_app (map (λ word. word.now) words.entry.now) ≢ [] }
     ensures schema { (fault : SchemaFault) → fault_of art_index_app (map (λ word. word.now) words.entry.now) ≡ []
         → schema_of (unwrap_or (option_given (map (λ word. word.now) words.entry.now) (codes "schema")) (codes "u64")) ≡ Err fault
