@@ -29,7 +29,7 @@ impl Model for Text {
 impl Text {
     /// The text, if it has at most 24 bytes.
     pub fn new(text: &str) -> Option<Self>
-        ensures fits { IsSome result ↔ (length text.now ≤ TEXT_BYTES) }
+        ensures fits { IsSome result ↔ (length text.now ≤ 24) }
         ensures value { IfSome result (λ t. t ≡ text.now) }
     {
         match ArrayString::from(text) {
@@ -40,7 +40,7 @@ impl Text {
 
     pub fn as_str(&self) -> &str
         ensures value { result.now ≡ self.now }
-        ensures fits { length result.now ≤ TEXT_BYTES }
+        ensures fits { length result.now ≤ 24 }
     {
         self.text.as_str()
     }

@@ -61,9 +61,10 @@ HasRead-more reads left left_mid left_after held held_mid held_after start old n
 
 -- the input ended: a read gave no bytes
 pub RunsSession-finish : (reads : ℕ) (left left_mid left_after held held_mid held_after : Option (List ℕ)) (start old new : Contents) (answered : ℕ) (line line_sent piece : List ℕ) (count : ℕ) (end : SessionEnd)
-    → HasRead reads left left_mid held held_mid start old answered line → Consumes left_mid left_after (take count piece) → count ≡ 0 → line_sent ≡ line
+    → HasRead reads left left_mid held held_mid start old answered line → Consumes left_mid left_after (take count piece) → count ≡ 0 → line_sent ≡ line → reads ≤ 1000000
     → Finishes held_mid held_after old new answered line_sent end → RunsSession left left_after held held_after start new end
-RunsSession-finish reads left left_mid left_after held held_mid held_after start old new answered line line_sent piece count end has consumes none same finishes =
+RunsSession-finish reads left left_mid left_after held held_mid held_after start old new answered line line_sent piece count end has consumes none same bound finishes =
+    let most = has.at_most in
     let way = subst (IsUnderWay has.taken has.sent start old answered) (sym same) has.way in
     let reached = finishes.reaches has.taken has.sent start way in
     let no_more = subst (λ (k : ℕ). Consumes left_mid left_after (take k piece)) none consumes in (
@@ -71,20 +72,21 @@ RunsSession-finish reads left left_mid left_after held held_mid held_after start
       has.sent ++ finishes.written,
       subst (Consumes left left_after) (append-nil has.taken) (Consumes-trans left left_mid left_after has.taken [] has.consumes no_more),
       Appends-trans held held_mid held_after has.sent finishes.written has.appends finishes.appends,
-      record { lines = reached.0; cause = reached.1 },
+      record { lines = reached.0; cause = reached.1; most = omega arith },
     )
 
 -- a line stopped it
 pub RunsSession-stop : (reads : ℕ) (left left_mid left_after held held_mid held_after : Option (List ℕ)) (start old new : Contents) (answered : ℕ) (line bytes : List ℕ) (end : SessionEnd)
-    → HasRead reads left left_mid held held_mid start old answered line → Consumes left_mid left_after bytes
+    → HasRead reads left left_mid held held_mid start old answered line → Consumes left_mid left_after bytes → reads + 1 ≤ 1000000 → length bytes ≤ 4096
     → StopsAmong bytes held_mid held_after old new answered line end → RunsSession left left_after held held_after start new end
-RunsSession-stop reads left left_mid left_after held held_mid held_after start old new answered line bytes end has consumes stops =
+RunsSession-stop reads left left_mid left_after held held_mid held_after start old new answered line bytes end has consumes bound few stops =
+    let most = has.at_most in
     let reached = stops.reaches has.taken has.sent start has.way in (
       has.taken ++ bytes,
       has.sent ++ stops.written,
       Consumes-trans left left_mid left_after has.taken bytes has.consumes consumes,
       Appends-trans held held_mid held_after has.sent stops.written has.appends stops.appends,
-      record { lines = reached.0; cause = reached.1 },
+      record { lines = reached.0; cause = reached.1; most = omega (arith, length-append has.taken bytes) },
     )
 
 -- a session under way, with each whole line answered
@@ -95,25 +97,28 @@ whole_session taken sent start now answered line why way =
 
 -- a read failed
 pub RunsSession-fault : (reads : ℕ) (left left_mid left_after held held_after : Option (List ℕ)) (start now : Contents) (answered : ℕ) (line : List ℕ)
-    → HasRead reads left left_mid held held_after start now answered line → Keeps left_mid left_after
+    → HasRead reads left left_mid held held_after start now answered line → Keeps left_mid left_after → reads ≤ 1000000
     → RunsSession left left_after held held_after start now (record { why = ReadFault; answered = answered; pending = false })
-RunsSession-fault reads left left_mid left_after held held_after start now answered line has keeps = (
-  has.taken,
-  has.sent,
-  Consumes-kept left left_mid left_after has.taken has.consumes keeps,
-  has.appends,
-  record {
-    lines = whole_session has.taken has.sent start now answered line ReadFault has.way;
-    cause = (has.way.count, refl);
-  },
-)
+RunsSession-fault reads left left_mid left_after held held_after start now answered line has keeps bound =
+    let most = has.at_most in (
+      has.taken,
+      has.sent,
+      Consumes-kept left left_mid left_after has.taken has.consumes keeps,
+      has.appends,
+      record {
+        lines = whole_session has.taken has.sent start now answered line ReadFault has.way;
+        cause = (has.way.count, refl);
+        most = omega arith;
+      },
+    )
 
 -- the reads are used up
 pub RunsSession-used : (reads : ℕ) (left left_after held held_after : Option (List ℕ)) (start now : Contents) (answered : ℕ) (line : List ℕ)
-    → HasRead reads left left_after held held_after start now answered line → 1000000 ≤ reads
+    → HasRead reads left left_after held held_after start now answered line → 1000000 ≤ reads → reads ≤ 1000000
     → RunsSession left left_after held held_after start now (record { why = ReadsUsed; answered = answered; pending = false })
-RunsSession-used reads left left_after held held_after start now answered line has used =
-    let least = has.at_least in (
+RunsSession-used reads left left_after held held_after start now answered line has used bound =
+    let least = has.at_least in
+    let most = has.at_most in (
       has.taken,
       has.sent,
       has.consumes,
@@ -121,5 +126,6 @@ RunsSession-used reads left left_after held held_after start now answered line h
       record {
         lines = whole_session has.taken has.sent start now answered line ReadsUsed has.way;
         cause = (has.way.count, refl, omega arith);
+        most = omega arith;
       },
     )

@@ -1,5 +1,5 @@
 -- What a session of lines means: each line is answered by the table as the lines before it left it.
-use Rattle.std.specs.Prelude.{◌≡◌, ◌≢◌, ℕ, ◌+◌, ◌<◌, ◌≤◌, Bool, true, false, if◌then◌else◌, List, [], ◌∷◌, ◌++◌, length, take, Option, Result, Ok, Err}
+use Rattle.std.specs.Prelude.{◌≡◌, ◌≢◌, ℕ, ◌+◌, ◌*◌, ◌<◌, ◌≤◌, Bool, true, false, if◌then◌else◌, List, [], ◌∷◌, ◌++◌, length, take, Option, Result, Ok, Err}
 use Rattle.std.specs.List.{flat_map}
 use Rattle.std.specs.Io.KnownBytes.{Appends, Consumes}
 use Rattle.art_model.specs.declared.commands.Command.{Command}
@@ -70,6 +70,7 @@ EndsBy ReadsUsed answered pending read = (answered ≡ length (whole_lines read)
 pub record IsSession (read written : List ℕ) (old new : Contents) (end : SessionEnd) : Type 0 where
   pub lines : AnswersFront (lines_of read) written old new end
   pub cause : EndsBy end.why end.answered end.pending read
+  pub most : length read ≤ 1000000 * 4096
 
 -- A session with the reader, from what it had left to what it has left, and the writer, from what it held to what it holds.
 abbrev pub RunsSession : (left left_after held held_after : Option (List ℕ)) (old new : Contents) → SessionEnd → Type 0

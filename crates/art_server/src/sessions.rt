@@ -13,10 +13,10 @@ use crate::replies::{Answer, print_answer};
 use crate::streams::{read_piece, write_text};
 use crate::{LineFault, Refusal, parse_line};
 use arrayvec::ArrayVec;
-use art_model::{Command, Tuple};
+use art_model::{Command, NoMemory, Tuple};
 use art_table::{Inserted, Pass, Table, get, insert, remove};
 use std::alloc::Global;
-use std::io::{Read, Write};
+use std::io::{self, Read, Write};
 
 /// The most reads of one session.
 const READS: u32 = 1_000_000;
@@ -64,6 +64,36 @@ impl Stop {
             why: self.why,
             answered,
             pending: self.pending,
+        }
+    }
+}
+
+/// There was no memory to print a reply.
+impl From<NoMemory> for Stop {
+    ghost use Rattle.std.specs.Prelude.{◌≡◌, true};
+    ghost use Rattle.art_server.specs.declared.sessions.EndCause.TheVariants as end;
+
+    ghost from_gives = { λ _ stop. stop ≡ record { why = end.NoMemory; pending = true } };
+
+    fn from(_refused: NoMemory) -> Stop {
+        Stop {
+            why: EndCause::NoMemory,
+            pending: true,
+        }
+    }
+}
+
+/// A reply could not be written.
+impl From<io::Error> for Stop {
+    ghost use Rattle.std.specs.Prelude.{◌≡◌, true};
+    ghost use Rattle.art_server.specs.declared.sessions.EndCause.TheVariants as end;
+
+    ghost from_gives = { λ _ stop. stop ≡ record { why = end.WriteFault; pending = true } };
+
+    fn from(_error: io::Error) -> Stop {
+        Stop {
+            why: EndCause::WriteFault,
+            pending: true,
         }
     }
 }
@@ -239,19 +269,9 @@ fn answer_line<W: Write>(
 fn send_answer<W: Write>(alloc: Global, answer: Answer, writer: &mut W) -> Result<(), Stop>
     ensures { SendsReply (reply_of answer) (W.contents writer.old) (W.contents writer.new) result }
 {
-    let Ok(text) = print_answer(alloc, answer) else {
-        return Err(Stop {
-            why: EndCause::NoMemory,
-            pending: true,
-        });
-    };
-    match write_text(writer, text.as_slice()) {
-        Ok(()) => Ok(()),
-        Err(_) => Err(Stop {
-            why: EndCause::WriteFault,
-            pending: true,
-        }),
-    }
+    let text = print_answer(alloc, answer)?;
+    write_text(writer, text.as_slice())?;
+    Ok(())
 }
 
 fn run_command(table: &mut Table, pass: &mut Pass, command: &Command) -> Answer

@@ -1,6 +1,7 @@
 -- A session that came to the end of its input wrote the output.
 use Rattle.std.proofs.Common.{◌≡◌, ℕ, List, [], ◌++◌, Option, Some, None, Result, Ok, Err, OnOk, take, sym, ap, subst, ◌∙◌, append-nil}
 use Rattle.std.proofs.Math.Seq.{take-length}
+use Rattle.std.specs.Option.{option_or}
 use Rattle.std.specs.Io.KnownBytes.{Appends, IsAtEnd}
 use Rattle.art_key.specs.declared.columns.Column.{Column}
 use Rattle.art_table.specs.Contents.{Contents}
@@ -10,19 +11,20 @@ use Rattle.art_server.specs.declared.sessions.SessionEnd.{SessionEnd}
 use Rattle.art_server.specs.Sessions.{replies_to, texts, EndsBy, IsSession, RunsSession}
 use Rattle.art_server.specs.Streams.{lines_of}
 use Rattle.art_tools.specs.Outputs.{empty_table, output_of, Outputs}
-use Rattle.art_tools.specs.Statuses.{fault_at}
+use Rattle.art_tools.specs.declared.run_faults.RunFault.{RunFault}
+use Rattle.art_tools.specs.Statuses.{fault_at, fault_in}
 
--- the only end with no fault is that of the input
-pub ended_without_fault : (why : EndCause) → None ≡ fault_at why → why ≡ end.Ended
-ended_without_fault end.Ended e = λ i. end.Ended
-ended_without_fault end.ReadFault e = absurd (cc)
-ended_without_fault end.WriteFault e = absurd (cc)
-ended_without_fault end.NoMemory e = absurd (cc)
-ended_without_fault end.ReadsUsed e = absurd (cc)
+-- no fault is told only where the session came to the end of the input
+ended_without_fault : (why : EndCause) (closing : Option RunFault) → None ≡ option_or (fault_at why) closing → why ≡ end.Ended
+ended_without_fault end.Ended closing e = λ i. end.Ended
+ended_without_fault end.ReadFault closing e = absurd (cc)
+ended_without_fault end.WriteFault closing e = absurd (cc)
+ended_without_fault end.NoMemory closing e = absurd (cc)
+ended_without_fault end.ReadsUsed closing e = absurd (cc)
 
-pub on_each : {A E P : Type 0} (r : Result A E) → P → OnOk r P
-on_each (Ok a) p = p
-on_each (Err e) p = tt
+pub where_ended : {A : Type 0} (r : Result A RunFault) (why : EndCause) (closing : Option RunFault) (P : Type 0) → fault_in r ≡ option_or (fault_at why) closing → (why ≡ end.Ended → P) → OnOk r P
+where_ended (Ok a) why closing P e p = p (ended_without_fault why closing e)
+where_ended (Err fault) why closing P e p = tt
 
 -- what was read to the end is what the reader had left
 all_was_read : (input rest read : List ℕ) → input ≡ read ++ rest → rest ≡ [] → read ≡ input

@@ -4,13 +4,17 @@ use Rattle.std.specs.Io.KnownBytes.{Appends}
 use Rattle.art_key.specs.declared.columns.Column.{Column}
 use Rattle.art_key.specs.declared.faults.SchemaFault.{SchemaFault}
 use Rattle.art_table.specs.Contents.{Contents}
+use Rattle.art_table.specs.declared.configs.Config.{Config}
 use Rattle.art_server.specs.Sessions.{replies_to, texts}
 use Rattle.art_server.specs.Streams.{lines_of}
-use Rattle.art_tools.specs.declared.program.TheConstants.{SIZES}
+
+-- the sizes of the program's table
+abbrev pub sizes : Config
+sizes = record { leaves = 4096; n4 = 4096; n16 = 1024; n48 = 512; n256 = 128; passes = 1; counter_start = 0 }
 
 -- the table that a run begins with
 abbrev pub empty_table : List Column → Contents
-empty_table schema = record { schema = schema; sizes = SIZES; rows = [] }
+empty_table schema = record { schema = schema; sizes = sizes; rows = [] }
 
 -- the texts of the sorted map's replies to the lines of the input, one after another
 abbrev pub output_of : List Column → List ℕ → List ℕ

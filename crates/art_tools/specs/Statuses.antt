@@ -1,9 +1,10 @@
 -- Why a run fails, and with which status the program ends.
-use Rattle.std.specs.Prelude.{ℕ, Option, Some, None, Result, Ok, Err}
+use Rattle.std.specs.Prelude.{ℕ, List, codes, Option, Some, None, Result, Ok, Err}
 use Rattle.art_table.specs.declared.closing.CloseRefusal.{CloseRefusal}
 use Rattle.art_table.specs.declared.closing.CloseRefusal.TheVariants as close
 use Rattle.art_table.specs.declared.faults.OpenFault.{OpenFault}
 use Rattle.art_table.specs.declared.faults.OpenFault.TheVariants as opening
+use Rattle.art_server.specs.Refusals.{refusal_text}
 use Rattle.art_server.specs.declared.refusals.Refusal.TheVariants.{BadConfig, PassesMissing}
 use Rattle.art_server.specs.declared.sessions.EndCause.{EndCause}
 use Rattle.art_server.specs.declared.sessions.EndCause.TheVariants as end
@@ -16,6 +17,14 @@ status_of WriteFailed = 1
 status_of (Refused refusal) = 3
 status_of NoMemory = 4
 status_of ReadsUsed = 5
+
+-- what is printed of a fault
+abbrev pub fault_text : RunFault → List ℕ
+fault_text ReadFailed = codes "read failed"
+fault_text WriteFailed = codes "write failed"
+fault_text (Refused refusal) = refusal_text refusal
+fault_text NoMemory = codes "no memory"
+fault_text ReadsUsed = codes "reads used up"
 
 -- what is wrong where the table is not opened
 abbrev pub unopened : OpenFault → RunFault

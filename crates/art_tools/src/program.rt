@@ -1,11 +1,17 @@
 //! The program over a reader, a writer and a writer for faults.
-ghost use Rattle.std.specs.Prelude.{◌≡◌, ◌≤◌, [], All, codes, map, unwrap_or, Ok, Err, OnOk};
+ghost use Rattle.std.specs.Prelude.{◌≡◌, ◌≢◌, ◌⊎◌, ◌≤◌, [], ◌∷◌, ◌++◌, All, codes, map, unwrap_or, Ok, Err, IsErr, IfErr, IfOk, OnOk};
+ghost use Rattle.std.specs.Option.{option_or};
+ghost use Rattle.clap.specs.Kinds.{IsAmong};
+ghost use Rattle.clap.specs.Values.{kind_of};
 ghost use Rattle.clap.specs.Words.{fault_of};
+ghost use Rattle.clap.specs.declared.error.kind.ErrorKind.TheVariants.{DisplayHelp, DisplayVersion};
 ghost use Rattle.art_key.specs.declared.faults.SchemaFault.{SchemaFault};
 ghost use Rattle.art_key.specs.Schemas.{schema_of};
+ghost use Rattle.art_table.specs.Closing.{AreAllPasses};
 ghost use Rattle.art_table.specs.Contents.{IsPassOf};
 ghost use Rattle.art_server.specs.Refusals.{schema_refusal};
-ghost use Rattle.art_tools.specs.Outputs.{Outputs};
+ghost use Rattle.art_server.specs.declared.refusals.Refusal.{Refusal};
+ghost use Rattle.art_tools.specs.Outputs.{Outputs, empty_table};
 ghost use Rattle.art_tools.specs.Statuses.{fault_at, fault_in, status_after};
 ghost use Rattle.art_tools.specs.Settings.{art_index_app, option_given};
 
@@ -14,7 +20,7 @@ use crate::run_faults::RunFault;
 use crate::settings::{Settings, SettingsFault};
 use art_key::Schema;
 use art_server::{EndCause, session};
-use art_table::{Config, Pass, Table, close, open};
+use art_table::{Config, OpenFault, Pass, Table, close, open};
 use std::alloc::Global;
 use std::io::{self, Read, Write};
 
@@ -42,6 +48,18 @@ pub fn execute<'a, R: Read, W: Write, E: Write>(
     faults: &mut E,
 ) -> u8
     ensures status { result ≤ 5 }
+    ensures quiet { result ≡ 2 → writer.new ≡ writer.old }
+    ensures mistake { fault_of art_index_app (map (λ word. word.now) words.entry.now) ≢ []
+        → (¬ (IsAmong DisplayHelp (fault_of art_index_app (map (λ word. word.now) words.entry.now))))
+        → (¬ (IsAmong DisplayVersion (fault_of art_index_app (map (λ word. word.now) words.entry.now))))
+        → (result ≡ 2) ⊎ (result ≡ 4) }
+    ensures help { fault_of art_index_app (map (λ word. word.now) words.entry.now) ≡ DisplayHelp ∷ [] → result ≢ 2 }
+    ensures words { result ≡ 2 → fault_of art_index_app (map (λ word. word.now) words.entry.now) ≢ [] }
+    ensures schema { (fault : SchemaFault) → fault_of art_index_app (map (λ word. word.now) words.entry.now) ≡ []
+        → schema_of (unwrap_or (option_given (map (λ word. word.now) words.entry.now) (codes "schema")) (codes "u64")) ≡ Err fault
+        → (result ≡ 3) ⊎ (result ≡ 4) }
+    ensures refused { result ≡ 3 → (fault_of art_index_app (map (λ word. word.now) words.entry.now) ≡ [])
+        × IsErr (schema_of (unwrap_or (option_given (map (λ word. word.now) words.entry.now) (codes "schema")) (codes "u64"))) }
     ensures ran { fault_of art_index_app (map (λ word. word.now) words.entry.now) ≡ [] → result ≡ 0
         → Outputs (schema_of (unwrap_or (option_given (map (λ word. word.now) words.entry.now) (codes "schema")) (codes "u64")))
         (R.remaining reader.old) (W.contents writer.old) (W.contents writer.new) }
@@ -64,13 +82,30 @@ pub fn run<R: Read, W: Write>(
         (W.contents writer.old) (W.contents writer.new)) }
     ensures schema { (fault : SchemaFault) → schema_of schema.now ≡ Err fault
         → result ≡ Err (RunFault.Refused (schema_refusal fault)) }
+    ensures refused { (refusal : Refusal) → result ≡ Err (RunFault.Refused refusal) → IsErr (schema_of schema.now) }
 {
     let schema = Schema::parse(schema)?;
-    let (mut table, mut passes) = open(alloc, schema, SIZES)?;
+    let (mut table, mut passes) = empty_table(alloc, schema)?;
     let pass = passes.pop().unwrap();
     let (pass, end) = session(alloc, &mut table, pass, reader, writer);
     let closed = give_back(alloc, table, passes, pass);
-    check_end(end.why)?;
+    outcome(end.why, closed)
+}
+
+/// The program's table under the schema, with no row, and its one pass.
+fn empty_table(alloc: Global, schema: Schema) -> Result<(Table, Vec<Pass>), OpenFault>
+    ensures table { IfOk result (λ opened. opened.0 ≡ empty_table schema) }
+    ensures pass { IfOk result (λ opened. opened.1.items ≡ 0 ∷ []) }
+    ensures memory { IfErr result (λ fault. fault ≡ OpenFault.NoMemory) }
+{
+    open(alloc, schema, SIZES)
+}
+
+/// What a session's end and the closing of its table mean for the run. The session's fault is told before that of closing.
+fn outcome(why: EndCause, closed: Result<(), RunFault>) -> Result<(), RunFault>
+    ensures { fault_in result ≡ option_or (fault_at why) (fault_in closed) }
+{
+    check_end(why)?;
     closed
 }
 
@@ -91,6 +126,8 @@ fn check_end(why: EndCause) -> Result<(), RunFault>
 fn give_back(alloc: Global, table: Table, mut passes: Vec<Pass>, pass: Pass) -> Result<(), RunFault>
     requires others { All (IsPassOf table) passes.items }
     requires own { IsPassOf table pass }
+    requires all { AreAllPasses table (passes.items ++ pass ∷ []) }
+    ensures { IfErr result (λ fault. fault ≡ RunFault.NoMemory) }
 {
     passes.push(pass)?;
     match close(alloc, table, passes) {
@@ -101,7 +138,8 @@ fn give_back(alloc: Global, table: Table, mut passes: Vec<Pass>, pass: Pass) -> 
 
 /// Says what was wrong, in one line, and answers the status.
 fn status<E: Write>(faults: &mut E, end: Result<(), RunFault>) -> u8
-    ensures { result ≡ status_after end }
+    ensures of { result ≡ status_after end }
+    ensures other { result ≢ 2 }
 {
     match end {
         Ok(()) => 0,
@@ -114,7 +152,10 @@ fn status<E: Write>(faults: &mut E, end: Result<(), RunFault>) -> u8
 
 /// Writes help where it was asked for, and what is wrong with the words where it was not.
 fn tell_usage<W: Write, E: Write>(error: &clap::Error, writer: &mut W, faults: &mut E) -> u8
-    ensures { result ≤ 2 }
+    ensures status { result ≤ 2 }
+    ensures mistake { (kind_of error.now ≢ DisplayHelp) → (kind_of error.now ≢ DisplayVersion) → result ≡ 2 }
+    ensures shown { (kind_of error.now ≡ DisplayHelp) ⊎ (kind_of error.now ≡ DisplayVersion) → result ≢ 2 }
+    ensures quiet { result ≡ 2 → writer.new ≡ writer.old }
 {
     if error.use_stderr() {
         let _ = show(error, faults);

@@ -1,5 +1,5 @@
 //! Why a run of the program failed, and with which status it ends.
-ghost use Rattle.std.specs.Prelude.{◌≡◌};
+ghost use Rattle.std.specs.Prelude.{◌≡◌, ◌≢◌};
 ghost use Rattle.art_tools.specs.Statuses.{status_of};
 
 use art_key::SchemaFault;
@@ -27,7 +27,8 @@ pub enum RunFault {
 impl RunFault {
     /// The status that the program ends with: 1, 3, 4 or 5.
     pub fn status(self) -> u8
-        ensures { result ≡ status_of self }
+        ensures of { result ≡ status_of self }
+        ensures other { result ≢ 2 }
     {
         match self {
             RunFault::ReadFailed | RunFault::WriteFailed => 1,
@@ -39,6 +40,11 @@ impl RunFault {
 }
 
 impl fmt::Display for RunFault {
+    ghost use Rattle.std.specs.Prelude.{Some};
+    ghost use Rattle.art_tools.specs.Statuses.{fault_text};
+
+    ghost output = { λ fault. Some (fault_text fault) };
+
     fn fmt<W: fmt::Write>(&self, f: &mut fmt::Formatter<W>) -> fmt::Result {
         match self {
             RunFault::ReadFailed => f.write_str("read failed"),

@@ -9,7 +9,7 @@ finish-requires-clause-room g c =
 
 pub returns-in-Ok-eq0-clause-session : goal.returns-in-Ok-eq0-clause-session
 returns-in-Ok-eq0-clause-session g c =
-    RunsSession-finish _ _ _ _ _ _ _ _ _ _ _ _ _ _ _ _ c.reads.invariant.0 c.in-Ok-eq0.ensures.bytes.0 (omega arith) c.as_slice.ensures.value c.finish.ensures.finishes
+    RunsSession-finish _ _ _ _ _ _ _ _ _ _ _ _ _ _ _ _ c.reads.invariant.0 c.in-Ok-eq0.ensures.bytes.0 (omega arith) c.as_slice.ensures.value (omega arith) c.finish.ensures.finishes
 
 pub answer_bytes-requires-clause-room : goal.answer_bytes-requires-clause-room
 answer_bytes-requires-clause-room g c =
@@ -19,11 +19,15 @@ answer_bytes-requires-clause-room g c =
 
 pub returns-in-Err-answer_bytes-clause-session : goal.returns-in-Err-answer_bytes-clause-session
 returns-in-Err-answer_bytes-clause-session g c =
-    RunsSession-stop _ _ _ _ _ _ _ _ _ _ _ _ _ _ c.reads.invariant.0 c.in-Ok.ensures.bytes.0 c.in-Err-answer_bytes.ensures.answers
+    let has = c.reads.invariant.0 in
+    let bound = c.in-Ok.ensures.bound in
+    let bytes = take c.in-Ok.count c.read_piece.new.piece in
+    let few : length bytes ≤ 4096 = omega arith in
+    RunsSession-stop _ _ _ _ _ _ _ _ _ _ _ _ _ _ has c.in-Ok.ensures.bytes.0 (omega arith) few c.in-Err-answer_bytes.ensures.answers
 
 pub returns-in-Err-clause-session : goal.returns-in-Err-clause-session
 returns-in-Err-clause-session g c =
-    rw c.ended.ensures (RunsSession-fault _ _ _ _ _ _ _ _ _ _ c.reads.invariant.0 c.in-Err.ensures.bytes)
+    rw c.ended.ensures (RunsSession-fault _ _ _ _ _ _ _ _ _ _ c.reads.invariant.0 c.in-Err.ensures.bytes (omega arith))
 
 pub reads-preserved : goal.reads-preserved
 reads-preserved g c =
@@ -40,4 +44,4 @@ reads-preserved g c =
 
 pub returns-clause-session : goal.returns-clause-session
 returns-clause-session g c =
-    rw c.ended-2.ensures (RunsSession-used _ _ _ _ _ _ _ _ _ c.reads.invariant.0 (omega arith))
+    rw c.ended-2.ensures (RunsSession-used _ _ _ _ _ _ _ _ _ c.reads.invariant.0 (omega arith) (omega arith))

@@ -1,6 +1,6 @@
 use Rattle.std.proofs.Common.{subst}
 use Rattle.art_tools.specs.Outputs.{Outputs}
-use Rattle.art_tools.proofs.Runs.{ended_without_fault, on_each, session_outputs}
+use Rattle.art_tools.proofs.Runs.{where_ended, session_outputs}
 use Rattle.art_tools.proofs.program.run.Goals as goal
 
 pub returns-clause-output : goal.returns-clause-output
@@ -8,6 +8,6 @@ returns-clause-output g c =
     let left = g.R.Read.remaining c.args.reader.now in
     let held = g.W.Write.contents c.args.writer.now in
     let held_after = g.W.Write.contents c.session-pass.new.writer in
-    let ended = ended_without_fault _ c.in_ok-check_end.ensures in
+    where_ended _ _ _ _ c.outcome.ensures (λ ended.
     let wrote = session_outputs c.in_ok-schema.schema left _ held held_after _ _ _ c.in_ok-table.ensures.table c.session-pass.ensures.session (c.session-pass.ensures.end ended) ended in
-    on_each c.give_back-closed.result (subst (λ s. Outputs s left held held_after) c.in_ok-schema.ensures wrote)
+    subst (λ s. Outputs s left held held_after) c.in_ok-schema.ensures wrote)
