@@ -1,8 +1,13 @@
 -- What the words of the command line ask for, by clap's own account of the matches.
-use Rattle.std.specs.Prelude.{◌≡◌, List, Option, Some, true, codes, option_map, option_and_then}
-use Rattle.std.specs.Prelude.{unwrap_or}
-use Rattle.clap.specs.Words.{App, Rule, Text, first_of, new_app, new_rule, subcommand_of, with_rule}
-use Rattle.clap.specs.Words.{with_subcommand}
+use Rattle.std.specs.Prelude.{◌≡◌, ◌⊎◌, List, Option, Some, Result, true, codes, map, option_map, option_and_then, unwrap_or}
+use Rattle.std.specs.Borrow.{Bor}
+use Rattle.clap.specs.Kinds.{IsAmong}
+use Rattle.clap.specs.Words.{App, Rule, Text, fault_of, first_of, new_app, new_rule, subcommand_of, with_rule, with_subcommand}
+use Rattle.clap.specs.declared.error.kind.ErrorKind.{ErrorKind}
+use Rattle.clap.specs.declared.error.kind.ErrorKind.TheVariants.{DisplayHelp, DisplayVersion}
+use Rattle.art_key.specs.declared.columns.Column.{Column}
+use Rattle.art_key.specs.declared.faults.SchemaFault.{SchemaFault}
+use Rattle.art_key.specs.Schemas.{schema_of}
 use Rattle.clap.specs.Simple.{on_top}
 use Rattle.art_tools.specs.declared.settings.Settings.{Settings}
 use Rattle.art_tools.specs.declared.settings.Settings.TheVariants.{Run}
@@ -40,3 +45,21 @@ RunsWith given (Run schema) = schema.now ≡ unwrap_or (given (codes "schema")) 
 abbrev pub IsAskedBy : List Text → Settings → Type 0
 IsAskedBy words (Run schema) =
     (subcommand_given words ≡ Some (codes "run")) × RunsWith (option_given words) (Run schema)
+
+-- ---- as the program is given them
+
+-- the texts of the words
+abbrev pub texts_of : List (Bor Text) → List Text
+texts_of words = map (λ word. word.now) words
+
+-- what clap finds wrong with the words, and help where they ask for it
+abbrev pub faults_of : List (Bor Text) → List ErrorKind
+faults_of words = fault_of art_index_app (texts_of words)
+
+-- the words ask for help, or for the version
+abbrev pub AsksToShow : List (Bor Text) → Type 0
+AsksToShow words = IsAmong DisplayHelp (faults_of words) ⊎ IsAmong DisplayVersion (faults_of words)
+
+-- the columns that `--schema` names, or those of `u64`
+abbrev pub schema_asked : List (Bor Text) → Result (List Column) SchemaFault
+schema_asked words = schema_of (unwrap_or (option_given (texts_of words) (codes "schema")) (codes "u64"))

@@ -1,9 +1,7 @@
 //! The program over a reader, a writer and a writer for faults.
-ghost use Rattle.std.specs.Prelude.{◌≡◌, ◌≢◌, ◌⊎◌, ◌≤◌, [], ◌∷◌, ◌++◌, All, codes, map, unwrap_or, Ok, Err, IsErr, IfErr, IfOk, OnOk};
+ghost use Rattle.std.specs.Prelude.{◌≡◌, ◌≢◌, ◌⊎◌, ◌≤◌, [], ◌∷◌, ◌++◌, All, Ok, Err, IsErr, IfErr, IfOk, OnOk};
 ghost use Rattle.std.specs.Option.{option_or};
-ghost use Rattle.clap.specs.Kinds.{IsAmong};
 ghost use Rattle.clap.specs.Values.{kind_of};
-ghost use Rattle.clap.specs.Words.{fault_of};
 ghost use Rattle.clap.specs.declared.error.kind.ErrorKind.TheVariants.{DisplayHelp, DisplayVersion};
 ghost use Rattle.art_key.specs.declared.faults.SchemaFault.{SchemaFault};
 ghost use Rattle.art_key.specs.Schemas.{schema_of};
@@ -13,7 +11,7 @@ ghost use Rattle.art_server.specs.Refusals.{schema_refusal};
 ghost use Rattle.art_server.specs.declared.refusals.Refusal.{Refusal};
 ghost use Rattle.art_tools.specs.Outputs.{Outputs, empty_table};
 ghost use Rattle.art_tools.specs.Statuses.{fault_at, fault_in, status_after};
-ghost use Rattle.art_tools.specs.Settings.{art_index_app, option_given};
+ghost use Rattle.art_tools.specs.Settings.{faults_of, AsksToShow, schema_asked};
 
 use crate::command_line::settings;
 use crate::run_faults::RunFault;
@@ -49,20 +47,14 @@ pub fn execute<'a, R: Read, W: Write, E: Write>(
 ) -> u8
     ensures status { result ≤ 5 }
     ensures quiet { result ≡ 2 → writer.new ≡ writer.old }
-    ensures mistake { fault_of art_index_app (map (λ word. word.now) words.entry.now) ≢ []
-        → (¬ (IsAmong DisplayHelp (fault_of art_index_app (map (λ word. word.now) words.entry.now))))
-        → (¬ (IsAmong DisplayVersion (fault_of art_index_app (map (λ word. word.now) words.entry.now))))
-        → (result ≡ 2) ⊎ (result ≡ 4) }
-    ensures help { fault_of art_index_app (map (λ word. word.now) words.entry.now) ≡ DisplayHelp ∷ [] → result ≢ 2 }
-    ensures words { result ≡ 2 → fault_of art_index_app (map (λ word. word.now) words.entry.now) ≢ [] }
-    ensures schema { (fault : SchemaFault) → fault_of art_index_app (map (λ word. word.now) words.entry.now) ≡ []
-        → schema_of (unwrap_or (option_given (map (λ word. word.now) words.entry.now) (codes "schema")) (codes "u64")) ≡ Err fault
+    ensures mistake { faults_of words.entry.now ≢ [] → (¬ (AsksToShow words.entry.now)) → (result ≡ 2) ⊎ (result ≡ 4) }
+    ensures help { faults_of words.entry.now ≡ DisplayHelp ∷ [] → result ≢ 2 }
+    ensures words { result ≡ 2 → faults_of words.entry.now ≢ [] }
+    ensures schema { (fault : SchemaFault) → faults_of words.entry.now ≡ [] → schema_asked words.entry.now ≡ Err fault
         → (result ≡ 3) ⊎ (result ≡ 4) }
-    ensures refused { result ≡ 3 → (fault_of art_index_app (map (λ word. word.now) words.entry.now) ≡ [])
-        × IsErr (schema_of (unwrap_or (option_given (map (λ word. word.now) words.entry.now) (codes "schema")) (codes "u64"))) }
-    ensures ran { fault_of art_index_app (map (λ word. word.now) words.entry.now) ≡ [] → result ≡ 0
-        → Outputs (schema_of (unwrap_or (option_given (map (λ word. word.now) words.entry.now) (codes "schema")) (codes "u64")))
-        (R.remaining reader.old) (W.contents writer.old) (W.contents writer.new) }
+    ensures refused { result ≡ 3 → (faults_of words.entry.now ≡ []) × IsErr (schema_asked words.entry.now) }
+    ensures ran { faults_of words.entry.now ≡ [] → result ≡ 0
+        → Outputs (schema_asked words.entry.now) (R.remaining reader.old) (W.contents writer.old) (W.contents writer.new) }
 {
     match settings(alloc, words) {
         Ok(Settings::Run { schema }) => status(faults, run(alloc, schema, reader, writer)),
