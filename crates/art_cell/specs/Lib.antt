@@ -1,0 +1,9 @@
+pub mod Bodies
+pub mod Children
+pub mod Empty
+pub mod Entries
+pub mod Headers
+pub mod Leaves
+pub mod Packed
+pub mod Reads
+pub mod Words

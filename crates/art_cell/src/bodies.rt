@@ -1,0 +1,16 @@
+//! The words of a node, all of them.
+ghost use Rattle.std.specs.Prelude.{◌≡◌, ◌<◌, length, IfSome, IfNone};
+ghost use Rattle.art_cell.specs.Words.{size};
+ghost use Rattle.art_cell.specs.Reads.{word_read, word_of};
+
+use crate::{Layout, Reads};
+
+/// As many words as the largest cell has.
+pub(crate) const WORDS: usize = 266;
+
+/// The words of a node by their places. Place 0 is the version's, and is no part of the body.
+#[derive(Clone, Copy, Debug, PartialEq, Eq)]
+pub struct Body {
+    pub layout: Layout,
+    pub words: [u64; WORDS],
+}

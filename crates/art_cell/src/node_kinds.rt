@@ -1,0 +1,132 @@
+//! What every layout of a node can do.
+ghost use Rattle.std.specs.Prelude.{◌≡◌, ◌<◌, ◌↔◌, ℕ, Some, None, IsNone, IfSome, false, true, All};
+
+use crate::{Body, Reads, Writes, changes};
+use arrayvec::ArrayVec;
+
+/// What is known of the child of a byte.
+#[derive(Clone, Copy, Debug, PartialEq, Eq)]
+pub enum Probe {
+    /// The word at this place must be read first.
+    Need(usize),
+    /// The byte has this child word.
+    Child(u64),
+    /// The byte has no child.
+    None,
+}
+
+/// A byte and its child word.
+#[derive(Clone, Copy, Debug, Default, PartialEq, Eq)]
+pub struct Entry {
+    pub byte: u8,
+    pub child: u64,
+}
+
+/// What is known of the least entry at a byte or above.
+#[derive(Clone, Copy, Debug, PartialEq, Eq)]
+pub enum NextProbe {
+    /// The word at this place must be read first.
+    Need(usize),
+    /// This is the entry.
+    Entry(Entry),
+    /// No byte from there on has a child.
+    None,
+}
+
+/// The children of a node, in ascending order of their bytes.
+pub type Entries = ArrayVec<Entry, 256>;
+
+/// A layout of nodes: a finite map from byte to child, in words.
+///
+/// A probe looks at words that were read one by one, perhaps while another pass was writing. Whatever they are, it
+/// answers; where they are words of a node, the answer is that of the node's map.
+pub trait NodeKind {
+    ghost use Rattle.art_cell.specs.declared.layouts.Layout.{Layout};
+    ghost use Rattle.art_cell.specs.Words.{Words, child_of, entries};
+    ghost use Rattle.art_cell.specs.Bodies.{IsBody, IsFull, Becomes};
+    ghost use Rattle.art_cell.specs.Reads.{Agrees, ProbeNeeds, ProbeTells, NextNeeds, NextTells, word_of, IsBodyOf, SameOutside, IsPlan, with_child, without_child};
+
+    ghost layout: { Layout };
+
+    /// The child of the byte, as far as the words that were read tell.
+    fn probe(byte: u8, reads: &Reads) -> Probe
+        ensures needs { ProbeNeeds layout reads.now result }
+        ensures tells { (w : Words) → IsBody layout w → Agrees reads.now w → ProbeTells (child_of layout w byte) result };
+
+    /// The least entry at the byte or above, as far as the words that were read tell.
+    fn at_least(byte: u8, reads: &Reads) -> NextProbe
+        ensures needs { NextNeeds layout reads.now result }
+        ensures tells { (w : Words) → IsBody layout w → Agrees reads.now w → NextTells (child_of layout w) byte result };
+
+    /// Gives the byte, which has none, this child. False, with nothing changed, where the node is full.
+    fn add(body: &mut Body, byte: u8, child: u64) -> bool
+        requires body { IsBodyOf layout body.old }
+        requires free { child_of layout (word_of body.old) byte ≡ None }
+        requires child { 0 < child }
+        ensures full { (result ≡ false) ↔ IsFull layout (word_of body.old) }
+        ensures added { result ≡ true → Becomes layout (word_of body.old) (word_of body.new) (with_child (child_of layout (word_of body.old)) byte child) }
+        ensures refused { result ≡ false → body.new ≡ body.old }
+        ensures layout { body.new.layout ≡ body.old.layout }
+        ensures outside { SameOutside layout (word_of body.old) (word_of body.new) };
+
+    /// Gives the byte, which has a child, this one.
+    fn set(body: &mut Body, byte: u8, child: u64)
+        requires body { IsBodyOf layout body.old }
+        requires there { (c : ℕ) × (child_of layout (word_of body.old) byte ≡ Some c) }
+        requires child { 0 < child }
+        ensures set { Becomes layout (word_of body.old) (word_of body.new) (with_child (child_of layout (word_of body.old)) byte child) }
+        ensures layout { body.new.layout ≡ body.old.layout }
+        ensures outside { SameOutside layout (word_of body.old) (word_of body.new) };
+
+    /// Takes away the child of the byte, which has one.
+    fn take(body: &mut Body, byte: u8)
+        requires body { IsBodyOf layout body.old }
+        requires there { (c : ℕ) × (child_of layout (word_of body.old) byte ≡ Some c) }
+        ensures taken { Becomes layout (word_of body.old) (word_of body.new) (without_child (child_of layout (word_of body.old)) byte) }
+        ensures layout { body.new.layout ≡ body.old.layout }
+        ensures outside { SameOutside layout (word_of body.old) (word_of body.new) };
+
+    /// The children, in ascending order of their bytes.
+    fn list(body: &Body) -> Entries
+        requires { IsBodyOf layout body.now }
+        ensures { result.items ≡ entries layout (word_of body.now) };
+
+    /// The words to write so that the byte, which has none, has this child. None where the node is full.
+    final fn plan_add(body: &Body, byte: u8, child: u64) -> Option<Writes>
+        requires body { IsBodyOf layout body.now }
+        requires free { child_of layout (word_of body.now) byte ≡ None }
+        requires child { 0 < child }
+        ensures full { IsNone result ↔ IsFull layout (word_of body.now) }
+        ensures plan { IfSome result (λ writes. IsPlan layout (word_of body.now) writes.items (with_child (child_of layout (word_of body.now)) byte child)) }
+    {
+        let mut after = *body;
+        if Self::add(&mut after, byte, child) {
+            Some(changes(body, &after))
+        } else {
+            None
+        }
+    }
+
+    /// The words to write so that the byte, which has a child, has this one.
+    final fn plan_set(body: &Body, byte: u8, child: u64) -> Writes
+        requires body { IsBodyOf layout body.now }
+        requires there { (c : ℕ) × (child_of layout (word_of body.now) byte ≡ Some c) }
+        requires child { 0 < child }
+        ensures { IsPlan layout (word_of body.now) result.items (with_child (child_of layout (word_of body.now)) byte child) }
+    {
+        let mut after = *body;
+        Self::set(&mut after, byte, child);
+        changes(body, &after)
+    }
+
+    /// The words to write so that the byte, which has a child, has none.
+    final fn plan_drop(body: &Body, byte: u8) -> Writes
+        requires body { IsBodyOf layout body.now }
+        requires there { (c : ℕ) × (child_of layout (word_of body.now) byte ≡ Some c) }
+        ensures { IsPlan layout (word_of body.now) result.items (without_child (child_of layout (word_of body.now)) byte) }
+    {
+        let mut after = *body;
+        Self::take(&mut after, byte);
+        changes(body, &after)
+    }
+}

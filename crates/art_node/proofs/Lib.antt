@@ -1,0 +1,6 @@
+pub mod Copies
+pub mod KeyBytes
+pub mod LeafWords
+pub mod Lookups
+pub mod Searches
+pub mod ZeroWords

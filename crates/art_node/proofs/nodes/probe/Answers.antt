@@ -1,0 +1,13 @@
+use Rattle.std.proofs.Common.{subst, sym}
+use Rattle.art_cell.specs.Words.{Words, child_of}
+use Rattle.art_cell.specs.Bodies.{IsBody}
+use Rattle.art_cell.specs.Reads.{Agrees, ProbeTells}
+use Rattle.art_node.proofs.nodes.probe.Goals as goal
+
+pub returns-in-Node48-clause-tells : goal.returns-in-Node48-clause-tells
+returns-in-Node48-clause-tells c =
+    subst (λ k. (w : Words) → IsBody k w → Agrees c.args.reads.now w → ProbeTells (child_of k w c.args.byte) c.probe-in-Node48.result) (sym c.in-Node48.is) c.probe-in-Node48.ensures.tells
+
+pub returns-in-Node256-clause-tells : goal.returns-in-Node256-clause-tells
+returns-in-Node256-clause-tells c =
+    subst (λ k. (w : Words) → IsBody k w → Agrees c.args.reads.now w → ProbeTells (child_of k w c.args.byte) c.probe-in-Node256.result) (sym c.in-Node256.is) c.probe-in-Node256.ensures.tells

@@ -1,0 +1,10 @@
+use Rattle.std.proofs.Common.{◌≡◌, ℕ, ◌<◌, ◌≤◌, length, get_or}
+use Rattle.art_node.proofs.relaid.emptied.Given as goal
+
+abbrev pub invariant-loop-place : goal.invariant-loop-place
+invariant-loop-place l = record {
+  all : length l.words ≡ 266;
+  copied : (p : ℕ) → 2 ≤ p → p < l.place → get_or l.words p 0 ≡ get_or l.body.words p 0;
+  first : (p : ℕ) → p < 2 → get_or l.words p 0 ≡ get_or l.initial.words p 0;
+  others : (p : ℕ) → l.place ≤ p → get_or l.words p 0 ≡ get_or l.initial.words p 0;
+}

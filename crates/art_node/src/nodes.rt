@@ -1,0 +1,113 @@
+//! The operations on a node, by its layout.
+ghost use Rattle.std.specs.Prelude.{◌≡◌, ◌≢◌, ◌≤◌, ◌<◌, ◌↔◌, ℕ, Some, None, IsNone, IfSome};
+ghost use Rattle.art_cell.specs.Words.{Words, count_of, places, child_of, entries};
+ghost use Rattle.art_cell.specs.Bodies.{IsBody, IsFull, IsRelaid};
+ghost use Rattle.art_cell.specs.Reads.{Agrees, ProbeNeeds, ProbeTells, NextNeeds, NextTells, IsPlan, word_of, with_child, without_child};
+ghost use Rattle.art_node.specs.Sizes.{larger, smaller};
+
+use crate::relaid::relaid;
+use art_cell::{Body, Entries, Layout, NextProbe, NodeKind, Probe, Reads, Writes};
+use art_node4::Node4;
+use art_node16::Node16;
+use art_node48::Node48;
+use art_node256::Node256;
+
+/// Calls a method of the kind of node that has the layout.
+macro_rules! art_node {
+    ($layout:expr, $method:ident($($argument:expr),*)) => {
+        match $layout {
+            Layout::Node4 => Node4::$method($($argument),*),
+            Layout::Node16 => Node16::$method($($argument),*),
+            Layout::Node48 => Node48::$method($($argument),*),
+            Layout::Node256 => Node256::$method($($argument),*),
+        }
+    };
+}
+
+/// The child of the byte, as far as the words that were read of a node of the layout tell.
+pub fn probe(layout: Layout, byte: u8, reads: &Reads) -> Probe
+    ensures needs { ProbeNeeds layout reads.now result }
+    ensures tells { (w : Words) → IsBody layout w → Agrees reads.now w → ProbeTells (child_of layout w byte) result }
+{
+    art_node!(layout, probe(byte, reads))
+}
+
+/// The least entry at the byte or above, as far as the words that were read of a node of the layout tell.
+pub fn at_least(layout: Layout, byte: u8, reads: &Reads) -> NextProbe
+    ensures needs { NextNeeds layout reads.now result }
+    ensures tells { (w : Words) → IsBody layout w → Agrees reads.now w → NextTells (child_of layout w) byte result }
+{
+    art_node!(layout, at_least(byte, reads))
+}
+
+/// The words to write so that the byte, which has none, has this child. None where the node is full.
+pub fn plan_add(body: &Body, byte: u8, child: u64) -> Option<Writes>
+    requires body { IsBody body.now.layout (word_of body.now) }
+    requires free { child_of body.now.layout (word_of body.now) byte ≡ None }
+    requires child { 0 < child }
+    ensures full { IsNone result ↔ IsFull body.now.layout (word_of body.now) }
+    ensures plan { IfSome result (λ writes. IsPlan body.now.layout (word_of body.now) writes.items
+        (with_child (child_of body.now.layout (word_of body.now)) byte child)) }
+{
+    art_node!(body.layout, plan_add(body, byte, child))
+}
+
+/// The words to write so that the byte, which has a child, has this one.
+pub fn plan_set(body: &Body, byte: u8, child: u64) -> Writes
+    requires body { IsBody body.now.layout (word_of body.now) }
+    requires there { (c : ℕ) × (child_of body.now.layout (word_of body.now) byte ≡ Some c) }
+    requires child { 0 < child }
+    ensures { IsPlan body.now.layout (word_of body.now) result.items
+        (with_child (child_of body.now.layout (word_of body.now)) byte child) }
+{
+    art_node!(body.layout, plan_set(body, byte, child))
+}
+
+/// The words to write so that the byte, which has a child, has none.
+pub fn plan_drop(body: &Body, byte: u8) -> Writes
+    requires body { IsBody body.now.layout (word_of body.now) }
+    requires there { (c : ℕ) × (child_of body.now.layout (word_of body.now) byte ≡ Some c) }
+    ensures { IsPlan body.now.layout (word_of body.now) result.items
+        (without_child (child_of body.now.layout (word_of body.now)) byte) }
+{
+    art_node!(body.layout, plan_drop(body, byte))
+}
+
+/// The children, in ascending order of their bytes.
+pub fn list(body: &Body) -> Entries
+    requires { IsBody body.now.layout (word_of body.now) }
+    ensures { result.items ≡ entries body.now.layout (word_of body.now) }
+{
+    art_node!(body.layout, list(body))
+}
+
+/// The node in the next larger layout, with the children in ascending order of their bytes from place 0.
+pub fn grow(body: &Body) -> Body
+    requires body { IsBody body.now.layout (word_of body.now) }
+    requires larger { body.now.layout ≢ Layout.Node256 }
+    ensures layout { result.layout ≡ larger body.now.layout }
+    ensures same { IsRelaid body.now.layout (larger body.now.layout) (word_of body.now) (word_of result) }
+{
+    match body.layout {
+        Layout::Node4 => relaid::<Node4, Node16>(body, Layout::Node16),
+        Layout::Node16 => relaid::<Node16, Node48>(body, Layout::Node48),
+        Layout::Node48 => relaid::<Node48, Node256>(body, Layout::Node256),
+        Layout::Node256 => unreachable!(),
+    }
+}
+
+/// The node in the next smaller layout, which has places for its children, in ascending order of their bytes from place 0.
+pub fn shrink(body: &Body) -> Body
+    requires body { IsBody body.now.layout (word_of body.now) }
+    requires smaller { body.now.layout ≢ Layout.Node4 }
+    requires fits { count_of (word_of body.now) ≤ places (smaller body.now.layout) }
+    ensures layout { result.layout ≡ smaller body.now.layout }
+    ensures same { IsRelaid body.now.layout (smaller body.now.layout) (word_of body.now) (word_of result) }
+{
+    match body.layout {
+        Layout::Node4 => unreachable!(),
+        Layout::Node16 => relaid::<Node16, Node4>(body, Layout::Node4),
+        Layout::Node48 => relaid::<Node48, Node16>(body, Layout::Node16),
+        Layout::Node256 => relaid::<Node256, Node48>(body, Layout::Node48),
+    }
+}

@@ -1,0 +1,43 @@
+//! Nodes of at most 16 children, in ascending order of their bytes, in 28 words.
+#![tactic(auto)]
+
+ghost use Rattle.std.specs.Prelude.{◌≡◌, ◌<◌, ◌↔◌, ℕ, Some, None, true, false};
+
+#[cfg(test)]
+mod tests;
+
+use art_cell::{Body, Entries, NextProbe, NodeKind, Probe, Reads};
+use art_sorted::Sorted;
+
+/// Nodes of at most 16 children (ICDE 2013): the key bytes in two words, and the children after them.
+pub struct Node16;
+
+impl NodeKind for Node16 {
+    ghost use Rattle.art_cell.specs.declared.layouts.Layout.TheVariants as layouts;
+
+    ghost layout = { layouts.Node16 };
+
+    fn probe(byte: u8, reads: &Reads) -> Probe {
+        art_sorted::probe(Sorted::Sixteen, byte, reads)
+    }
+
+    fn at_least(byte: u8, reads: &Reads) -> NextProbe {
+        art_sorted::at_least(Sorted::Sixteen, byte, reads)
+    }
+
+    fn add(body: &mut Body, byte: u8, child: u64) -> bool {
+        art_sorted::add(Sorted::Sixteen, body, byte, child)
+    }
+
+    fn set(body: &mut Body, byte: u8, child: u64) {
+        art_sorted::set(Sorted::Sixteen, body, byte, child);
+    }
+
+    fn take(body: &mut Body, byte: u8) {
+        art_sorted::take(Sorted::Sixteen, body, byte);
+    }
+
+    fn list(body: &Body) -> Entries {
+        art_sorted::list(Sorted::Sixteen, body)
+    }
+}

@@ -1,0 +1,9 @@
+use Rattle.std.proofs.Common.{◌<◌, length, arith}
+use Rattle.art_node256.proofs.Writes.{written_child, replaced}
+use Rattle.art_node256.proofs.kind.Node256NodeKind.set.Goals as goal
+
+pub returns-clause-set : goal.returns-clause-set
+returns-clause-set c =
+    let words = c.args.body.now.words in
+    let within : c.place_of.result < length words = omega arith in
+    replaced _ _ c.args.byte c.args.child (omega arith) c.requires.child (omega arith) c.requires.body.meaning c.requires.there (written_child words c.place_of.result c.args.byte c.args.child c.place_of.ensures within)

@@ -1,0 +1,4 @@
+pub mod Empty
+pub mod Index
+pub mod Steps
+pub mod Writes

@@ -1,0 +1,3 @@
+pub mod Ascending
+pub mod NodeWords
+pub mod Writing

@@ -1,0 +1,16 @@
+use Rattle.std.proofs.Common.{arith}
+use Rattle.art_cell.specs.Reads.{word_of}
+use Rattle.art_sorted.proofs.NodeWords.{in_use, taken}
+use Rattle.art_sorted.proofs.edits.take.Goals as goal
+
+pub remove-requires : goal.remove-requires
+remove-requires c =
+    let there = c.requires.there in
+    (omega arith, in_use c.args.sorted (word_of c.args.body.now) c.list-children.result.items c.position-index.result c.args.byte there.0 c.list-children.ensures c.requires.body.meaning there.1 c.position-index.ensures)
+
+pub returns-clause-taken : goal.returns-clause-taken
+returns-clause-taken c =
+    let there = c.requires.there in
+    taken c.args.sorted (word_of c.args.body.now) (word_of c.write.new.body) c.list-children.result.items c.remove.new.self.items c.position-index.result c.args.byte there.0
+    c.list-children.ensures c.requires.body.meaning there.1 c.position-index.ensures (c.write.ensures.fits c.requires.body.meaning.words)
+    c.remove.ensures.items c.write.ensures.holds

@@ -1,0 +1,4 @@
+pub mod Empty
+pub mod ReadWords
+pub mod Sorted
+pub mod SortedHeaders

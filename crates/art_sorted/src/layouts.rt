@@ -1,0 +1,40 @@
+//! The two layouts, by how many positions they have.
+ghost use Rattle.std.specs.Prelude.{◌≡◌, ◌≤◌, ◌<◌, ◌+◌, ◌/◌};
+ghost use Rattle.art_cell.specs.Words.{size, places, first_child};
+ghost use Rattle.art_sorted.specs.Sorted.{layout_of};
+
+/// How many children a node with sorted bytes can have.
+#[derive(Clone, Copy)]
+pub enum Sorted {
+    /// 4 positions, and the first child at place 11.
+    Four,
+    /// 16 positions, and the first child at place 12.
+    Sixteen,
+}
+
+impl Sorted {
+    /// How many positions there are.
+    pub(crate) fn positions(self) -> usize
+        ensures value { result ≡ places (layout_of self) }
+        ensures few { result ≤ 16 }
+        ensures fits { 10 + (result + 7) / 8 + result ≡ size (layout_of self) }
+    {
+        match self {
+            Sorted::Four => 4,
+            Sorted::Sixteen => 16,
+        }
+    }
+
+    /// The place of the first child, after the words of key bytes.
+    pub(crate) fn first_child(self) -> usize
+        ensures value { result ≡ first_child (layout_of self) }
+        ensures after_keys { result ≡ 10 + (places (layout_of self) + 7) / 8 }
+        ensures last { result + places (layout_of self) ≡ size (layout_of self) }
+        ensures few { result ≤ 12 }
+    {
+        match self {
+            Sorted::Four => 11,
+            Sorted::Sixteen => 12,
+        }
+    }
+}

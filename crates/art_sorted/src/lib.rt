@@ -1,0 +1,18 @@
+//! Nodes with sorted bytes: at most 4 or at most 16 children, in ascending order of their bytes.
+//!
+//! The two smallest of the layouts (ICDE 2013) are one thing with a number of positions. The key bytes are packed
+//! eight a word from place 10 on, the first in the highest byte, and the child words follow them. The positions in
+//! use stand first, and what stands at the others is 0.
+#![tactic(auto)]
+
+mod edits;
+mod layouts;
+mod lists;
+mod probes;
+mod searches;
+mod writes;
+
+pub use edits::{add, set, take};
+pub use layouts::Sorted;
+pub use lists::list;
+pub use probes::{at_least, probe};
