@@ -36,8 +36,8 @@ pub const SIZES: Config = Config {
 /// Does what the words ask for, and answers the status that the program ends with.
 ///
 /// Replies and help go to `writer`, and what was wrong goes to `faults`, in one line. 0: ended, or help;
-/// 1: a read or a write failed; 2: the words were refused; 3: the schema or a size was; 4: want of memory; 5: a
-/// session's reads were used up.
+/// 1: a read or a write failed; 2: the words were refused; 3: the schema was; 4: want of memory; 5: a session's
+/// reads were used up.
 pub fn execute<'a, R: Read, W: Write, E: Write>(
     alloc: Global,
     words: &'a [&'a str],
