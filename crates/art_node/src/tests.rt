@@ -5,7 +5,7 @@ ghost use Rattle.art_cell.specs.Words.{child_of};
 ghost use Rattle.art_cell.specs.Reads.{word_of};
 
 use super::*;
-use art_cell::{Body, Layout, NodeKind, Number, Pool, Probe, Reads, Write};
+use art_cell::{Body, Entries, Entry, Layout, NodeKind, Number, Pool, Probe, Reads, Write};
 use art_key::Key;
 use art_node4::Node4;
 use art_node16::Node16;
@@ -56,6 +56,41 @@ fn give(rt: &impl Abort, body: &mut Body, byte: u8, word: u64) -> bool
     }
 }
 
+/// Gives the byte, which has a child, this one.
+fn change(rt: &impl Abort, body: &mut Body, byte: u8, word: u64)
+    requires { IsBody body.old.layout (word_of body.old) }
+    ensures layout { body.new.layout ≡ body.old.layout }
+    ensures body { IsBody body.new.layout (word_of body.new) }
+{
+    assert!(rt; word > 0);
+    let Some(_) = child(body, byte) else {
+        panic!(rt; "byte {byte} has no child");
+    };
+    match body.layout {
+        Layout::Node4 => Node4::set(body, byte, word),
+        Layout::Node16 => Node16::set(body, byte, word),
+        Layout::Node48 => Node48::set(body, byte, word),
+        Layout::Node256 => Node256::set(body, byte, word),
+    }
+}
+
+/// Takes away the child of the byte, which has one.
+fn drop_child(rt: &impl Abort, body: &mut Body, byte: u8)
+    requires { IsBody body.old.layout (word_of body.old) }
+    ensures layout { body.new.layout ≡ body.old.layout }
+    ensures body { IsBody body.new.layout (word_of body.new) }
+{
+    let Some(_) = child(body, byte) else {
+        panic!(rt; "byte {byte} has no child");
+    };
+    match body.layout {
+        Layout::Node4 => Node4::take(body, byte),
+        Layout::Node16 => Node16::take(body, byte),
+        Layout::Node48 => Node48::take(body, byte),
+        Layout::Node256 => Node256::take(body, byte),
+    }
+}
+
 /// The child of a byte by probes, on the words of a body.
 fn probed(rt: &impl Abort, body: &Body, byte: u8) -> Option<u64> {
     let mut reads = Reads::new();
@@ -85,29 +120,64 @@ fn a_grown_node_takes_a_freed_place_again(rt: HostRuntime) {
     assert_eq!(rt; grown.words[1], 8_589_869_073);
     assert_eq!(rt; grown.words[12], 17 << 56);
     assert_eq!(rt; grown.words[58], 129);
+    drop_child(&rt, &mut grown, 3);
+    assert_eq!(rt; grown.words[1], 8_589_344_784);
+    assert_eq!(rt; grown.words[45], 0);
+    assert!(rt; give(&rt, &mut grown, 255, 33));
+    assert_eq!(rt; grown.words[1], 8_589_869_073);
+    assert_eq!(rt; grown.words[45], 33);
+    assert_eq!(rt; grown.words[41], 4);
+}
+
+/// The children after the same adds, sets and drops in a layout.
+fn children_after_changes(rt: &impl Abort, layout: Layout) -> Entries {
+    let mut body = empty(layout);
+    for byte in [7, 3, 200, 0] {
+        assert!(rt; give(rt, &mut body, byte, 8 * u64::from(byte) + 1));
+    }
+    change(rt, &mut body, 3, 17);
+    drop_child(rt, &mut body, 7);
+    assert!(rt; give(rt, &mut body, 255, 33));
+    change(rt, &mut body, 0, 41);
+    drop_child(rt, &mut body, 200);
+    assert_eq!(rt; probed(rt, &body, 3), Some(17));
+    assert_eq!(rt; probed(rt, &body, 7), None);
+    list(&body)
 }
 
 #[test]
-fn the_same_children_in_every_layout(rt: HostRuntime) {
-    let bytes = [7, 3, 200, 0];
-    let first = empty(Layout::Node4);
+fn the_same_changes_in_every_layout_give_the_same_children(rt: HostRuntime) {
+    let expected = [
+        Entry { byte: 0, child: 41 },
+        Entry { byte: 3, child: 17 },
+        Entry {
+            byte: 255,
+            child: 33,
+        },
+    ];
     for layout in [
         Layout::Node4,
         Layout::Node16,
         Layout::Node48,
         Layout::Node256,
     ] {
-        let mut body = empty(layout);
-        for byte in bytes {
-            assert!(rt; give(&rt, &mut body, byte, 8 * u64::from(byte) + 1));
-        }
-        for byte in bytes {
-            assert_eq!(rt; probed(&rt, &body, byte), Some(8 * u64::from(byte) + 1));
-        }
-        assert_eq!(rt; probed(&rt, &body, 8), None);
-        assert_eq!(rt; list(&body).len(), 4);
+        let children = children_after_changes(&rt, layout);
+        assert_eq!(rt; children.as_slice(), expected.as_slice());
     }
-    assert!(rt; list(&first).is_empty());
+}
+
+#[test]
+fn a_node_that_shrank_has_the_same_children(rt: HostRuntime) {
+    let mut body = empty(Layout::Node16);
+    for byte in [9, 1, 5] {
+        assert!(rt; give(&rt, &mut body, byte, 8 * u64::from(byte) + 2));
+    }
+    assert!(rt; read_header(body.words[1]).count <= 4);
+    let small = shrink(&body);
+    assert_eq!(rt; small.words[1], 3);
+    assert_eq!(rt; small.words[10], 0x0105_0900_0000_0000);
+    assert_eq!(rt; small.words[11], 10);
+    assert!(rt; list(&small).as_slice() == list(&body).as_slice());
 }
 
 #[test]
