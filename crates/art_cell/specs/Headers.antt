@@ -2,7 +2,7 @@
 use Rattle.std.proofs.Common.{◌≡◌, ◌≢◌, ℕ, zero, suc, ◌+◌, ◌*◌, ◌/◌, ◌%◌, ◌^◌, ◌<◌, ◌≤◌, List, ◌∷◌, inl, inr, max, refl, sym, ap, ◌∙◌, map, arith}
 use Rattle.std.specs.List.{range_with_len}
 use Rattle.std.proofs.lemmas.Bool.{cases_lt}
-use Rattle.std.proofs.lemmas.Nat.{pow_pos, pow-add, shr-shr, shr_split, shr_high, mod_below, or_disjoint, or_lt, pow_below}
+use Rattle.std.proofs.lemmas.Nat.{div-mul-add, mod-mul-add, pow_pos, pow-add, shr-shr, shr_split, shr_high, mod_below, or_disjoint, or_lt, pow_below}
 use Rattle.std.proofs.lemmas.Nat.Bits.{bit_at_or, bit_at-pow_same, bit_at-pow_other, bit_at_above, and_pow}
 use Rattle.std.proofs.Math.Nat.{suc-mul}
 use Rattle.std.specs.Int.RustNames.{bit_or}
@@ -138,3 +138,18 @@ same_prefix_of w after same has =
     same_bytes from (suc n) low =
         ap (λ (byte : ℕ). byte ∷ map (packed after 2) (range_with_len (from + 1) n)) (same_byte w after same from (omega arith))
         ∙ ap (λ (bytes : List ℕ). packed w 2 from ∷ bytes) (same_bytes (from + 1) n (omega arith))
+
+-- ---- another count
+
+-- the header h with this count
+abbrev pub with_count : ℕ → ℕ → ℕ
+with_count h count = h / 512 * 512 + count
+
+pub count-with_count : (h count : ℕ) → count < 512 → with_count h count % 512 ≡ count
+count-with_count h count few = mod-mul-add (h / 512) 512 count few
+
+pub prefix_len-with_count : (h count : ℕ) → count < 512 → with_count h count / 512 % 128 ≡ h / 512 % 128
+prefix_len-with_count h count few = ap (λ (n : ℕ). n % 128) (div-mul-add (h / 512) 512 count few)
+
+pub with_count_below : (h count : ℕ) → h < 2 ^ 16 → count < 512 → with_count h count < 2 ^ 16
+with_count_below h count small few = omega arith

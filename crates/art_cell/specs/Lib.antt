@@ -5,5 +5,6 @@ pub mod Entries
 pub mod Headers
 pub mod Leaves
 pub mod Packed
+pub mod ReadWords
 pub mod Reads
 pub mod Words

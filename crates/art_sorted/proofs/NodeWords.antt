@@ -17,7 +17,7 @@ use Rattle.art_cell.specs.Packed.{packed_below, packed_same}
 use Rattle.art_sorted.specs.declared.layouts.Sorted.{Sorted}
 use Rattle.art_sorted.specs.declared.layouts.Sorted.TheVariants.{Four, Sixteen}
 use Rattle.art_sorted.specs.Sorted.{layout_of, BelowAll, IsFirstFrom, no_entry, entry_or_none, IsPosition, Holds}
-use Rattle.art_sorted.specs.SortedHeaders.{with_count, count-with_count, prefix_len-with_count, with_count_below}
+use Rattle.art_cell.specs.Headers.{with_count, count-with_count, prefix_len-with_count, with_count_below}
 use Rattle.art_sorted.proofs.Ascending.{Ascends, lookup, listed-lookup, ascends_at, some_at, lookup_at, lookup_none, found_at, lookup-insert, Ascends-insert, lookup-set, Ascends-set, lookup-remove, Ascends-remove}
 
 -- ---- the two layouts

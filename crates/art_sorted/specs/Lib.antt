@@ -1,4 +1,2 @@
 pub mod Empty
-pub mod ReadWords
 pub mod Sorted
-pub mod SortedHeaders
