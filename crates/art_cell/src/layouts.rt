@@ -1,6 +1,8 @@
 //! The layouts of nodes, the pools that cells come from, and the numbers that name them.
 ghost use Rattle.std.specs.Prelude.{◌≡◌};
 
+use crate::{Link, Node};
+
 /// How the children of a node lie in its words.
 #[derive(Clone, Copy, Debug, PartialEq, Eq)]
 pub enum Layout {
@@ -57,4 +59,23 @@ pub enum Pool {
 pub struct Number {
     pub pool: Pool,
     pub number: u32,
+}
+
+impl Number {
+    ghost use Rattle.art_cell.specs.Children.{link_in_pool};
+
+    /// The leaf or the node that the number names.
+    pub fn link(self) -> Link
+        ensures { result ≡ link_in_pool self.pool self.number }
+    {
+        let number = self.number;
+        let layout = match self.pool {
+            Pool::Leaves => return Link::Leaf(number),
+            Pool::N4 => Layout::Node4,
+            Pool::N16 => Layout::Node16,
+            Pool::N48 => Layout::Node48,
+            Pool::N256 => Layout::Node256,
+        };
+        Link::Node(Node { layout, number })
+    }
 }

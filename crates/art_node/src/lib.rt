@@ -14,4 +14,4 @@ mod words;
 
 pub use leaves::{pack, unpack};
 pub use nodes::{at_least, grow, list, plan_add, plan_drop, plan_set, probe, shrink};
-pub use words::{Header, child_word, number_in, prefix, read_header};
+pub use words::{Header, child_word, link_in, prefix, read_header};

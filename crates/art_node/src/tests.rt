@@ -5,7 +5,9 @@ ghost use Rattle.art_cell.specs.Words.{child_of};
 ghost use Rattle.art_cell.specs.Reads.{word_of};
 
 use super::*;
-use art_cell::{Body, Entries, Entry, Layout, NodeKind, Number, Pool, Probe, Reads, Write};
+use art_cell::{
+    Body, Entries, Entry, Layout, Link, Node, NodeKind, Number, Pool, Probe, Reads, Write,
+};
 use art_key::Key;
 use art_node4::Node4;
 use art_node16::Node16;
@@ -201,23 +203,33 @@ fn a_leaf_is_its_key_and_its_value(rt: HostRuntime) {
     assert!(rt; unpack(&reads).is_none());
 }
 
+/// The node with this layout and number.
+fn node(layout: Layout, number: u32) -> Link {
+    Link::Node(Node { layout, number })
+}
+
 #[test]
 fn child_words_name_leaves_and_nodes(rt: HostRuntime) {
     let named = [
-        (Pool::Leaves, 0, 1),
-        (Pool::Leaves, 1, 9),
-        (Pool::N4, 0, 2),
-        (Pool::N16, 2, 19),
-        (Pool::N48, 3, 28),
-        (Pool::N256, 7, 61),
+        (Link::Leaf(0), 1),
+        (Link::Leaf(1), 9),
+        (node(Layout::Node4, 0), 2),
+        (node(Layout::Node16, 2), 19),
+        (node(Layout::Node48, 3), 28),
+        (node(Layout::Node256, 7), 61),
+        (Link::Leaf(u32::MAX), 34_359_738_361),
     ];
-    for (pool, number, word) in named {
-        let number = Number { pool, number };
-        assert_eq!(rt; child_word(number), word);
-        assert_eq!(rt; number_in(word), Some(number));
+    for (link, word) in named {
+        assert_eq!(rt; child_word(link), word);
+        assert_eq!(rt; link_in(word), Some(link));
     }
-    for word in [0, 6, 8, 15, 1 << 40] {
-        assert_eq!(rt; number_in(word), None);
+    let number = Number {
+        pool: Pool::N48,
+        number: 3,
+    };
+    assert_eq!(rt; child_word(number.link()), 28);
+    for word in [0, 6, 7, 8, 15, 1 << 40, (1 << 35) + 1] {
+        assert_eq!(rt; link_in(word), None);
     }
 }
 

@@ -1,14 +1,13 @@
 //! Header, prefix and child words.
-ghost use Rattle.std.specs.Prelude.{◌≡◌, ◌≢◌, ◌<◌, ◌%◌, ◌/◌, ◌^◌, IfSome, IfNone};
+ghost use Rattle.std.specs.Prelude.{◌≡◌, ◌%◌, ◌/◌, IfSome};
 ghost use Rattle.std.specs.Option.{option_map};
-ghost use Rattle.art_cell.specs.Children.{child_word};
+ghost use Rattle.art_cell.specs.Children.{child_word, code_of_layout, link_of};
 ghost use Rattle.art_cell.specs.Leaves.{prefix_read};
 ghost use Rattle.art_cell.specs.Reads.{Agrees};
 ghost use Rattle.art_cell.specs.Words.{Words, prefix_of};
-ghost use Rattle.art_cell.specs.declared.layouts.Number.{Number as NumberOf};
 
 use crate::leaves::key_in;
-use art_cell::{Number, Pool, Reads};
+use art_cell::{Layout, Link, Node, Reads};
 use art_key::Key;
 
 /// What a header says.
@@ -43,33 +42,42 @@ pub fn prefix(reads: &Reads) -> Option<Key>
     key_in(reads, length)
 }
 
-/// The word that names the leaf or the node: 8 times its number, and a code of its pool.
-pub fn child_word(number: Number) -> u64
-    ensures { result ≡ child_word number }
+/// The word that names the leaf or the node: 8 times its number, and a code, 1 for a leaf and 2 to 5 for a node by its
+/// layout.
+pub fn child_word(link: Link) -> u64
+    ensures { result ≡ child_word link }
 {
-    let code = match number.pool {
-        Pool::Leaves => 1,
-        Pool::N4 => 2,
-        Pool::N16 => 3,
-        Pool::N48 => 4,
-        Pool::N256 => 5,
+    let (number, code) = match link {
+        Link::Leaf(number) => (number, 1),
+        Link::Node(node) => (node.number, layout_code(node.layout)),
     };
-    8 * u64::from(number.number) + code
+    8 * u64::from(number) + code
+}
+
+/// The code of the nodes of a layout.
+fn layout_code(layout: Layout) -> u64
+    ensures { result ≡ code_of_layout layout }
+{
+    match layout {
+        Layout::Node4 => 2,
+        Layout::Node16 => 3,
+        Layout::Node48 => 4,
+        Layout::Node256 => 5,
+    }
 }
 
 /// The leaf or the node that the word names, if it names one.
-pub fn number_in(word: u64) -> Option<Number>
-    ensures some { IfSome result (λ number. child_word number ≡ word) }
-    ensures none { IfNone result ((n : NumberOf) → n.number < 2 ^ 32 → child_word n ≢ word) }
+pub fn link_in(word: u64) -> Option<Link>
+    ensures { result ≡ link_of word }
 {
-    let pool = match word % 8 {
-        1 => Pool::Leaves,
-        2 => Pool::N4,
-        3 => Pool::N16,
-        4 => Pool::N48,
-        5 => Pool::N256,
+    let number = u32::try_from(word / 8).ok()?;
+    let layout = match word % 8 {
+        1 => return Some(Link::Leaf(number)),
+        2 => Layout::Node4,
+        3 => Layout::Node16,
+        4 => Layout::Node48,
+        5 => Layout::Node256,
         _ => return None,
     };
-    let number = u32::try_from(word / 8).ok()?;
-    Some(Number { pool, number })
+    Some(Link::Node(Node { layout, number }))
 }
