@@ -3,11 +3,10 @@ use Rattle.std.proofs.Common.{◌≡◌, ◌⊎◌, ◌↔◌, ℕ, ◌+◌, ◌
 use Rattle.std.proofs.lemmas.Bool.{cases_order, ltb-false}
 use Rattle.std.specs.Ordering.{ordering_then}
 use Rattle.std.specs.Cmp.Lexicographic.{slice_cmp}
-use Rattle.art_cell.specs.declared.cells.Node.{Node}
-use Rattle.art_cell.specs.declared.cells.Link.{Link}
-use Rattle.art_cell.specs.declared.cells.Link.TheVariants.{Leaf as leaf, Node as node}
 use Rattle.art_cell.specs.Tree.{Begins}
-use Rattle.art_cell.specs.Looks.{Before, Bound, To, End, IsBelow, raise, after, AreBytes}
+use Rattle.art_cell.specs.declared.views.Bound.{Bound}
+use Rattle.art_cell.specs.declared.views.Bound.TheVariants.{To, End}
+use Rattle.art_cell.specs.Looks.{Before, IsBelow, raise, after, AreBytes}
 use Rattle.art_cell.proofs.Order.{before_first, nat_same, never_more, before_not}
 
 -- the order of texts by their first bytes

@@ -1,5 +1,5 @@
 -- Child words and the links that they name.
-use Rattle.std.proofs.Common.{◌≡◌, ◌≢◌, ℕ, ◌+◌, ◌*◌, ◌/◌, ◌%◌, ◌^◌, ◌<◌, false, cond, ltb, Option, Some, None, refl, sym, ap, ap₂, ◌∙◌, ⊎_elim, ne_eqb, arith}
+use Rattle.std.proofs.Common.{◌≡◌, ◌≢◌, ℕ, ◌/◌, ◌%◌, ◌^◌, ◌<◌, cond, ltb, Some, None, refl, sym, ap, ap₂, ◌∙◌, ⊎_elim, ne_eqb, arith}
 use Rattle.std.proofs.lemmas.Bool.{cases_lt, cases_eq, lt-ltb, le-ltb}
 use Rattle.std.proofs.lemmas.Option.{same_Some}
 use Rattle.art_cell.specs.declared.layouts.Layout.{Layout}

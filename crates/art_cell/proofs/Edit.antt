@@ -3,7 +3,7 @@ use Rattle.std.proofs.Common.{◌≡◌, ℕ, List, Some, None, refl, sym, ap, �
 use Rattle.std.specs.FinMap.{insert, remove}
 use Rattle.art_cell.specs.declared.cells.Node.{Node}
 use Rattle.art_cell.specs.declared.cells.Link.{Link}
-use Rattle.art_cell.specs.declared.cells.Link.TheVariants.{Leaf as leaf, Node as node}
+use Rattle.art_cell.specs.declared.cells.Link.TheVariants.{Leaf as leaf}
 use Rattle.art_cell.specs.Tree.{Place, Slot, Heap, held, At, PlaceAt, Begins, Row, HasTwo, IsTree}
 use Rattle.art_cell.specs.Rows.{ByteMap, HasRows}
 use Rattle.art_cell.specs.Changes.{IsUnlinked, Edits, Moves}

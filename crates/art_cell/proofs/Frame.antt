@@ -4,7 +4,6 @@ use Rattle.std.specs.FinMap.{get, empty, get-empty, same_map, slice_cmp-IsAntisy
 use Rattle.std.specs.Cmp.Lexicographic.{slice_cmp}
 use Rattle.std.proofs.lemmas.Cmp.{nat_list_cmp_total}
 use Rattle.std.specs.Ordering.{nat_cmp}
-use Rattle.art_cell.specs.declared.cells.Node.{Node}
 use Rattle.art_cell.specs.declared.cells.Link.{Link}
 use Rattle.art_cell.specs.declared.cells.Link.TheVariants.{Leaf as leaf, Node as node}
 use Rattle.art_cell.specs.Tree.{Place, Top, Slot, Heap, held, At, top, down, PathBy, PlaceAt, Begins, NamesOnce, IsTree}

@@ -2,10 +2,11 @@
 use Rattle.std.proofs.Common.{◌≡◌, ◌⊎◌, ℕ, ◌<◌, ◌≤◌, List, [], ◌∷◌, ◌++◌, Some, None, refl, sym, ap, ◌∙◌, subst, inl, ⊎_elim, zero-le, append-nil, arith}
 use Rattle.std.proofs.lemmas.Bool.{cases_order, cases_lt}
 use Rattle.art_cell.specs.declared.cells.Node.{Node}
-use Rattle.art_cell.specs.declared.cells.Link.{Link}
 use Rattle.art_cell.specs.declared.cells.Link.TheVariants.{Leaf as leaf, Node as node}
 use Rattle.art_cell.specs.Tree.{Heap, past, At, top, down, Begins, Row, IsTree}
-use Rattle.art_cell.specs.Looks.{Before, Bound, To, NoneIn, OnlyIn, Caps}
+use Rattle.art_cell.specs.declared.views.Bound.{Bound}
+use Rattle.art_cell.specs.declared.views.Bound.TheVariants.{To}
+use Rattle.art_cell.specs.Looks.{Before, NoneIn, OnlyIn, Caps}
 use Rattle.art_cell.proofs.Paths.{begins_more}
 use Rattle.art_cell.proofs.Lookup.{row_at_leaf, row_at_node, absent_empty}
 use Rattle.art_cell.proofs.Order.{before_byte, between, before_longer, not_before_front, before_not}

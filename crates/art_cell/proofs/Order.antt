@@ -7,9 +7,6 @@ use Rattle.std.specs.Ordering.{ordering_then}
 use Rattle.std.specs.Cmp.Lexicographic.{slice_cmp}
 use Rattle.std.specs.declared.cmp.Ordering.{Ordering}
 use Rattle.std.specs.declared.cmp.Ordering.TheVariants.{Less, Equal}
-use Rattle.art_cell.specs.declared.cells.Node.{Node}
-use Rattle.art_cell.specs.declared.cells.Link.{Link}
-use Rattle.art_cell.specs.declared.cells.Link.TheVariants.{Leaf as leaf, Node as node}
 use Rattle.art_cell.specs.Tree.{Begins}
 use Rattle.art_cell.specs.Looks.{Before}
 

@@ -3,7 +3,7 @@ use Rattle.std.proofs.Common.{◌≡◌, ◌≢◌, ◌⊎◌, ℕ, ◌<◌, ◌
 use Rattle.std.proofs.lemmas.Bool.{cases_lt}
 use Rattle.art_cell.specs.declared.cells.Node.{Node}
 use Rattle.art_cell.specs.declared.cells.Link.{Link}
-use Rattle.art_cell.specs.declared.cells.Link.TheVariants.{Leaf as leaf, Node as node}
+use Rattle.art_cell.specs.declared.cells.Link.TheVariants.{Node as node}
 use Rattle.art_cell.specs.Tree.{Place, Top, Slot, Heap, held, past, At, PathBy, PlaceAt, NamesOnce}
 use Rattle.art_cell.proofs.Places.{least, at_place, same_place, path_of_place, one_path}
 use Rattle.art_cell.proofs.Paths.{Under, here, go, next_byte, begins_more, under_begins, length_past, on_the_way}

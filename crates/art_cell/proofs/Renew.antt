@@ -1,18 +1,18 @@
 -- A node gives way to a copy.
-use Rattle.std.proofs.Common.{◌≡◌, ◌≢◌, ◌⊎◌, ℕ, ◌+◌, ◌<◌, List, [], ◌∷◌, ◌++◌, length, Some, None, refl, sym, ap, ap₂, ◌∙◌, subst, subst₂, inl, inr, ⊎_elim, arith}
+use Rattle.std.proofs.Common.{◌≡◌, ◌⊎◌, ℕ, ◌+◌, ◌<◌, List, [], ◌∷◌, ◌++◌, length, Some, None, refl, sym, ap, ap₂, ◌∙◌, subst, subst₂, inl, inr, ⊎_elim, arith}
 use Rattle.std.proofs.lemmas.Bool.{cases_eq}
 use Rattle.std.specs.FinMap.{insert, remove}
 use Rattle.art_cell.specs.declared.cells.Node.{Node}
 use Rattle.art_cell.specs.declared.cells.Link.{Link}
 use Rattle.art_cell.specs.declared.cells.Link.TheVariants.{Leaf as leaf, Node as node}
 use Rattle.art_cell.specs.Tree.{Place, Top, Slot, Heap, held, past, At, down, PlaceAt, Begins, Row, HasTwo, NamesOnce, IsTree}
-use Rattle.art_cell.specs.Rows.{ByteMap, HasRows}
+use Rattle.art_cell.specs.Rows.{ByteMap}
 use Rattle.art_cell.specs.Changes.{IsUnlinked, GivesWay, Renews, Copies, Moves}
 use Rattle.art_cell.specs.Laws.{Does, RenewTouched, RenewPaths, CopyTouched, CopyPaths}
 use Rattle.art_cell.proofs.Places.{at_place, same_link, one_path}
 use Rattle.art_cell.proofs.Paths.{length_past}
 use Rattle.art_cell.proofs.Patch.{Outside, Patch}
-use Rattle.art_cell.proofs.Sound.{patch_sound, row_back, row_on, row_new, rows_added, rows_dropped, rows_kept, patch_moves, stays_two, two_filled, row_of_leaf, moves_as}
+use Rattle.art_cell.proofs.Sound.{patch_sound, row_back, row_on, row_new, rows_added, rows_dropped, rows_kept, patch_moves, stays_two, row_of_leaf, moves_as}
 
 -- a node is not below itself
 pub deeper : (h : Heap) (c : Link) (n : Node) (p : List ℕ) (b : ℕ) → NamesOnce h → At h c p → At h c (past h n p b) → ⊥
@@ -207,9 +207,12 @@ module _ (h h' : Heap) (x : Place) (n m : Node) (b l : ℕ) (r₀ : List ℕ) (w
 
       -- n's children are at other bytes
       filled : (a : ℕ) (c : Link) → h.child n a ≡ Some c → (d : Link) × (h'.child m a ≡ Some d)
-      filled a c e = (c, w.same a (λ is.
-          let e' : h.child n b ≡ Some c = subst (λ z. h.child n z ≡ Some c) is e in
-          new (past h n r₀ b) (down b at_node (e' ∙ ap Some (w.old c e')) refl)) ∙ e)
+      filled a c e = (
+        c,
+        w.same a (λ is.
+            let e' : h.child n b ≡ Some c = subst (λ z. h.child n z ≡ Some c) is e in
+            new (past h n r₀ b) (down b at_node (e' ∙ ap Some (w.old c e')) refl)) ∙ e,
+      )
 
       two : HasTwo h' m
       two = let t = s.splits n r₀ at_node in let c = filled t.0 t.2 t.5 in let d = filled t.1 t.3 t.6 in (t.0, t.1, c.0, d.0, t.4, c.1, d.1)

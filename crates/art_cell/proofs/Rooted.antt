@@ -1,8 +1,7 @@
 -- A row stands below the root exactly where its leaf is linked.
 use Rattle.std.proofs.Common.{◌≡◌, ◌↔◌, ℕ, List, [], refl, sym, ◌∙◌, subst}
-use Rattle.art_cell.specs.declared.cells.Node.{Node}
 use Rattle.art_cell.specs.declared.cells.Link.{Link}
-use Rattle.art_cell.specs.declared.cells.Link.TheVariants.{Leaf as leaf, Node as node}
+use Rattle.art_cell.specs.declared.cells.Link.TheVariants.{Leaf as leaf}
 use Rattle.art_cell.specs.Tree.{Heap, past, At, top, down, Begins, Row, IsTree}
 use Rattle.art_cell.specs.Below.{StandsBelow, itself, under, StandsBelowRoot}
 use Rattle.art_cell.proofs.Paths.{Under, here, go, from_root}

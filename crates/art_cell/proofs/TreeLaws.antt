@@ -1,14 +1,14 @@
 -- The laws of the tree, from their parts.
-use Rattle.std.proofs.Common.{◌≡◌, ℕ, List, [], ◌∷◌, ◌++◌, Some, None, refl, ◌∙◌, subst, zero-le}
+use Rattle.std.proofs.Common.{◌≡◌, ℕ, List, [], ◌∷◌, ◌++◌, Some, refl, ◌∙◌, subst}
 use Rattle.art_cell.specs.declared.cells.Node.{Node}
-use Rattle.art_cell.specs.declared.cells.Link.{Link}
 use Rattle.art_cell.specs.declared.cells.Link.TheVariants.{Leaf as leaf, Node as node}
 use Rattle.art_cell.specs.Tree.{Slot, Heap, held, At, Begins, Row, IsTree}
 use Rattle.art_cell.specs.Below.{RowsStandBelow}
-use Rattle.art_cell.specs.Changes.{IsUnlinked, SameTree}
+use Rattle.art_cell.specs.Changes.{SameTree}
 use Rattle.art_cell.specs.Descents.{BeginsNone, Descends, Parts}
 use Rattle.art_cell.specs.Laws.{AddLaw, DropLaw, ReplaceLaw, GrowLaw, ShrinkLaw, CopyLaw, ForkLaw, MergeLaw, FrameLaw}
-use Rattle.art_cell.specs.Looks.{Bound, LooksAtAnchor, LooksAtNode}
+use Rattle.art_cell.specs.declared.views.Bound.{Bound}
+use Rattle.art_cell.specs.Looks.{LooksAtAnchor, LooksAtNode}
 use Rattle.art_cell.specs.Rows.{IsOneToOne}
 use Rattle.art_cell.proofs.Places.{at_place, one_path}
 use Rattle.art_cell.proofs.Paths.{one_cell_at, begins_more}

@@ -1,5 +1,5 @@
 -- What the words of all cells mean: a heap.
-use Rattle.std.specs.Prelude.{◌≡◌, ℕ, ◌<◌, List, [], nat_lt, if◌then◌else◌, Option, None}
+use Rattle.std.specs.Prelude.{◌≡◌, ℕ, List, [], nat_lt, if◌then◌else◌, Option, None}
 use Rattle.std.specs.Option.{option_and_then}
 use Rattle.art_cell.specs.declared.layouts.Layout.{Layout}
 use Rattle.art_cell.specs.declared.cells.Link.{Link}

@@ -1,15 +1,15 @@
 -- The laws of the tree.
-use Rattle.std.specs.Prelude.{◌≡◌, ◌≢◌, ◌⊎◌, ◌↔◌, ℕ, ◌<◌, ◌≤◌, List, ◌++◌, length, Some, None}
+use Rattle.std.specs.Prelude.{◌≡◌, ◌⊎◌, ◌↔◌, ℕ, ◌≤◌, List, length, Some, None}
 use Rattle.std.specs.Ordering.{nat_cmp}
 use Rattle.std.specs.Cmp.Lexicographic.{slice_cmp}
-use Rattle.std.specs.FinMap.{insert, remove, empty, entries, find, is_sorted}
+use Rattle.std.specs.FinMap.{insert, remove, find, is_sorted}
 use Rattle.std.specs.Prelude.{T}
 use Rattle.art_cell.specs.declared.cells.Node.{Node}
 use Rattle.art_cell.specs.declared.cells.Link.{Link}
 use Rattle.art_cell.specs.declared.cells.Link.TheVariants.{Leaf as leaf, Node as node}
 use Rattle.art_cell.specs.Tree.{Place, Slot, Heap, held, past, At, PlaceAt, Begins, Row, HasTwo, IsTree}
 use Rattle.art_cell.specs.Rows.{ByteMap, HasRows, IsAbsent}
-use Rattle.art_cell.specs.Changes.{IsUnlinked, Edits, Replaces, Renews, Copies, Forks, Merges, Moves, SameTree}
+use Rattle.art_cell.specs.Changes.{IsUnlinked, Edits, Replaces, Renews, Copies, Forks, Merges, Moves}
 
 -- a change of the heap h to h' does this: it is a tree, the touched cells are where E says and the others where they were,
 -- and its rows are those of g where they were those of f

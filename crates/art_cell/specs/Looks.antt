@@ -5,15 +5,12 @@ use Rattle.std.specs.Cmp.Lexicographic.{slice_cmp}
 use Rattle.std.specs.declared.cmp.Ordering.TheVariants.{Less}
 use Rattle.art_cell.specs.declared.cells.Node.{Node}
 use Rattle.art_cell.specs.declared.cells.Link.TheVariants.{Leaf as leaf}
+use Rattle.art_cell.specs.declared.views.Bound.{Bound}
+use Rattle.art_cell.specs.declared.views.Bound.TheVariants.{To, End}
 use Rattle.art_cell.specs.Tree.{Heap, past, Begins, Row}
 
 abbrev pub Before : List ℕ → List ℕ → Type 0
 Before j k = slice_cmp nat_cmp j k ≡ Less
-
--- the end of a range: before a text, or after all keys
-pub data Bound : Type 0 where
-  To : List ℕ → Bound
-  End : Bound
 
 abbrev pub IsBelow : List ℕ → Bound → Type 0
 IsBelow k (To z) = Before k z

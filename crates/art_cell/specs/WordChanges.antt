@@ -7,9 +7,9 @@ use Rattle.art_cell.specs.declared.cells.Link.TheVariants.{Leaf as leaf, Node as
 use Rattle.art_cell.specs.declared.cells.Cell.{Cell}
 use Rattle.art_cell.specs.declared.cells.Cell.TheVariants as cell
 use Rattle.art_cell.specs.Bodies.{IsBody, Becomes}
-use Rattle.art_cell.specs.Changes.{IsUnlinked, NamedOnlyAt, Edits, Replaces, Renews, Copies, Forks, Merges, SameTree}
+use Rattle.art_cell.specs.Changes.{IsUnlinked, Edits, Replaces, Renews, Copies, Forks, Merges}
 use Rattle.art_cell.specs.Children.{child_word, number_of}
-use Rattle.art_cell.specs.Heaps.{Cells, node_prefix, node_child, heap_of, MeansTheSame}
+use Rattle.art_cell.specs.Heaps.{Cells, node_prefix, heap_of, MeansTheSame}
 use Rattle.art_cell.specs.Reads.{with_child, without_child}
 use Rattle.art_cell.specs.Tree.{Place, Top, Slot, held, At, PlaceAt, NamesOnce}
 use Rattle.art_cell.specs.Words.{Words, prefix_of, child_of}

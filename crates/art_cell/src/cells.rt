@@ -1,4 +1,7 @@
 //! Cells, and the links by which cells name one another.
+ghost use Rattle.std.specs.Prelude.{◌≡◌};
+ghost use Rattle.art_cell.specs.Children.{link_of};
+
 use crate::Layout;
 
 /// An inner node: its layout, and its number among the nodes of that layout.
@@ -26,4 +29,22 @@ pub enum Cell {
     Leaf(u32),
     /// An inner node.
     Node(Node),
+}
+
+impl Link {
+    /// The leaf or the node that the child word names, if it names one.
+    pub fn named_by(word: u64) -> Option<Link>
+        ensures { result ≡ link_of word }
+    {
+        let number = u32::try_from(word / 8).ok()?;
+        let layout = match word % 8 {
+            1 => return Some(Link::Leaf(number)),
+            2 => Layout::Node4,
+            3 => Layout::Node16,
+            4 => Layout::Node48,
+            5 => Layout::Node256,
+            _ => return None,
+        };
+        Some(Link::Node(Node { layout, number }))
+    }
 }

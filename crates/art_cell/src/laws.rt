@@ -6,13 +6,14 @@ ghost use Rattle.art_cell.specs.declared.cells.Node.{Node as NodeOf};
 ghost use Rattle.art_cell.specs.declared.cells.Link.{Link as LinkOf};
 ghost use Rattle.art_cell.specs.declared.cells.Link.TheVariants.{Node as node};
 ghost use Rattle.art_cell.specs.declared.cells.Cell.{Cell as CellOf};
+ghost use Rattle.art_cell.specs.declared.views.Bound.{Bound as BoundOf};
 ghost use Rattle.art_cell.specs.Below.{RowsStandBelow};
 ghost use Rattle.art_cell.specs.Changes.{IsUnlinked, SameTree};
 ghost use Rattle.art_cell.specs.Children.{child_word, link_of, number_of};
 ghost use Rattle.art_cell.specs.Descents.{BeginsNone, Descends, Parts};
 ghost use Rattle.art_cell.specs.Heaps.{Cells, heap_of, MeansTheSame};
 ghost use Rattle.art_cell.specs.Laws.{AddLaw, CopyLaw, DropLaw, ForkLaw, FrameLaw, GrowLaw, IsAscending, ListsRows, MergeLaw, ReplaceLaw, RowFrom, ShrinkLaw};
-ghost use Rattle.art_cell.specs.Looks.{AfterCaps, AfterIsExact, AfterIsLeast, AreBytes, Bound, LooksAtAnchor, LooksAtNode};
+ghost use Rattle.art_cell.specs.Looks.{AfterCaps, AfterIsExact, AfterIsLeast, AreBytes, LooksAtAnchor, LooksAtNode};
 ghost use Rattle.art_cell.specs.Rows.{ByteMap, HasRows, IsOneToOne};
 ghost use Rattle.art_cell.specs.Tree.{At, Begins, Heap, IsTree};
 ghost use Rattle.art_cell.specs.WordChanges.{AddByWords, CopyByWords, DropByWords, ForkedByWords, GrowByWords, MergedByWords, ReplaceByWords, SameBody, SameByWords, ShrinkByWords};
@@ -73,7 +74,7 @@ pub fn new_keys_part()
 
 /// What the anchor, and a node on the way of the first key that is asked for, show of a range.
 pub fn looks_show()
-    ensures anchor { (h : Heap) (lo : List ℕ) (hi : Bound) → IsTree h → LooksAtAnchor h lo hi }
+    ensures anchor { (h : Heap) (lo : List ℕ) (hi : BoundOf) → IsTree h → LooksAtAnchor h lo hi }
     ensures node { (h : Heap) (n : NodeOf) (r lo : List ℕ) → IsTree h → At h (node n) r → Begins r lo → LooksAtNode h n r lo }
 {}
 

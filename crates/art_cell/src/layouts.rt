@@ -1,6 +1,7 @@
 //! The layouts of nodes, the pools that cells come from, and the numbers that name them.
 ghost use Rattle.std.specs.Prelude.{◌≡◌};
 
+use crate::word_places::pool_of_layout;
 use crate::{Link, Node};
 
 /// How the children of a node lie in its words.
@@ -54,8 +55,8 @@ pub enum Pool {
     N256,
 }
 
-/// A leaf or a node, by its pool and its number there.
-#[derive(Clone, Copy, Debug, PartialEq, Eq)]
+/// A number that a pass has in hand, of a leaf or a node. It has to be claimed, linked or given back.
+#[derive(Debug, PartialEq, Eq)]
 pub struct Number {
     pub pool: Pool,
     pub number: u32,
@@ -63,10 +64,27 @@ pub struct Number {
 
 impl Number {
     ghost use Rattle.art_cell.specs.Children.{link_in_pool};
+    ghost use Rattle.art_cell.specs.Shown.{link_of_number};
+
+    /// The number of a leaf or of a node.
+    pub(crate) fn of(link: Link) -> Number
+        ensures { link_of_number result ≡ link }
+    {
+        match link {
+            Link::Leaf(number) => Number {
+                pool: Pool::Leaves,
+                number,
+            },
+            Link::Node(node) => Number {
+                pool: pool_of_layout(node.layout),
+                number: node.number,
+            },
+        }
+    }
 
     /// The leaf or the node that the number names.
-    pub fn link(self) -> Link
-        ensures { result ≡ link_in_pool self.pool self.number }
+    pub fn link(&self) -> Link
+        ensures { result ≡ link_in_pool self.now.pool self.now.number }
     {
         let number = self.number;
         let layout = match self.pool {

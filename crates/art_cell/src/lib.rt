@@ -6,24 +6,56 @@
 //! node has.
 #![tactic(auto)]
 
+#[cfg(test)]
+mod actor_tests;
+mod at;
 mod bodies;
 mod cells;
+mod deeds;
 mod laws;
 mod layouts;
+mod made_steps;
 mod node_kinds;
+mod opening;
 mod reads;
+mod run;
+mod step_laws;
+mod steps;
 #[cfg(test)]
 mod tests;
+mod views;
+mod word_places;
+mod world;
+mod world_numbers;
+mod world_releases;
+mod world_steps;
 mod writes;
 
+pub use at::At;
 pub use bodies::Body;
 pub use cells::{Cell, Link, Node};
+pub use deeds::{Act, Deed};
 pub use laws::{
-    bounds_are_least, cells_have_one_path, cells_lead_to_rows, child_words_are_read_back, descents_show, leaves_are_added, leaves_are_dropped,
-    leaves_are_replaced, looks_show, new_keys_part, no_root_has_no_row, nodes_are_copied, nodes_are_merged_away, nodes_come_between, nodes_grow,
-    nodes_shrink, rows_are_of_one_map, rows_stand_below_the_root, same_words_are_the_same_tree, unlinked_cells_do_not_matter, words_change_the_tree, words_mean_bytes,
+    bounds_are_least, cells_have_one_path, cells_lead_to_rows, child_words_are_read_back,
+    descents_show, leaves_are_added, leaves_are_dropped, leaves_are_replaced, looks_show,
+    new_keys_part, no_root_has_no_row, nodes_are_copied, nodes_are_merged_away, nodes_come_between,
+    nodes_grow, nodes_shrink, rows_are_of_one_map, rows_stand_below_the_root,
+    same_words_are_the_same_tree, unlinked_cells_do_not_matter, words_change_the_tree,
+    words_mean_bytes,
 };
 pub use layouts::{Layout, Number, Pool};
 pub use node_kinds::{Entries, Entry, NextProbe, NodeKind, Probe};
 pub use reads::Reads;
+pub use run::Actor;
+pub use step_laws::{
+    beginning_is_sound, checking_is_sound, claiming_is_sound, committing_is_sound,
+    forgetting_is_sound, giving_is_sound, opening_is_sound, reading_is_sound, releasing_is_sound,
+    taking_is_sound, upgrading_is_sound, writing_is_sound,
+};
+pub use steps::{Changed, Held, Locked, Steps, Unlinked, UpgradeFault};
+pub use views::{
+    Answer, Asked, Bound, Checked, Event, Fact, Finding, Holding, InHand, Note, Noted, Pin,
+    Retired, Sizes, Stamp, View, What, Word,
+};
+pub use world::World;
 pub use writes::{Write, Writes, changes};

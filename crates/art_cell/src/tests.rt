@@ -50,3 +50,23 @@ fn words_that_differ_are_written_in_ascending_place(rt: HostRuntime) {
     assert_eq!(rt; writes.as_slice(), expected.as_slice());
     assert!(rt; changes(&before, &before).is_empty());
 }
+
+#[test]
+fn a_number_is_that_of_a_leaf_or_of_a_node(rt: HostRuntime) {
+    let number = Number {
+        pool: Pool::N48,
+        number: 3,
+    };
+    let link = number.link();
+    let Number { pool: _, number: _ } = number;
+    assert_eq!(rt;
+        link,
+        Link::Node(Node {
+            layout: Layout::Node48,
+            number: 3
+        })
+    );
+    assert_eq!(rt; Link::named_by(28), Some(link));
+    assert_eq!(rt; Link::named_by(9), Some(Link::Leaf(1)));
+    assert_eq!(rt; Link::named_by(6), None);
+}

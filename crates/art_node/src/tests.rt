@@ -5,9 +5,7 @@ ghost use Rattle.art_cell.specs.Words.{child_of};
 ghost use Rattle.art_cell.specs.Reads.{word_of};
 
 use super::*;
-use art_cell::{
-    Body, Entries, Entry, Layout, Link, Node, NodeKind, Number, Pool, Probe, Reads, Write,
-};
+use art_cell::{Body, Entries, Entry, Layout, Link, Node, NodeKind, Probe, Reads, Write};
 use art_key::Key;
 use art_node4::Node4;
 use art_node16::Node16;
@@ -223,11 +221,6 @@ fn child_words_name_leaves_and_nodes(rt: HostRuntime) {
         assert_eq!(rt; child_word(link), word);
         assert_eq!(rt; link_in(word), Some(link));
     }
-    let number = Number {
-        pool: Pool::N48,
-        number: 3,
-    };
-    assert_eq!(rt; child_word(number.link()), 28);
     for word in [0, 6, 7, 8, 15, 1 << 40, (1 << 35) + 1] {
         assert_eq!(rt; link_in(word), None);
     }

@@ -7,7 +7,7 @@ ghost use Rattle.art_cell.specs.Reads.{Agrees};
 ghost use Rattle.art_cell.specs.Words.{Words, prefix_of};
 
 use crate::leaves::key_in;
-use art_cell::{Layout, Link, Node, Reads};
+use art_cell::{Layout, Link, Reads};
 use art_key::Key;
 
 /// What a header says.
@@ -70,14 +70,5 @@ fn layout_code(layout: Layout) -> u64
 pub fn link_in(word: u64) -> Option<Link>
     ensures { result ≡ link_of word }
 {
-    let number = u32::try_from(word / 8).ok()?;
-    let layout = match word % 8 {
-        1 => return Some(Link::Leaf(number)),
-        2 => Layout::Node4,
-        3 => Layout::Node16,
-        4 => Layout::Node48,
-        5 => Layout::Node256,
-        _ => return None,
-    };
-    Some(Link::Node(Node { layout, number }))
+    Link::named_by(word)
 }

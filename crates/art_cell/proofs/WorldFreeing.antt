@@ -1,0 +1,123 @@
+-- The steps of a world that take a free number, and that free one in hand.
+use Rattle.std.proofs.Common.{◌≡◌, ℕ, ◌+◌, ◌-◌, ◌*◌, ◌/◌, ◌%◌, ◌^◌, ◌<◌, ◌≤◌, ◌==◌, Bool, true, false, List, length, get_or, slice_set, sym, refl, ap, ◌∙◌, ⊎_elim, arith}
+use Rattle.std.proofs.lemmas.Bool.{cases_Bool, eqb-true, eqb-false}
+use Rattle.std.proofs.lemmas.List.{get_or_read}
+use Rattle.std.proofs.lemmas.Nat.{pow_below}
+use Rattle.std.specs.Prelude.{Some}
+use Rattle.art_cell.specs.declared.cells.Link.{Link}
+use Rattle.art_cell.specs.declared.layouts.Pool.{Pool}
+use Rattle.art_cell.specs.declared.layouts.Pool.TheVariants.{Leaves}
+use Rattle.art_cell.specs.declared.views.InHand.{InHand}
+use Rattle.art_cell.specs.declared.views.Sizes.{Sizes}
+use Rattle.art_cell.specs.declared.views.View.{View}
+use Rattle.art_cell.specs.Children.{link_in_pool}
+use Rattle.art_cell.specs.Headers.{bit_at_least, bit_more_below}
+use Rattle.art_cell.specs.Shown.{Gave, Took}
+use Rattle.art_cell.specs.Sound.{InHandOf, Nowhere, IsFree, IsSound}
+use Rattle.art_cell.specs.StepRows.{SetsFree, MayGive, gave, took}
+use Rattle.art_cell.specs.Views.{IsNumber, cell_named}
+use Rattle.art_cell.specs.WorldWords.{number_in_pool, first_free_word, free_place, bit_of, is_free, word_count, memory_of, views_of, view_at}
+use Rattle.art_cell.proofs.StepNumbers.{take_law, give_law}
+use Rattle.art_cell.proofs.WorldFree.{frees_number, takes_number, free_is_number, free_found}
+use Rattle.art_cell.proofs.WorldMemory.{copy_of, is_taken}
+use Rattle.art_cell.proofs.WorldPlaces.{free_below}
+use Rattle.art_cell.proofs.WorldTurns.{Next, turned}
+use Rattle.art_cell.proofs.WorldViews.{at_view}
+
+-- ---- the word that has a number's bit
+
+place_in_pool : (z : Sizes) (pool : Pool) (n : ℕ) → free_place z (link_in_pool pool n) ≡ first_free_word z pool + n / 64
+place_in_pool z pool n = elim pool as (λ k. free_place z (link_in_pool k n) ≡ first_free_word z k + n / 64) [ Leaves ↦ refl | _ ↦ refl ]
+
+number_again : (pool : Pool) (n : ℕ) → number_in_pool (link_in_pool pool n) ≡ n
+number_again pool n = elim pool as (λ k. number_in_pool (link_in_pool k n) ≡ n) [ Leaves ↦ refl | _ ↦ refl ]
+
+-- it was found at its place, and this is the power of the bit
+pub record IsBitWord (z : Sizes) (ws : List ℕ) (d : Link) (place found bit : ℕ) : Type 0 where
+  pub stands : place ≡ free_place z d
+  pub read : found ≡ get_or ws (free_place z d) 0
+  pub power : bit ≡ 2 ^ (number_in_pool d % 64)
+
+-- it is one of the world's words
+pub bit_below : (z : Sizes) (ws : List ℕ) (pool : Pool) (n first : ℕ) → IsNumber z (link_in_pool pool n) → length ws ≡ word_count z → first ≡ first_free_word z pool → first + n / 64 < length ws
+bit_below z ws pool n first inside long is =
+    let at = free_below z (link_in_pool pool n) inside in
+    let same = place_in_pool z pool n in
+    omega arith
+
+-- as code finds it: after the pool's first word, with the power as a word of 64 bits
+abbrev pub WordWithBit : Sizes → List ℕ → Pool → ℕ → ℕ → ℕ → Type 0
+WordWithBit z ws pool n first found = IsBitWord z ws (link_in_pool pool n) (first + n / 64) found (1 * 2 ^ (n % 64) % 18446744073709551616)
+
+-- each number that there is has one
+pub word_with_bit : (z : Sizes) (ws : List ℕ) (pool : Pool) (n first found : ℕ) → IsNumber z (link_in_pool pool n) → length ws ≡ word_count z → first ≡ first_free_word z pool
+    → found ≡ get_or ws (first + n / 64) found → WordWithBit z ws pool n first found
+word_with_bit z ws pool n first found inside long is read =
+    let same : first + n / 64 ≡ free_place z (link_in_pool pool n) = let e = place_in_pool z pool n in omega arith in
+    let few : 2 ^ (n % 64) < 2 ^ 64 = pow_below (n % 64) 64 (omega arith) in
+    let whole : 1 * 2 ^ (n % 64) % 18446744073709551616 ≡ 2 ^ (n % 64) = omega arith in
+    record {
+      stands = same;
+      read = get_or_read ws (first + n / 64) found (bit_below z ws pool n first inside long is) read 0 ∙ ap (λ (place : ℕ). get_or ws place 0) same;
+      power = whole ∙ ap (λ (k : ℕ). 2 ^ (k % 64)) (sym (number_again pool n));
+    }
+
+module _ (z : Sizes) (ws : List ℕ) (long : length ws ≡ word_count z) (d : Link) (place found bit : ℕ) (word : IsBitWord z ws d place found bit) where
+  bit_is : (b : Bool) → IsNumber z d → is_free z ws d ≡ b → (bit_of found (number_in_pool d % 64) == 1) ≡ b
+  bit_is b inside is = rw word.read (sym (free_found z ws d inside) ∙ is)
+
+  -- the bit of a free number can be subtracted
+  pub bit_within : is_free z ws d ≡ true → bit ≤ found
+  bit_within free = rw word.power (bit_at_least found (number_in_pool d % 64) (eqb-true _ 1 (bit_is true (free_is_number z ws d free) free)))
+
+  -- and that takes the number
+  pub takes_bit : is_free z ws d ≡ true → SetsFree (memory_of z ws) d false (memory_of z (slice_set ws place (found - bit)))
+  takes_bit free = rw (word.stands, word.read, word.power) (takes_number z ws d free long)
+
+  -- the bit of a number that is not free can be added
+  pub bit_room : IsNumber z d → is_free z ws d ≡ false → found < 2 ^ 64 → found + bit < 2 ^ 64
+  bit_room inside taken low =
+      let other = eqb-false _ 1 (bit_is false inside taken) in
+      rw word.power (bit_more_below found (number_in_pool d % 64) (omega arith) (omega arith) low)
+
+  -- and that frees the number
+  pub frees_bit : IsNumber z d → is_free z ws d ≡ false → SetsFree (memory_of z ws) d true (memory_of z (slice_set ws place (found + bit)))
+  frees_bit inside taken = rw (word.stands, word.read, word.power) (frees_number z ws d inside taken long)
+
+-- ---- the steps
+
+module _ (z : Sizes) (ws : List ℕ) (vs : List View) (p : ℕ) (r : IsSound z (memory_of z ws) (views_of vs)) (inside : p < length vs) (long : length ws ≡ word_count z) where
+  abbrev v : View
+  v = view_at vs p
+
+  at : views_of vs p ≡ Some (view_at vs p)
+  at = at_view vs p inside
+
+  -- a number in hand is one that there is, and it is not free
+  pub in_hand : (d : Link) (xs : List InHand) → MayGive v d xs → IsNumber z d × (is_free z ws d ≡ false)
+  in_hand d xs may =
+      let x = may.hand in
+      let hand : r.at d ≡ InHandOf p = ap r.at (sym x.2) ∙ (r.numbers.accounts p v at).hand x.0 x.1 in (
+        (r.numbers.numbers d).0 (λ e. let none : InHandOf p ≡ Nowhere = sym hand ∙ e in cc),
+        ⊎_elim
+            (λ (free : is_free z ws d ≡ true). let other : InHandOf p ≡ IsFree = sym hand ∙ (r.numbers.free d).1 free in absurd (cc))
+            (λ (taken : is_free z ws d ≡ false). taken)
+            (cases_Bool (is_free z ws d)),
+      )
+
+  module _ (d : Link) (place found bit : ℕ) (word : IsBitWord z ws d place found bit) where
+    -- a free number comes into the hand
+    pub turn_takes : is_free z ws d ≡ true → Next z vs p (slice_set ws place (found - bit)) (λ u w. Took u w d)
+    turn_takes free =
+        let words : List ℕ = copy_of z ws (cell_named d) in
+        let us : List ℕ = slice_set ws place (found - bit) in
+        turned z ws vs p r inside long us (λ u w. Took u w d) (took v d words) record { words = words; is = refl }
+        (λ g t. take_law z (memory_of z ws) (views_of vs) p v at (memory_of z us) g d words r free (is_taken z ws d) (takes_bit z ws long d place found bit word free) t)
+
+    -- a number in hand is free again
+    pub turn_gives : (xs : List InHand) → MayGive v d xs → Next z vs p (slice_set ws place (found + bit)) (λ u w. Gave u w d)
+    turn_gives xs may =
+        let us : List ℕ = slice_set ws place (found + bit) in
+        let is = in_hand d xs may in
+        turned z ws vs p r inside long us (λ u w. Gave u w d) (gave v xs) record { hand = xs; rest = may.rest; is = refl }
+        (λ g t. give_law z (memory_of z ws) (views_of vs) p v at (memory_of z us) g d xs r may (frees_bit z ws long d place found bit word is.0 is.1) t)

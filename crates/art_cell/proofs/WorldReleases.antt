@@ -1,0 +1,165 @@
+-- The releases of a world: the first one of a change, which is its commit, and later ones.
+use Rattle.std.proofs.Common.{◌≡◌, ◌≢◌, ℕ, zero, suc, ◌<◌, Bool, List, [], ◌∷◌, ◌++◌, length, slice_get, slice_set, inl, inr, ⊎_elim, refl, sym, ap, ◌∙◌, subst, arith}
+use Rattle.std.proofs.lemmas.Bool.{cases_eq}
+use Rattle.std.proofs.lemmas.Option.{same_Some}
+use Rattle.std.specs.FinMap.{empty}
+use Rattle.std.specs.Prelude.{Option, Some}
+use Rattle.art_cell.specs.declared.cells.Cell.{Cell}
+use Rattle.art_cell.specs.declared.cells.Link.{Link}
+use Rattle.art_cell.specs.declared.views.Event.{Event}
+use Rattle.art_cell.specs.declared.views.Holding.{Holding}
+use Rattle.art_cell.specs.declared.views.InHand.{InHand}
+use Rattle.art_cell.specs.declared.views.Pin.{Pin}
+use Rattle.art_cell.specs.declared.views.Sizes.{Sizes}
+use Rattle.art_cell.specs.declared.views.View.{View}
+use Rattle.art_cell.specs.declared.views.What.{What}
+use Rattle.art_cell.specs.Histories.{event, IsAnswered, becomes, run, replay, IsLegalFrom, IsLegal}
+use Rattle.art_cell.specs.Rows.{ByteMap}
+use Rattle.art_cell.specs.Shown.{IsHolding, Released, Committed, coming}
+use Rattle.art_cell.specs.Sound.{IsOneHistory, HoldsEach, IsSound}
+use Rattle.art_cell.specs.StepRows.{SetsVersion, Drops, HandsOver, AreStanding, all_retired, released_word, MayRelease, MayBeFirst, MayCommit, writing, committed}
+use Rattle.art_cell.specs.Views.{Member, Memory, Views, Turned}
+use Rattle.art_cell.specs.WorldWords.{IsInside, place_of, word_count, memory_of, views_of, view_at}
+use Rattle.art_cell.proofs.Facts.{same_cell}
+use Rattle.art_cell.proofs.Gathered.{Gathered, gathered, left_over}
+use Rattle.art_cell.proofs.StepCommits.{either_member, commit_law}
+use Rattle.art_cell.proofs.StepLocks.{no_leaf, release_law}
+use Rattle.art_cell.proofs.WorldMemory.{sets_version}
+use Rattle.art_cell.proofs.WorldTurns.{Next, makes}
+use Rattle.art_cell.proofs.WorldViews.{at_view, turned_view}
+
+-- ---- what a pass keeps
+
+-- the holdings of other cells
+dropped : (hs : List Holding) (c : Cell) → (rest : List Holding) × Drops hs c rest
+dropped hs c =
+    let k = left_over (λ (h : Holding). h.cell ≡ c) hs (λ h. same_cell h.cell c) in
+    (k.0, record { was = λ h. (k.1 h).0; stays = λ h i other. (k.1 h).1 (i, other) })
+
+-- the numbers in hand that do not come into the tree
+handed_over : (xs : List InHand) (ls : List Link) → (rest : List InHand) × HandsOver xs ls rest
+handed_over xs ls =
+    let k = left_over (λ (x : InHand). Member x.link ls) xs (λ x. either_member x.link ls) in
+    (k.0, record { was = λ x. (k.1 x).0; stays = λ x i other. (k.1 x).1 (i, other) })
+
+-- ---- the pins that stand
+
+view_member : (vs : List View) (q : ℕ) (u : View) → slice_get vs q ≡ Some u → Member u vs
+view_member [] q u e = absurd (cc)
+view_member (x ∷ vs) zero u e = inl (sym (same_Some x u e))
+view_member (x ∷ vs) (suc q) u e = inr (view_member vs q u e)
+
+view_place : (vs : List View) (u : View) → Member u vs → (q : ℕ) × (slice_get vs q ≡ Some u)
+view_place [] u i = absurd i
+view_place (x ∷ vs) u i = ⊎_elim (λ (e : u ≡ x). (zero, ap Some (sym e))) (λ (j : Member u vs). let k = view_place vs u j in (suc k.0, k.1)) i
+
+abbrev pin_of : ℕ → ℕ → Pin
+pin_of q n = record { pass = q; count = n }
+
+-- those of the views that are pinned, where each view stands at its pass
+standing : (vs : List View) → ((q : ℕ) (u : View) → views_of vs q ≡ Some u → u.pass ≡ q) → (ks : List Pin) × AreStanding (views_of vs) ks
+standing vs own =
+    let Stands : View → Pin → Type 0 = λ u k. (u.pin ≢ 0) × (k ≡ pin_of u.pass u.pins) in
+    let ks : Gathered Stands vs = gathered Stands vs (λ u i. ⊎_elim
+    (λ (idle : u.pin ≡ 0). inr (λ k stands. stands.0 idle))
+    (λ (pinned : u.pin ≢ 0). inl (pin_of u.pass u.pins, (pinned, refl), λ k stands. stands.1))
+    (cases_eq u.pin 0)) in (
+      ks.list,
+      record {
+        all = λ q u is pinned. ks.each u (pin_of q u.pins) (view_member vs q u is) (pinned, ap (λ (n : ℕ). pin_of n u.pins) (sym (own q u is)));
+        only = λ q n i.
+            let k = ks.from (pin_of q n) i in
+            let at = view_place vs k.0 k.1 in
+            let same : at.0 ≡ q = sym (own at.0 k.0 at.1) ∙ sym (ap (λ (a : Pin). a.pass) k.2.1) in
+            (k.0, subst (λ (j : ℕ). views_of vs j ≡ Some k.0) same at.1, k.2.0, ap (λ (a : Pin). a.count) k.2.1);
+      },
+    )
+
+-- ---- the event of a commit
+
+answered_from : (s : ByteMap) (before after : List Event) (e : Event) → IsLegalFrom s ((before ++ e ∷ []) ++ after) → IsAnswered (run s before) e.what
+answered_from s [] after e legal = legal.0
+answered_from s (x ∷ before) after e legal = answered_from (becomes s x.what) before after e legal.1
+
+-- the last event that a pass has seen is what the map answers after those before it
+answered : (log before : List Event) (f : Views) (p : ℕ) (v : View) (e : Event) → IsOneHistory log f → f p ≡ Some v → v.seen ≡ before ++ e ∷ [] → IsAnswered (replay before) e.what
+answered log before f p v e history is seen =
+    let starts = (history.tells p v is).starts in
+    answered_from empty before starts.0 e (subst IsLegal (starts.1 ∙ ap (λ (l : List Event). l ++ starts.0) seen) history.legal)
+
+-- ---- a held cell is released
+
+module _ (z : Sizes) (ws : List ℕ) (vs : List View) (p : ℕ) (r : IsSound z (memory_of z ws) (views_of vs)) (inside : p < length vs) (long : length ws ≡ word_count z) where
+  abbrev m : Memory
+  m = memory_of z ws
+
+  abbrev f : Views
+  f = views_of vs
+
+  abbrev v : View
+  v = view_at vs p
+
+  at : views_of vs p ≡ Some (view_at vs p)
+  at = at_view vs p inside
+
+  mine : HoldsEach m r.logical v
+  mine = r.holder.holds p v at
+
+  -- it is locked, so that its version word is far below the greatest
+  pub released_fits : (c : Cell) (h : Holding) → h.cell ≡ c → Member h v.held → m.version c < 18446744073709551613
+  released_fits c h is i =
+      let small = (r.formed.versions h.cell).locked (mine.keeps h i).locked in
+      subst (λ (d : Cell). m.version d < 18446744073709551613) is (omega arith)
+
+  -- the cell of the holding h is released, and the pass's view becomes w
+  abbrev IsRelease : Holding → Bool → View → (View → View → Holding → Type 0) → Type 0
+  IsRelease h obsolete w Row = (m' : Memory) (g : Views) → SetsVersion m h.cell (released_word (m.version h.cell) obsolete) m' → Turned f p w g
+      → IsSound z m' g × ((k : Holding) → k.cell ≡ h.cell → Row v w k)
+
+  -- so the world makes a step whose row is of each holding of the cell
+  abbrev pub AfterRelease : Cell → Bool → ℕ → (View → View → Holding → Type 0) → Type 0
+  AfterRelease c obsolete word Row = IsInside z c → word ≡ released_word (m.version c) obsolete → Next z vs p (slice_set ws (place_of z c) word) (λ u w. (k : Holding) → IsHolding u c k → Row u w k)
+
+  released : (h : Holding) (obsolete : Bool) (word : ℕ) (w : View) (Row : View → View → Holding → Type 0) → Member h v.held → IsRelease h obsolete w Row → AfterRelease h.cell obsolete word Row
+  released h obsolete word w Row i law there is =
+      let locked = (mine.keeps h i).locked in
+      let plain = no_leaf z m f h.cell r.formed (λ old. omega arith) in
+      let us : List ℕ = slice_set ws (place_of z h.cell) word in
+      let sets : SetsVersion m h.cell (released_word (m.version h.cell) obsolete) (memory_of z us) = subst (λ (x : ℕ). SetsVersion m h.cell x (memory_of z us)) is (sets_version z ws h.cell word there plain long) in
+      let done = law (memory_of z us) (views_of (slice_set vs p w)) sets (turned_view vs p w inside) in
+      (slice_set vs p w, record { view = w; set = refl; row = λ k held. done.1 k held.1; sound = done.0 })
+
+  -- a later release, or one of a change that is given up
+  pub turn_releases : (c : Cell) (h : Holding) (obsolete : Bool) (word : ℕ) → h.cell ≡ c → MayRelease v h obsolete → AfterRelease c obsolete word Released
+  turn_releases c h obsolete word of may =
+      let rest = dropped v.held h.cell in
+      subst (λ (d : Cell). AfterRelease d obsolete word Released) of (released h obsolete word (writing v rest.0) Released may.0 (λ m' g sets t. (
+        release_law z m f p v at m' g h rest.0 obsolete r may rest.1 sets t,
+        λ k same. record { held = rest.0; drops = subst (λ (d : Cell). Drops v.held d rest.0) (sym same) rest.1; is = refl },
+      )))
+
+  -- what a first release makes of the view, with the leaf that comes into the tree
+  abbrev pub Commit : What → List Link → Option Link → View → View → Holding → Type 0
+  Commit what us leaf u w h = Committed u w what us (coming u leaf) h
+
+  -- the first release of a change
+  pub turn_commits : (c : Cell) (h : Holding) (what : What) (us : List Link) (leaf : Option Link) (obsolete : Bool) (word : ℕ) → h.cell ≡ c → MayBeFirst v us h obsolete
+      → MayCommit z v what us (coming v leaf) → AfterRelease c obsolete word (Commit what us leaf)
+  turn_commits c h what us leaf obsolete word of first may =
+      let rest = dropped v.held h.cell in
+      let hand = handed_over v.hand (coming v leaf) in
+      let pins = standing vs (λ q u is. (r.history.tells q u is).pass) in
+      let w : View = committed v r.log what rest.0 hand.0 (all_retired pins.0 us ++ v.limbo) in
+      subst (λ (d : Cell). AfterRelease d obsolete word (Commit what us leaf)) of (released h obsolete word w (Commit what us leaf) first.held (λ m' g sets t.
+      let sound = commit_law z m f p v at m' g what us (coming v leaf) pins.0 h rest.0 hand.0 obsolete r may first rest.1 hand.1 pins.1 sets t in (
+        sound,
+        λ k same. record {
+          held = rest.0;
+          drops = subst (λ (d : Cell). Drops v.held d rest.0) (sym same) rest.1;
+          hand = hand.0;
+          hands = hand.1;
+          pins = pins.0;
+          made = makes f g p v w r.log what at t r.history refl (answered sound.log r.log g p w (event v.pass what) sound.history t.here refl) refl refl;
+          is = refl;
+        },
+      )))

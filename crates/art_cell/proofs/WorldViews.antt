@@ -1,0 +1,55 @@
+-- The views of passes, as they stand in a list, and the passes that know nothing.
+use Rattle.std.proofs.Common.{◌≡◌, ◌≢◌, ℕ, zero, suc, ◌+◌, ◌<◌, List, [], ◌∷◌, Some, length, slice_get, slice_set, refl, sym, ap, ◌∙◌, arith, length-set, get_or-set_same, get_or-set_other}
+use Rattle.std.proofs.lemmas.Option.{same_Some, slice_get-get_or}
+use Rattle.art_cell.specs.declared.views.View.{View}
+use Rattle.art_cell.specs.StepLaws.{newcomer}
+use Rattle.art_cell.specs.Views.{Turned}
+use Rattle.art_cell.specs.WorldWords.{views_of, view_at, newcomers}
+
+-- the view of each pass that there is
+pub at_view : (vs : List View) (p : ℕ) → p < length vs → views_of vs p ≡ Some (view_at vs p)
+at_view vs p low = slice_get-get_or vs p (newcomer p) low
+
+-- ---- one view changes
+
+-- there are as many views as before
+pub length_set_view : (vs : List View) (p : ℕ) (w : View) → length (slice_set vs p w) ≡ length vs
+length_set_view vs p w = length-set vs p w
+
+-- the view of the pass is the new one
+pub view_set : (vs : List View) (p : ℕ) (w : View) → p < length vs → view_at (slice_set vs p w) p ≡ w
+view_set vs p w low = get_or-set_same vs p w (newcomer p) low
+
+-- the views of the other passes stay
+pub view_other : (vs : List View) (p q : ℕ) (w : View) → q ≢ p → view_at (slice_set vs p w) q ≡ view_at vs q
+view_other vs p q w other = get_or-set_other vs p q w (newcomer q) other
+
+get_other : (vs : List View) (p q : ℕ) (w : View) → q ≢ p → slice_get (slice_set vs p w) q ≡ slice_get vs q
+get_other [] p q w other = refl
+get_other (v ∷ vs) zero zero w other = absurd (other refl)
+get_other (v ∷ vs) zero (suc q) w other = refl
+get_other (v ∷ vs) (suc p) zero w other = refl
+get_other (v ∷ vs) (suc p) (suc q) w other = get_other vs p q w (λ e. other (ap suc e))
+
+-- so the views are as before, but for the one of the pass
+pub turned_view : (vs : List View) (p : ℕ) (w : View) → p < length vs → Turned (views_of vs) p w (views_of (slice_set vs p w))
+turned_view vs p w low = record {
+  here = at_view (slice_set vs p w) p (let same = length_set_view vs p w in omega (arith, same)) ∙ ap Some (view_set vs p w low);
+  there = λ q other. get_other vs p q w other;
+}
+
+-- ---- passes that know nothing
+
+-- there are so many
+pub length_newcomers : (p n : ℕ) → length (newcomers p n) ≡ n
+length_newcomers p zero = refl
+length_newcomers p (suc n) = ap suc (length_newcomers (suc p) n)
+
+newcomer_from : (from n p : ℕ) (v : View) → views_of (newcomers from n) p ≡ Some v → (p < n) × (v ≡ newcomer (from + p))
+newcomer_from from zero p v e = absurd (cc)
+newcomer_from from (suc n) zero v e = (omega arith, sym (same_Some (newcomer from) v e) ∙ ap newcomer (omega arith))
+newcomer_from from (suc n) (suc p) v e = let rest = newcomer_from (suc from) n p v e in (omega (arith, rest.0), rest.1 ∙ ap newcomer (omega arith))
+
+-- each of the first n passes is one that knows nothing, and there are no others
+pub newcomer_at : (n p : ℕ) (v : View) → views_of (newcomers 0 n) p ≡ Some v → (p < n) × (v ≡ newcomer p)
+newcomer_at n p v e = let at = newcomer_from 0 n p v e in (at.0, at.1 ∙ ap newcomer (omega arith))

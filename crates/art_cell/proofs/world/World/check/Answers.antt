@@ -1,0 +1,18 @@
+-- An unchanged version word is found.
+use Rattle.std.proofs.Common.{◌∙◌, sym, subst}
+use Rattle.std.specs.Prelude.{Option}
+use Rattle.std.specs.Option.{option_map}
+use Rattle.art_cell.specs.declared.views.What.{What}
+use Rattle.art_cell.specs.Deeds.{what_of}
+use Rattle.art_cell.specs.Shown.{Passed}
+use Rattle.art_cell.specs.WorldWords.{Kept}
+use Rattle.art_cell.proofs.WorldTurns.{IsKept, Next, turn_passes}
+use Rattle.art_cell.proofs.world.World.check.Goals as goal
+
+pub changed-requires : goal.changed-requires
+changed-requires c =
+    let now : Kept = c.args.self.now in
+    let what : Option What = option_map (λ d. what_of d.now) c.args.deed in
+    subst (λ (k : Kept). IsKept k → Next k.sizes k.views c.args.pass k.words (λ v w. Passed k.sizes v w c.args.stamp.now what)) (sym c.self.view_is)
+    (λ i. turn_passes now.sizes now.words now.views c.args.pass i.2 c.requires.pass i.0 c.args.stamp.now what (sym c.version-found.ensures ∙ c.if-found-stamp.false) c.requires.may)
+    c.self.invariant

@@ -1,0 +1,27 @@
+-- A node whose number is in hand is locked.
+use Rattle.std.proofs.Common.{◌≡◌, ℕ, ◌+◌, set, sym, subst, ◌∙◌}
+use Rattle.art_cell.specs.declared.cells.Node.{Node}
+use Rattle.art_cell.specs.declared.cells.Cell.TheVariants as cell
+use Rattle.art_cell.specs.Shown.{Claimed, link_of_number}
+use Rattle.art_cell.specs.WorldWords.{Kept, place_of, view_at}
+use Rattle.art_cell.proofs.WorldTurns.{IsKept, Next, claim_named, claim_fits, turn_claims}
+use Rattle.art_cell.proofs.world.World.claim.Goals as goal
+
+pub overflow_add-found : goal.overflow_add-found
+overflow_add-found c =
+    let now : Kept = c.args.self.now in
+    let i : IsKept now = subst IsKept c.self.view_is c.self.invariant in
+    let n : Node = c.in-Node.node in
+    let may = claim_named now.sizes (view_at now.views c.args.pass) (link_of_number c.args.number) n c.requires.inside (sym c.link-link.ensures ∙ c.in-Node.is) in
+    record { fits = claim_fits now.sizes now.words now.views c.args.pass i.2 c.requires.pass i.0 n c.version-found.result c.version-found.ensures may.1 }
+
+pub changed-requires : goal.changed-requires
+changed-requires c =
+    let now : Kept = c.args.self.now in
+    let n : Node = c.in-Node.node in
+    let place : ℕ = c.place_of-place.result in
+    let found : ℕ = c.version-found.result in
+    let may = claim_named now.sizes (view_at now.views c.args.pass) (link_of_number c.args.number) n c.requires.inside (sym c.link-link.ensures ∙ c.in-Node.is) in
+    subst (λ (k : Kept). IsKept k → place ≡ place_of k.sizes (cell.Node n) → Next k.sizes k.views c.args.pass (set k.words place (found + 1)) (λ v w. Claimed v w n)) (sym c.self.view_is)
+    (λ i at. turn_claims now.sizes now.words now.views c.args.pass i.2 c.requires.pass i.0 n place found may.0 at c.version-found.ensures may.1)
+    c.self.invariant c.place_of-place.ensures

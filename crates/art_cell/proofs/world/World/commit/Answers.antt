@@ -1,0 +1,37 @@
+-- The cell of the one holding is locked, so that its version word can go on, and all is sound after that.
+use Rattle.std.proofs.Common.{◌∙◌, ℕ, List, slice_set, sym, subst, ap}
+use Rattle.std.specs.Prelude.{Option}
+use Rattle.art_cell.specs.declared.cells.Cell.{Cell}
+use Rattle.art_cell.specs.declared.cells.Link.{Link}
+use Rattle.art_cell.specs.declared.views.Holding.{Holding}
+use Rattle.art_cell.specs.declared.views.What.{What}
+use Rattle.art_cell.specs.Deeds.{what_of}
+use Rattle.art_cell.specs.Shown.{IsHolding, Committed, coming, links_of}
+use Rattle.art_cell.specs.StepRows.{MayCommit, released_word}
+use Rattle.art_cell.specs.WorldWords.{Kept, place_of, view_at}
+use Rattle.art_cell.proofs.WorldReleases.{released_fits, turn_commits}
+use Rattle.art_cell.proofs.WorldTurns.{IsKept, Next}
+use Rattle.art_cell.proofs.world.World.commit.Goals as goal
+
+pub released-requires : goal.released-requires
+released-requires c =
+    let now : Kept = c.args.self.now in
+    let kept = subst IsKept c.self.view_is c.self.invariant in
+    let first = c.requires.first in
+    rw c.version-found.ensures (released_fits now.sizes now.words now.views c.args.pass kept.2 c.requires.pass kept.0 c.args.held.cell first.0 first.1 first.2.held)
+
+pub changed-requires : goal.changed-requires
+changed-requires c =
+    let now : Kept = c.args.self.now in
+    let kept = subst IsKept c.self.view_is c.self.invariant in
+    let cell : Cell = c.args.held.cell in
+    let what : What = what_of c.args.deed.now in
+    let us : List Link = links_of c.args.unlinked.now in
+    let leaf : Option Link = c.spent-leaf.result in
+    let first = c.requires.first in
+    let may = subst (λ (d : Option Link). MayCommit now.sizes (view_at now.views c.args.pass) what us (coming (view_at now.views c.args.pass) d)) (sym c.spent-leaf.ensures) c.requires.may in
+    let word = c.released.ensures ∙ ap (λ (x : ℕ). released_word x c.args.obsolete) c.version-found.ensures in
+    rw c.place_of-place.ensures
+    (subst (λ (k : Kept).
+    Next k.sizes k.views c.args.pass (slice_set k.words (place_of k.sizes cell) c.released.result) (λ v w. (h : Holding) → IsHolding v cell h → Committed v w what us (coming v leaf) h)) (sym c.self.view_is)
+    (turn_commits now.sizes now.words now.views c.args.pass kept.2 c.requires.pass kept.0 cell first.0 what us leaf c.args.obsolete c.released.result first.1 first.2 may c.requires.inside word))

@@ -1,0 +1,28 @@
+-- The cell of the one holding is locked, so that its version word can go on, and all is sound after that.
+use Rattle.std.proofs.Common.{◌∙◌, ℕ, slice_set, sym, subst, ap}
+use Rattle.art_cell.specs.declared.cells.Cell.{Cell}
+use Rattle.art_cell.specs.declared.views.Holding.{Holding}
+use Rattle.art_cell.specs.Shown.{IsHolding, Released}
+use Rattle.art_cell.specs.StepRows.{released_word}
+use Rattle.art_cell.specs.WorldWords.{Kept, place_of}
+use Rattle.art_cell.proofs.WorldReleases.{released_fits, turn_releases}
+use Rattle.art_cell.proofs.WorldTurns.{IsKept, Next}
+use Rattle.art_cell.proofs.world.World.release.Goals as goal
+
+pub released-requires : goal.released-requires
+released-requires c =
+    let now : Kept = c.args.self.now in
+    let kept = subst IsKept c.self.view_is c.self.invariant in
+    let may = c.requires.may in
+    rw c.version-found.ensures (released_fits now.sizes now.words now.views c.args.pass kept.2 c.requires.pass kept.0 c.args.held.cell may.0 may.1 may.2.0)
+
+pub changed-requires : goal.changed-requires
+changed-requires c =
+    let now : Kept = c.args.self.now in
+    let kept = subst IsKept c.self.view_is c.self.invariant in
+    let cell : Cell = c.args.held.cell in
+    let may = c.requires.may in
+    let word = c.released.ensures ∙ ap (λ (x : ℕ). released_word x c.args.obsolete) c.version-found.ensures in
+    rw c.place_of-place.ensures
+    (subst (λ (k : Kept). Next k.sizes k.views c.args.pass (slice_set k.words (place_of k.sizes cell) c.released.result) (λ v w. (h : Holding) → IsHolding v cell h → Released v w h)) (sym c.self.view_is)
+    (turn_releases now.sizes now.words now.views c.args.pass kept.2 c.requires.pass kept.0 cell may.0 c.args.obsolete c.released.result may.1 may.2 c.requires.inside word))

@@ -1,0 +1,26 @@
+-- A word of a leaf whose number is in hand is written.
+use Rattle.std.proofs.Common.{◌≡◌, ℕ, ◌+◌, ◌<◌, set, sym, subst, ◌∙◌}
+use Rattle.art_cell.specs.declared.cells.Cell.TheVariants as cell
+use Rattle.art_cell.specs.declared.cells.Link.TheVariants.{Leaf as leaf}
+use Rattle.art_cell.specs.declared.views.InHand.{InHand}
+use Rattle.art_cell.specs.Shown.{IsInHand, WroteLeaf}
+use Rattle.art_cell.specs.StepRows.{MayWriteLeaf}
+use Rattle.art_cell.specs.WorldWords.{Kept, place_of, view_at}
+use Rattle.art_cell.proofs.WorldTurns.{IsKept, Next, turn_writes_leaf}
+use Rattle.art_cell.proofs.world.World.write_leaf.Goals as goal
+
+pub changed-requires : goal.changed-requires
+changed-requires c =
+    let now : Kept = c.args.self.now in
+    let o = c.requires.inside in
+    let l : ℕ = c.in-Leaf.leaf in
+    let first : ℕ = c.place_of-first.result in
+    let place : ℕ = c.args.place in
+    let value : ℕ = c.args.value in
+    let named : leaf o.0 ≡ leaf l = sym o.2 ∙ (sym c.link-link.ensures ∙ c.in-Leaf.is) in
+    let same : o.0 ≡ l = cc in
+    let may : (l < now.sizes.leaves) × MayWriteLeaf (view_at now.views c.args.pass) o.1 l place = subst (λ (a : ℕ). (a < now.sizes.leaves) × MayWriteLeaf (view_at now.views c.args.pass) o.1 a place) same (o.3, o.4) in
+    subst (λ (k : Kept). IsKept k → first ≡ place_of k.sizes (cell.Leaf l)
+    → Next k.sizes k.views c.args.pass (set k.words (first + place) value) (λ v w. (y : InHand) → IsInHand v (leaf l) y → WroteLeaf v w y place value)) (sym c.self.view_is)
+    (λ i at. turn_writes_leaf now.sizes now.words now.views c.args.pass i.2 c.requires.pass i.0 o.1 l place value first may.0 at may.1)
+    c.self.invariant c.place_of-first.ensures

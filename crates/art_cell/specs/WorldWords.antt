@@ -1,0 +1,184 @@
+-- The words of a world, in a row: the anchor's, the leaves', the nodes' layout by layout, the words of free numbers pool by pool,
+-- the epoch, and the words of the passes.
+use Rattle.std.specs.Prelude.{◌≡◌, ◌≢◌, ℕ, zero, suc, ◌+◌, ◌*◌, ◌/◌, ◌%◌, ◌^◌, ◌==◌, List, [], ◌∷◌, length, get_or, slice_index_or, slice_set, nat_lt, if◌then◌else◌, Bool, true, false, ⊤, refl}
+use Rattle.std.specs.List.{slice_get}
+use Rattle.std.proofs.Common.{◌∙◌}
+use Rattle.art_cell.specs.declared.layouts.Layout.{Layout}
+use Rattle.art_cell.specs.declared.layouts.Layout.TheVariants.{Node4, Node16, Node48, Node256}
+use Rattle.art_cell.specs.declared.layouts.Pool.{Pool}
+use Rattle.art_cell.specs.declared.layouts.Pool.TheVariants.{Leaves, N4, N16, N48, N256}
+use Rattle.art_cell.specs.declared.cells.Cell.{Cell}
+use Rattle.art_cell.specs.declared.cells.Cell.TheVariants as cell
+use Rattle.art_cell.specs.declared.cells.Link.{Link}
+use Rattle.art_cell.specs.declared.cells.Link.TheVariants.{Leaf as leaf, Node as node}
+use Rattle.art_cell.specs.declared.views.Sizes.{Sizes}
+use Rattle.art_cell.specs.declared.views.View.{View}
+use Rattle.art_cell.specs.Sound.{IsSound}
+use Rattle.art_cell.specs.StepLaws.{newcomer}
+use Rattle.art_cell.specs.Views.{Memory, Views, size_of, IsNumber}
+
+-- how many numbers a pool has
+abbrev pub pool_size : Sizes → Pool → ℕ
+pool_size z Leaves = z.leaves
+pool_size z N4 = z.n4
+pool_size z N16 = z.n16
+pool_size z N48 = z.n48
+pool_size z N256 = z.n256
+
+abbrev pub pool_of_layout : Layout → Pool
+pool_of_layout Node4 = N4
+pool_of_layout Node16 = N16
+pool_of_layout Node48 = N48
+pool_of_layout Node256 = N256
+
+abbrev pub pool_of : Link → Pool
+pool_of (leaf l) = Leaves
+pool_of (node n) = pool_of_layout n.layout
+
+abbrev pub number_in_pool : Link → ℕ
+number_in_pool (leaf l) = l
+number_in_pool (node n) = n.number
+
+-- how many words a cell of the pool has
+abbrev pub words_each : Pool → ℕ
+words_each Leaves = 10
+words_each N4 = 15
+words_each N16 = 28
+words_each N48 = 90
+words_each N256 = 266
+
+-- the place of the first word of a pool's cells
+abbrev pub first_cell : Sizes → Pool → ℕ
+first_cell z Leaves = 2
+first_cell z N4 = 2 + 10 * z.leaves
+first_cell z N16 = 2 + 10 * z.leaves + 15 * z.n4
+first_cell z N48 = 2 + 10 * z.leaves + 15 * z.n4 + 28 * z.n16
+first_cell z N256 = 2 + 10 * z.leaves + 15 * z.n4 + 28 * z.n16 + 90 * z.n48
+
+-- the place after the last cell
+abbrev pub cells_end : Sizes → ℕ
+cells_end z = first_cell z N256 + 266 * z.n256
+
+-- a word of free numbers has a bit for each of 64
+abbrev pub free_words : ℕ → ℕ
+free_words n = (n + 63) / 64
+
+-- the place of the first word of a pool's free numbers
+abbrev pub first_free_word : Sizes → Pool → ℕ
+first_free_word z Leaves = cells_end z
+first_free_word z N4 = cells_end z + free_words z.leaves
+first_free_word z N16 = cells_end z + free_words z.leaves + free_words z.n4
+first_free_word z N48 = cells_end z + free_words z.leaves + free_words z.n4 + free_words z.n16
+first_free_word z N256 = cells_end z + free_words z.leaves + free_words z.n4 + free_words z.n16 + free_words z.n48
+
+abbrev pub epoch_place : Sizes → ℕ
+epoch_place z = first_free_word z N256 + free_words z.n256
+
+abbrev pub pass_place : Sizes → ℕ → ℕ
+pass_place z p = epoch_place z + 1 + p
+
+-- how many words there are
+abbrev pub word_count : Sizes → ℕ
+word_count z = pass_place z z.passes
+
+-- ---- what they mean
+
+-- there is such a cell
+abbrev pub IsInside : Sizes → Cell → Type 0
+IsInside z cell.Anchor = ⊤
+IsInside z (cell.Leaf l) = IsNumber z (leaf l)
+IsInside z (cell.Node n) = IsNumber z (node n)
+
+abbrev pub is_inside : Sizes → Cell → Bool
+is_inside z cell.Anchor = true
+is_inside z (cell.Leaf l) = nat_lt l z.leaves
+is_inside z (cell.Node n) = nat_lt n.number (pool_size z (pool_of_layout n.layout))
+
+-- the place of a cell's first word
+abbrev pub place_of : Sizes → Cell → ℕ
+place_of z cell.Anchor = 0
+place_of z (cell.Leaf l) = 2 + 10 * l
+place_of z (cell.Node n) = first_cell z (pool_of_layout n.layout) + words_each (pool_of_layout n.layout) * n.number
+
+-- the place of the first word that is no version word
+abbrev pub first_place : Cell → ℕ
+first_place cell.Anchor = 1
+first_place (cell.Leaf l) = 0
+first_place (cell.Node n) = 1
+
+abbrev pub version_in : Sizes → List ℕ → Cell → ℕ
+version_in z ws cell.Anchor = get_or ws 0 0
+version_in z ws (cell.Leaf l) = 1
+version_in z ws (cell.Node n) = if is_inside z (cell.Node n) then get_or ws (place_of z (cell.Node n)) 0 else 1
+
+-- the word at a place of the cell, and 0 at one that it does not have
+abbrev pub word_in : Sizes → List ℕ → Cell → ℕ → ℕ
+word_in z ws c i = if is_inside z c then (if nat_lt i (first_place c) then 0 else if nat_lt i (size_of c) then get_or ws (place_of z c + i) 0 else 0) else 0
+
+-- the place of the word that has the number's bit
+abbrev pub free_place : Sizes → Link → ℕ
+free_place z d = first_free_word z (pool_of d) + number_in_pool d / 64
+
+abbrev pub bit_of : ℕ → ℕ → ℕ
+bit_of word i = word / 2 ^ i % 2
+
+abbrev pub is_free : Sizes → List ℕ → Link → Bool
+is_free z ws d = if nat_lt (number_in_pool d) (pool_size z (pool_of d)) then bit_of (get_or ws (free_place z d) 0) (number_in_pool d % 64) == 1 else false
+
+abbrev pub pass_word_in : Sizes → List ℕ → ℕ → ℕ
+pass_word_in z ws p = if nat_lt p z.passes then get_or ws (pass_place z p) 0 else 0
+
+abbrev pub memory_of : Sizes → List ℕ → Memory
+memory_of z ws = record {
+  version = version_in z ws;
+  words = word_in z ws;
+  free = is_free z ws;
+  epoch = get_or ws (epoch_place z) 0;
+  pass_word = pass_word_in z ws;
+}
+
+-- ---- views, in the order of their passes
+
+abbrev pub views_of : List View → Views
+views_of vs p = slice_get vs p
+
+abbrev pub view_at : List View → ℕ → View
+view_at vs p = slice_index_or vs p (newcomer p)
+
+-- so many passes that know nothing, from a number on
+abbrev pub newcomers : ℕ → ℕ → List View
+newcomers p zero = []
+newcomers p (suc n) = newcomer p ∷ newcomers (suc p) n
+
+-- ---- what a contract sees of a world
+
+pub record Kept : Type 0 where
+  pub sizes : Sizes
+  pub words : List ℕ
+  pub views : List View
+
+abbrev pub memory_now : Kept → Memory
+memory_now k = memory_of k.sizes k.words
+
+-- no view but that of the pass changes
+pub record OnlyTurned (a b : Kept) (p : ℕ) : Type 0 where
+  pub sizes : b.sizes ≡ a.sizes
+  pub count : length b.views ≡ length a.views
+  pub others : (q : ℕ) → q ≢ p → view_at b.views q ≡ view_at a.views q
+
+pub only_same_turned : (a : Kept) (p : ℕ) → OnlyTurned a a p
+only_same_turned a p = record { sizes = refl; count = refl; others = λ q h. refl }
+
+pub only_turned_then : (a b c : Kept) (p q : ℕ) → q ≡ p → OnlyTurned a b p → OnlyTurned b c q → OnlyTurned a c p
+only_turned_then a b c p q same x y = record { sizes = y.sizes ∙ x.sizes; count = y.count ∙ x.count; others = λ r h. y.others r (λ e. h (e ∙ same)) ∙ x.others r h }
+
+-- the same borrow, and the same pass
+abbrev pub IsSameAt : {N : Type 0} → N → N → ℕ → ℕ → Type 0
+IsSameAt {N} m n p q = (n ≡ m) × (q ≡ p)
+
+-- the view of the pass changes by the row, and all is sound then
+pub record Turns (z : Sizes) (ws : List ℕ) (p : ℕ) (Row : View → View → Type 0) (old new : List View) : Type 0 where
+  pub view : View
+  pub set : new ≡ slice_set old p view
+  pub row : Row (view_at old p) view
+  pub sound : IsSound z (memory_of z ws) (views_of new)

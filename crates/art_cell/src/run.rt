@@ -1,0 +1,92 @@
+//! A world, run by a list of turns.
+ghost use Rattle.std.specs.Prelude.{◌≡◌, ◌≢◌, ◌⊎◌, ◌+◌, ◌≤◌, ◌<◌, ℕ, length, Bool, true, false, Some, refl};
+ghost use Rattle.std.specs.List.{slice_get};
+ghost use Rattle.art_cell.specs.Turns.{turns_of};
+ghost use Rattle.art_cell.specs.WorldWords.{IsSameAt, OnlyTurned, view_at};
+
+use crate::{At, World};
+
+/// Who makes at most one step of its pass at each of its turns.
+pub trait Actor {
+    ghost use Rattle.std.specs.Prelude.{ℕ, Bool};
+    ghost use Rattle.art_cell.specs.declared.views.Sizes.{Sizes};
+    ghost use Rattle.art_cell.specs.declared.views.View.{View};
+
+    /// What it knows of its pass's view.
+    ghost fits: { Self → Sizes → View → Type 0 };
+
+    ghost has_ended: { Self → Bool };
+
+    /// So many turns lead from the first to the second; one that has ended stays as it is.
+    ghost after: { ℕ → Self → Self → Type 0 };
+
+    /// Makes one step, or none where it only gives up. Says whether it has ended.
+    fn turn(&mut self, at: &mut At<'_>) -> bool
+        requires going { has_ended self.old ≡ false }
+        requires fits { fits self.old at.old.world.now.sizes (view_at at.old.world.now.views at.old.pass) }
+        ensures only { IsSameAt at.old.world.ghost_name at.new.world.ghost_name at.old.pass at.new.pass × OnlyTurned at.old.world.now at.new.world.now at.old.pass }
+        ensures fits { fits self.new at.new.world.now.sizes (view_at at.new.world.now.views at.new.pass) }
+        ensures step { (view_at at.new.world.now.views at.new.pass).steps ≤ (view_at at.old.world.now.views at.old.pass).steps + 1 }
+        ensures after { after 1 self.old self.new }
+        ensures ended { result ≡ has_ended self.new };
+
+    /// Whether it has ended: then it gets no more turns.
+    fn ended(&self) -> bool
+        ensures { result ≡ has_ended self.now };
+
+    ghost at_first: { (a : Self) → after 0 a a };
+
+    ghost one_more: { (n : ℕ) (a b c : Self) → after n a b → after 1 b c → after (n + 1) a c };
+
+    ghost stays: { (n : ℕ) (a b : Self) → after n a b → has_ended b ≡ true → after (n + 1) a b };
+}
+
+impl World {
+    /// Each turn lets the actor that it names make one step; actor i is pass i. A turn that names no actor, or one that has
+    /// ended, does nothing.
+    pub fn run<T: Actor>(&mut self, actors: &mut [T], turns: &[u32])
+        requires passes { length actors.old ≤ length self.old.views }
+        requires fits { (p : ℕ) (a : _) → slice_get actors.old p ≡ Some a → T.fits a self.old.sizes (view_at self.old.views p) }
+        ensures sizes { self.new.sizes ≡ self.old.sizes }
+        ensures passes { length self.new.views ≡ length self.old.views }
+        ensures actors { length actors.new ≡ length actors.old }
+        ensures fits { (p : ℕ) (a : _) → slice_get actors.new p ≡ Some a → T.fits a self.new.sizes (view_at self.new.views p) }
+        ensures turns { (p : ℕ) (a b : _) → slice_get actors.old p ≡ Some a → slice_get actors.new p ≡ Some b → T.after (turns_of p turns.now) a b }
+        ensures others { (q : ℕ) → length actors.old ≤ q → view_at self.new.views q ≡ view_at self.old.views q }
+    {
+        for turn in turns {
+            self.take_turn(actors, *turn as usize);
+        }
+    }
+
+    /// One turn of the actor of the pass, if there is one that has not ended.
+    fn take_turn<T: Actor>(&mut self, actors: &mut [T], pass: usize)
+        requires passes { length actors.old ≤ length self.old.views }
+        requires fits { (p : ℕ) (a : _) → slice_get actors.old p ≡ Some a → T.fits a self.old.sizes (view_at self.old.views p) }
+        ensures sizes { self.new.sizes ≡ self.old.sizes }
+        ensures passes { length self.new.views ≡ length self.old.views }
+        ensures actors { length actors.new ≡ length actors.old }
+        ensures fits { (p : ℕ) (a : _) → slice_get actors.new p ≡ Some a → T.fits a self.new.sizes (view_at self.new.views p) }
+        ensures others { (q : ℕ) → length actors.old ≤ q → view_at self.new.views q ≡ view_at self.old.views q }
+        ensures same { (p : ℕ) → p ≢ pass → slice_get actors.new p ≡ slice_get actors.old p }
+        ensures turn { (a b : _) → slice_get actors.old pass ≡ Some a → slice_get actors.new pass ≡ Some b → T.after 1 a b ⊎ ((T.has_ended a ≡ true) × (b ≡ a)) }
+    {
+        if pass >= actors.len() {
+            return;
+        }
+        if actors[pass].ended() {
+            return;
+        }
+        let mut at = At { world: self, pass };
+        actors[pass].turn(&mut at);
+    }
+
+    /// The world, in which the pass makes its steps.
+    pub fn at(&mut self, pass: usize) -> At<'_>
+        requires { pass < length self.old.views }
+        ensures pass { result.pass ≡ pass }
+        ensures world { result.world.now ≡ self.old }
+    {
+        At { world: self, pass }
+    }
+}

@@ -1,0 +1,71 @@
+//! Numbers of a world that are free: until steps take them and give them back, these calls do.
+ghost use Rattle.std.specs.Prelude.{◌≡◌, ◌<◌, ℕ, List, length, false, true, IfNone, IfSome};
+ghost use Rattle.art_cell.specs.declared.views.InHand.{InHand as InHandOf};
+ghost use Rattle.art_cell.specs.Children.{link_in_pool};
+ghost use Rattle.art_cell.specs.Shown.{Gave, Took, link_of_number};
+ghost use Rattle.art_cell.specs.StepRows.{MayGive};
+ghost use Rattle.art_cell.specs.WorldWords.{OnlyTurned, is_free, memory_now, pool_size, view_at};
+
+use crate::made_steps::{Gives, Takes};
+use crate::{Number, Pool, World};
+
+impl World {
+    /// The least free number of the pool, which comes into the hand of the pass. None where no number of the pool is free.
+    pub fn first_free(&mut self, pass: usize, pool: Pool) -> Option<Number>
+        requires { pass < length self.old.views }
+        ensures only { OnlyTurned self.old self.new pass }
+        ensures none { IfNone result ((self.new ≡ self.old) × ((k : ℕ) → (memory_now self.old).free (link_in_pool pool k) ≡ false)) }
+        ensures some { IfSome result (λ n. (n.pool ≡ pool) × ((memory_now self.old).free (link_of_number n) ≡ true) × ((k : ℕ) → k < n.number → (memory_now self.old).free (link_in_pool pool k) ≡ false) × Took (view_at self.old.views pass) (view_at self.new.views pass) (link_of_number n)) }
+    {
+        let number = self.least_free(pool)?;
+        let place = self.sizes.first_free_word(pool) + number as usize / 64;
+        self.words[place] -= 1 << (number % 64);
+        let number = Number { pool, number };
+        let turn = Takes {
+            sizes: self.sizes,
+            pass,
+            link: number.link(),
+        };
+        self.views = self
+            .views
+            .changed::<Vec<u64>, Takes, Takes>(&self.words, &turn);
+        Some(number)
+    }
+
+    /// The least number of the pool whose bit is set.
+    fn least_free(&self, pool: Pool) -> Option<u32>
+        ensures none { IfNone result ((k : ℕ) → (memory_now self.now).free (link_in_pool pool k) ≡ false) }
+        ensures some { IfSome result (λ n. (n < pool_size self.now.sizes pool) × ((memory_now self.now).free (link_in_pool pool n) ≡ true) × ((k : ℕ) → k < n → (memory_now self.now).free (link_in_pool pool k) ≡ false)) }
+    {
+        let first = self.sizes.first_free_word(pool);
+        for number in 0..self.sizes.pool_size(pool) {
+            let word = self.words[first + number as usize / 64];
+            if (word >> (number % 64)) % 2 == 1 {
+                return Some(number);
+            }
+        }
+        None
+    }
+
+    /// A number in the hand of the pass, of a cell that it does not hold, is free again.
+    pub fn put_back(&mut self, pass: usize, number: Number)
+        requires pass { pass < length self.old.views }
+        requires may { (xs : List InHandOf) × MayGive (view_at self.old.views pass) (link_of_number number) xs }
+        ensures only { OnlyTurned self.old self.new pass }
+        ensures free { (memory_now self.new).free (link_of_number number) ≡ true }
+        ensures row { Gave (view_at self.old.views pass) (view_at self.new.views pass) (link_of_number number) }
+    {
+        let link = number.link();
+        let Number { pool, number } = number;
+        let place = self.sizes.first_free_word(pool) + number as usize / 64;
+        self.words[place] += 1 << (number % 64);
+        let turn = Gives {
+            sizes: self.sizes,
+            pass,
+            link,
+        };
+        self.views = self
+            .views
+            .changed::<Vec<u64>, Gives, Gives>(&self.words, &turn);
+    }
+}
