@@ -2,6 +2,7 @@ pub mod Below
 pub mod Bodies
 pub mod Changes
 pub mod Children
+pub mod CommitLaws
 pub mod Deeds
 pub mod Descents
 pub mod Empty
