@@ -12,10 +12,13 @@ pub mod Gathered
 pub mod Histories
 pub mod IdlePasses
 pub mod Kept
+pub mod LeafPair
+pub mod LifeSteps
 pub mod Looking
 pub mod Lookup
 pub mod Meanings
 pub mod Merge
+pub mod NodeLives
 pub mod Order
 pub mod Part
 pub mod Patch

@@ -13,6 +13,8 @@ mod bodies;
 mod cells;
 mod deeds;
 mod laws;
+#[cfg(test)]
+mod life_tests;
 mod layouts;
 mod made_steps;
 mod node_kinds;
