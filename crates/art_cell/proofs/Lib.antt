@@ -1,5 +1,8 @@
 pub mod After
 pub mod ByteTexts
+pub mod ChangeCommits
+pub mod ChangeRows
+pub mod ChangeShapes
 pub mod ChangedWords
 pub mod ChildWords
 pub mod Edit
