@@ -63,7 +63,7 @@ pub only_written : (s s' : Cells) (written : Cell → Type 0) → ((c : Cell) �
 only_written s s' written same c other = means_same c (s c) (s' c) (same c other)
 
 -- what is in hand
-in_hand : (v : View) (c d : Link) → d ≡ c → IsInHand v c → IsInHand v d
+pub in_hand : (v : View) (c d : Link) → d ≡ c → IsInHand v c → IsInHand v d
 in_hand v c d e i = subst (IsInHand v) (sym e) i
 
 module _ (z : Sizes) (v : View) (s s' : Cells) (P : Cell → Type 0) (b : Before z v s s') (just : HoldsJust v P) where

@@ -1,6 +1,8 @@
 pub mod After
 pub mod ByteTexts
 pub mod ChangeCommits
+pub mod ChangeForks
+pub mod ChangeMerges
 pub mod ChangeRows
 pub mod ChangeShapes
 pub mod ChangedWords
