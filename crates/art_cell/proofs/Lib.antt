@@ -5,6 +5,7 @@ pub mod ChangeForks
 pub mod ChangeMerges
 pub mod ChangeRows
 pub mod ChangeShapes
+pub mod ChangeWays
 pub mod ChangedWords
 pub mod ChildWords
 pub mod Edit
