@@ -1,5 +1,5 @@
 -- A change of the tree, written by a pass that holds just the cells which it changes, is a commit of its command.
-use Rattle.std.proofs.Common.{◌≡◌, ◌≢◌, ◌⊎◌, ℕ, ◌<◌, List, [], ◌∷◌, ◌++◌, Option, Some, None, refl, sym, ap, ap₂, ◌∙◌, subst, subst₂, inl, inr, ⊎_elim}
+use Rattle.std.proofs.Common.{◌≡◌, ◌≢◌, ◌⊎◌, ℕ, List, [], ◌∷◌, Option, Some, None, refl, sym, subst, inl, inr, ⊎_elim}
 use Rattle.std.specs.FinMap.{empty, insert, remove}
 use Rattle.art_cell.specs.declared.cells.Node.{Node}
 use Rattle.art_cell.specs.declared.cells.Cell.{Cell}
@@ -19,7 +19,7 @@ use Rattle.art_cell.specs.CommitLaws.{Before, HasLeaf, HoldsJust, ClaimedAmong, 
 use Rattle.art_cell.specs.Heaps.{Cells, heap_of}
 use Rattle.art_cell.specs.Knowledge.{IsNodeCell, IsShape}
 use Rattle.art_cell.specs.Laws.{Does, EditTouched, EditPaths}
-use Rattle.art_cell.specs.Rows.{ByteMap, HasRows, IsAbsent}
+use Rattle.art_cell.specs.Rows.{ByteMap, IsAbsent}
 use Rattle.art_cell.specs.StepRows.{IsNotHeld, IsLinked, Commits}
 use Rattle.art_cell.specs.Tree.{Place, Slot, Heap, held, At, PlaceAt, Begins, HasTwo}
 use Rattle.art_cell.specs.Views.{Member, IsNumber}
@@ -166,7 +166,7 @@ module _ (z : Sizes) (v : View) (s s' : Cells) (x : Place) (r : List ℕ) (l : �
     add_forms : Forms z (leaf l ∷ []) s s' Written
     add_forms = place_forms (Some (leaf l)) (leaf l ∷ []) put has.fits (λ d i. ⊎_elim
         (λ (e : d ≡ leaf l). subst (λ y. IsNumber z y × IsFormed s' y) (sym e)
-            (has.number, leaf_formed z v s l k value b.knows has s' (same (cell.Leaf l) (no_leaf x l))))
+        (has.number, leaf_formed z v s l k value b.knows has s' (same (cell.Leaf l) (no_leaf x l))))
         (λ (i : ⊥). absurd i) i)
 
     added : ClaimedAmong v (λ n. ⊥) → Commits z v (Done (Insert k value) Inserted) [] (leaf l ∷ []) s s'

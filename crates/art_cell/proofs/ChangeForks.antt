@@ -1,35 +1,33 @@
 -- A node that comes between a place and what it held is a commit.
-use Rattle.std.proofs.Common.{◌≡◌, ◌≢◌, ◌⊎◌, ℕ, ◌<◌, ◌≤◌, List, [], ◌∷◌, ◌++◌, length, Some, None, refl, sym, ap, ◌∙◌, subst, subst₂, inl, inr, ⊎_elim}
-use Rattle.std.specs.FinMap.{empty, insert, remove}
+use Rattle.std.proofs.Common.{◌≡◌, ◌≢◌, ◌⊎◌, ℕ, ◌<◌, ◌≤◌, List, [], ◌∷◌, ◌++◌, length, Some, refl, sym, ap, ◌∙◌, subst, subst₂, inl, inr, ⊎_elim}
+use Rattle.std.specs.FinMap.{empty, insert}
 use Rattle.art_cell.specs.declared.cells.Node.{Node}
 use Rattle.art_cell.specs.declared.cells.Cell.{Cell}
 use Rattle.art_cell.specs.declared.cells.Cell.TheVariants as cell
 use Rattle.art_cell.specs.declared.cells.Link.{Link}
 use Rattle.art_cell.specs.declared.cells.Link.TheVariants.{Leaf as leaf, Node as node}
-use Rattle.art_cell.specs.declared.views.Answer.TheVariants.{Inserted, Removed}
-use Rattle.art_cell.specs.declared.views.Asked.TheVariants.{Insert, Remove}
+use Rattle.art_cell.specs.declared.views.Answer.TheVariants.{Inserted}
+use Rattle.art_cell.specs.declared.views.Asked.TheVariants.{Insert}
 use Rattle.art_cell.specs.declared.views.Sizes.{Sizes}
 use Rattle.art_cell.specs.declared.views.View.{View}
 use Rattle.art_cell.specs.declared.views.What.TheVariants.{Done}
-use Rattle.art_cell.specs.Changes.{IsUnlinked, Forks, Merges}
-use Rattle.art_cell.specs.CommitLaws.{Before, HasLeaf, HasNode, HoldsJust, ClaimedAmong, IsItsNode, ForkCommits, MergeCommits}
+use Rattle.art_cell.specs.Changes.{IsUnlinked, Forks}
+use Rattle.art_cell.specs.CommitLaws.{Before, HasLeaf, HasNode, HoldsJust, ClaimedAmong, IsItsNode, ForkCommits}
 use Rattle.art_cell.specs.Heaps.{Cells, node_prefix, heap_of}
 use Rattle.art_cell.specs.Knowledge.{IsNodeCell}
-use Rattle.art_cell.specs.Laws.{Does, ForkTouched, ForkPaths, MergeTouched, MergePaths}
+use Rattle.art_cell.specs.Laws.{Does, ForkTouched, ForkPaths}
 use Rattle.art_cell.specs.Rows.{ByteMap, IsAbsent}
 use Rattle.art_cell.specs.StepRows.{Commits}
-use Rattle.art_cell.specs.Tree.{Place, Slot, Heap, held, past, At, down, PlaceAt, Begins}
+use Rattle.art_cell.specs.Tree.{Place, Heap, held, past, At, PlaceAt, Begins}
 use Rattle.art_cell.specs.Views.{IsNumber}
 use Rattle.art_cell.specs.WordChanges.{FitsWord, WritesPlace, WritesNode, two_children, cell_of, KeepsChildren}
 use Rattle.art_cell.proofs.ChangeCommits.{Touches, Forms, in_hand, same_words, only_written, commits_by}
-use Rattle.art_cell.proofs.ChangeRows.{remove_rows, inserted_rows, leaf_has_key, leaf_unlinked, leaf_formed, node_unlinked}
+use Rattle.art_cell.proofs.ChangeRows.{inserted_rows, leaf_has_key, leaf_unlinked, leaf_formed, node_unlinked}
 use Rattle.art_cell.proofs.ChangeShapes.{held_fits, two_children_name, IsFormed, written_formed, kept_formed, place_formed, anchor_formed}
-use Rattle.art_cell.proofs.Facts.{same_cell}
 use Rattle.art_cell.proofs.Meanings.{no_leaf}
 use Rattle.art_cell.proofs.Places.{at_place, same_link}
-use Rattle.art_cell.proofs.Renew.{deeper}
-use Rattle.art_cell.proofs.TreeLaws.{fork_law, merge_law}
-use Rattle.art_cell.proofs.WordChanges.{fork_by_words, merge_by_words}
+use Rattle.art_cell.proofs.TreeLaws.{fork_law}
+use Rattle.art_cell.proofs.WordChanges.{fork_by_words}
 
 module _ (z : Sizes) (v : View) (s s' : Cells) (x : Place) (r : List ℕ) (c : Link) (m : Node) (l a b : ℕ) (q k : List ℕ) (value : ℕ) (before : Before z v s s') (has : HasLeaf z v l k value) (hand : HasNode z v m)
     (just : HoldsJust v (λ d. (d ≡ cell.Node m) ⊎ ((d ≡ cell_of x) ⊎ IsItsNode c d))) (among : ClaimedAmong v (λ i. i ≡ m))

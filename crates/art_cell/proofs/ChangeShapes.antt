@@ -1,5 +1,5 @@
 -- What a change writes has the form of a cell of a tree.
-use Rattle.std.proofs.Common.{◌≡◌, ◌≢◌, ◌⊎◌, ℕ, ◌<◌, cond, ltb, List, Option, Some, None, refl, sym, ap, ◌∙◌, subst, inl, inr, ⊎_elim, eq-eqb, ne_eqb}
+use Rattle.std.proofs.Common.{◌≡◌, ◌≢◌, ◌⊎◌, ℕ, ◌<◌, cond, List, Option, Some, None, refl, sym, ap, ◌∙◌, subst, inl, inr, ⊎_elim, eq-eqb, ne_eqb}
 use Rattle.std.proofs.lemmas.Bool.{cases_lt, cases_eq, lt-ltb, le-ltb}
 use Rattle.std.proofs.lemmas.Option.{same_Some}
 use Rattle.std.specs.Option.{option_and_then}
@@ -13,11 +13,11 @@ use Rattle.art_cell.specs.Children.{child_word, link_of}
 use Rattle.art_cell.specs.Heaps.{Cells, node_prefix, node_child, key_of, heap_of, MeansTheSame}
 use Rattle.art_cell.specs.Knowledge.{NamesCell, IsNodeCell, IsLeafCell, IsShape}
 use Rattle.art_cell.specs.Reads.{with_child, without_child}
-use Rattle.art_cell.specs.Tree.{Place, Top, Slot, held, At, PlaceAt}
+use Rattle.art_cell.specs.Tree.{Place, Top, Slot, held, PlaceAt}
 use Rattle.art_cell.specs.WordChanges.{FitsWord, at_byte, WritesPlace, WritesNode, two_children, cell_of, KeepsChildren}
 use Rattle.art_cell.specs.Words.{Words, child_of}
 use Rattle.art_cell.proofs.ChildWords.{link_back, link_exact}
-use Rattle.art_cell.proofs.Meanings.{Fits, child_at, child_is}
+use Rattle.art_cell.proofs.Meanings.{Fits}
 
 -- ---- the same words
 

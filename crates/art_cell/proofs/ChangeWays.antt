@@ -38,6 +38,12 @@ use Rattle.art_cell.proofs.WordChanges.{grow_by_words, shrink_by_words, copy_by_
 module _ (z : Sizes) (v : View) (s s' : Cells) (x : Place) (r : List ℕ) (n m : Node) (before : Before z v s s') (hand : HasNode z v m)
     (just : HoldsJust v (λ c. (c ≡ cell.Node n) ⊎ ((c ≡ cell.Node m) ⊎ (c ≡ cell_of x)))) (old : s' (cell.Node n) ≡ s (cell.Node n)) (put : WritesPlace s s' x (Some (node m)))
     (at : PlaceAt (heap_of s) x r) (was : held (heap_of s) x ≡ Some (node n)) where
+  abbrev h : Heap
+  h = heap_of s
+
+  abbrev h' : Heap
+  h' = heap_of s'
+
   abbrev Written : Cell → Type 0
   Written c = (c ≡ cell.Node n) ⊎ ((c ≡ cell.Node m) ⊎ (c ≡ cell_of x))
 
@@ -51,15 +57,15 @@ module _ (z : Sizes) (v : View) (s s' : Cells) (x : Place) (r : List ℕ) (n m :
   same_leaf : (l : ℕ) → s' (cell.Leaf l) ≡ s (cell.Leaf l)
   same_leaf l = same_but (cell.Leaf l) (λ w. ⊎_elim (λ (e : cell.Leaf l ≡ cell.Node m). absurd (cc)) (no_leaf x l) w)
 
-  fresh : IsUnlinked (heap_of s) (node m)
+  fresh : IsUnlinked h (node m)
   fresh = node_unlinked z v s m before.knows hand
 
-  at_n : At (heap_of s) (node n) r
-  at_n = at_place (heap_of s) x (node n) r at was
+  at_n : At h (node n) r
+  at_n = at_place h x (node n) r at was
 
   -- they are two nodes
   apart : node n ≢ node m
-  apart e = fresh r (subst (λ y. At (heap_of s) y r) e at_n)
+  apart e = fresh r (subst (λ y. At h y r) e at_n)
 
   premises : WayPremises s x r n m
   premises = (before.shape.tree.once, at, was, fresh, hand.fits)
@@ -71,7 +77,7 @@ module _ (z : Sizes) (v : View) (s s' : Cells) (x : Place) (r : List ℕ) (n m :
   way_held : (i : Node) → IsLinked s (node i) → (node i ≡ node n) ⊎ (node i ≡ node m) → IsHeld v (cell.Node i)
   way_held i o t = ⊎_elim
       (λ (e : node i ≡ node n). let is : i ≡ n = cc in just.each (cell.Node i) (inl (ap cell.Node is)))
-      (λ (e : node i ≡ node m). absurd (fresh o.0 (subst (λ y. At (heap_of s) y o.0) e o.1))) t
+      (λ (e : node i ≡ node m). absurd (fresh o.0 (subst (λ y. At h y o.0) e o.1))) t
 
   module _ (child : ℕ → Option ℕ) (made : WritesNode m.layout (s' (cell.Node m)) (node_prefix (s (cell.Node n))) child) where
     way : WayByWords s s' x n m child
@@ -99,19 +105,19 @@ module _ (z : Sizes) (v : View) (s s' : Cells) (x : Place) (r : List ℕ) (n m :
 
   -- the node that goes was linked, and is not the other
   n_goes : (d : Link) → d ≡ node n → IsLinked s d × (d ≢ node m)
-  n_goes d e = ((r, subst (λ y. At (heap_of s) y r) (sym e) at_n), λ f. apart (sym e ∙ f))
+  n_goes d e = ((r, subst (λ y. At h y r) (sym e) at_n), λ f. apart (sym e ∙ f))
 
   m_unlinked : (d : Link) → IsLinked s d → d ≢ node m
-  m_unlinked d o e = fresh o.0 (subst (λ y. At (heap_of s) y o.0) e o.1)
+  m_unlinked d o e = fresh o.0 (subst (λ y. At h y o.0) e o.1)
 
   -- ---- with the same children
 
   module _ (what : What) (made : WritesNode m.layout (s' (cell.Node m)) (node_prefix (s (cell.Node n))) (child_of n.layout (s (cell.Node n)))) where
-    copies : Copies (heap_of s) (heap_of s') x n m
+    copies : Copies h h' x n m
     copies = copy_by_words s s' x r n m (way (child_of n.layout (s (cell.Node n))) made) premises
 
-    copy_does : (f : ByteMap) → Does (heap_of s) (heap_of s') (CopyTouched n m) (CopyPaths m r) f f
-    copy_does f = copy_law (heap_of s) (heap_of s') x n m r f before.shape.tree at copies
+    copy_does : (f : ByteMap) → Does h h' (CopyTouched n m) (CopyPaths m r) f f
+    copy_does f = copy_law h h' x n m r f before.shape.tree at copies
 
     copy_touches : Touches v (node n ∷ []) (node m ∷ []) s (CopyTouched n m) (CopyPaths m r)
     copy_touches = record {
@@ -122,11 +128,11 @@ module _ (z : Sizes) (v : View) (s s' : Cells) (x : Place) (r : List ℕ) (n m :
       held = way_held;
     }
 
-    copied : ((f : ByteMap) → HasRows (heap_of s) f → IsAnswered f what × (becomes f what ≡ f)) → ClaimedAmong v (λ i. i ≡ m) → Commits z v what (node n ∷ []) (node m ∷ []) s s'
+    copied : ((f : ByteMap) → HasRows h f → IsAnswered f what × (becomes f what ≡ f)) → ClaimedAmong v (λ i. i ≡ m) → Commits z v what (node n ∷ []) (node m ∷ []) s s'
     copied stays among =
         let named = (before.shape.nodes n r at_n).children in
         commits_by z v s s' Written before just what (node n ∷ []) (node m ∷ []) (CopyTouched n m) (CopyPaths m r) (copy_does empty).moves
-        (λ f rows. let o = stays f rows in (o.0, subst (HasRows (heap_of s')) (sym o.1) ((copy_does f).rows rows)))
+        (λ f rows. let o = stays f rows in (o.0, subst (HasRows h') (sym o.1) ((copy_does f).rows rows)))
         copy_touches
         (way_forms (child_of n.layout (s (cell.Node n))) made named (node m ∷ []) (λ d i. ⊎_elim (m_new (child_of n.layout (s (cell.Node n))) made named d) (λ (i : ⊥). absurd i) i))
         (λ i. i ≡ m) among (λ i e. inl (ap node e))
@@ -136,7 +142,7 @@ module _ (z : Sizes) (v : View) (s s' : Cells) (x : Place) (r : List ℕ) (n m :
     T = RenewTouched n m l
 
     abbrev E : Link → List ℕ → Type 0
-    E = RenewPaths (heap_of s) (heap_of s') n m b l r
+    E = RenewPaths h h' n m b l r
 
     renew_held : (i : Node) → IsLinked s (node i) → T (node i) → IsHeld v (cell.Node i)
     renew_held i o t = ⊎_elim (λ (e : node i ≡ node n). way_held i o (inl e)) (⊎_elim (λ (e : node i ≡ node m). way_held i o (inr e)) (λ (e : node i ≡ leaf l). absurd (cc))) t
@@ -144,40 +150,44 @@ module _ (z : Sizes) (v : View) (s s' : Cells) (x : Place) (r : List ℕ) (n m :
     -- ---- with a leaf more
 
     module _ (k : List ℕ) (value : ℕ) (has : HasLeaf z v l k value) (made : WritesNode m.layout (s' (cell.Node m)) (node_prefix (s (cell.Node n))) (at_byte (child_of n.layout (s (cell.Node n))) b (Some (leaf l))))
-        (low : b < 256) (free : held (heap_of s) (Slot n b) ≡ None) (begins : Begins (past (heap_of s) n r b) k) (absent : IsAbsent (heap_of s) k) where
+        (low : b < 256) (free : held h (Slot n b) ≡ None) (begins : Begins (past h n r b) k) (absent : IsAbsent h k) where
       abbrev grown : ℕ → Option ℕ
       grown = at_byte (child_of n.layout (s (cell.Node n))) b (Some (leaf l))
 
-      new_leaf : IsUnlinked (heap_of s) (leaf l)
+      new_leaf : IsUnlinked h (leaf l)
       new_leaf = leaf_unlinked z v s l k value before.knows has
 
-      key : (heap_of s).key l ≡ k
+      key : h.key l ≡ k
       key = leaf_has_key z v s l k value before.knows has
 
-      grows : Renews (heap_of s) (heap_of s') x n m b l × (held (heap_of s') (Slot m b) ≡ Some (leaf l))
+      grows : Renews h h' x n m b l × (held h' (Slot m b) ≡ Some (leaf l))
       grows = grow_by_words s s' x r n m b l (way grown made) premises low has.fits new_leaf free
 
-      grow_does : (f : ByteMap) → Does (heap_of s) (heap_of s') T E f (insert f ((heap_of s).key l) ((heap_of s).value l))
-      grow_does f = grow_law (heap_of s) (heap_of s') x n m b l r f before.shape.tree at grows.0 grows.1 new_leaf
-          (subst (Begins (past (heap_of s) n r b)) (sym key) begins) (subst (IsAbsent (heap_of s)) (sym key) absent)
+      grow_does : (f : ByteMap) → Does h h' T E f (insert f (h.key l) (h.value l))
+      grow_does f = grow_law h h' x n m b l r f before.shape.tree at grows.0 grows.1 new_leaf
+          (subst (Begins (past h n r b)) (sym key) begins) (subst (IsAbsent h) (sym key) absent)
 
       grow_touches : Touches v (node n ∷ []) (leaf l ∷ node m ∷ []) s T E
       grow_touches = record {
         leaves = λ d i. ⊎_elim
-            (λ (e : d ≡ node n). (inl e, (n_goes d e).0, λ p f. ⊎_elim
-            (λ (g : (d ≡ node m) × (p ≡ r)). (n_goes d e).1 g.0)
-            (λ (g : (d ≡ leaf l) × (p ≡ past (heap_of s) n r b) × ((heap_of s').child m b ≡ Some (leaf l))). let is = g.0 in absurd (cc)) f))
+            (λ (e : d ≡ node n). (
+              inl e,
+              (n_goes d e).0,
+              λ p f. ⊎_elim
+                  (λ (g : (d ≡ node m) × (p ≡ r)). (n_goes d e).1 g.0)
+                  (λ (g : (d ≡ leaf l) × (p ≡ past h n r b) × (h'.child m b ≡ Some (leaf l))). let is = g.0 in absurd (cc)) f,
+            ))
             (λ (i : ⊥). absurd i) i;
         comes = λ d i. ⊎_elim
-            (λ (e : d ≡ leaf l). ((past (heap_of s) n r b, inr (e, refl, grows.1)), in_hand v (leaf l) d e (has.hand, has.has, has.link)))
+            (λ (e : d ≡ leaf l). ((past h n r b, inr (e, refl, grows.1)), in_hand v (leaf l) d e (has.hand, has.has, has.link)))
             (⊎_elim (λ (e : d ≡ node m). ((r, inl (e, refl)), m_in_hand d e)) (λ (i : ⊥). absurd i)) i;
         stays = λ d o. ⊎_elim
             (λ (e : d ≡ node n). inr (inl (inl e)))
-            (λ (f : d ≢ node n). inl (λ t. ⊎_elim f (⊎_elim (m_unlinked d o) (λ (e : d ≡ leaf l). new_leaf o.0 (subst (λ y. At (heap_of s) y o.0) e o.1))) t))
+            (λ (f : d ≢ node n). inl (λ t. ⊎_elim f (⊎_elim (m_unlinked d o) (λ (e : d ≡ leaf l). new_leaf o.0 (subst (λ y. At h y o.0) e o.1))) t))
             (same_link d (node n));
         linked = λ d p e. ⊎_elim
             (λ (f : (d ≡ node m) × (p ≡ r)). inl (inr (inl f.0)))
-            (λ (f : (d ≡ leaf l) × (p ≡ past (heap_of s) n r b) × ((heap_of s').child m b ≡ Some (leaf l))). inl (inl f.0)) e;
+            (λ (f : (d ≡ leaf l) × (p ≡ past h n r b) × (h'.child m b ≡ Some (leaf l))). inl (inl f.0)) e;
         held = renew_held;
       }
 
@@ -185,7 +195,7 @@ module _ (z : Sizes) (v : View) (s s' : Cells) (x : Place) (r : List ℕ) (n m :
       grew among =
           let named = names b (Some (leaf l)) has.fits in
           commits_by z v s s' Written before just (Done (Insert k value) Inserted) (node n ∷ []) (leaf l ∷ node m ∷ []) T E (grow_does empty).moves
-          (inserted_rows z v s l k value before.knows has (heap_of s') absent (λ f rows. (grow_does f).rows rows))
+          (inserted_rows z v s l k value before.knows has h' absent (λ f rows. (grow_does f).rows rows))
           grow_touches
           (way_forms grown made named (leaf l ∷ node m ∷ []) (λ d i. ⊎_elim
           (λ (e : d ≡ leaf l). subst (λ y. IsNumber z y × IsFormed s' y) (sym e) (has.number, leaf_formed z v s l k value before.knows has s' (same_leaf l)))
@@ -195,29 +205,37 @@ module _ (z : Sizes) (v : View) (s s' : Cells) (x : Place) (r : List ℕ) (n m :
     -- ---- with a leaf less
 
     module _ (made : WritesNode m.layout (s' (cell.Node m)) (node_prefix (s (cell.Node n))) (at_byte (child_of n.layout (s (cell.Node n))) b None))
-        (had : held (heap_of s) (Slot n b) ≡ Some (leaf l)) (two : HasTwo (heap_of s') m) where
+        (had : held h (Slot n b) ≡ Some (leaf l)) (two : HasTwo h' m) where
       abbrev shrunk : ℕ → Option ℕ
       shrunk = at_byte (child_of n.layout (s (cell.Node n))) b None
 
-      at_l : At (heap_of s) (leaf l) (past (heap_of s) n r b)
+      at_l : At h (leaf l) (past h n r b)
       at_l = down b at_n had refl
 
-      shrinks : Renews (heap_of s) (heap_of s') x n m b l × (held (heap_of s') (Slot m b) ≡ None)
+      shrinks : Renews h h' x n m b l × (held h' (Slot m b) ≡ None)
       shrinks = shrink_by_words s s' x r n m b l (way shrunk made) premises had
 
-      shrink_does : (f : ByteMap) → Does (heap_of s) (heap_of s') T E f (remove f ((heap_of s).key l))
-      shrink_does f = shrink_law (heap_of s) (heap_of s') x n m b l r f before.shape.tree at shrinks.0 had shrinks.1 two
+      shrink_does : (f : ByteMap) → Does h h' T E f (remove f (h.key l))
+      shrink_does f = shrink_law h h' x n m b l r f before.shape.tree at shrinks.0 had shrinks.1 two
 
       shrink_touches : Touches v (node n ∷ leaf l ∷ []) (node m ∷ []) s T E
       shrink_touches = record {
         leaves = λ d i. ⊎_elim
-            (λ (e : d ≡ node n). (inl e, (n_goes d e).0, λ p f. ⊎_elim
-            (λ (g : (d ≡ node m) × (p ≡ r)). (n_goes d e).1 g.0)
-            (λ (g : (d ≡ leaf l) × (p ≡ past (heap_of s) n r b) × ((heap_of s').child m b ≡ Some (leaf l))). let is = g.0 in absurd (cc)) f))
+            (λ (e : d ≡ node n). (
+              inl e,
+              (n_goes d e).0,
+              λ p f. ⊎_elim
+                  (λ (g : (d ≡ node m) × (p ≡ r)). (n_goes d e).1 g.0)
+                  (λ (g : (d ≡ leaf l) × (p ≡ past h n r b) × (h'.child m b ≡ Some (leaf l))). let is = g.0 in absurd (cc)) f,
+            ))
             (⊎_elim
-            (λ (e : d ≡ leaf l). (inr (inr e), (past (heap_of s) n r b, subst (λ y. At (heap_of s) y (past (heap_of s) n r b)) (sym e) at_l), λ p f. ⊎_elim
-            (λ (g : (d ≡ node m) × (p ≡ r)). let is = g.0 in absurd (cc))
-            (λ (g : (d ≡ leaf l) × (p ≡ past (heap_of s) n r b) × ((heap_of s').child m b ≡ Some (leaf l))). let some = g.2 in let none = shrinks.1 in absurd (cc)) f))
+            (λ (e : d ≡ leaf l). (
+              inr (inr e),
+              (past h n r b, subst (λ y. At h y (past h n r b)) (sym e) at_l),
+              λ p f. ⊎_elim
+                  (λ (g : (d ≡ node m) × (p ≡ r)). let is = g.0 in absurd (cc))
+                  (λ (g : (d ≡ leaf l) × (p ≡ past h n r b) × (h'.child m b ≡ Some (leaf l))). let some = g.2 in let none = shrinks.1 in absurd (cc)) f,
+            ))
             (λ (i : ⊥). absurd i)) i;
         comes = λ d i. ⊎_elim (λ (e : d ≡ node m). ((r, inl (e, refl)), m_in_hand d e)) (λ (i : ⊥). absurd i) i;
         stays = λ d o. ⊎_elim
@@ -226,15 +244,15 @@ module _ (z : Sizes) (v : View) (s s' : Cells) (x : Place) (r : List ℕ) (n m :
             (same_link d (node n));
         linked = λ d p e. ⊎_elim
             (λ (f : (d ≡ node m) × (p ≡ r)). inl (inl f.0))
-            (λ (f : (d ≡ leaf l) × (p ≡ past (heap_of s) n r b) × ((heap_of s').child m b ≡ Some (leaf l))). let some = f.2 in let none = shrinks.1 in absurd (cc)) e;
+            (λ (f : (d ≡ leaf l) × (p ≡ past h n r b) × (h'.child m b ≡ Some (leaf l))). let some = f.2 in let none = shrinks.1 in absurd (cc)) e;
         held = renew_held;
       }
 
-      shrank : ClaimedAmong v (λ i. i ≡ m) → Commits z v (Done (Remove ((heap_of s).key l)) (Removed ((heap_of s).value l))) (node n ∷ leaf l ∷ []) (node m ∷ []) s s'
+      shrank : ClaimedAmong v (λ i. i ≡ m) → Commits z v (Done (Remove (h.key l)) (Removed (h.value l))) (node n ∷ leaf l ∷ []) (node m ∷ []) s s'
       shrank among =
           let named = names b None tt in
-          commits_by z v s s' Written before just (Done (Remove ((heap_of s).key l)) (Removed ((heap_of s).value l))) (node n ∷ leaf l ∷ []) (node m ∷ []) T E (shrink_does empty).moves
-          (remove_rows (heap_of s) (heap_of s') l (past (heap_of s) n r b) at_l (λ f rows. (shrink_does f).rows rows))
+          commits_by z v s s' Written before just (Done (Remove (h.key l)) (Removed (h.value l))) (node n ∷ leaf l ∷ []) (node m ∷ []) T E (shrink_does empty).moves
+          (remove_rows h h' l (past h n r b) at_l (λ f rows. (shrink_does f).rows rows))
           shrink_touches
           (way_forms shrunk made named (node m ∷ []) (λ d i. ⊎_elim (m_new shrunk made named d) (λ (i : ⊥). absurd i) i))
           (λ i. i ≡ m) among (λ i e. inl (ap node e))
