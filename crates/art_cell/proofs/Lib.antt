@@ -1,5 +1,11 @@
 pub mod After
 pub mod ByteTexts
+pub mod ChangeCommits
+pub mod ChangeForks
+pub mod ChangeMerges
+pub mod ChangeRows
+pub mod ChangeShapes
+pub mod ChangeWays
 pub mod ChangedWords
 pub mod ChildWords
 pub mod Edit

@@ -11,6 +11,7 @@ mod actor_tests;
 mod at;
 mod bodies;
 mod cells;
+mod commit_laws;
 mod deeds;
 mod laws;
 #[cfg(test)]
@@ -36,6 +37,7 @@ mod writes;
 pub use at::At;
 pub use bodies::Body;
 pub use cells::{Cell, Link, Node};
+pub use commit_laws::changes_commit;
 pub use deeds::{Act, Deed};
 pub use laws::{
     bounds_are_least, cells_have_one_path, cells_lead_to_rows, child_words_are_read_back,
