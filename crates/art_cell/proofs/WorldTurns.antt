@@ -35,7 +35,7 @@ use Rattle.art_cell.proofs.Places.{same_link, one_path}
 use Rattle.art_cell.proofs.StepLocks.{no_leaf, upgrade_law, unclaimed_law, claim_law}
 use Rattle.art_cell.proofs.StepNotes.{begin_law, read_law, read_leaf_law, pass_law, fail_law}
 use Rattle.art_cell.proofs.StepWrites.{write_law, write_leaf_law}
-use Rattle.art_cell.proofs.WorldMemory.{sets_version, sets_word, copy_of, is_copy}
+use Rattle.art_cell.proofs.WorldMemory.{sets_version, sets_word, copy_of, is_copy, copy_version}
 use Rattle.art_cell.proofs.WorldViews.{at_view, turned_view}
 
 -- ---- the stamps and notes that stay where a stamp goes
@@ -230,13 +230,15 @@ module _ (z : Sizes) (ws : List ℕ) (vs : List View) (p : ℕ) (r : IsSound z (
       let stays : m.version x.cell ≡ x.version = sym found_is ∙ same in
       let copy = is_copy z ws x.cell in
       let words : List ℕ = copy_of z ws x.cell in
-      let sets = sets_version z ws x.cell (x.version + 2) there (no_leaf z m f x.cell r.formed (λ obsolete. omega arith)) long in
+      let plain = no_leaf z m f x.cell r.formed (λ obsolete. omega arith) in
+      let sets = sets_version z ws x.cell (x.version + 2) there plain long in
       put_at (λ v w. Upgraded v w x) place (place_of z x.cell) (found + 2) (x.version + 2) is (omega arith)
       (turned (set ws (place_of z x.cell) (x.version + 2)) (λ v w. Upgraded v w x) (upgraded v x words)
       record {
         limit = may.limit;
         words = words;
         long = copy.long;
+        version = copy_version z ws x.cell plain;
         agrees = λ i value j. ap (λ (w : Words). w i) (sym copy.words ∙ sym (r.holder.at_rest x.cell (λ locked. omega arith))) ∙ ((r.vouch p v at).notes (note_of x (Word i value)) j).same stays;
         is = refl;
       }
@@ -259,7 +261,7 @@ module _ (z : Sizes) (ws : List ℕ) (vs : List View) (p : ℕ) (r : IsSound z (
       let sets = sets_version z ws c (m.version c + 1) there (λ l e. cc) long in
       put_at (λ v w. Claimed v w n) place (place_of z c) (found + 1) (m.version c + 1) is (ap (λ (x : ℕ). x + 1) found_is)
       (turned (set ws (place_of z c) (m.version c + 1)) (λ v w. Claimed v w n) (claimed v n words)
-      record { words = words; long = copy.long; is = refl }
+      record { words = words; long = copy.long; version = copy_version z ws c (λ l e. cc); is = refl }
       (λ g t. claim_law z m f p v at (memory_of z (set ws (place_of z c) (m.version c + 1))) g n words r may copy sets t))
 
   -- a word of a cell that is held is written

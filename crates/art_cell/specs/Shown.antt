@@ -78,21 +78,24 @@ pub record Failed (v w : View) (x : Stamp) (word : ℕ) : Type 0 where
 abbrev pub AgreesWithNotes : View → Stamp → List ℕ → Type 0
 AgreesWithNotes v x ws = (i value : ℕ) → Member (note_of x (Word i value)) v.notes → words_in ws i ≡ value
 
+-- the words of a cell that is locked stand in a list, where the place of the version word has 0
 pub record Upgraded (v w : View) (x : Stamp) : Type 0 where
   pub limit : x.version < 4 * last_counter
   pub words : List ℕ
   pub long : length words ≡ size_of x.cell
+  pub version : words_in words 0 ≡ 0
   pub agrees : AgreesWithNotes v x words
   pub is : w ≡ upgraded v x words
 
 pub record Claimed (v w : View) (n : Node) : Type 0 where
   pub words : List ℕ
   pub long : length words ≡ size_of (cell.Node n)
+  pub version : words_in words 0 ≡ 0
   pub is : w ≡ claimed v n words
 
--- an upgrade that locked nothing: a changed word, or a counter at its end, at which no step is made
+-- an upgrade that locked nothing: a changed word, or a counter at its end, which is looked at first and at which no step is made
 abbrev pub FailedUpgrade : View → View → Stamp → UpgradeFault → Type 0
-FailedUpgrade v w x (fault.Changed c) = (c.cell ≡ x.cell) × (c.seen ≡ x.version) × (c.found ≢ c.seen) × Failed v w x c.found
+FailedUpgrade v w x (fault.Changed c) = (c.cell ≡ x.cell) × (c.seen ≡ x.version) × (c.found ≢ c.seen) × Failed v w x c.found × (x.version < 4 * last_counter)
 FailedUpgrade v w x (fault.Exhausted c) = (c ≡ x.cell) × (4 * last_counter ≤ x.version) × (w ≡ v)
 
 -- ---- values that stand for what is held, and for what is in hand
