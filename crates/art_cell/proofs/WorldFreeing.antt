@@ -1,5 +1,5 @@
 -- The steps of a world that take a free number, and that free one in hand.
-use Rattle.std.proofs.Common.{◌≡◌, ℕ, ◌+◌, ◌-◌, ◌*◌, ◌/◌, ◌%◌, ◌^◌, ◌<◌, ◌≤◌, ◌==◌, Bool, true, false, List, length, get_or, slice_set, sym, refl, ap, ◌∙◌, ⊎_elim, arith}
+use Rattle.std.proofs.Common.{◌≡◌, ℕ, ◌+◌, ◌-◌, ◌*◌, ◌/◌, ◌%◌, ◌^◌, ◌<◌, ◌≤◌, ◌==◌, Bool, true, false, List, length, get_or, slice_set, sym, refl, ap, ◌∙◌, subst, ⊎_elim, arith}
 use Rattle.std.proofs.lemmas.Bool.{cases_Bool, eqb-true, eqb-false}
 use Rattle.std.proofs.lemmas.List.{get_or_read}
 use Rattle.std.proofs.lemmas.Nat.{pow_below}
@@ -15,8 +15,8 @@ use Rattle.art_cell.specs.Headers.{bit_at_least, bit_more_below}
 use Rattle.art_cell.specs.Shown.{Gave, Took}
 use Rattle.art_cell.specs.Sound.{InHandOf, Nowhere, IsFree, IsSound}
 use Rattle.art_cell.specs.StepRows.{SetsFree, MayGive, gave, took}
-use Rattle.art_cell.specs.Views.{IsNumber, cell_named}
-use Rattle.art_cell.specs.WorldWords.{number_in_pool, first_free_word, free_place, bit_of, is_free, word_count, memory_of, views_of, view_at}
+use Rattle.art_cell.specs.Views.{Memory, IsNumber, cell_named}
+use Rattle.art_cell.specs.WorldWords.{number_in_pool, first_free_word, free_place, bit_of, is_free, word_count, memory_of, Kept, memory_now, views_of, view_at}
 use Rattle.art_cell.proofs.StepNumbers.{take_law, give_law}
 use Rattle.art_cell.proofs.WorldFree.{frees_number, takes_number, free_is_number, free_found}
 use Rattle.art_cell.proofs.WorldMemory.{copy_of, is_taken}
@@ -83,6 +83,10 @@ module _ (z : Sizes) (ws : List ℕ) (long : length ws ≡ word_count z) (d : Li
   -- and that frees the number
   pub frees_bit : IsNumber z d → is_free z ws d ≡ false → SetsFree (memory_of z ws) d true (memory_of z (slice_set ws place (found + bit)))
   frees_bit inside taken = rw (word.stands, word.read, word.power) (frees_number z ws d inside taken long)
+
+-- what changes is seen so of the world before
+pub seen_before : {k now : Kept} {d : Link} {b : Bool} {m' : Memory} → k ≡ now → SetsFree (memory_now k) d b m' → SetsFree (memory_now now) d b m'
+seen_before {d = d} {b = b} {m' = m'} is = subst (λ (k : Kept). SetsFree (memory_now k) d b m') is
 
 -- ---- the steps
 

@@ -1,5 +1,5 @@
 -- What a world's words mean where one of them changes: the words of cells and of version words.
-use Rattle.std.proofs.Common.{◌≡◌, ◌≢◌, ℕ, ◌+◌, ◌%◌, ◌<◌, ◌≤◌, ◌==◌, Bool, true, false, if◌then◌else◌, List, length, map, get_or, set, nat_lt, sym, refl, ap, ◌∙◌, ⊎_elim}
+use Rattle.std.proofs.Common.{◌≡◌, ◌≢◌, ℕ, ◌+◌, ◌%◌, ◌<◌, ◌≤◌, ◌==◌, Bool, true, false, if◌then◌else◌, List, length, map, get_or, set, nat_lt, sym, refl, ap, ap₂, ◌∙◌, subst, ⊎_elim}
 use Rattle.std.proofs.Common.{arith, get_or-set_same, get_or-set_other, lt-ltb, le-ltb, ltb-true, ltb-false}
 use Rattle.std.specs.List.{range_with_len}
 use Rattle.std.proofs.lemmas.Bool.{cases_lt, cond-true, cond-false, cond_both}
@@ -160,6 +160,13 @@ sets_word z ws c i x inside late few long =
       epoch = epoch_stays z ws at x early;
       pass_word = pass_words_stay z ws at x early;
     }
+
+-- the place and the word may be given otherwise
+pub puts_version : (z : Sizes) (ws : List ℕ) (c : Cell) (x place word : ℕ) → IsInside z c → IsNoLeaf c → length ws ≡ word_count z → place ≡ place_of z c → word ≡ x → SetsVersion (memory_of z ws) c x (memory_of z (set ws place word))
+puts_version z ws c x place word inside plain long at is = subst (λ (us : List ℕ). SetsVersion (memory_of z ws) c x (memory_of z us)) (sym (ap₂ (λ (i y : ℕ). set ws i y) at is)) (sets_version z ws c x inside plain long)
+
+pub puts_word : (z : Sizes) (ws : List ℕ) (c : Cell) (i x first : ℕ) → IsInside z c → first_place c ≤ i → i < size_of c → length ws ≡ word_count z → first ≡ place_of z c → SetsWord (memory_of z ws) c i x (memory_of z (set ws (first + i) x))
+puts_word z ws c i x first inside late few long at = subst (λ (from : ℕ). SetsWord (memory_of z ws) c i x (memory_of z (set ws (from + i) x))) (sym at) (sets_word z ws c i x inside late few long)
 
 -- ---- copies of a cell's words
 

@@ -3,7 +3,7 @@ ghost use Rattle.std.specs.Prelude.{◌≡◌, ◌<◌, ℕ, List, length, false
 ghost use Rattle.art_cell.specs.declared.views.InHand.{InHand as InHandOf};
 ghost use Rattle.art_cell.specs.Children.{link_in_pool};
 ghost use Rattle.art_cell.specs.Shown.{Gave, Took, link_of_number};
-ghost use Rattle.art_cell.specs.StepRows.{MayGive};
+ghost use Rattle.art_cell.specs.StepRows.{MayGive, SetsFree};
 ghost use Rattle.art_cell.specs.WorldWords.{OnlyTurned, is_free, memory_now, pool_size, view_at};
 
 use crate::made_steps::{Gives, Takes};
@@ -14,6 +14,7 @@ impl World {
     pub fn first_free(&mut self, pass: usize, pool: Pool) -> Option<Number>
         requires { pass < length self.old.views }
         ensures only { OnlyTurned self.old self.new pass }
+        ensures memory { IfSome result (λ n. SetsFree (memory_now self.old) (link_of_number n) false (memory_now self.new)) }
         ensures none { IfNone result ((self.new ≡ self.old) × ((k : ℕ) → (memory_now self.old).free (link_in_pool pool k) ≡ false)) }
         ensures some { IfSome result (λ n. (n.pool ≡ pool) × ((memory_now self.old).free (link_of_number n) ≡ true) × ((k : ℕ) → k < n.number → (memory_now self.old).free (link_in_pool pool k) ≡ false) × Took (view_at self.old.views pass) (view_at self.new.views pass) (link_of_number n)) }
     {
@@ -52,7 +53,7 @@ impl World {
         requires pass { pass < length self.old.views }
         requires may { (xs : List InHandOf) × MayGive (view_at self.old.views pass) (link_of_number number) xs }
         ensures only { OnlyTurned self.old self.new pass }
-        ensures free { (memory_now self.new).free (link_of_number number) ≡ true }
+        ensures memory { SetsFree (memory_now self.old) (link_of_number number) true (memory_now self.new) }
         ensures row { Gave (view_at self.old.views pass) (view_at self.new.views pass) (link_of_number number) }
     {
         let link = number.link();

@@ -6,7 +6,7 @@ use Rattle.art_cell.specs.Children.{link_in_pool}
 use Rattle.art_cell.specs.StepRows.{MayGive}
 use Rattle.art_cell.specs.Views.{IsNumber}
 use Rattle.art_cell.specs.WorldWords.{Kept, first_free_word, memory_now, view_at}
-use Rattle.art_cell.proofs.WorldFreeing.{WordWithBit, bit_below, word_with_bit, bit_room, frees_bit, in_hand, turn_gives}
+use Rattle.art_cell.proofs.WorldFreeing.{WordWithBit, bit_below, word_with_bit, bit_room, frees_bit, seen_before, in_hand, turn_gives}
 use Rattle.art_cell.proofs.WorldTurns.{IsKept}
 use Rattle.art_cell.proofs.world.World.put_back.Goals as goal
 
@@ -45,7 +45,7 @@ changed-requires c =
     let h = is_taken c.args.pass c.args.number.pool c.args.number.number c.requires.may.0 c.self.view_is c.self.invariant c.requires.pass c.requires.may.1 in
     rw c.link-link.ensures (turn_gives _ _ _ _ h.kept.2 h.pass h.kept.0 _ _ _ _ (word_of_taken h c.first_free_word.ensures c.index_mut.ensures.value) c.requires.may.0 h.may)
 
-pub returns-clause-free : goal.returns-clause-free
-returns-clause-free c =
+pub returns-clause-memory : goal.returns-clause-memory
+returns-clause-memory c =
     let h = is_taken c.args.pass c.args.number.pool c.args.number.number c.requires.may.0 c.self.view_is c.self.invariant c.requires.pass c.requires.may.1 in
-    (frees_bit _ _ h.kept.0 _ _ _ _ (word_of_taken h c.first_free_word.ensures c.index_mut.ensures.value) h.inside h.taken).here
+    seen_before c.self.view_is (frees_bit _ _ h.kept.0 _ _ _ _ (word_of_taken h c.first_free_word.ensures c.index_mut.ensures.value) h.inside h.taken)
