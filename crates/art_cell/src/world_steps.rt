@@ -1,5 +1,5 @@
 //! The steps of one pass on a world.
-ghost use Rattle.std.specs.Prelude.{◌≡◌, ◌≢◌, ◌<◌, ◌≤◌, ◌+◌, ◌*◌, ◌∷◌, ℕ, List, length, map, MatchResult, Some};
+ghost use Rattle.std.specs.Prelude.{◌≡◌, ◌≢◌, ◌<◌, ◌≤◌, ◌+◌, ◌*◌, ◌∷◌, ℕ, List, length, map, IfOk, MatchResult, Some};
 ghost use Rattle.std.specs.Option.{option_map};
 ghost use Rattle.art_cell.specs.declared.cells.Cell.TheVariants.{Leaf as leaf_cell, Node as node_cell};
 ghost use Rattle.art_cell.specs.declared.cells.Link.TheVariants.{Leaf as leaf, Node as node};
@@ -9,10 +9,13 @@ ghost use Rattle.art_cell.specs.declared.views.Holding.{Holding as HoldingOf};
 ghost use Rattle.art_cell.specs.declared.views.InHand.{InHand as InHandOf};
 ghost use Rattle.art_cell.specs.Children.{child_word};
 ghost use Rattle.art_cell.specs.Deeds.{what_of};
+ghost use Rattle.art_cell.specs.Heaps.{Cells};
+ghost use Rattle.art_cell.specs.Knowledge.{HoldsAll, IsShape};
 ghost use Rattle.art_cell.specs.Shown.{Claimed, Committed, FailedUpgrade, Failed, IsHolding, IsInHand, MayReadCell, Passed, Released, Upgraded, Wrote, WroteLeaf, coming, fact_read, link_of_number, links_of};
+ghost use Rattle.art_cell.specs.Sound.{OneHolder};
 ghost use Rattle.art_cell.specs.StepRows.{MayBeFirst, MayClaim, MayCommit, MayLock, MayPass, MayRelease, MayWrite, MayWriteLeaf, SetsVersion, SetsWord, begun, has_read, note_of};
 ghost use Rattle.art_cell.specs.Views.{IsClear, Member};
-ghost use Rattle.art_cell.specs.WorldWords.{IsInside, OnlyTurned, memory_now, view_at};
+ghost use Rattle.art_cell.specs.WorldWords.{IsInside, OnlyTurned, memory_now, view_at, views_of};
 
 use crate::made_steps::{
     Begins, Claims, Commits, Fails, Passes, Reads, Releases, Upgrades, Writes, WritesLeaf,
@@ -88,6 +91,7 @@ impl World {
         requires may { MayPass self.old.sizes (view_at self.old.views pass) stamp.now (option_map (λ d. what_of d.now) deed) }
         ensures only { OnlyTurned self.old self.new pass }
         ensures words { self.new.words ≡ self.old.words }
+        ensures stands { IfOk result (λ _. (s : Cells) × OneHolder (memory_now self.old) (views_of self.old.views) s × IsShape self.old.sizes s × HoldsAll (view_at self.old.views pass) stamp.now s) }
         ensures row { MatchResult result (λ _. Passed self.old.sizes (view_at self.old.views pass) (view_at self.new.views pass) stamp.now (option_map (λ d. what_of d.now) deed.entry)) (λ c. (c.cell ≡ stamp.now.cell) × (c.seen ≡ stamp.now.version) × (c.found ≢ c.seen) × Failed (view_at self.old.views pass) (view_at self.new.views pass) stamp.now c.found) }
     {
         let found = self.version(stamp.cell);

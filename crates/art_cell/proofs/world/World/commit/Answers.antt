@@ -9,6 +9,7 @@ use Rattle.art_cell.specs.Deeds.{what_of}
 use Rattle.art_cell.specs.Shown.{IsHolding, Committed, coming, links_of}
 use Rattle.art_cell.specs.StepRows.{MayCommit, SetsVersion, released_word}
 use Rattle.art_cell.specs.WorldWords.{Kept, memory_now, memory_of, place_of, view_at}
+use Rattle.art_cell.proofs.WorldLogical.{bodies}
 use Rattle.art_cell.proofs.WorldReleases.{released_fits, release_sets, turn_commits}
 use Rattle.art_cell.proofs.WorldTurns.{IsKept, Next}
 use Rattle.art_cell.proofs.world.World.commit.Goals as goal
@@ -46,3 +47,6 @@ returns-clause-memory c =
     subst (λ (k : Kept). IsKept k → place ≡ place_of k.sizes cell → SetsVersion (memory_now now) cell (released_word ((memory_now now).version cell) c.args.obsolete) (memory_of k.sizes (slice_set k.words place c.released.result))) (sym c.self.view_is)
     (λ i at. release_sets now.sizes now.words now.views c.args.pass i.2 c.requires.pass i.0 cell first.0 c.args.obsolete c.released.result place first.1 first.2.held c.requires.inside word at)
     c.self.invariant c.place_of-place.ensures
+
+pub returns-clause-bodies : goal.returns-clause-bodies
+returns-clause-bodies c = let first = c.requires.first in bodies c.args.obsolete c.spent-leaf.result first.0 c.self.view_is c.requires.pass first.1 first.2.held (returns-clause-memory c) c.changed.ensures
