@@ -15,6 +15,7 @@ use Rattle.art_cell.specs.declared.views.Holding.{Holding}
 use Rattle.art_cell.specs.declared.views.InHand.{InHand}
 use Rattle.art_cell.specs.declared.views.Note.{Note}
 use Rattle.art_cell.specs.declared.views.Pin.{Pin}
+use Rattle.art_cell.specs.declared.views.Retired.{Retired}
 use Rattle.art_cell.specs.declared.views.Sizes.{Sizes}
 use Rattle.art_cell.specs.declared.views.Stamp.{Stamp}
 use Rattle.art_cell.specs.declared.views.View.{View}
@@ -23,7 +24,7 @@ use Rattle.art_cell.specs.Children.{link_of, link_in_pool}
 use Rattle.art_cell.specs.Heaps.{Cells}
 use Rattle.art_cell.specs.Histories.{event, IsLegal, places}
 use Rattle.art_cell.specs.Knowledge.{IsShape, HoldsAll, Leads}
-use Rattle.art_cell.specs.StepRows.{note_of, passed, Without, failed, upgraded, claimed, Puts, with_word, writing, with_leaf_word, handing, all_retired, Drops, HandsOver, MayRead, MayReadLeaf, took, gave}
+use Rattle.art_cell.specs.StepRows.{note_of, passed, Without, failed, upgraded, claimed, Puts, with_word, writing, with_leaf_word, handing, all_retired, Drops, HandsOver, MayRead, MayReadLeaf, took, gave, freed}
 use Rattle.art_cell.specs.Views.{Member, size_of, words_in, last_counter}
 
 -- ---- events
@@ -169,3 +170,10 @@ pub record Gave (v w : View) (d : Link) : Type 0 where
   pub hand : List InHand
   pub rest : HandsOver v.hand (d ∷ []) hand
   pub is : w ≡ gave v hand
+
+-- the limbo is without the number
+pub record Freed (v w : View) (d : Link) : Type 0 where
+  pub limbo : List Retired
+  pub was : (e : Retired) → Member e limbo → Member e v.limbo × (e.link ≢ d)
+  pub stays : (e : Retired) → Member e v.limbo → e.link ≢ d → Member e limbo
+  pub is : w ≡ freed v limbo
