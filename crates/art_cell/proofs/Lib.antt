@@ -19,6 +19,7 @@ pub mod Histories
 pub mod IdlePasses
 pub mod Kept
 pub mod LeafPair
+pub mod LifePairs
 pub mod LifeSteps
 pub mod Looking
 pub mod Lookup
