@@ -14,7 +14,8 @@ ghost use Rattle.art_cell.specs.Shown.{link_of_number};
 ghost use Rattle.art_cell.specs.StepRows.{IsInLimbo, IsNotHeld};
 ghost use Rattle.art_cell.specs.Views.{Member};
 ghost use Rattle.art_cell.specs.WordChanges.{FitsWord};
-ghost use Rattle.art_cell.specs.WorldWords.{IsInside};
+ghost use Rattle.art_cell.specs.WorldWords.{IsInside, IsSameAt, OnlyTurned, view_at};
+ghost use Rattle.art_cell.specs.declared.layouts.Pool.TheVariants.{N4 as n4_pool};
 
 use super::*;
 use art_key::Key;
@@ -278,6 +279,57 @@ fn merge<S: Steps>(steps: &mut S, mut anchor: Held, below: Held, node: Node, fir
     let unlinked = steps.commit(anchor, false, &deed, None, &gone);
     steps.release(below, true);
     unlinked
+}
+
+/// The numbers of the node and the leaf that a commit unlinked.
+fn two_numbers(numbers: Unlinked, node: Node, leaf: u32) -> (Number, Number)
+    requires { filter_map (option_map link_of_number) numbers ≡ node_link node ∷ leaf_link leaf ∷ [] }
+    ensures node { link_of_number result.0 ≡ node_link node }
+    ensures leaf { link_of_number result.1 ≡ leaf_link leaf }
+{
+    let [first, second, third] = numbers;
+    match (first, second, third) {
+        (Some(one), Some(two), none) => {
+            let_number_go(none);
+            (one, two)
+        }
+        (Some(one), None, Some(two)) => (one, two),
+        (None, Some(one), Some(two)) => (one, two),
+        (one, two, three) => {
+            let_number_go(one);
+            let_number_go(two);
+            let_number_go(three);
+            unreachable!()
+        }
+    }
+}
+
+/// Finds the node obsolete, at which the pass lets all its stamps go.
+fn forget<S: Steps>(steps: &mut S, node: Node) -> bool
+    requires inside { IsInside (S.sizes steps.old) (node_cell node) }
+    requires pinned { (S.view steps.old).pin ≢ 0 }
+    ensures sizes { S.sizes steps.new ≡ S.sizes steps.old }
+    ensures only { S.only steps.old steps.new }
+    ensures held { (S.view steps.new).held ≡ (S.view steps.old).held }
+    ensures pin { (S.view steps.new).pin ≡ (S.view steps.old).pin }
+    ensures limbo { (S.view steps.new).limbo ≡ (S.view steps.old).limbo }
+    ensures stamps { result ≡ true → (S.view steps.new).stamps ≡ [] }
+{
+    match steps.begin(Cell::Node(node)) {
+        Ok(_) => false,
+        Err(_) => true,
+    }
+}
+
+/// Takes the number of a Node4 into the hand, if one is free, which is no step.
+fn take_node(at: &mut At<'_>) -> Option<Number>
+    ensures only { IsSameAt at.old.world.ghost_name at.new.world.ghost_name at.old.pass at.new.pass × OnlyTurned at.old.world.now at.new.world.now at.old.pass }
+    ensures held { (view_at at.new.world.now.views at.new.pass).held ≡ (view_at at.old.world.now.views at.old.pass).held }
+    ensures pin { (view_at at.new.world.now.views at.new.pass).pin ≡ (view_at at.old.world.now.views at.old.pass).pin }
+    ensures hand { (l value : ℕ) (k : List ℕ) → HasLeaf at.old.world.now.sizes (view_at at.old.world.now.views at.old.pass) l k value → HasLeaf at.new.world.now.sizes (view_at at.new.world.now.views at.new.pass) l k value }
+    ensures node { IfSome result (λ n. (n.pool ≡ n4_pool) × HasNode at.new.world.now.sizes (view_at at.new.world.now.views at.new.pass) (record { layout = node4; number = n.number })) }
+{
+    at.world.first_free(at.pass, Pool::N4)
 }
 
 /// A commit that unlinks nothing hands out no number.
