@@ -1,4 +1,5 @@
 pub mod After
+pub mod AnchorRows
 pub mod ByteTexts
 pub mod ChangedWords
 pub mod ChildWords

@@ -1,12 +1,13 @@
 //! Three actors on one world, and an anchor at the end of its counter.
-ghost use Rattle.std.specs.Prelude.{◌≡◌, ◌≢◌, ◌≤◌, ◌+◌, [], ◌∷◌, ℕ, List, None, Some, IfSome, MatchOption, MatchResult, false, refl};
-ghost use Rattle.art_cell.specs.declared.cells.Cell.TheVariants.{Anchor as anchor};
-ghost use Rattle.art_cell.specs.declared.views.Fact.TheVariants.{Starts};
-ghost use Rattle.art_cell.specs.StepRows.{note_of};
-ghost use Rattle.art_cell.specs.Views.{Member};
+ghost use Rattle.std.specs.Prelude.{◌≡◌, ◌≤◌, ◌+◌, false, refl, IfSome, MatchResult};
+ghost use Rattle.art_cell.specs.Visits.{HasNone, HoldsUnchanged, IsAway, IsIdle, Locks, StampsAnchor, Visits};
 ghost use Rattle.std.proofs.Common.{◌∙◌};
+ghost use Rattle.std.proofs.lemmas.Bool.{false≢true};
+ghost use Rattle.art_cell.specs.Visits.{Counts, counts_none, counts_one_more};
 
 use super::*;
+use crate::visits::Visit;
+use crate::word_places::pool_of_layout;
 use art_key::{Bound as KeyBound, Key};
 use rand_pcg::Pcg32;
 use rand_pcg::rand_core::{Rng, SeedableRng};
@@ -22,14 +23,20 @@ const SIZES: Sizes = Sizes {
     passes: 3,
 };
 
+/// No counter that is this or more goes on by an upgrade.
+const LAST_COUNTER: u64 = (1 << 62) - 8;
+
+// ---- the steps
+
 /// Begins the anchor. There is no stamp if it is locked.
 fn begin<S: Steps>(steps: &mut S) -> Option<Stamp>
-    requires idle { ((S.view steps.old).pin ≢ 0) × ((S.view steps.old).held ≡ []) × ((S.view steps.old).hand ≡ []) }
+    requires { IsAway (S.view steps.old) }
     ensures sizes { S.sizes steps.new ≡ S.sizes steps.old }
     ensures only { S.only steps.old steps.new }
     ensures step { (S.view steps.new).steps ≤ (S.view steps.old).steps + 1 }
-    ensures idle { ((S.view steps.new).pin ≢ 0) × ((S.view steps.new).held ≡ []) × ((S.view steps.new).hand ≡ []) }
-    ensures stamp { IfSome result (λ x. (x.cell ≡ anchor) × Member x (S.view steps.new).stamps × Member (note_of x (Starts [])) (S.view steps.new).notes) }
+    ensures hand { (S.view steps.new).hand ≡ (S.view steps.old).hand }
+    ensures away { IsAway (S.view steps.new) }
+    ensures stamp { IfSome result (StampsAnchor (S.view steps.new)) }
 {
     match steps.begin(Cell::Anchor) {
         Ok(stamp) => Some(stamp),
@@ -37,26 +44,56 @@ fn begin<S: Steps>(steps: &mut S) -> Option<Stamp>
     }
 }
 
-/// Locks the anchor.
-fn upgrade<S: Steps>(steps: &mut S, stamp: Stamp) -> Result<Held, UpgradeFault>
-    requires idle { ((S.view steps.old).pin ≢ 0) × ((S.view steps.old).held ≡ []) × ((S.view steps.old).hand ≡ []) }
-    requires stamp { (stamp.cell ≡ anchor) × Member stamp (S.view steps.old).stamps × Member (note_of stamp (Starts [])) (S.view steps.old).notes }
+/// Checks the stamp. It stays if the anchor is unchanged.
+fn check<S: Steps>(steps: &mut S, stamp: Stamp) -> Option<Stamp>
+    requires away { IsAway (S.view steps.old) }
+    requires stamp { StampsAnchor (S.view steps.old) stamp }
     ensures sizes { S.sizes steps.new ≡ S.sizes steps.old }
     ensures only { S.only steps.old steps.new }
     ensures step { (S.view steps.new).steps ≤ (S.view steps.old).steps + 1 }
-    ensures holds { MatchResult result (λ h. (h.cell ≡ anchor) × (((S.view steps.new).pin ≢ 0) × ((S.view steps.new).hand ≡ []) × ((S.view steps.new).committed ≡ false) × ((x : ℕ) × (ws : List ℕ) × ((S.view steps.new).held ≡ record { cell = anchor; stamped = Some x; old = ws; new = ws } ∷ [])))) (λ _. ((S.view steps.new).pin ≢ 0) × ((S.view steps.new).held ≡ []) × ((S.view steps.new).hand ≡ [])) }
+    ensures hand { (S.view steps.new).hand ≡ (S.view steps.old).hand }
+    ensures away { IsAway (S.view steps.new) }
+    ensures stamp { IfSome result (StampsAnchor (S.view steps.new)) }
+{
+    match steps.check(&stamp, None) {
+        Ok(()) => Some(stamp),
+        Err(_) => None,
+    }
+}
+
+/// Locks the anchor, if it is unchanged.
+fn upgrade<S: Steps>(steps: &mut S, stamp: Stamp) -> Result<Held, UpgradeFault>
+    requires away { IsAway (S.view steps.old) }
+    requires stamp { StampsAnchor (S.view steps.old) stamp }
+    ensures sizes { S.sizes steps.new ≡ S.sizes steps.old }
+    ensures only { S.only steps.old steps.new }
+    ensures step { (S.view steps.new).steps ≤ (S.view steps.old).steps + 1 }
+    ensures hand { (S.view steps.new).hand ≡ (S.view steps.old).hand }
+    ensures locks { MatchResult result (Locks (S.view steps.old) (S.view steps.new) stamp) (λ _. IsAway (S.view steps.new)) }
 {
     steps.upgrade(stamp)
 }
 
-/// Commits a look of an empty range, which changes no word but the anchor's version.
-fn commit_look<S: Steps>(steps: &mut S, held: Held)
-    requires anchor { held.cell ≡ anchor }
-    requires holds { ((S.view steps.old).pin ≢ 0) × ((S.view steps.old).hand ≡ []) × ((S.view steps.old).committed ≡ false) × ((x : ℕ) × (ws : List ℕ) × ((S.view steps.old).held ≡ record { cell = anchor; stamped = Some x; old = ws; new = ws } ∷ [])) }
+/// Lets the anchor go unchanged.
+fn let_go<S: Steps>(steps: &mut S, held: Held)
+    requires { HoldsUnchanged (S.view steps.old) held }
     ensures sizes { S.sizes steps.new ≡ S.sizes steps.old }
     ensures only { S.only steps.old steps.new }
     ensures step { (S.view steps.new).steps ≤ (S.view steps.old).steps + 1 }
-    ensures idle { ((S.view steps.new).pin ≢ 0) × ((S.view steps.new).held ≡ []) × ((S.view steps.new).hand ≡ []) }
+    ensures hand { (S.view steps.new).hand ≡ (S.view steps.old).hand }
+    ensures away { IsAway (S.view steps.new) }
+{
+    steps.release(held, false);
+}
+
+/// Commits a look of an empty range, which changes no word but the anchor's version.
+fn commit_look<S: Steps>(steps: &mut S, held: Held)
+    requires hand { HasNone (S.view steps.old).hand }
+    requires holds { HoldsUnchanged (S.view steps.old) held }
+    ensures sizes { S.sizes steps.new ≡ S.sizes steps.old }
+    ensures only { S.only steps.old steps.new }
+    ensures step { (S.view steps.new).steps ≤ (S.view steps.old).steps + 1 }
+    ensures idle { IsIdle (S.view steps.new) }
 {
     let deed = Deed::Look(Key::new(), KeyBound::At(Key::new()), None);
     let [first, second, third] = steps.commit(held, false, &deed, None, &[]);
@@ -70,33 +107,7 @@ fn let_number_go(number: Option<Number>) {
     if let Some(Number { pool: _, number: _ }) = number {}
 }
 
-/// Lets the anchor go unchanged.
-fn let_go<S: Steps>(steps: &mut S, held: Held)
-    requires anchor { held.cell ≡ anchor }
-    requires holds { ((S.view steps.old).pin ≢ 0) × ((S.view steps.old).hand ≡ []) × ((S.view steps.old).committed ≡ false) × ((x : ℕ) × (ws : List ℕ) × ((S.view steps.old).held ≡ record { cell = anchor; stamped = Some x; old = ws; new = ws } ∷ [])) }
-    ensures sizes { S.sizes steps.new ≡ S.sizes steps.old }
-    ensures only { S.only steps.old steps.new }
-    ensures step { (S.view steps.new).steps ≤ (S.view steps.old).steps + 1 }
-    ensures idle { ((S.view steps.new).pin ≢ 0) × ((S.view steps.new).held ≡ []) × ((S.view steps.new).hand ≡ []) }
-{
-    steps.release(held, false);
-}
-
-/// Checks the stamp. It stays if the anchor is unchanged.
-fn check<S: Steps>(steps: &mut S, stamp: Stamp) -> Option<Stamp>
-    requires idle { ((S.view steps.old).pin ≢ 0) × ((S.view steps.old).held ≡ []) × ((S.view steps.old).hand ≡ []) }
-    requires stamp { (stamp.cell ≡ anchor) × Member stamp (S.view steps.old).stamps × Member (note_of stamp (Starts [])) (S.view steps.old).notes }
-    ensures sizes { S.sizes steps.new ≡ S.sizes steps.old }
-    ensures only { S.only steps.old steps.new }
-    ensures step { (S.view steps.new).steps ≤ (S.view steps.old).steps + 1 }
-    ensures idle { ((S.view steps.new).pin ≢ 0) × ((S.view steps.new).held ≡ []) × ((S.view steps.new).hand ≡ []) }
-    ensures stamp { IfSome result (λ x. (x.cell ≡ anchor) × Member x (S.view steps.new).stamps × Member (note_of x (Starts [])) (S.view steps.new).notes) }
-{
-    match steps.check(&stamp, None) {
-        Ok(()) => Some(stamp),
-        Err(_) => None,
-    }
-}
+// ---- the visitors
 
 /// What a visitor does once it has stamped the anchor.
 #[derive(Clone, Copy, Debug, PartialEq, Eq)]
@@ -106,94 +117,178 @@ enum Task {
     Commit,
 }
 
-/// Loops for ever over its task. Between two turns it keeps its stamp or the anchor.
+/// Loops for ever over its task, and counts its turns.
 struct Visitor {
     task: Task,
-    stamp: Option<Stamp>,
-    held: Option<Held>,
+    turns: u64,
+    visit: Visit,
 }
 
 /// The next step of a task, and what is kept then.
-fn step<S: Steps>(
-    task: Task,
-    stamp: Option<Stamp>,
-    held: Option<Held>,
-    steps: &mut S,
-) -> (Option<Stamp>, Option<Held>)
-    requires { MatchOption held ((((S.view steps.old).pin ≢ 0) × ((S.view steps.old).held ≡ []) × ((S.view steps.old).hand ≡ [])) × IfSome stamp (λ x. (x.cell ≡ anchor) × Member x (S.view steps.old).stamps × Member (note_of x (Starts [])) (S.view steps.old).notes)) (λ h. (h.cell ≡ anchor) × (((S.view steps.old).pin ≢ 0) × ((S.view steps.old).hand ≡ []) × ((S.view steps.old).committed ≡ false) × ((x : ℕ) × (ws : List ℕ) × ((S.view steps.old).held ≡ record { cell = anchor; stamped = Some x; old = ws; new = ws } ∷ [])))) }
+fn step<S: Steps>(task: Task, visit: Visit, steps: &mut S) -> Visit
+    requires { Visits visit (S.view steps.old) }
     ensures sizes { S.sizes steps.new ≡ S.sizes steps.old }
     ensures only { S.only steps.old steps.new }
     ensures step { (S.view steps.new).steps ≤ (S.view steps.old).steps + 1 }
-    ensures fits { MatchOption result.1 ((((S.view steps.new).pin ≢ 0) × ((S.view steps.new).held ≡ []) × ((S.view steps.new).hand ≡ [])) × IfSome result.0 (λ x. (x.cell ≡ anchor) × Member x (S.view steps.new).stamps × Member (note_of x (Starts [])) (S.view steps.new).notes)) (λ h. (h.cell ≡ anchor) × (((S.view steps.new).pin ≢ 0) × ((S.view steps.new).hand ≡ []) × ((S.view steps.new).committed ≡ false) × ((x : ℕ) × (ws : List ℕ) × ((S.view steps.new).held ≡ record { cell = anchor; stamped = Some x; old = ws; new = ws } ∷ [])))) }
+    ensures visits { Visits result (S.view steps.new) }
 {
-    match held {
-        Some(held) => {
+    match visit {
+        Visit::Idle => match begin(steps) {
+            Some(stamp) => Visit::Stamped(stamp),
+            None => Visit::Idle,
+        },
+        Visit::Stamped(stamp) => match task {
+            Task::Look => match check(steps, stamp) {
+                Some(stamp) => Visit::Stamped(stamp),
+                None => Visit::Idle,
+            },
+            _ => match upgrade(steps, stamp) {
+                Ok(held) => Visit::Locked(held),
+                Err(_) => Visit::Idle,
+            },
+        },
+        Visit::Locked(held) => {
             match task {
                 Task::Commit => commit_look(steps, held),
                 _ => let_go(steps, held),
             }
-            (None, None)
+            Visit::Idle
         }
-        None => match stamp {
-            Some(stamp) => match task {
-                Task::Look => (check(steps, stamp), None),
-                _ => match upgrade(steps, stamp) {
-                    Ok(held) => (None, Some(held)),
-                    Err(_) => (None, None),
-                },
-            },
-            None => (begin(steps), None),
-        },
     }
 }
 
 impl Visitor {
     fn new(task: Task) -> Visitor
-        ensures stamp { result.stamp ≡ None }
-        ensures held { result.held ≡ None }
+        ensures { result.visit ≡ Visit.Idle }
     {
         Visitor {
             task,
-            stamp: None,
-            held: None,
+            turns: 0,
+            visit: Visit::Idle,
         }
     }
 
     fn end(self) {
         let Visitor {
             task: _,
-            stamp: _,
-            held,
+            turns: _,
+            visit,
         } = self;
-        if let Some(Held { cell: _ }) = held {}
+        match visit {
+            Visit::Idle => {}
+            Visit::Stamped(_) => {}
+            Visit::Locked(Held { cell: _ }) => {}
+        }
     }
 }
 
 impl Actor for Visitor {
-    ghost fits = { λ a z v. MatchOption a.held (((v.pin ≢ 0) × (v.held ≡ []) × (v.hand ≡ [])) × IfSome a.stamp (λ x. (x.cell ≡ anchor) × Member x v.stamps × Member (note_of x (Starts [])) v.notes)) (λ h. (h.cell ≡ anchor) × ((v.pin ≢ 0) × (v.hand ≡ []) × (v.committed ≡ false) × ((x : ℕ) × (ws : List ℕ) × (v.held ≡ record { cell = anchor; stamped = Some x; old = ws; new = ws } ∷ [])))) };
+    ghost fits = { λ a z v. Visits a.visit v };
 
     ghost has_ended = { λ a. false };
 
-    ghost after = { λ n a b. b.task ≡ a.task };
+    ghost after = { λ n a b. (b.task ≡ a.task) × Counts n a.turns b.turns };
 
-    ghost at_first = { λ a. refl };
+    ghost at_first = { λ a. (refl, counts_none a.turns) };
 
-    ghost one_more = { λ n a b c x y. y ∙ x };
+    ghost one_more = { λ n a b c x y. (y.0 ∙ x.0, counts_one_more n a.turns b.turns c.turns x.1 y.1) };
 
-    ghost stays = { λ n a b x e. x };
+    ghost stays = { λ n a b x e. absurd (false≢true e) };
 
     fn turn(&mut self, at: &mut At<'_>) -> bool {
-        let held = self.held.take();
-        let (stamp, kept) = step(self.task, self.stamp, held, at);
-        self.stamp = stamp;
-        let before = replace(&mut self.held, kept);
-        let None = before else { unreachable!() };
+        self.turns = self.turns.wrapping_add(1);
+        let visit = replace(&mut self.visit, Visit::Idle);
+        let next = step(self.task, visit, at);
+        let before = replace(&mut self.visit, next);
+        let Visit::Idle = before else { unreachable!() };
         false
     }
 
     fn ended(&self) -> bool {
         false
     }
+}
+
+// ---- the forms of words
+
+/// A version word is clear, locked or obsolete, and within its limit.
+fn version_is_formed(word: u64, may_be_locked: bool) -> bool {
+    match word % 4 {
+        0 => word <= 4 * LAST_COUNTER + 4,
+        1 => word <= 4 * LAST_COUNTER + 1,
+        2 => may_be_locked && word <= 4 * LAST_COUNTER + 2,
+        _ => false,
+    }
+}
+
+/// The anchor's child word is 0 or names a leaf inside.
+fn child_word_is_formed(sizes: Sizes, word: u64) -> bool {
+    match Link::named_by(word) {
+        Some(Link::Leaf(number)) => number < sizes.leaves,
+        Some(Link::Node(_)) => false,
+        None => word == 0,
+    }
+}
+
+/// The version word of a node is formed, and not locked. Of its other words nothing is said.
+fn node_word_is_formed(sizes: Sizes, place: usize, word: u64) -> bool {
+    let layout = if place < sizes.first_cell(Pool::N16) {
+        Layout::Node4
+    } else if place < sizes.first_cell(Pool::N48) {
+        Layout::Node16
+    } else if place < sizes.first_cell(Pool::N256) {
+        Layout::Node48
+    } else {
+        Layout::Node256
+    };
+    let first = sizes.first_cell(pool_of_layout(layout));
+    place.wrapping_sub(first) % layout.size() != 0 || version_is_formed(word, false)
+}
+
+/// No bit of a word of free numbers stands beyond its pool.
+fn free_word_is_formed(sizes: Sizes, place: usize, word: u64) -> bool {
+    let pool = if place < sizes.first_free_word(Pool::N4) {
+        Pool::Leaves
+    } else if place < sizes.first_free_word(Pool::N16) {
+        Pool::N4
+    } else if place < sizes.first_free_word(Pool::N48) {
+        Pool::N16
+    } else if place < sizes.first_free_word(Pool::N256) {
+        Pool::N48
+    } else {
+        Pool::N256
+    };
+    let index = place.wrapping_sub(sizes.first_free_word(pool));
+    let before = index.wrapping_mul(64);
+    let bits = (sizes.pool_size(pool) as usize).saturating_sub(before);
+    bits >= 64 || word >> bits == 0
+}
+
+/// The word at a place has the form that all words there have, where no cell but the anchor is ever locked or changed.
+fn word_is_formed(sizes: Sizes, place: usize, word: u64) -> bool {
+    if place == 0 {
+        version_is_formed(word, true)
+    } else if place == 1 {
+        child_word_is_formed(sizes, word)
+    } else if place < sizes.first_cell(Pool::N4) {
+        true
+    } else if place < sizes.cells_end() {
+        node_word_is_formed(sizes, place, word)
+    } else if place < sizes.epoch_place() {
+        free_word_is_formed(sizes, place, word)
+    } else {
+        word == 1
+    }
+}
+
+/// All words have their forms.
+fn words_are_formed(world: &World) -> bool {
+    for (place, word) in world.words.iter().enumerate() {
+        if !word_is_formed(world.sizes, place, *word) {
+            return false;
+        }
+    }
+    true
 }
 
 #[test]
@@ -205,17 +300,22 @@ fn visitors_take_turns(rt: HostRuntime) -> Result<(), Fail> {
         Visitor::new(Task::Commit),
     ];
     let mut numbers = Pcg32::seed_from_u64(1);
+    let mut drawn = [0u64; 4];
     let mut last = world.version(Cell::Anchor);
     assert_eq!(rt; last, 0);
+    assert!(rt; words_are_formed(&world));
     for _ in 0..10000 {
-        world.run(&mut visitors, &[numbers.next_u32() % 4]);
+        let pass = numbers.next_u32() % 4;
+        world.run(&mut visitors, &[pass]);
+        drawn[pass as usize] = drawn[pass as usize].wrapping_add(1);
+        assert!(rt; words_are_formed(&world));
         let version = world.version(Cell::Anchor);
-        assert!(rt; version % 4 == 0 || version % 4 == 2);
         assert!(rt; last <= version);
         last = version;
     }
     assert!(rt; last > 0);
     let [looker, locker, committer] = visitors;
+    assert_eq!(rt; [looker.turns, locker.turns, committer.turns], [drawn[0], drawn[1], drawn[2]]);
     looker.end();
     locker.end();
     committer.end();

@@ -24,6 +24,7 @@ mod steps;
 #[cfg(test)]
 mod tests;
 mod views;
+mod visits;
 mod word_places;
 mod world;
 mod world_numbers;

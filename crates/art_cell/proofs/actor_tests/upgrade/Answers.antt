@@ -1,5 +1,8 @@
-use Rattle.art_cell.proofs.IdlePasses.{upgraded_or_idle}
+use Rattle.art_cell.proofs.IdlePasses.{locks_or_away, may_lock}
 use Rattle.art_cell.proofs.actor_tests.upgrade.Goals as goal
 
-pub returns-clause-holds : goal.returns-clause-holds
-returns-clause-holds g c = upgraded_or_idle _ _ c.args.stamp c.upgrade.result c.requires.idle c.requires.stamp.0 c.upgrade.ensures.row
+pub upgrade-requires-clause-early : goal.upgrade-requires-clause-early
+upgrade-requires-clause-early g c = may_lock (g.S.Steps.view c.args.steps.now) c.requires.away
+
+pub returns-clause-locks : goal.returns-clause-locks
+returns-clause-locks g c = locks_or_away _ _ c.args.stamp c.upgrade.result c.requires.away c.requires.stamp c.upgrade.ensures.row
