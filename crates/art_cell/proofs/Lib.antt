@@ -1,6 +1,12 @@
 pub mod After
 pub mod AnchorRows
 pub mod ByteTexts
+pub mod ChangeCommits
+pub mod ChangeForks
+pub mod ChangeMerges
+pub mod ChangeRows
+pub mod ChangeShapes
+pub mod ChangeWays
 pub mod ChangedWords
 pub mod ChildWords
 pub mod Edit
@@ -13,10 +19,13 @@ pub mod Gathered
 pub mod Histories
 pub mod IdlePasses
 pub mod Kept
+pub mod LeafPair
+pub mod LifeSteps
 pub mod Looking
 pub mod Lookup
 pub mod Meanings
 pub mod Merge
+pub mod NodeLives
 pub mod Order
 pub mod Part
 pub mod Patch

@@ -14,6 +14,7 @@ pub mod Knowledge
 pub mod Laws
 pub mod Leaves
 pub mod Looks
+pub mod NodeLives
 pub mod OpeningWords
 pub mod Packed
 pub mod ReadWords

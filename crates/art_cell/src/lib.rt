@@ -11,8 +11,11 @@ mod actor_tests;
 mod at;
 mod bodies;
 mod cells;
+mod commit_laws;
 mod deeds;
 mod laws;
+#[cfg(test)]
+mod life_tests;
 mod layouts;
 mod made_steps;
 mod node_kinds;
@@ -35,6 +38,7 @@ mod writes;
 pub use at::At;
 pub use bodies::Body;
 pub use cells::{Cell, Link, Node};
+pub use commit_laws::changes_commit;
 pub use deeds::{Act, Deed};
 pub use laws::{
     bounds_are_least, cells_have_one_path, cells_lead_to_rows, child_words_are_read_back,
