@@ -185,8 +185,8 @@ passed_away z v w x o away p = still_away v w (ap (λ (y : View). y.pin) p.is) (
 -- ---- what a visitor knows
 
 -- where its state is this one
-pub at_state : (v : View) (a b : Visit) → a ≡ b → Visits a v → Visits b v
-at_state v a b e known = subst (λ (q : Visit). Visits q v) e known
+pub at_state : (k : List ℕ) (value : ℕ) (z : Sizes) (v : View) (a b : Visit) → a ≡ b → Visits k value z v a → Visits k value z v b
+at_state k value z v a b e known = subst (Visits k value z v) e known
 
 -- the hand stays empty
 pub still_empty : (v w : View) → HasNone v.hand → w.hand ≡ v.hand → HasNone w.hand

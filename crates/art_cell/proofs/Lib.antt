@@ -1,4 +1,5 @@
 pub mod After
+pub mod AnchorReads
 pub mod AnchorRows
 pub mod ByteTexts
 pub mod ChangeCommits
@@ -20,6 +21,7 @@ pub mod Histories
 pub mod IdlePasses
 pub mod Kept
 pub mod LeafPair
+pub mod LeavesInHand
 pub mod LifeSteps
 pub mod Looking
 pub mod Lookup
