@@ -50,6 +50,7 @@ pub mod Turns
 pub mod WordChanges
 pub mod WorldFree
 pub mod WorldFreeing
+pub mod WorldLogical
 pub mod WorldMemory
 pub mod WorldOpens
 pub mod WorldPlaces

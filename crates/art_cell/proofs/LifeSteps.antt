@@ -1,24 +1,32 @@
 -- The steps by which a node comes into the tree and goes again, each by what it makes of the pass's view.
-use Rattle.std.proofs.Common.{◌≡◌, ◌≢◌, ◌⊎◌, ℕ, zero, suc, ◌+◌, ◌<◌, ◌≤◌, List, [], ◌∷◌, ◌++◌, length, inl, inr, ⊎_elim, sym, refl, ap, ap₂, ◌∙◌, subst, subst₂, arith}
-use Rattle.std.specs.Prelude.{IfSome, Option, Some, None}
+use Rattle.std.proofs.Common.{◌≡◌, ◌≢◌, ◌⊎◌, ℕ, zero, suc, ◌+◌, ◌*◌, ◌^◌, ◌<◌, ◌≤◌, List, [], ◌∷◌, ◌++◌, length, get_or, set, inl, inr, ⊎_elim, sym, refl, ap, ap₂, ◌∙◌, subst, subst₂, arith, get_or-set_other, get_or-set_same}
+use Rattle.std.proofs.lemmas.Bool.{cases_eq}
+use Rattle.std.proofs.lemmas.List.{get_or_past, length-set}
+use Rattle.std.specs.Prelude.{Option, Some, None, true, false}
 use Rattle.art_cell.specs.declared.cells.Cell.{Cell}
 use Rattle.art_cell.specs.declared.cells.Cell.TheVariants as cell
+use Rattle.art_cell.specs.declared.cells.Node.{Node}
 use Rattle.art_cell.specs.declared.cells.Link.{Link}
 use Rattle.art_cell.specs.declared.cells.Link.TheVariants.{Leaf as leaf, Node as node}
+use Rattle.art_cell.specs.declared.layouts.Layout.{Layout}
+use Rattle.art_cell.specs.declared.layouts.Layout.TheVariants.{Node4}
 use Rattle.art_cell.specs.declared.views.Fact.{Fact}
 use Rattle.art_cell.specs.declared.views.Fact.TheVariants.{Starts, Word, LeafWord}
 use Rattle.art_cell.specs.declared.views.Holding.{Holding}
 use Rattle.art_cell.specs.declared.views.Sizes.{Sizes}
 use Rattle.art_cell.specs.declared.views.Stamp.{Stamp}
 use Rattle.art_cell.specs.declared.views.View.{View}
-use Rattle.art_cell.specs.Children.{link_of}
+use Rattle.art_cell.specs.declared.views.What.{What}
+use Rattle.art_cell.specs.Children.{child_word, link_of}
+use Rattle.art_cell.specs.CommitLaws.{HasLeaf, HasNode}
 use Rattle.art_cell.specs.Heaps.{Cells, heap_of}
 use Rattle.art_cell.specs.Knowledge.{IsShape, CellAt, HoldsAll, NamesLeaf, Names}
-use Rattle.art_cell.specs.NodeLives.{IsNoted, OnlyLearns, IsStampAt, NotesRoot, NotesKey, stamped_holding, HoldsLeafRoot}
-use Rattle.art_cell.specs.Shown.{Upgraded}
-use Rattle.art_cell.specs.StepRows.{has_read, note_of, stamp_of, MayReadLeaf, IsNotHeld}
+use Rattle.art_cell.specs.NodeLives.{IsNoted, OnlyLearns, IsStampAt, NotesRoot, NotesKey, key_of_one, HoldsTwo, stamped_holding, claimed_holding, HoldsLeafRoot, HasClaimed, IsWholePair, HasForked}
+use Rattle.art_cell.specs.Shown.{IsHolding, Upgraded, Wrote, Committed, Released}
+use Rattle.art_cell.specs.StepRows.{MayBeFirst, MayRelease, Puts, with_word, MayWrite, Drops, has_read, note_of, stamp_of, MayReadLeaf, IsNotHeld}
 use Rattle.art_cell.specs.Tree.{top}
 use Rattle.art_cell.specs.Views.{Member, size_of, words_in}
+use Rattle.art_cell.specs.Words.{size}
 
 -- ---- what a pass learns
 
@@ -61,6 +69,21 @@ root_names z v x l d is seen s shape holds =
     subst (λ (c : Cell). NamesLeaf s c l) (sym seen.at.cell)
     record { path = []; there = refl; byte = 0; names = ap link_of (sym (ap (λ (c : Cell). s c 1) seen.at.cell) ∙ word) ∙ (seen.names ∙ ap Some is) }
 
+pub root_seen_on : (v w : View) (x : Stamp) (d : Link) → OnlyLearns v w → NotesRoot v x d → NotesRoot w x d
+root_seen_on v w x d more seen = record {
+  at = record { cell = seen.at.cell; stamp = more.stamps x seen.at.stamp; path = more.notes (note_of x (Starts [])) seen.at.path };
+  word = seen.word;
+  noted = more.notes (note_of x (Word 1 seen.word)) seen.noted;
+  names = seen.names;
+}
+
+-- the words that were read are those of a key of one byte
+pub key_noted : (v : View) (x : Stamp) (l b n k : ℕ) → IsNoted v x (LeafWord l 1 n) → IsNoted v x (LeafWord l 2 k) → n ≡ 1 → k ≡ key_of_one b → NotesKey v x l b
+key_noted v x l b n k len key is_len is_key = record {
+  len = subst (λ (i : ℕ). IsNoted v x (LeafWord l 1 i)) is_len len;
+  key = subst (λ (i : ℕ). IsNoted v x (LeafWord l 2 i)) is_key key;
+}
+
 stamp_is : (x : Stamp) (c : Cell) → x.cell ≡ c → stamp_of c x.version ≡ x
 stamp_is x c e = ap (λ (d : Cell). stamp_of d x.version) (sym e)
 
@@ -75,3 +98,181 @@ locked_above_leaf v w x l d is free seen key u = record {
   key = subst₂ (λ (a : Stamp) (y : View). NotesKey y a l 97) (sym (stamp_is x cell.Anchor seen.at.cell)) (sym u.is) record { len = key.len; key = key.key };
   early = ap (λ (y : View). y.committed) u.is;
 }
+
+-- ---- what is in hand stays there
+
+pub node_stays : (z : Sizes) (v w : View) (m : Node) → w.hand ≡ v.hand → HasNode z v m → HasNode z w m
+node_stays z v w m same has = record { hand = has.hand; has = subst (Member has.hand) (sym same) has.has; link = has.link; number = has.number; fits = has.fits }
+
+pub leaf_stays : (z : Sizes) (v w : View) (l : ℕ) (k : List ℕ) (value : ℕ) → w.hand ≡ v.hand → HasLeaf z v l k value → HasLeaf z w l k value
+leaf_stays z v w l k value same has = record { hand = has.hand; has = subst (Member has.hand) (sym same) has.has; link = has.link; words = has.words; short = has.short; number = has.number; fits = has.fits }
+
+-- ---- two cells are held
+
+holds_other_way : (hs : List Holding) (h k : Holding) → HoldsTwo hs h k → HoldsTwo hs k h
+holds_other_way hs h k two = record {
+  one = two.two;
+  two = two.one;
+  only = λ j i. ⊎_elim (λ (e : j ≡ h). inr e) (λ (e : j ≡ k). inl e) (two.only j i);
+  apart = λ e. two.apart (sym e);
+}
+
+-- one of them is another now
+puts_one : (hs : List Holding) (h k x : Holding) (ks : List Holding) → x.cell ≡ h.cell → HoldsTwo hs h k → Puts hs h x ks → HoldsTwo ks x k
+puts_one hs h k x ks same two puts = record {
+  one = puts.has;
+  two = puts.stays k two.two (λ e. two.apart (ap (λ (j : Holding). j.cell) (sym e)));
+  only = λ j i. ⊎_elim
+      (λ (e : j ≡ x). inl e)
+      (λ (o : Member j hs × (j ≢ h)). ⊎_elim (λ (e : j ≡ h). absurd (o.1 e)) (λ (e : j ≡ k). inr e) (two.only j o.0))
+      (puts.was j i);
+  apart = λ e. two.apart (sym same ∙ e);
+}
+
+none_left : (hs : List Holding) → ((h : Holding) → Member h hs → ⊥) → hs ≡ []
+none_left [] none = refl
+none_left (h ∷ hs) none = absurd (none h (inl refl))
+
+-- and no more once both went
+both_dropped : (hs : List Holding) (h k : Holding) (c : Cell) (ks ls : List Holding) → HoldsTwo hs h k → Drops hs h.cell ks → k.cell ≡ c → Drops ks c ls → ls ≡ []
+both_dropped hs h k c ks ls two first is second = none_left ls (λ j i.
+    let late = second.was j i in
+    let soon = first.was j late.0 in
+    ⊎_elim (λ (e : j ≡ h). soon.1 (ap (λ (y : Holding). y.cell) e)) (λ (e : j ≡ k). late.1 (ap (λ (y : Holding). y.cell) e ∙ is)) (two.only j soon.0))
+
+-- ---- the node is written
+
+-- the words of a node of two leaves, after its version
+abbrev pub pair_words : ℕ → ℕ → List ℕ
+pair_words first second = 2 ∷ 0 ∷ 0 ∷ 0 ∷ 0 ∷ 0 ∷ 0 ∷ 0 ∷ 0 ∷ (97 * 256 ^ 7 + 98 * 256 ^ 6) ∷ first ∷ second ∷ 0 ∷ 0 ∷ []
+
+module _ (z : Sizes) (v w : View) (m : Node) (a : ℕ) (ws : List ℕ) (n : ℕ) (r : HasClaimed z v m a ws n) where
+  abbrev the_claimed : Holding
+  the_claimed = claimed_holding m r.unused r.body
+
+  abbrev the_anchor : Holding
+  the_anchor = stamped_holding (stamp_of cell.Anchor r.version) r.words r.words
+
+  pub may_write_claimed : m.layout ≡ Node4 → n < 14 → (h : Holding) × (h.cell ≡ cell.Node m) × MayWrite v h (n + 1)
+  may_write_claimed layout low = (
+    the_claimed,
+    refl,
+    record { held = r.held.two; early = r.early; place = (omega arith, subst (λ (k : Layout). n + 1 < size k) (sym layout) (omega (arith, low))) },
+  )
+
+  pub wrote_claimed : (x : ℕ) → n < 14 → x ≡ get_or ws n 0 → ((h : Holding) → IsHolding v (cell.Node m) h → Wrote v w h (n + 1) x) → HasClaimed z w m a ws (n + 1)
+  wrote_claimed x low is each =
+      let o = each the_claimed (r.held.two, refl) in
+      let put = puts_one v.held the_claimed the_anchor (with_word the_claimed (n + 1) x) o.held refl (holds_other_way v.held the_anchor the_claimed r.held) o.puts in
+      record {
+        version = r.version;
+        words = r.words;
+        unused = r.unused;
+        body = set r.body (n + 1) x;
+        held = subst (λ (u : View). HoldsTwo u.held the_anchor (with_word the_claimed (n + 1) x)) (sym o.is) (holds_other_way o.held (with_word the_claimed (n + 1) x) the_anchor put);
+        long = r.long;
+        names = r.names;
+        key = subst (λ (u : View). NotesKey u (stamp_of cell.Anchor r.version) a 97) (sym o.is) record { len = r.key.len; key = r.key.key };
+        whole = length-set r.body (n + 1) x ∙ r.whole;
+        first = get_or-set_other r.body (n + 1) 0 x 0 (λ e. omega (arith, e)) ∙ r.first;
+        written = λ i small. ⊎_elim
+            (λ (e : i ≡ n). ap (λ (j : ℕ). words_in (set r.body (n + 1) x) (j + 1)) e ∙ (get_or-set_same r.body (n + 1) x 0 (omega (arith, r.whole, low)) ∙ (is ∙ ap (λ (j : ℕ). get_or ws j 0) (sym e))))
+            (λ (other : i ≢ n). get_or-set_other r.body (n + 1) (i + 1) x 0 (λ e. omega (arith, e, other)) ∙ r.written i (omega (arith, small, other)))
+            (cases_eq i n);
+        node_in_hand = node_stays z v w m (ap (λ (u : View). u.hand) o.is) r.node_in_hand;
+        early = ap (λ (u : View). u.committed) o.is ∙ r.early;
+      }
+
+  pub wrote_hand : (x : ℕ) → ((h : Holding) → IsHolding v (cell.Node m) h → Wrote v w h (n + 1) x) → w.hand ≡ v.hand
+  wrote_hand x each = ap (λ (u : View). u.hand) (each the_claimed (r.held.two, refl)).is
+
+-- ---- and then the anchor
+
+whole_pair : (ws : List ℕ) (a l : ℕ) → length ws ≡ 15 → words_in ws 0 ≡ 0 → ((i : ℕ) → i < 14 → words_in ws (i + 1) ≡ get_or (pair_words (child_word (leaf a)) (child_word (leaf l))) i 0) → IsWholePair (words_in ws) (leaf a) (leaf l)
+whole_pair ws a l long first written = record {
+  pair = record { header = written 0 (omega arith); bytes = written 9 (omega arith); first = written 10 (omega arith); second = written 11 (omega arith) };
+  version = first;
+  no_prefix = no_prefix;
+  no_more = no_more;
+}
+  where
+    no_prefix : (i : ℕ) → 2 ≤ i → i < 10 → words_in ws i ≡ 0
+    no_prefix zero low high = absurd (omega (arith, low))
+    no_prefix (suc zero) low high = absurd (omega (arith, low))
+    no_prefix (suc (suc zero)) low high = written 1 (omega arith)
+    no_prefix (suc (suc (suc zero))) low high = written 2 (omega arith)
+    no_prefix (suc (suc (suc (suc zero)))) low high = written 3 (omega arith)
+    no_prefix (suc (suc (suc (suc (suc zero))))) low high = written 4 (omega arith)
+    no_prefix (suc (suc (suc (suc (suc (suc zero)))))) low high = written 5 (omega arith)
+    no_prefix (suc (suc (suc (suc (suc (suc (suc zero))))))) low high = written 6 (omega arith)
+    no_prefix (suc (suc (suc (suc (suc (suc (suc (suc zero)))))))) low high = written 7 (omega arith)
+    no_prefix (suc (suc (suc (suc (suc (suc (suc (suc (suc zero))))))))) low high = written 8 (omega arith)
+    no_prefix (suc (suc (suc (suc (suc (suc (suc (suc (suc (suc i)))))))))) low high = absurd (omega (arith, high))
+    no_more : (i : ℕ) → 13 ≤ i → words_in ws i ≡ 0
+    no_more i low = ⊎_elim
+        (λ (e : i ≡ 13). ap (words_in ws) e ∙ written 12 (omega arith))
+        (λ (not_this : i ≢ 13). ⊎_elim
+        (λ (e : i ≡ 14). ap (words_in ws) e ∙ written 13 (omega arith))
+        (λ (not_that : i ≢ 14). get_or_past ws i 0 (omega (arith, long, low, not_this, not_that)))
+        (cases_eq i 14))
+        (cases_eq i 13)
+
+module _ (z : Sizes) (v w : View) (m : Node) (a l value : ℕ) (ws : List ℕ) (r : HasClaimed z v m a ws 14) where
+  pub may_write_above : (h : Holding) × (h.cell ≡ cell.Anchor) × MayWrite v h 1
+  may_write_above = (the_anchor z v v m a ws 14 r, refl, record { held = r.held.one; early = r.early; place = (omega arith, omega arith) })
+
+  pub wrote_above : m.layout ≡ Node4 → ws ≡ pair_words (child_word (leaf a)) (child_word (leaf l)) → HasLeaf z v l (98 ∷ []) value
+      → ((h : Holding) → IsHolding v cell.Anchor h → Wrote v w h 1 (child_word (node m))) → HasForked z w m a l value
+  wrote_above layout are leaf_in_hand each =
+      let h = the_anchor z v v m a ws 14 r in
+      let k = the_claimed z v v m a ws 14 r in
+      let o = each h (r.held.one, refl) in
+      let hand = ap (λ (u : View). u.hand) o.is in
+      record {
+        version = r.version;
+        old = r.words;
+        new = set r.words 1 (child_word (node m));
+        unused = r.unused;
+        body = r.body;
+        held = subst (λ (u : View). HoldsTwo u.held (with_word h 1 (child_word (node m))) k) (sym o.is) (puts_one v.held h k (with_word h 1 (child_word (node m))) o.held refl r.held o.puts);
+        layout = layout;
+        was = r.names;
+        now = get_or-set_same r.words 1 (child_word (node m)) 0 (omega (arith, r.long));
+        pair = whole_pair r.body a l r.whole r.first (λ i low. r.written i low ∙ ap (λ (us : List ℕ). get_or us i 0) are);
+        key = subst (λ (u : View). NotesKey u (stamp_of cell.Anchor r.version) a 97) (sym o.is) record { len = r.key.len; key = r.key.key };
+        leaf_in_hand = leaf_stays z v w l (98 ∷ []) value hand leaf_in_hand;
+        node_in_hand = node_stays z v w m hand r.node_in_hand;
+        early = ap (λ (u : View). u.committed) o.is ∙ r.early;
+      }
+
+-- ---- the fork is committed at the node's release, and the anchor is released
+
+module _ (z : Sizes) (v w : View) (m : Node) (a l value : ℕ) (r : HasForked z v m a l value) where
+  abbrev forked_anchor : Holding
+  forked_anchor = stamped_holding (stamp_of cell.Anchor r.version) r.old r.new
+
+  abbrev forked_node : Holding
+  forked_node = claimed_holding m r.unused r.body
+
+  pub node_may_be_first : (h : Holding) × (h.cell ≡ cell.Node m) × MayBeFirst v [] h false
+  node_may_be_first = (forked_node, refl, record { early = r.early; held = r.held.two; obsolete = ((λ e. cc), (λ o. absurd o.2)) })
+
+  module _ (what : What) (ls : List Link) (each : (h : Holding) → IsHolding v (cell.Node m) h → Committed v w what [] ls h) where
+    abbrev o : Committed v w what [] ls forked_node
+    o = each forked_node (r.held.two, refl)
+
+    anchor_left : Member forked_anchor w.held
+    anchor_left = subst (λ (u : View). Member forked_anchor u.held) (sym o.is) (o.drops.stays forked_anchor r.held.one (λ e. cc))
+
+    pub anchor_may_go : (h : Holding) × (h.cell ≡ cell.Anchor) × MayRelease w h false
+    anchor_may_go = (forked_anchor, refl, (anchor_left, inl (ap (λ (u : View). u.committed) o.is, ((λ e. cc), (λ k. let bad = k.1 in absurd (cc))))))
+
+    pub fork_ends : (u : View) → ((h : Holding) → IsHolding w cell.Anchor h → Released w u h) → (u.held ≡ []) × (u.pin ≡ v.pin)
+    fork_ends u released =
+        let last = released forked_anchor (anchor_left, refl) in
+        (
+          ap (λ (y : View). y.held) last.is
+          ∙ both_dropped v.held forked_node forked_anchor cell.Anchor o.held last.held (holds_other_way v.held forked_anchor forked_node r.held) o.drops refl
+          (subst (λ (hs : List Holding). Drops hs cell.Anchor last.held) (ap (λ (y : View). y.held) o.is) last.drops),
+          ap (λ (y : View). y.pin) last.is ∙ ap (λ (y : View). y.pin) o.is,
+        )

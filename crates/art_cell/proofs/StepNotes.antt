@@ -166,7 +166,7 @@ read_leaf_law z m f p v at g x l i r may t = reads z m f g p v at r x (LeafWord 
 
 -- an unchanged version word vouches for what was noted under its stamp
 pub vouch_law : VouchLaw
-vouch_law z m f p v at x r same = (r.logical, r.shows.shape, holds_all m r.logical v x (r.vouch p v at) same)
+vouch_law z m f p v at x r same = holds z m f f p v at r x same
 
 -- a check finds an unchanged version word, and may make an event
 pub pass_law : PassLaw

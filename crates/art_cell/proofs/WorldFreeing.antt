@@ -1,5 +1,5 @@
--- The steps of a world that take a free number, and that free one in hand.
-use Rattle.std.proofs.Common.{◌≡◌, ℕ, ◌+◌, ◌-◌, ◌*◌, ◌/◌, ◌%◌, ◌^◌, ◌<◌, ◌≤◌, ◌==◌, Bool, true, false, List, length, get_or, slice_set, sym, refl, ap, ◌∙◌, ⊎_elim, arith}
+-- The steps of a world that take a free number, and that free one in hand or in limbo.
+use Rattle.std.proofs.Common.{◌≡◌, ◌≢◌, ℕ, ◌+◌, ◌-◌, ◌*◌, ◌/◌, ◌%◌, ◌^◌, ◌<◌, ◌≤◌, ◌==◌, Bool, true, false, List, length, get_or, slice_set, sym, refl, ap, ◌∙◌, subst, ⊎_elim, arith}
 use Rattle.std.proofs.lemmas.Bool.{cases_Bool, eqb-true, eqb-false}
 use Rattle.std.proofs.lemmas.List.{get_or_read}
 use Rattle.std.proofs.lemmas.Nat.{pow_below}
@@ -8,16 +8,17 @@ use Rattle.art_cell.specs.declared.cells.Link.{Link}
 use Rattle.art_cell.specs.declared.layouts.Pool.{Pool}
 use Rattle.art_cell.specs.declared.layouts.Pool.TheVariants.{Leaves}
 use Rattle.art_cell.specs.declared.views.InHand.{InHand}
+use Rattle.art_cell.specs.declared.views.Retired.{Retired}
 use Rattle.art_cell.specs.declared.views.Sizes.{Sizes}
 use Rattle.art_cell.specs.declared.views.View.{View}
 use Rattle.art_cell.specs.Children.{link_in_pool}
 use Rattle.art_cell.specs.Headers.{bit_at_least, bit_more_below}
-use Rattle.art_cell.specs.Shown.{Gave, Took}
-use Rattle.art_cell.specs.Sound.{InHandOf, Nowhere, IsFree, IsSound}
-use Rattle.art_cell.specs.StepRows.{SetsFree, MayGive, gave, took}
-use Rattle.art_cell.specs.Views.{IsNumber, cell_named}
-use Rattle.art_cell.specs.WorldWords.{number_in_pool, first_free_word, free_place, bit_of, is_free, word_count, memory_of, views_of, view_at}
-use Rattle.art_cell.proofs.StepNumbers.{take_law, give_law}
+use Rattle.art_cell.specs.Shown.{Freed, Gave, Took}
+use Rattle.art_cell.specs.Sound.{Whereabouts, InHandOf, InLimboOf, Nowhere, IsFree, IsSound}
+use Rattle.art_cell.specs.StepRows.{SetsFree, MayFree, MayGive, freed, gave, took}
+use Rattle.art_cell.specs.Views.{Memory, IsNumber, cell_named}
+use Rattle.art_cell.specs.WorldWords.{number_in_pool, first_free_word, free_place, bit_of, is_free, word_count, memory_of, Kept, memory_now, views_of, view_at}
+use Rattle.art_cell.proofs.StepNumbers.{take_law, give_law, free_law}
 use Rattle.art_cell.proofs.WorldFree.{frees_number, takes_number, free_is_number, free_found}
 use Rattle.art_cell.proofs.WorldMemory.{copy_of, is_taken}
 use Rattle.art_cell.proofs.WorldPlaces.{free_below}
@@ -84,6 +85,10 @@ module _ (z : Sizes) (ws : List ℕ) (long : length ws ≡ word_count z) (d : Li
   pub frees_bit : IsNumber z d → is_free z ws d ≡ false → SetsFree (memory_of z ws) d true (memory_of z (slice_set ws place (found + bit)))
   frees_bit inside taken = rw (word.stands, word.read, word.power) (frees_number z ws d inside taken long)
 
+-- what changes is seen so of the world before
+pub seen_before : {k now : Kept} {d : Link} {b : Bool} {m' : Memory} → k ≡ now → SetsFree (memory_now k) d b m' → SetsFree (memory_now now) d b m'
+seen_before {d = d} {b = b} {m' = m'} is = subst (λ (k : Kept). SetsFree (memory_now k) d b m') is
+
 -- ---- the steps
 
 module _ (z : Sizes) (ws : List ℕ) (vs : List View) (p : ℕ) (r : IsSound z (memory_of z ws) (views_of vs)) (inside : p < length vs) (long : length ws ≡ word_count z) where
@@ -93,17 +98,26 @@ module _ (z : Sizes) (ws : List ℕ) (vs : List View) (p : ℕ) (r : IsSound z (
   at : views_of vs p ≡ Some (view_at vs p)
   at = at_view vs p inside
 
-  -- a number in hand is one that there is, and it is not free
-  pub in_hand : (d : Link) (xs : List InHand) → MayGive v d xs → IsNumber z d × (is_free z ws d ≡ false)
-  in_hand d xs may =
-      let x = may.hand in
-      let hand : r.at d ≡ InHandOf p = ap r.at (sym x.2) ∙ (r.numbers.accounts p v at).hand x.0 x.1 in (
-        (r.numbers.numbers d).0 (λ e. let none : InHandOf p ≡ Nowhere = sym hand ∙ e in cc),
-        ⊎_elim
-            (λ (free : is_free z ws d ≡ true). let other : InHandOf p ≡ IsFree = sym hand ∙ (r.numbers.free d).1 free in absurd (cc))
-            (λ (taken : is_free z ws d ≡ false). taken)
-            (cases_Bool (is_free z ws d)),
-      )
+  -- a number that is somewhere else than among the free ones is one that there is, and not free
+  abbrev IsTaken : Link → Type 0
+  IsTaken d = IsNumber z d × (is_free z ws d ≡ false)
+
+  elsewhere : (d : Link) (k : Whereabouts) → r.at d ≡ k → k ≢ Nowhere → k ≢ IsFree → IsTaken d
+  elsewhere d k is some other = (
+    (r.numbers.numbers d).0 (λ e. some (sym is ∙ e)),
+    ⊎_elim
+        (λ (free : is_free z ws d ≡ true). absurd (other (sym is ∙ (r.numbers.free d).1 free)))
+        (λ (taken : is_free z ws d ≡ false). taken)
+        (cases_Bool (is_free z ws d)),
+  )
+
+  -- so is one in hand
+  pub in_hand : (d : Link) (xs : List InHand) → MayGive v d xs → IsTaken d
+  in_hand d xs may = let x = may.hand in elsewhere d (InHandOf p) (ap r.at (sym x.2) ∙ (r.numbers.accounts p v at).hand x.0 x.1) (λ e. cc) (λ e. cc)
+
+  -- and one in limbo
+  pub in_limbo : (d : Link) (es : List Retired) → MayFree (views_of vs) v d es → IsTaken d
+  in_limbo d es may = let x = may.limbo in elsewhere d (InLimboOf p) (ap r.at (sym x.2) ∙ (r.numbers.accounts p v at).limbo x.0 x.1) (λ e. cc) (λ e. cc)
 
   module _ (d : Link) (place found bit : ℕ) (word : IsBitWord z ws d place found bit) where
     -- a free number comes into the hand
@@ -114,10 +128,13 @@ module _ (z : Sizes) (ws : List ℕ) (vs : List View) (p : ℕ) (r : IsSound z (
         turned z ws vs p r inside long us (λ u w. Took u w d) (took v d words) record { words = words; is = refl }
         (λ g t. take_law z (memory_of z ws) (views_of vs) p v at (memory_of z us) g d words r free (is_taken z ws d) (takes_bit z ws long d place found bit word free) t)
 
+  module _ (us : List ℕ) (d : Link) (sets : SetsFree (memory_of z ws) d true (memory_of z us)) where
     -- a number in hand is free again
-    pub turn_gives : (xs : List InHand) → MayGive v d xs → Next z vs p (slice_set ws place (found + bit)) (λ u w. Gave u w d)
-    turn_gives xs may =
-        let us : List ℕ = slice_set ws place (found + bit) in
-        let is = in_hand d xs may in
-        turned z ws vs p r inside long us (λ u w. Gave u w d) (gave v xs) record { hand = xs; rest = may.rest; is = refl }
-        (λ g t. give_law z (memory_of z ws) (views_of vs) p v at (memory_of z us) g d xs r may (frees_bit z ws long d place found bit word is.0 is.1) t)
+    pub turn_gives : (xs : List InHand) → MayGive v d xs → Next z vs p us (λ u w. Gave u w d)
+    turn_gives xs may = turned z ws vs p r inside long us (λ u w. Gave u w d) (gave v xs) record { hand = xs; rest = may.rest; is = refl }
+        (λ g t. give_law z (memory_of z ws) (views_of vs) p v at (memory_of z us) g d xs r may sets t)
+
+    -- a number in limbo is free again
+    pub turn_frees : (es : List Retired) → MayFree (views_of vs) v d es → Next z vs p us (λ u w. Freed u w d)
+    turn_frees es may = turned z ws vs p r inside long us (λ u w. Freed u w d) (freed v es) record { limbo = es; was = may.was; stays = may.stays; is = refl }
+        (λ g t. free_law z (memory_of z ws) (views_of vs) p v at (memory_of z us) g d es r may sets t)

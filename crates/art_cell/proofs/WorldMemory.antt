@@ -1,8 +1,8 @@
 -- What a world's words mean where one of them changes: the words of cells and of version words.
-use Rattle.std.proofs.Common.{◌≡◌, ◌≢◌, ℕ, ◌+◌, ◌%◌, ◌<◌, ◌≤◌, ◌==◌, Bool, true, false, if◌then◌else◌, List, length, map, get_or, set, nat_lt, sym, refl, ap, ◌∙◌, ⊎_elim}
+use Rattle.std.proofs.Common.{◌≡◌, ◌≢◌, ℕ, ◌+◌, ◌%◌, ◌<◌, ◌≤◌, ◌==◌, Bool, true, false, if◌then◌else◌, List, length, map, get_or, set, nat_lt, sym, refl, ap, ap₂, ◌∙◌, subst, ⊎_elim}
 use Rattle.std.proofs.Common.{arith, get_or-set_same, get_or-set_other, lt-ltb, le-ltb, ltb-true, ltb-false}
 use Rattle.std.specs.List.{range_with_len}
-use Rattle.std.proofs.lemmas.Bool.{cases_lt, cond-false, cond_both}
+use Rattle.std.proofs.lemmas.Bool.{cases_lt, cond-true, cond-false, cond_both}
 use Rattle.std.proofs.lemmas.List.FromFn.{get_or-map-range_with_len, length-map-range_with_len}
 use Rattle.std.proofs.lemmas.List.{get_or_past}
 use Rattle.art_cell.specs.declared.layouts.Layout.TheVariants.{Node4}
@@ -12,8 +12,8 @@ use Rattle.art_cell.specs.declared.cells.Link.{Link}
 use Rattle.art_cell.specs.declared.cells.Link.TheVariants.{Leaf as leaf, Node as node}
 use Rattle.art_cell.specs.declared.views.Sizes.{Sizes}
 use Rattle.art_cell.specs.StepRows.{SetsVersion, SetsWord, IsCopy, IsTaken}
-use Rattle.art_cell.specs.Views.{size_of, IsNumber, cell_named}
-use Rattle.art_cell.specs.Words.{size}
+use Rattle.art_cell.specs.Views.{size_of, words_in, IsNumber, cell_named}
+use Rattle.art_cell.specs.Words.{Words, size}
 use Rattle.art_cell.specs.WorldWords.{pool_size, pool_of, number_in_pool, cells_end, epoch_place, pass_place, word_count, IsInside, is_inside, place_of, first_place}
 use Rattle.art_cell.specs.WorldWords.{version_in, word_in, free_place, bit_of, is_free, pass_word_in, memory_of}
 use Rattle.art_cell.proofs.WorldPlaces.{is_number, is_inside_true, is_inside_of, cell_below, free_below, places_apart}
@@ -161,6 +161,13 @@ sets_word z ws c i x inside late few long =
       pass_word = pass_words_stay z ws at x early;
     }
 
+-- the place and the word may be given otherwise
+pub puts_version : (z : Sizes) (ws : List ℕ) (c : Cell) (x place word : ℕ) → IsInside z c → IsNoLeaf c → length ws ≡ word_count z → place ≡ place_of z c → word ≡ x → SetsVersion (memory_of z ws) c x (memory_of z (set ws place word))
+puts_version z ws c x place word inside plain long at is = subst (λ (us : List ℕ). SetsVersion (memory_of z ws) c x (memory_of z us)) (sym (ap₂ (λ (i y : ℕ). set ws i y) at is)) (sets_version z ws c x inside plain long)
+
+pub puts_word : (z : Sizes) (ws : List ℕ) (c : Cell) (i x first : ℕ) → IsInside z c → first_place c ≤ i → i < size_of c → length ws ≡ word_count z → first ≡ place_of z c → SetsWord (memory_of z ws) c i x (memory_of z (set ws (first + i) x))
+puts_word z ws c i x first inside late few long at = subst (λ (from : ℕ). SetsWord (memory_of z ws) c i x (memory_of z (set ws (from + i) x))) (sym at) (sets_word z ws c i x inside late few long)
+
 -- ---- copies of a cell's words
 
 -- the words of a cell in a list, 0 for the version word
@@ -182,6 +189,16 @@ is_copy z ws c = record {
       (λ (high : size_of c ≤ i). no_word z ws c i high ∙ sym (get_or_past (copy_of z ws c) i 0 (let long = length-map-range_with_len (word_in z ws c) 0 (size_of c) in omega (arith, long))))
       (cases_lt i (size_of c)) k);
 }
+
+-- no word of an anchor or node stands at the place of its version word
+no_version : (z : Sizes) (ws : List ℕ) (c : Cell) → IsNoLeaf c → word_in z ws c 0 ≡ 0
+no_version z ws c plain = cond_both (is_inside z c) _ 0 (λ (word : ℕ). word ≡ 0)
+    (λ e. let one = first_one c plain in cond-true (nat_lt 0 (first_place c)) 0 _ (lt-ltb 0 (first_place c) (omega arith)))
+    (λ e. refl)
+
+-- so the list has 0 there
+pub copy_version : (z : Sizes) (ws : List ℕ) (c : Cell) → IsNoLeaf c → words_in (copy_of z ws c) 0 ≡ 0
+copy_version z ws c plain = ap (λ (w : Words). w 0) (sym (is_copy z ws c).words) ∙ no_version z ws c plain
 
 -- a number may be taken with the words of its cell
 pub is_taken : (z : Sizes) (ws : List ℕ) (d : Link) → IsTaken (memory_of z ws) d (copy_of z ws (cell_named d))

@@ -18,13 +18,13 @@ use Rattle.art_cell.specs.Rows.{ByteMap}
 use Rattle.art_cell.specs.Shown.{IsHolding, Released, Committed, coming}
 use Rattle.art_cell.specs.Sound.{IsOneHistory, HoldsEach, IsSound}
 use Rattle.art_cell.specs.StepRows.{SetsVersion, Drops, HandsOver, AreStanding, all_retired, released_word, MayRelease, MayBeFirst, MayCommit, writing, committed}
-use Rattle.art_cell.specs.Views.{Member, Memory, Views, Turned}
+use Rattle.art_cell.specs.Views.{Member, Memory, IsLocked, Views, Turned}
 use Rattle.art_cell.specs.WorldWords.{IsInside, place_of, word_count, memory_of, views_of, view_at}
 use Rattle.art_cell.proofs.Facts.{same_cell}
 use Rattle.art_cell.proofs.Gathered.{Gathered, gathered, left_over}
 use Rattle.art_cell.proofs.StepCommits.{either_member, commit_law}
 use Rattle.art_cell.proofs.StepLocks.{no_leaf, release_law}
-use Rattle.art_cell.proofs.WorldMemory.{sets_version}
+use Rattle.art_cell.proofs.WorldMemory.{puts_version}
 use Rattle.art_cell.proofs.WorldTurns.{Next, makes}
 use Rattle.art_cell.proofs.WorldViews.{at_view, turned_view}
 
@@ -111,6 +111,13 @@ module _ (z : Sizes) (ws : List ℕ) (vs : List View) (p : ℕ) (r : IsSound z (
       let small = (r.formed.versions h.cell).locked (mine.keeps h i).locked in
       subst (λ (d : Cell). m.version d < 18446744073709551613) is (omega arith)
 
+  -- and it is no leaf, so that it may be set
+  pub release_sets : (c : Cell) (h : Holding) (obsolete : Bool) (word place : ℕ) → h.cell ≡ c → Member h v.held → IsInside z c → word ≡ released_word (m.version c) obsolete → place ≡ place_of z c
+      → SetsVersion m c (released_word (m.version c) obsolete) (memory_of z (slice_set ws place word))
+  release_sets c h obsolete word place of i there is at =
+      let locked = subst (λ (d : Cell). IsLocked (m.version d)) of (mine.keeps h i).locked in
+      puts_version z ws c (released_word (m.version c) obsolete) place word there (no_leaf z m f c r.formed (λ old. omega arith)) long at is
+
   -- the cell of the holding h is released, and the pass's view becomes w
   abbrev IsRelease : Holding → Bool → View → (View → View → Holding → Type 0) → Type 0
   IsRelease h obsolete w Row = (m' : Memory) (g : Views) → SetsVersion m h.cell (released_word (m.version h.cell) obsolete) m' → Turned f p w g
@@ -122,11 +129,8 @@ module _ (z : Sizes) (ws : List ℕ) (vs : List View) (p : ℕ) (r : IsSound z (
 
   released : (h : Holding) (obsolete : Bool) (word : ℕ) (w : View) (Row : View → View → Holding → Type 0) → Member h v.held → IsRelease h obsolete w Row → AfterRelease h.cell obsolete word Row
   released h obsolete word w Row i law there is =
-      let locked = (mine.keeps h i).locked in
-      let plain = no_leaf z m f h.cell r.formed (λ old. omega arith) in
       let us : List ℕ = slice_set ws (place_of z h.cell) word in
-      let sets : SetsVersion m h.cell (released_word (m.version h.cell) obsolete) (memory_of z us) = subst (λ (x : ℕ). SetsVersion m h.cell x (memory_of z us)) is (sets_version z ws h.cell word there plain long) in
-      let done = law (memory_of z us) (views_of (slice_set vs p w)) sets (turned_view vs p w inside) in
+      let done = law (memory_of z us) (views_of (slice_set vs p w)) (release_sets h.cell h obsolete word (place_of z h.cell) refl i there is refl) (turned_view vs p w inside) in
       (slice_set vs p w, record { view = w; set = refl; row = λ k held. done.1 k held.1; sound = done.0 })
 
   -- a later release, or one of a change that is given up

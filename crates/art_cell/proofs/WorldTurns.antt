@@ -21,7 +21,7 @@ use Rattle.art_cell.specs.Histories.{event, replay, IsLegal, IsAnswered, places}
 use Rattle.art_cell.specs.Knowledge.{CellAt, HoldsAll}
 use Rattle.art_cell.specs.Shown.{MayReadCell, fact_read, Failed, Passed, Made, Told, IsHolding, IsInHand, Upgraded, Claimed, Wrote, WroteLeaf}
 use Rattle.art_cell.specs.Sound.{IsOneHistory, Whereabouts, InTree, IsFree, InHandOf, InLimboOf, Nowhere, IsSound}
-use Rattle.art_cell.specs.StepRows.{SetsWord, note_of, MayRead, MayTell, MayPass, MayUpgrade, MayClaim, MayWrite, MayWriteLeaf, ArePaths, Without}
+use Rattle.art_cell.specs.StepRows.{SetsVersion, SetsWord, note_of, MayRead, MayTell, MayPass, MayUpgrade, MayClaim, MayWrite, MayWriteLeaf, ArePaths, Without}
 use Rattle.art_cell.specs.StepRows.{begun, has_read, passed, telling, failed, upgraded, claimed, with_word, writing, with_leaf_word, handing}
 use Rattle.art_cell.specs.Tree.{At, IsTree}
 use Rattle.art_cell.specs.Views.{Member, Memory, size_of, Views, Turned}
@@ -35,7 +35,7 @@ use Rattle.art_cell.proofs.Places.{same_link, one_path}
 use Rattle.art_cell.proofs.StepLocks.{no_leaf, upgrade_law, unclaimed_law, claim_law}
 use Rattle.art_cell.proofs.StepNotes.{begin_law, read_law, read_leaf_law, pass_law, fail_law}
 use Rattle.art_cell.proofs.StepWrites.{write_law, write_leaf_law}
-use Rattle.art_cell.proofs.WorldMemory.{sets_version, sets_word, copy_of, is_copy}
+use Rattle.art_cell.proofs.WorldMemory.{IsNoLeaf, puts_version, puts_word, copy_of, is_copy, copy_version}
 use Rattle.art_cell.proofs.WorldViews.{at_view, turned_view}
 
 -- ---- the stamps and notes that stay where a stamp goes
@@ -218,29 +218,36 @@ module _ (z : Sizes) (ws : List ℕ) (vs : List View) (p : ℕ) (r : IsSound z (
 
   -- ---- steps that change a word
 
-  -- a word that is put, and its place, may be given otherwise
-  pub put_at : (Row : View → View → Type 0) (place place' word word' : ℕ) → place ≡ place' → word ≡ word' → Next z vs p (set ws place' word') Row → Next z vs p (set ws place word) Row
-  put_at Row place place' word word' e i = subst (λ (us : List ℕ). Next z vs p us Row) (sym (ap₂ (λ (at x : ℕ). set ws at x) e i))
+  -- a cell with an unchanged stamp is no leaf
+  stamped_plain : (x : Stamp) → m.version x.cell ≡ x.version → Member x v.stamps → IsNoLeaf x.cell
+  stamped_plain x same stamp =
+      let clear = ((r.vouch p v at).stamps x stamp).clear in
+      no_leaf z m f x.cell r.formed (λ obsolete. omega arith)
+
+  -- so its version word may be set
+  pub upgrade_sets : (x : Stamp) (place found : ℕ) → IsInside z x.cell → place ≡ place_of z x.cell → found ≡ m.version x.cell → found ≡ x.version → Member x v.stamps
+      → SetsVersion m x.cell (x.version + 2) (memory_of z (set ws place (found + 2)))
+  upgrade_sets x place found there is found_is same stamp = puts_version z ws x.cell (x.version + 2) place (found + 2) there (stamped_plain x (sym found_is ∙ same) stamp) long is (ap (λ (n : ℕ). n + 2) same)
 
   -- a stamped cell is locked
   pub turn_upgrades : (x : Stamp) (place found : ℕ) → IsInside z x.cell → place ≡ place_of z x.cell → found ≡ m.version x.cell → found ≡ x.version → MayUpgrade v x
       → Next z vs p (set ws place (found + 2)) (λ v w. Upgraded v w x)
   turn_upgrades x place found there is found_is same may =
       let clear = ((r.vouch p v at).stamps x may.stamp).clear in
+      let us : List ℕ = set ws place (found + 2) in
       let stays : m.version x.cell ≡ x.version = sym found_is ∙ same in
       let copy = is_copy z ws x.cell in
       let words : List ℕ = copy_of z ws x.cell in
-      let sets = sets_version z ws x.cell (x.version + 2) there (no_leaf z m f x.cell r.formed (λ obsolete. omega arith)) long in
-      put_at (λ v w. Upgraded v w x) place (place_of z x.cell) (found + 2) (x.version + 2) is (omega arith)
-      (turned (set ws (place_of z x.cell) (x.version + 2)) (λ v w. Upgraded v w x) (upgraded v x words)
+      turned us (λ v w. Upgraded v w x) (upgraded v x words)
       record {
         limit = may.limit;
         words = words;
         long = copy.long;
+        version = copy_version z ws x.cell (stamped_plain x stays may.stamp);
         agrees = λ i value j. ap (λ (w : Words). w i) (sym copy.words ∙ sym (r.holder.at_rest x.cell (λ locked. omega arith))) ∙ ((r.vouch p v at).notes (note_of x (Word i value)) j).same stays;
         is = refl;
       }
-      (λ g t. upgrade_law z m f p v at (memory_of z (set ws (place_of z x.cell) (x.version + 2))) g x words r may stays copy sets t))
+      (λ g t. upgrade_law z m f p v at (memory_of z us) g x words r may stays copy (upgrade_sets x place found there is found_is same may.stamp) t)
 
   -- a node's number in hand is one whose word may go up
   pub claim_fits : (n : Node) (found : ℕ) → found ≡ m.version (cell.Node n) → MayClaim v n → found + 1 < 2 ^ 64
@@ -249,6 +256,11 @@ module _ (z : Sizes) (ws : List ℕ) (vs : List View) (p : ℕ) (r : IsSound z (
       let small = (r.formed.versions (cell.Node n)).obsolete obsolete in
       omega arith
 
+  pub claim_sets : (n : Node) (place found : ℕ) → IsInside z (cell.Node n) → place ≡ place_of z (cell.Node n) → found ≡ m.version (cell.Node n)
+      → SetsVersion m (cell.Node n) (m.version (cell.Node n) + 1) (memory_of z (set ws place (found + 1)))
+  claim_sets n place found there is found_is =
+      puts_version z ws (cell.Node n) (m.version (cell.Node n) + 1) place (found + 1) there (λ l e. cc) long is (ap (λ (x : ℕ). x + 1) found_is)
+
   -- a node in hand is locked
   pub turn_claims : (n : Node) (place found : ℕ) → IsInside z (cell.Node n) → place ≡ place_of z (cell.Node n) → found ≡ m.version (cell.Node n) → MayClaim v n
       → Next z vs p (set ws place (found + 1)) (λ v w. Claimed v w n)
@@ -256,11 +268,16 @@ module _ (z : Sizes) (ws : List ℕ) (vs : List View) (p : ℕ) (r : IsSound z (
       let c : Cell = cell.Node n in
       let copy = is_copy z ws c in
       let words : List ℕ = copy_of z ws c in
-      let sets = sets_version z ws c (m.version c + 1) there (λ l e. cc) long in
-      put_at (λ v w. Claimed v w n) place (place_of z c) (found + 1) (m.version c + 1) is (ap (λ (x : ℕ). x + 1) found_is)
-      (turned (set ws (place_of z c) (m.version c + 1)) (λ v w. Claimed v w n) (claimed v n words)
-      record { words = words; long = copy.long; is = refl }
-      (λ g t. claim_law z m f p v at (memory_of z (set ws (place_of z c) (m.version c + 1))) g n words r may copy sets t))
+      let us : List ℕ = set ws place (found + 1) in
+      turned us (λ v w. Claimed v w n) (claimed v n words)
+      record { words = words; long = copy.long; version = copy_version z ws c (λ l e. cc); is = refl }
+      (λ g t. claim_law z m f p v at (memory_of z us) g n words r may copy (claim_sets n place found there is found_is) t)
+
+  pub write_sets : (c : Cell) (h : Holding) (i x first : ℕ) → IsInside z c → first ≡ place_of z c → h.cell ≡ c → MayWrite v h i → SetsWord m c i x (memory_of z (set ws (first + i) x))
+  write_sets c h i x first there is of may =
+      let low = first_low c in
+      let small : i < size_of c = subst (λ (d : Cell). i < size_of d) of may.place.1 in
+      puts_word z ws c i x first there (let positive = may.place.0 in omega arith) small long is
 
   -- a word of a cell that is held is written
   pub turn_writes : (c : Cell) (h : Holding) (i x first : ℕ) → IsInside z c → first ≡ place_of z c → h.cell ≡ c → MayWrite v h i
@@ -269,14 +286,11 @@ module _ (z : Sizes) (ws : List ℕ) (vs : List View) (p : ℕ) (r : IsSound z (
       let Row : View → View → Type 0 = λ v w. (k : Holding) → IsHolding v c k → Wrote v w k i x in
       let single = (r.holder.holds p v at).single in
       let held = put (λ (k : Holding). k.cell) v.held h (with_word h i x) may.held (λ k. same_cell k.cell h.cell) (λ k j e. single k h j may.held e) in
-      let low = first_low c in
-      let small : i < size_of c = subst (λ (d : Cell). i < size_of d) of may.place.1 in
-      let us : List ℕ = set ws (place_of z c + i) x in
-      let sets : SetsWord m h.cell i x (memory_of z us) = subst (λ (d : Cell). SetsWord m d i x (memory_of z us)) (sym of) (sets_word z ws c i x there (let positive = may.place.0 in omega arith) small long) in
-      put_at Row (first + i) (place_of z c + i) x x (ap (λ (at : ℕ). at + i) is) refl
-      (turned us Row (writing v held.0)
+      let us : List ℕ = set ws (first + i) x in
+      let sets : SetsWord m h.cell i x (memory_of z us) = subst (λ (d : Cell). SetsWord m d i x (memory_of z us)) (sym of) (write_sets c h i x first there is of may) in
+      turned us Row (writing v held.0)
       (λ k a. subst (λ (j : Holding). Wrote v (writing v held.0) j i x) (single h k may.held a.0 (of ∙ sym a.1)) record { held = held.0; puts = held.1; is = refl })
-      (λ g t. write_law z m f p v at (memory_of z us) g h held.0 i x r may held.1 sets t))
+      (λ g t. write_law z m f p v at (memory_of z us) g h held.0 i x r may held.1 sets t)
 
   -- a word of a leaf in hand is written
   pub turn_writes_leaf : (y : InHand) (l i x first : ℕ) → l < z.leaves → first ≡ place_of z (cell.Leaf l) → MayWriteLeaf v y l i
@@ -286,8 +300,7 @@ module _ (z : Sizes) (ws : List ℕ) (vs : List View) (p : ℕ) (r : IsSound z (
       let one = one_entry m r.at p v l in
       let k = r.numbers.accounts p v at in
       let hand = put (λ (a : InHand). a.link) v.hand y (with_leaf_word y i x) may.hand (λ a. same_link a.link y.link) (λ a j e. one a y k j may.hand (e ∙ may.leaf) may.leaf) in
-      let us : List ℕ = set ws (place_of z (cell.Leaf l) + i) x in
-      put_at Row (first + i) (place_of z (cell.Leaf l) + i) x x (ap (λ (at : ℕ). at + i) is) refl
-      (turned us Row (handing v hand.0)
+      let us : List ℕ = set ws (first + i) x in
+      turned us Row (handing v hand.0)
       (λ a o. subst (λ (b : InHand). WroteLeaf v (handing v hand.0) b i x) (one y a k may.hand o.0 may.leaf o.1) record { hand = hand.0; puts = hand.1; is = refl })
-      (λ g t. write_leaf_law z m f p v at (memory_of z us) g y hand.0 l i x r may hand.1 (sets_word z ws (cell.Leaf l) i x there (omega arith) may.place long) t))
+      (λ g t. write_leaf_law z m f p v at (memory_of z us) g y hand.0 l i x r may hand.1 (puts_word z ws (cell.Leaf l) i x first there (omega arith) may.place long is) t)

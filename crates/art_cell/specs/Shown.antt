@@ -15,6 +15,7 @@ use Rattle.art_cell.specs.declared.views.Holding.{Holding}
 use Rattle.art_cell.specs.declared.views.InHand.{InHand}
 use Rattle.art_cell.specs.declared.views.Note.{Note}
 use Rattle.art_cell.specs.declared.views.Pin.{Pin}
+use Rattle.art_cell.specs.declared.views.Retired.{Retired}
 use Rattle.art_cell.specs.declared.views.Sizes.{Sizes}
 use Rattle.art_cell.specs.declared.views.Stamp.{Stamp}
 use Rattle.art_cell.specs.declared.views.View.{View}
@@ -23,7 +24,7 @@ use Rattle.art_cell.specs.Children.{link_of, link_in_pool}
 use Rattle.art_cell.specs.Heaps.{Cells}
 use Rattle.art_cell.specs.Histories.{event, IsLegal, places}
 use Rattle.art_cell.specs.Knowledge.{IsShape, HoldsAll, Leads}
-use Rattle.art_cell.specs.StepRows.{note_of, passed, Without, failed, upgraded, claimed, Puts, with_word, writing, with_leaf_word, handing, all_retired, Drops, HandsOver, MayRead, MayReadLeaf, took, gave}
+use Rattle.art_cell.specs.StepRows.{note_of, passed, Without, failed, upgraded, claimed, Puts, with_word, writing, with_leaf_word, handing, all_retired, Drops, HandsOver, MayRead, MayReadLeaf, took, gave, freed}
 use Rattle.art_cell.specs.Views.{Member, size_of, words_in, last_counter}
 
 -- ---- events
@@ -78,21 +79,24 @@ pub record Failed (v w : View) (x : Stamp) (word : ℕ) : Type 0 where
 abbrev pub AgreesWithNotes : View → Stamp → List ℕ → Type 0
 AgreesWithNotes v x ws = (i value : ℕ) → Member (note_of x (Word i value)) v.notes → words_in ws i ≡ value
 
+-- the words of a cell that is locked stand in a list, where the place of the version word has 0
 pub record Upgraded (v w : View) (x : Stamp) : Type 0 where
   pub limit : x.version < 4 * last_counter
   pub words : List ℕ
   pub long : length words ≡ size_of x.cell
+  pub version : words_in words 0 ≡ 0
   pub agrees : AgreesWithNotes v x words
   pub is : w ≡ upgraded v x words
 
 pub record Claimed (v w : View) (n : Node) : Type 0 where
   pub words : List ℕ
   pub long : length words ≡ size_of (cell.Node n)
+  pub version : words_in words 0 ≡ 0
   pub is : w ≡ claimed v n words
 
--- an upgrade that locked nothing: a changed word, or a counter at its end, at which no step is made
+-- an upgrade that locked nothing: a changed word, or a counter at its end, which is looked at first and at which no step is made
 abbrev pub FailedUpgrade : View → View → Stamp → UpgradeFault → Type 0
-FailedUpgrade v w x (fault.Changed c) = (c.cell ≡ x.cell) × (c.seen ≡ x.version) × (c.found ≢ c.seen) × Failed v w x c.found
+FailedUpgrade v w x (fault.Changed c) = (c.cell ≡ x.cell) × (c.seen ≡ x.version) × (c.found ≢ c.seen) × Failed v w x c.found × (x.version < 4 * last_counter)
 FailedUpgrade v w x (fault.Exhausted c) = (c ≡ x.cell) × (4 * last_counter ≤ x.version) × (w ≡ v)
 
 -- ---- values that stand for what is held, and for what is in hand
@@ -166,3 +170,10 @@ pub record Gave (v w : View) (d : Link) : Type 0 where
   pub hand : List InHand
   pub rest : HandsOver v.hand (d ∷ []) hand
   pub is : w ≡ gave v hand
+
+-- the limbo is without the number
+pub record Freed (v w : View) (d : Link) : Type 0 where
+  pub limbo : List Retired
+  pub was : (e : Retired) → Member e limbo → Member e v.limbo × (e.link ≢ d)
+  pub stays : (e : Retired) → Member e v.limbo → e.link ≢ d → Member e limbo
+  pub is : w ≡ freed v limbo

@@ -14,8 +14,7 @@ use Rattle.art_cell.specs.declared.views.Sizes.{Sizes}
 use Rattle.art_cell.specs.declared.views.Stamp.{Stamp}
 use Rattle.art_cell.specs.declared.views.View.{View}
 use Rattle.art_cell.specs.declared.views.What.{What}
-use Rattle.art_cell.specs.Heaps.{Cells}
-use Rattle.art_cell.specs.Knowledge.{IsShape, HoldsAll}
+use Rattle.art_cell.specs.Knowledge.{HoldsAll}
 use Rattle.art_cell.specs.Sound.{IsSound}
 use Rattle.art_cell.specs.StepRows.{SetsVersion, SetsWord, SetsFree, begun, has_read, MayRead, MayReadLeaf, ArePaths, telling, passed, MayPass, Without, failed, forgetting, MayUpgrade, IsCopy, upgraded, MayClaim, claimed, Puts, MayWrite, with_word, writing, MayWriteLeaf, with_leaf_word, handing, MayCommit, AreStanding, all_retired, Drops, HandsOver, released_word, MayBeFirst, committed, MayRelease, took, IsTaken, MayGive, gave, MayFree, freed}
 use Rattle.art_cell.specs.Views.{Member, Memory, IsObsolete, IsNumber, last_counter, Views, Turned}
@@ -40,9 +39,9 @@ abbrev pub PassLaw : Type 0
 PassLaw = Step (λ z m f p v. (g : Views) (x : Stamp) (ys : List Note) (o : Option What) → (r : IsSound z m f) → m.version x.cell ≡ x.version → MayPass z v x o → ArePaths r.logical v ys
     → Turned f p (telling (passed v x ys) r.log o) g → IsSound z m g)
 
--- what was noted under an unchanged stamp holds of the tree that there is now
+-- what was noted under an unchanged stamp holds of the logical words that there are now
 abbrev pub VouchLaw : Type 0
-VouchLaw = Step (λ z m f p v. (x : Stamp) → IsSound z m f → m.version x.cell ≡ x.version → (s : Cells) × IsShape z s × HoldsAll v x s)
+VouchLaw = Step (λ z m f p v. (x : Stamp) → (r : IsSound z m f) → m.version x.cell ≡ x.version → HoldsAll v x r.logical)
 
 -- a check or an upgrade of a changed word
 abbrev pub FailLaw : Type 0

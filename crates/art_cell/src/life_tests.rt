@@ -79,7 +79,10 @@ fn lock_above_leaf<S: Steps>(steps: &mut S, leaf: u32) -> Option<Held>
     ensures holds { IfSome result (λ h. (h.cell ≡ anchor_cell) × HoldsLeafRoot (S.view steps.new) leaf) }
 {
     let (stamp, link) = see_root(steps)?;
-    if link != Link::Leaf(leaf) {
+    let Link::Leaf(found) = link else {
+        return None;
+    };
+    if found != leaf {
         return None;
     }
     let words = leaf_words(steps, &stamp, leaf);

@@ -205,3 +205,18 @@ impl Change<Vec<u64>, Gives, LinkedList<View>> for Gives {
 
     ghost then = { λ ws t old new. Turns t.sizes ws.items t.pass (λ v w. Gave v w t.link) old new };
 }
+
+/// A number went back from limbo.
+#[derive(Drop)]
+pub(crate) struct Frees {
+    pub(crate) sizes: Sizes,
+    pub(crate) pass: usize,
+    pub(crate) link: Link,
+}
+
+impl Change<Vec<u64>, Frees, LinkedList<View>> for Frees {
+    ghost use Rattle.art_cell.specs.Shown.{Freed};
+    ghost use Rattle.art_cell.specs.WorldWords.{Turns};
+
+    ghost then = { λ ws t old new. Turns t.sizes ws.items t.pass (λ v w. Freed v w t.link) old new };
+}

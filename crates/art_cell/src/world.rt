@@ -13,6 +13,7 @@ use std::marker::Model;
 /// Between any two steps there is a legal history whose replay the tree of the cells shows, each cell has one holder at
 /// most, unchanged stamps vouch for what was noted under them, each number is in one place, and words have their forms: that
 /// is the invariant of this type.
+#[derive(Drop)]
 pub struct World {
     pub(crate) sizes: Sizes,
     pub(crate) words: Vec<u64>,

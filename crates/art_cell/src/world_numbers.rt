@@ -1,19 +1,22 @@
 //! Numbers of a world that are free: until steps take them and give them back, these calls do.
 ghost use Rattle.std.specs.Prelude.{◌≡◌, ◌<◌, ℕ, List, length, false, true, IfNone, IfSome};
 ghost use Rattle.art_cell.specs.declared.views.InHand.{InHand as InHandOf};
+ghost use Rattle.art_cell.specs.declared.views.Retired.{Retired as RetiredNumber};
 ghost use Rattle.art_cell.specs.Children.{link_in_pool};
-ghost use Rattle.art_cell.specs.Shown.{Gave, Took, link_of_number};
-ghost use Rattle.art_cell.specs.StepRows.{MayGive};
-ghost use Rattle.art_cell.specs.WorldWords.{OnlyTurned, is_free, memory_now, pool_size, view_at};
+ghost use Rattle.art_cell.specs.Shown.{Freed, Gave, Took, link_of_number};
+ghost use Rattle.art_cell.specs.StepRows.{MayFree, MayGive, SetsFree};
+ghost use Rattle.art_cell.specs.Views.{IsNumber};
+ghost use Rattle.art_cell.specs.WorldWords.{OnlyTurned, is_free, memory_now, memory_of, pool_size, view_at, views_of, word_count};
 
-use crate::made_steps::{Gives, Takes};
-use crate::{Number, Pool, World};
+use crate::made_steps::{Frees, Gives, Takes};
+use crate::{Number, Pool, Sizes, World};
 
 impl World {
     /// The least free number of the pool, which comes into the hand of the pass. None where no number of the pool is free.
     pub fn first_free(&mut self, pass: usize, pool: Pool) -> Option<Number>
         requires { pass < length self.old.views }
         ensures only { OnlyTurned self.old self.new pass }
+        ensures memory { IfSome result (λ n. SetsFree (memory_now self.old) (link_of_number n) false (memory_now self.new)) }
         ensures none { IfNone result ((self.new ≡ self.old) × ((k : ℕ) → (memory_now self.old).free (link_in_pool pool k) ≡ false)) }
         ensures some { IfSome result (λ n. (n.pool ≡ pool) × ((memory_now self.old).free (link_of_number n) ≡ true) × ((k : ℕ) → k < n.number → (memory_now self.old).free (link_in_pool pool k) ≡ false) × Took (view_at self.old.views pass) (view_at self.new.views pass) (link_of_number n)) }
     {
@@ -52,20 +55,49 @@ impl World {
         requires pass { pass < length self.old.views }
         requires may { (xs : List InHandOf) × MayGive (view_at self.old.views pass) (link_of_number number) xs }
         ensures only { OnlyTurned self.old self.new pass }
-        ensures free { (memory_now self.new).free (link_of_number number) ≡ true }
+        ensures memory { SetsFree (memory_now self.old) (link_of_number number) true (memory_now self.new) }
         ensures row { Gave (view_at self.old.views pass) (view_at self.new.views pass) (link_of_number number) }
     {
-        let link = number.link();
-        let Number { pool, number } = number;
-        let place = self.sizes.first_free_word(pool) + number as usize / 64;
-        self.words[place] += 1 << (number % 64);
         let turn = Gives {
             sizes: self.sizes,
             pass,
-            link,
+            link: number.link(),
         };
+        set_bit(&mut self.words, self.sizes, number);
         self.views = self
             .views
             .changed::<Vec<u64>, Gives, Gives>(&self.words, &turn);
     }
+
+    /// A number that the pass unlinked, and that stands in nobody's stamp, is free again.
+    pub fn give_back(&mut self, pass: usize, number: Number)
+        requires pass { pass < length self.old.views }
+        requires may { (es : List RetiredNumber) × MayFree (views_of self.old.views) (view_at self.old.views pass) (link_of_number number) es }
+        ensures only { OnlyTurned self.old self.new pass }
+        ensures memory { SetsFree (memory_now self.old) (link_of_number number) true (memory_now self.new) }
+        ensures row { Freed (view_at self.old.views pass) (view_at self.new.views pass) (link_of_number number) }
+    {
+        let turn = Frees {
+            sizes: self.sizes,
+            pass,
+            link: number.link(),
+        };
+        set_bit(&mut self.words, self.sizes, number);
+        self.views = self
+            .views
+            .changed::<Vec<u64>, Frees, Frees>(&self.words, &turn);
+    }
+}
+
+/// Sets the bit of a number that is not free.
+fn set_bit(words: &mut Vec<u64>, sizes: Sizes, number: Number)
+    requires long { length words.old.items ≡ word_count sizes }
+    requires inside { IsNumber sizes (link_of_number number) }
+    requires taken { is_free sizes words.old.items (link_of_number number) ≡ false }
+    ensures long { length words.new.items ≡ word_count sizes }
+    ensures memory { SetsFree (memory_of sizes words.old.items) (link_of_number number) true (memory_of sizes words.new.items) }
+{
+    let Number { pool, number } = number;
+    let place = sizes.first_free_word(pool) + number as usize / 64;
+    words[place] += 1 << (number % 64);
 }

@@ -6,6 +6,7 @@ use Rattle.art_cell.specs.declared.views.What.{What}
 use Rattle.art_cell.specs.Deeds.{what_of}
 use Rattle.art_cell.specs.Shown.{Passed}
 use Rattle.art_cell.specs.WorldWords.{Kept}
+use Rattle.art_cell.proofs.WorldLogical.{stands}
 use Rattle.art_cell.proofs.WorldTurns.{IsKept, Next, turn_passes}
 use Rattle.art_cell.proofs.world.World.check.Goals as goal
 
@@ -16,3 +17,7 @@ changed-requires c =
     subst (λ (k : Kept). IsKept k → Next k.sizes k.views c.args.pass k.words (λ v w. Passed k.sizes v w c.args.stamp.now what)) (sym c.self.view_is)
     (λ i. turn_passes now.sizes now.words now.views c.args.pass i.2 c.requires.pass i.0 c.args.stamp.now what (sym c.version-found.ensures ∙ c.if-found-stamp.false) c.requires.may)
     c.self.invariant
+
+pub returns-clause-stands : goal.returns-clause-stands
+returns-clause-stands c =
+    stands c.args.self.now c.args.pass c.args.stamp.now (subst IsKept c.self.view_is c.self.invariant) c.requires.pass (sym c.version-found.ensures ∙ c.if-found-stamp.false)

@@ -4,7 +4,7 @@ use Rattle.art_cell.specs.declared.layouts.Pool.{Pool}
 use Rattle.art_cell.specs.Children.{link_in_pool}
 use Rattle.art_cell.specs.WorldWords.{Kept, first_free_word, memory_now}
 use Rattle.art_cell.proofs.WorldFree.{free_is_number}
-use Rattle.art_cell.proofs.WorldFreeing.{WordWithBit, bit_within, word_with_bit, turn_takes}
+use Rattle.art_cell.proofs.WorldFreeing.{WordWithBit, bit_within, takes_bit, seen_before, word_with_bit, turn_takes}
 use Rattle.art_cell.proofs.WorldTurns.{IsKept}
 use Rattle.art_cell.proofs.world.World.first_free.Goals as goal
 
@@ -27,3 +27,9 @@ changed-requires c =
     let h = word_of_free c.args.pool c.in_ok-number.number c.first_free_word.result c.index_mut.result.now c.self.view_is c.self.invariant free c.first_free_word.ensures c.index_mut.ensures.value in
     let pass = subst (λ (k : Kept). c.args.pass < length k.views) (sym c.self.view_is) c.requires in
     rw c.link.ensures (turn_takes _ _ _ _ c.self.invariant.2 pass c.self.invariant.0 _ _ _ _ h.1 h.0)
+
+pub returns-clause-memory : goal.returns-clause-memory
+returns-clause-memory c =
+    let free = c.in_ok-number.ensures.some.1 in
+    let h = word_of_free c.args.pool c.in_ok-number.number c.first_free_word.result c.index_mut.result.now c.self.view_is c.self.invariant free c.first_free_word.ensures c.index_mut.ensures.value in
+    seen_before c.self.view_is (takes_bit _ _ c.self.invariant.0 _ _ _ _ h.1 h.0)

@@ -1,51 +1,37 @@
--- A number in hand is not free: its bit is 0, so that it can be added, and all is sound after that.
-use Rattle.std.proofs.Common.{◌≡◌, ℕ, ◌+◌, ◌/◌, ◌<◌, false, List, length, get_or, sym, subst, arith}
-use Rattle.art_cell.specs.declared.layouts.Pool.{Pool}
-use Rattle.art_cell.specs.declared.views.InHand.{InHand}
-use Rattle.art_cell.specs.Children.{link_in_pool}
-use Rattle.art_cell.specs.StepRows.{MayGive}
+-- A number in hand is not free: its bit can be set, and all is sound after that.
+use Rattle.std.proofs.Common.{◌≡◌, ℕ, true, false, List, sym, subst}
+use Rattle.art_cell.specs.declared.cells.Link.{Link}
+use Rattle.art_cell.specs.Shown.{Gave, link_of_number}
+use Rattle.art_cell.specs.StepRows.{SetsFree}
 use Rattle.art_cell.specs.Views.{IsNumber}
-use Rattle.art_cell.specs.WorldWords.{Kept, first_free_word, memory_now, view_at}
-use Rattle.art_cell.proofs.WorldFreeing.{WordWithBit, bit_below, word_with_bit, bit_room, frees_bit, in_hand, turn_gives}
-use Rattle.art_cell.proofs.WorldTurns.{IsKept}
+use Rattle.art_cell.specs.WorldWords.{Kept, memory_now, memory_of}
+use Rattle.art_cell.proofs.WorldFreeing.{seen_before, in_hand, turn_gives}
+use Rattle.art_cell.proofs.WorldTurns.{IsKept, Next}
 use Rattle.art_cell.proofs.world.World.put_back.Goals as goal
 
--- the number may be given, is one that there is, and is not free
-record IsTaken (k : Kept) (p : ℕ) (pool : Pool) (n : ℕ) (xs : List InHand) : Type 0 where
-  kept : IsKept k
-  pass : p < length k.views
-  may : MayGive (view_at k.views p) (link_in_pool pool n) xs
-  inside : IsNumber k.sizes (link_in_pool pool n)
-  taken : (memory_now k).free (link_in_pool pool n) ≡ false
+pub set_bit-requires-clause-inside : goal.set_bit-requires-clause-inside
+set_bit-requires-clause-inside c =
+    let now : Kept = c.args.self.now in
+    let d : Link = link_of_number c.args.number in
+    subst (λ (k : Kept). IsKept k → IsNumber k.sizes d) (sym c.self.view_is)
+    (λ i. (in_hand now.sizes now.words now.views c.args.pass i.2 c.requires.pass i.0 d c.requires.may.0 c.requires.may.1).0) c.self.invariant
 
-is_taken : {k now : Kept} (p : ℕ) (pool : Pool) (n : ℕ) (xs : List InHand) → k ≡ now → IsKept k → p < length now.views → MayGive (view_at now.views p) (link_in_pool pool n) xs → IsTaken k p pool n xs
-is_taken {k} p pool n xs is kept pass may =
-    let here = subst (λ (k : Kept). (p < length k.views) × MayGive (view_at k.views p) (link_in_pool pool n) xs) (sym is) (pass, may) in
-    let hand = in_hand k.sizes k.words k.views p kept.2 here.0 kept.0 (link_in_pool pool n) xs here.1 in
-    record { kept = kept; pass = here.0; may = here.1; inside = hand.0; taken = hand.1 }
-
-word_of_taken : {k : Kept} {p n first found : ℕ} {pool : Pool} {xs : List InHand} → IsTaken k p pool n xs → first ≡ first_free_word k.sizes pool → found ≡ get_or k.words (first + n / 64) found
-    → WordWithBit k.sizes k.words pool n first found
-word_of_taken {k} {p} {n} {first} {found} {pool} h = word_with_bit k.sizes k.words pool n first found h.inside h.kept.0
-
-pub index_mut-requires : goal.index_mut-requires
-index_mut-requires c =
-    let h = is_taken c.args.pass c.args.number.pool c.args.number.number c.requires.may.0 c.self.view_is c.self.invariant c.requires.pass c.requires.may.1 in
-    let low = bit_below c.self.inside.sizes c.self.inside.words.items c.args.number.pool c.args.number.number c.first_free_word.result h.inside h.kept.0 c.first_free_word.ensures in
-    omega (arith, c.self.inside.words.ok.0)
-
-pub overflow_add-index_mut : goal.overflow_add-index_mut
-overflow_add-index_mut c =
-    let h = is_taken c.args.pass c.args.number.pool c.args.number.number c.requires.may.0 c.self.view_is c.self.invariant c.requires.pass c.requires.may.1 in
-    let room = bit_room _ _ h.kept.0 _ _ _ _ (word_of_taken h c.first_free_word.ensures c.index_mut.ensures.value) h.inside h.taken (omega arith) in
-    omega arith
+pub set_bit-requires-clause-taken : goal.set_bit-requires-clause-taken
+set_bit-requires-clause-taken c =
+    let now : Kept = c.args.self.now in
+    let d : Link = link_of_number c.args.number in
+    subst (λ (k : Kept). IsKept k → (memory_now k).free d ≡ false) (sym c.self.view_is)
+    (λ i. (in_hand now.sizes now.words now.views c.args.pass i.2 c.requires.pass i.0 d c.requires.may.0 c.requires.may.1).1) c.self.invariant
 
 pub changed-requires : goal.changed-requires
 changed-requires c =
-    let h = is_taken c.args.pass c.args.number.pool c.args.number.number c.requires.may.0 c.self.view_is c.self.invariant c.requires.pass c.requires.may.1 in
-    rw c.link-link.ensures (turn_gives _ _ _ _ h.kept.2 h.pass h.kept.0 _ _ _ _ (word_of_taken h c.first_free_word.ensures c.index_mut.ensures.value) c.requires.may.0 h.may)
+    let now : Kept = c.args.self.now in
+    let d : Link = link_of_number c.args.number in
+    let us : List ℕ = c.set_bit.new.words.items in
+    rw c.link.ensures
+    (subst (λ (k : Kept). IsKept k → SetsFree (memory_now k) d true (memory_of k.sizes us) → Next k.sizes k.views c.args.pass us (λ v w. Gave v w d)) (sym c.self.view_is)
+    (λ i sets. turn_gives now.sizes now.words now.views c.args.pass i.2 c.requires.pass i.0 us d sets c.requires.may.0 c.requires.may.1)
+    c.self.invariant c.set_bit.ensures.memory)
 
-pub returns-clause-free : goal.returns-clause-free
-returns-clause-free c =
-    let h = is_taken c.args.pass c.args.number.pool c.args.number.number c.requires.may.0 c.self.view_is c.self.invariant c.requires.pass c.requires.may.1 in
-    (frees_bit _ _ h.kept.0 _ _ _ _ (word_of_taken h c.first_free_word.ensures c.index_mut.ensures.value) h.inside h.taken).here
+pub returns-clause-memory : goal.returns-clause-memory
+returns-clause-memory c = seen_before c.self.view_is c.set_bit.ensures.memory
