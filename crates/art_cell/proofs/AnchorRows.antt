@@ -1,5 +1,6 @@
 -- A pass that holds the anchor alone writes its child word, and commits.
-use Rattle.std.proofs.Common.{◌≡◌, ℕ, ◌+◌, ◌*◌, ◌^◌, ◌<◌, true, false, List, [], ◌∷◌, set, Some, None, Option, refl, sym, ap, ap₂, ◌∙◌, subst, subst₂, inl, inr, ⊎_elim, arith, get_or-set_same}
+use Rattle.std.proofs.Common.{◌≡◌, ℕ, ◌+◌, ◌*◌, ◌^◌, ◌<◌, true, false, List, [], ◌∷◌, ◌++◌, set, Some, None, Option, refl, sym, ap, ap₂, ◌∙◌, subst, subst₂, inl, inr, ⊎_elim, arith, get_or-set_same}
+use Rattle.std.specs.List.{cons_option}
 use Rattle.art_cell.specs.declared.cells.Cell.{Cell}
 use Rattle.art_cell.specs.declared.cells.Cell.TheVariants as cell
 use Rattle.art_cell.specs.declared.cells.Link.{Link}
@@ -21,8 +22,8 @@ use Rattle.art_cell.specs.CommitLaws.{HoldsJust, ClaimedAmong}
 use Rattle.art_cell.specs.Heaps.{Cells, heap_of}
 use Rattle.art_cell.specs.Leaves.{leaf_word}
 use Rattle.art_cell.specs.Looks.{Before}
-use Rattle.art_cell.specs.Shown.{Committed, IsHolding, Wrote, claimed_node, claimed_nodes, coming, link_of_number}
-use Rattle.art_cell.specs.StepRows.{AllNew, Commits, IsInLimbo, IsNotHeld, Knows, MayBeFirst, MayCommit, MayWrite, note_of, retired, stamp_of}
+use Rattle.art_cell.specs.Shown.{Committed, IsHolding, Wrote, claimed_node, claimed_nodes, coming, link_of_number, links_of}
+use Rattle.art_cell.specs.StepRows.{AllNew, Commits, IsInLimbo, IsNotHeld, Knows, MayBeFirst, MayCommit, MayWrite, note_of, all_retired, retired, stamp_of}
 use Rattle.art_cell.specs.Tree.{Top}
 use Rattle.art_cell.specs.Views.{Member, words_in}
 use Rattle.art_cell.specs.Visits.{HasNone, HasJust, IsAway, IsIdle, anchor_held, HoldsAnchor, HoldsUnchanged, HoldsWord, ChangesWord, Fills, NotesLeaf}
@@ -245,7 +246,13 @@ removed_idle v w h x a b what us ls none c committed = record {
   hand = λ y i. none y (committed_hand v h x c.old c.new c.holds w what us ls committed y i).0;
 }
 
-pub removed_limbo : (v w : View) (h : Held) (x a b l : ℕ) (what : What) (ls : List Link) → ChangesWord v h x a b → ((y : Holding) → IsHolding v h.cell y → Committed v w what (leaf l ∷ []) ls y) → IsInLimbo w (leaf l)
-removed_limbo v w h x a b l what ls c committed =
+pub removed_limbo : (v w : View) (h : Held) (x a b l : ℕ) (what : What) (us ls : List Link) → us ≡ leaf l ∷ [] → ChangesWord v h x a b → ((y : Holding) → IsHolding v h.cell y → Committed v w what us ls y) → IsInLimbo w (leaf l)
+removed_limbo v w h x a b l what us ls one c committed =
     let r = committed (anchor_held x c.old c.new) (c.holds.just.has, sym c.holds.cell) in
-    (retired r.pins (leaf l), subst (Member (retired r.pins (leaf l))) (sym (ap (λ (y : View). y.limbo) r.is)) (inl refl), refl)
+    let is : w.limbo ≡ retired r.pins (leaf l) ∷ v.limbo = ap (λ (y : View). y.limbo) r.is ∙ ap (λ (ds : List Link). all_retired r.pins ds ++ v.limbo) one in
+    (retired r.pins (leaf l), subst (Member (retired r.pins (leaf l))) (sym is) (inl refl), refl)
+
+-- the one cell that its child word names
+pub one_link : (word l : ℕ) → l < 2 ^ 32 → word ≡ child_word (leaf l) → links_of (word ∷ []) ≡ leaf l ∷ []
+one_link word l small e = ap (λ (o : Option Link). cons_option o []) (ap link_of e ∙ link_back (leaf l) small)
+

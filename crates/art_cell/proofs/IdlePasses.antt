@@ -1,6 +1,6 @@
 -- A pass that holds nothing, or that has stamped the anchor, or that holds the anchor unchanged.
 use Rattle.std.proofs.Common.{◌≡◌, ◌≢◌, ℕ, ◌+◌, ◌%◌, true, false, cond, eqb, List, [], ◌∷◌, Bool, Option, Some, None, refl, sym, ap, ◌∙◌, subst, inl, inr, ⊎_elim}
-use Rattle.std.specs.Prelude.{MatchResult, Result, Ok, Err}
+use Rattle.std.specs.Prelude.{IfSome, MatchResult, Result, Ok, Err}
 use Rattle.art_cell.specs.declared.cells.Cell.{Cell}
 use Rattle.art_cell.specs.declared.cells.Cell.TheVariants as cell
 use Rattle.art_cell.specs.declared.steps.Held.{Held}
@@ -13,11 +13,13 @@ use Rattle.art_cell.specs.declared.views.Stamp.{Stamp}
 use Rattle.art_cell.specs.declared.views.Sizes.{Sizes}
 use Rattle.art_cell.specs.declared.views.View.{View}
 use Rattle.art_cell.specs.declared.views.What.{What}
+use Rattle.art_cell.specs.declared.visits.Adding.{Adding}
+use Rattle.art_cell.specs.declared.visits.Removing.{Removing}
 use Rattle.art_cell.specs.declared.visits.Visit.{Visit}
 use Rattle.art_cell.specs.Shown.{Failed, FailedUpgrade, IsHolding, Passed, Released, Upgraded}
 use Rattle.art_cell.specs.StepRows.{Drops, MayLock, MayRelease, begun, note_of, stamp_of}
 use Rattle.art_cell.specs.Views.{IsClear, Member, size_of}
-use Rattle.art_cell.specs.Visits.{HasNone, HasJust, IsAway, IsIdle, StampsAnchor, anchor_held, HoldsAnchor, HoldsUnchanged, Locks, Visits}
+use Rattle.art_cell.specs.Visits.{HasNone, HasJust, IsAway, IsIdle, StampsAnchor, anchor_held, HoldsAnchor, HoldsUnchanged, Locks, Adds, Removes, Visits}
 use Rattle.art_cell.proofs.Turns.{member_back}
 
 -- ---- lists with few members
@@ -144,7 +146,7 @@ may_let_go w h holds =
           k.early,
           refl,
           (λ y i. let e = k.just.only y i in
-          (ap (λ (z : Holding). z.new) e ∙ sym (ap (λ (z : Holding). z.old) e), (x, ap (λ (z : Holding). z.stamped) e))),
+              (ap (λ (z : Holding). z.new) e ∙ sym (ap (λ (z : Holding). z.old) e), (x, ap (λ (z : Holding). z.stamped) e))),
         ),
       ),
     )
@@ -185,6 +187,12 @@ passed_away z v w x o away p = still_away v w (ap (λ (y : View). y.pin) p.is) (
 -- ---- what a visitor knows
 
 -- where its state is this one
+pub at_adding : (k : List ℕ) (value : ℕ) (z : Sizes) (v : View) (a b : Adding) → a ≡ b → Adds k value z v a → Adds k value z v b
+at_adding k value z v a b e known = subst (Adds k value z v) e known
+
+pub at_removing : (k : List ℕ) (value : ℕ) (z : Sizes) (v : View) (a b : Removing) → a ≡ b → Removes k value z v a → Removes k value z v b
+at_removing k value z v a b e known = subst (Removes k value z v) e known
+
 pub at_state : (k : List ℕ) (value : ℕ) (z : Sizes) (v : View) (a b : Visit) → a ≡ b → Visits k value z v a → Visits k value z v b
 at_state k value z v a b e known = subst (Visits k value z v) e known
 

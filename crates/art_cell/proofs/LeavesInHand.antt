@@ -19,9 +19,9 @@ use Rattle.art_cell.specs.Packed.{IsEight, byte_of-from_be_bytes}
 use Rattle.art_cell.specs.Shown.{IsInHand, Took, WroteLeaf, link_of_number}
 use Rattle.art_cell.specs.StepRows.{MayWriteLeaf}
 use Rattle.art_cell.specs.Views.{Member, words_in}
-use Rattle.art_cell.specs.Visits.{HasNone, HasJust, Fills, leaf_in_hand}
+use Rattle.art_cell.specs.Visits.{HasNone, HasJust, IsAway, Fills, leaf_in_hand}
 use Rattle.art_cell.specs.Words.{Words, byte_of, packed}
-use Rattle.art_cell.proofs.IdlePasses.{just_one, no_members}
+use Rattle.art_cell.proofs.IdlePasses.{just_one, no_members, still_away}
 
 -- ---- what ten words mean
 
@@ -124,6 +124,16 @@ filled_more z v w n k value place word low is f wrote = record {
 
     hand : w.hand ≡ row.hand
     hand = ap (λ (y : View). y.hand) row.is
+
+-- the pass stays away, one step later
+pub filled_away : (v w : View) (d : Link) (place word : ℕ) (y : InHand) → IsAway v → IsInHand v d y → ((x : InHand) → IsInHand v d x → WroteLeaf v w x place word) → IsAway w × (w.steps ≡ v.steps + 1)
+filled_away v w d place word y away has wrote =
+    let is = (wrote y has).is in
+    (still_away v w (ap (λ (x : View). x.pin) is) (ap (λ (x : View). x.held) is) away, ap (λ (x : View). x.steps) is)
+
+-- the number's leaf is in hand
+pub fills_hand : (z : Sizes) (v : View) (n : Number) (k : List ℕ) (value place : ℕ) (f : Fills z v.hand n k value place) → IsInHand v (link_of_number n) (leaf_in_hand n.number f.words)
+fills_hand z v n k value place f = (f.just.has, sym (leaf_link n f.pool))
 
 -- ten words are all
 pub filled_all : (z : Sizes) (hand : List InHand) (n : Number) (k : List ℕ) (value place : ℕ) → 10 ≤ place → Fills z hand n k value place → Fills z hand n k value 10

@@ -151,6 +151,6 @@ counts_none a = ap (λ k. k % 2 ^ 64) (sym (add-zero a))
 pub counts_one_more : (n a b c : ℕ) → Counts n a b → Counts 1 b c → Counts (n + 1) a c
 counts_one_more n a b c x y =
     y ∙ (sym (mod-add-mod b (2 ^ 64) 1)
-        ∙ (ap (λ k. (k + 1) % 2 ^ 64) x
-        ∙ (mod-add-mod (a + n) (2 ^ 64) 1
-        ∙ ap (λ k. k % 2 ^ 64) (add_assoc a n 1))))
+    ∙ (ap (λ k. (k + 1) % 2 ^ 64) x
+    ∙ (mod-add-mod (a + n) (2 ^ 64) 1
+    ∙ ap (λ k. k % 2 ^ 64) (add_assoc a n 1))))

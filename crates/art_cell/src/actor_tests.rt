@@ -1,14 +1,23 @@
 //! Three actors on one world, and an anchor at the end of its counter.
-ghost use Rattle.std.specs.Prelude.{◌≡◌, ◌≤◌, ◌+◌, false, refl, IfSome, MatchResult};
-ghost use Rattle.art_cell.specs.Visits.{HasNone, HoldsUnchanged, IsAway, IsIdle, Locks, StampsAnchor, Visits};
+ghost use Rattle.std.specs.Prelude.{◌≡◌, ◌<◌, ◌≤◌, ◌+◌, ◌∷◌, [], ℕ, false, refl, filter_map, IfSome, MatchResult};
+ghost use Rattle.std.specs.Option.{option_map};
 ghost use Rattle.std.proofs.Common.{◌∙◌};
 ghost use Rattle.std.proofs.lemmas.Bool.{false≢true};
-ghost use Rattle.art_cell.specs.Visits.{Counts, counts_none, counts_one_more};
+ghost use Rattle.art_cell.specs.declared.cells.Cell.TheVariants.{Anchor as anchor_cell};
+ghost use Rattle.art_cell.specs.declared.cells.Link.TheVariants.{Leaf as leaf_link};
+ghost use Rattle.art_cell.specs.declared.views.Fact.TheVariants.{LeafWord as leaf_word_fact, Word as word_fact};
+ghost use Rattle.art_cell.specs.Children.{child_word};
+ghost use Rattle.art_cell.specs.Leaves.{leaf_word};
+ghost use Rattle.art_cell.specs.NodeLives.{IsNoted, OnlyLearns};
+ghost use Rattle.art_cell.specs.Shown.{link_of_number};
+ghost use Rattle.art_cell.specs.StepRows.{IsInLimbo, stamp_of};
+ghost use Rattle.art_cell.specs.Visits.{Adds, ChangesWord, Counts, Fills, HoldsUnchanged, HoldsWord, IsAway, IsIdle, Locks, NotesLeaf, Removes, StampsAnchor, Visits, counts_none, counts_one_more};
+ghost use Rattle.art_cell.specs.WorldWords.{IsSameAt, OnlyTurned, view_at};
 
 use super::*;
-use crate::visits::Visit;
+use crate::visits::{Adding, Removing, Visit};
 use crate::word_places::pool_of_layout;
-use art_key::{Bound as KeyBound, Key};
+use art_key::Key;
 use rand_pcg::Pcg32;
 use rand_pcg::rand_core::{Rng, SeedableRng};
 use std::mem::replace;
@@ -22,6 +31,11 @@ const SIZES: Sizes = Sizes {
     n256: 1,
     passes: 3,
 };
+
+/// The row that comes and goes.
+const KEY: u8 = 75;
+
+const VALUE: u64 = 7;
 
 /// No counter that is this or more goes on by an upgrade.
 const LAST_COUNTER: u64 = (1 << 62) - 8;
@@ -86,20 +100,120 @@ fn let_go<S: Steps>(steps: &mut S, held: Held)
     steps.release(held, false);
 }
 
-/// Commits a look of an empty range, which changes no word but the anchor's version.
-fn commit_look<S: Steps>(steps: &mut S, held: Held)
-    requires hand { HasNone (S.view steps.old).hand }
-    requires holds { HoldsUnchanged (S.view steps.old) held }
+/// Reads the anchor's child word.
+fn read_anchor<S: Steps>(steps: &mut S, stamp: &Stamp) -> u64
+    requires away { IsAway (S.view steps.old) }
+    requires stamp { StampsAnchor (S.view steps.old) stamp.now }
+    ensures sizes { S.sizes steps.new ≡ S.sizes steps.old }
+    ensures only { S.only steps.old steps.new }
+    ensures step { (S.view steps.new).steps ≤ (S.view steps.old).steps + 1 }
+    ensures learns { OnlyLearns (S.view steps.old) (S.view steps.new) }
+    ensures noted { IsNoted (S.view steps.new) stamp.now (word_fact 1 result) }
+{
+    steps.read(stamp, Cell::Anchor, 1)
+}
+
+/// Reads the next word of the leaf that the anchor names.
+fn read_leaf<S: Steps>(steps: &mut S, stamp: &Stamp, leaf: u32, place: usize) -> u64
+    requires away { IsAway (S.view steps.old) }
+    requires stamp { StampsAnchor (S.view steps.old) stamp.now }
+    requires notes { NotesLeaf (S.sizes steps.old) (S.view steps.old) stamp.now leaf (KEY ∷ []) VALUE place }
+    requires place { place < 10 }
+    ensures sizes { S.sizes steps.new ≡ S.sizes steps.old }
+    ensures only { S.only steps.old steps.new }
+    ensures step { (S.view steps.new).steps ≤ (S.view steps.old).steps + 1 }
+    ensures learns { OnlyLearns (S.view steps.old) (S.view steps.new) }
+    ensures noted { IsNoted (S.view steps.new) stamp.now (leaf_word_fact leaf place result) }
+{
+    steps.read(stamp, Cell::Leaf(leaf), place)
+}
+
+/// Writes the next word of the leaf in hand.
+fn fill<S: Steps>(steps: &mut S, number: &mut Number, place: usize)
+    requires away { IsAway (S.view steps.old) }
+    requires fills { Fills (S.sizes steps.old) (S.view steps.old).hand number.old (KEY ∷ []) VALUE place }
+    requires place { place < 10 }
+    ensures sizes { S.sizes steps.new ≡ S.sizes steps.old }
+    ensures only { S.only steps.old steps.new }
+    ensures step { (S.view steps.new).steps ≤ (S.view steps.old).steps + 1 }
+    ensures away { IsAway (S.view steps.new) }
+    ensures fills { Fills (S.sizes steps.new) (S.view steps.new).hand number.new (KEY ∷ []) VALUE (place + 1) }
+{
+    steps.write_leaf(number, place, leaf_word(place));
+}
+
+/// The word at a place of the leaf.
+fn leaf_word(place: usize) -> u64
+    requires { place < 10 }
+    ensures { result ≡ leaf_word (KEY ∷ []) VALUE place }
+{
+    match place {
+        0 => VALUE,
+        1 => 1,
+        2 => (KEY as u64) << 56,
+        _ => 0,
+    }
+}
+
+/// The child word that names a leaf.
+fn word_of_leaf(number: u32) -> u64
+    ensures { result ≡ child_word (leaf_link number) }
+{
+    8 * number as u64 + 1
+}
+
+/// Writes the anchor's child word.
+fn write_child<S: Steps>(steps: &mut S, held: &mut Held, word: u64)
+    requires { (x : ℕ) × (a : ℕ) × HoldsWord (S.view steps.old) held.old x a }
+    ensures sizes { S.sizes steps.new ≡ S.sizes steps.old }
+    ensures only { S.only steps.old steps.new }
+    ensures step { (S.view steps.new).steps ≤ (S.view steps.old).steps + 1 }
+    ensures hand { (S.view steps.new).hand ≡ (S.view steps.old).hand }
+    ensures notes { (S.view steps.new).notes ≡ (S.view steps.old).notes }
+    ensures changes { (x a : ℕ) → HoldsWord (S.view steps.old) held.old x a → ChangesWord (S.view steps.new) held.new x a word }
+{
+    steps.write(held, 1, word);
+}
+
+/// The key of the row.
+fn row_key() -> Key
+    ensures { result.items ≡ KEY ∷ [] }
+{
+    let mut key = Key::new();
+    key.push(KEY);
+    key
+}
+
+/// Commits that the row is inserted.
+fn commit_insert<S: Steps>(steps: &mut S, held: Held, number: Number)
+    requires fills { Fills (S.sizes steps.old) (S.view steps.old).hand number (KEY ∷ []) VALUE 10 }
+    requires changes { (x : ℕ) × ChangesWord (S.view steps.old) held x 0 (child_word (leaf_link number.number)) }
     ensures sizes { S.sizes steps.new ≡ S.sizes steps.old }
     ensures only { S.only steps.old steps.new }
     ensures step { (S.view steps.new).steps ≤ (S.view steps.old).steps + 1 }
     ensures idle { IsIdle (S.view steps.new) }
 {
-    let deed = Deed::Look(Key::new(), KeyBound::At(Key::new()), None);
-    let [first, second, third] = steps.commit(held, false, &deed, None, &[]);
+    let deed = Deed::Done(Act::Insert(row_key(), VALUE), Answer::Inserted);
+    let [first, second, third] = steps.commit(held, false, &deed, Some(number), &[]);
     let_number_go(first);
     let_number_go(second);
     let_number_go(third);
+}
+
+/// Commits that the row is removed. The number of its leaf comes back.
+fn commit_remove<S: Steps>(steps: &mut S, held: Held, leaf: u32) -> Number
+    requires { Removes (KEY ∷ []) VALUE (S.sizes steps.old) (S.view steps.old) (Removing.Written held leaf) }
+    ensures sizes { S.sizes steps.new ≡ S.sizes steps.old }
+    ensures only { S.only steps.old steps.new }
+    ensures step { (S.view steps.new).steps ≤ (S.view steps.old).steps + 1 }
+    ensures idle { IsIdle (S.view steps.new) }
+    ensures number { link_of_number result ≡ leaf_link leaf }
+    ensures limbo { IsInLimbo (S.view steps.new) (leaf_link leaf) }
+{
+    let deed = Deed::Done(Act::Remove(row_key()), Answer::Removed(VALUE));
+    let word = word_of_leaf(leaf);
+    let numbers = steps.commit(held, false, &deed, None, &[word]);
+    one_number(numbers, leaf)
 }
 
 /// A commit that unlinks nothing hands out no number.
@@ -107,14 +221,36 @@ fn let_number_go(number: Option<Number>) {
     if let Some(Number { pool: _, number: _ }) = number {}
 }
 
+/// The number of the one leaf that a commit unlinked.
+fn one_number(numbers: Unlinked, leaf: u32) -> Number
+    requires { filter_map (option_map link_of_number) numbers ≡ leaf_link leaf ∷ [] }
+    ensures { link_of_number result ≡ leaf_link leaf }
+{
+    let [first, second, third] = numbers;
+    if let Some(number) = first {
+        let_number_go(second);
+        let_number_go(third);
+        return number;
+    }
+    if let Some(number) = second {
+        let_number_go(third);
+        return number;
+    }
+    let Some(number) = third else { unreachable!() };
+    number
+}
+
 // ---- the visitors
 
-/// What a visitor does once it has stamped the anchor.
+/// What a visitor does with the anchor.
 #[derive(Clone, Copy, Debug, PartialEq, Eq)]
 enum Task {
+    /// Stamps it, and checks the stamp until it fails.
     Look,
+    /// Locks it, and lets it go.
     GiveUp,
-    Commit,
+    /// Puts a leaf below it, and takes the leaf out again.
+    Change,
 }
 
 /// Loops for ever over its task, and counts its turns.
@@ -124,36 +260,175 @@ struct Visitor {
     visit: Visit,
 }
 
-/// The next step of a task, and what is kept then.
-fn step<S: Steps>(task: Task, visit: Visit, steps: &mut S) -> Visit
-    requires { Visits visit (S.view steps.old) }
+/// The next step of one that changes nothing.
+fn look<S: Steps>(task: Task, stamp: Option<Stamp>, steps: &mut S) -> Visit
+    requires idle { IsIdle (S.view steps.old) }
+    requires stamp { IfSome stamp (StampsAnchor (S.view steps.old)) }
     ensures sizes { S.sizes steps.new ≡ S.sizes steps.old }
     ensures only { S.only steps.old steps.new }
     ensures step { (S.view steps.new).steps ≤ (S.view steps.old).steps + 1 }
-    ensures visits { Visits result (S.view steps.new) }
+    ensures visits { Visits (KEY ∷ []) VALUE (S.sizes steps.new) (S.view steps.new) result }
 {
-    match visit {
-        Visit::Idle => match begin(steps) {
+    let Some(stamp) = stamp else {
+        return match begin(steps) {
+            Some(stamp) => Visit::Stamped(stamp),
+            None => Visit::Idle,
+        };
+    };
+    match task {
+        Task::Look => match check(steps, stamp) {
             Some(stamp) => Visit::Stamped(stamp),
             None => Visit::Idle,
         },
-        Visit::Stamped(stamp) => match task {
-            Task::Look => match check(steps, stamp) {
-                Some(stamp) => Visit::Stamped(stamp),
-                None => Visit::Idle,
-            },
-            _ => match upgrade(steps, stamp) {
-                Ok(held) => Visit::Locked(held),
-                Err(_) => Visit::Idle,
-            },
+        _ => match upgrade(steps, stamp) {
+            Ok(held) => Visit::Locked(held),
+            Err(_) => Visit::Idle,
         },
-        Visit::Locked(held) => {
-            match task {
-                Task::Commit => commit_look(steps, held),
-                _ => let_go(steps, held),
+    }
+}
+
+/// The next step of one that adds the leaf.
+fn add<S: Steps>(adding: Adding, steps: &mut S) -> Visit
+    requires { Adds (KEY ∷ []) VALUE (S.sizes steps.old) (S.view steps.old) adding }
+    ensures sizes { S.sizes steps.new ≡ S.sizes steps.old }
+    ensures only { S.only steps.old steps.new }
+    ensures step { (S.view steps.new).steps ≤ (S.view steps.old).steps + 1 }
+    ensures visits { Visits (KEY ∷ []) VALUE (S.sizes steps.new) (S.view steps.new) result }
+{
+    let next = match adding {
+        Adding::Filling(number, place) if place < 10 => {
+            let mut leaf = number;
+            fill(steps, &mut leaf, place);
+            Adding::Filling(leaf, place + 1)
+        }
+        Adding::Filling(number, _) => match begin(steps) {
+            Some(stamp) => Adding::Stamped(number, stamp),
+            None => Adding::Filling(number, 10),
+        },
+        Adding::Stamped(number, stamp) => match read_anchor(steps, &stamp) {
+            0 => Adding::Seen(number, stamp),
+            _ => Adding::Filling(number, 10),
+        },
+        Adding::Seen(number, stamp) => match upgrade(steps, stamp) {
+            Ok(held) => Adding::Locked(number, held),
+            Err(_) => Adding::Filling(number, 10),
+        },
+        Adding::Locked(number, held) => {
+            let mut anchor = held;
+            write_child(steps, &mut anchor, word_of_leaf(number.number));
+            Adding::Written(number, anchor)
+        }
+        Adding::Written(number, held) => {
+            commit_insert(steps, held, number);
+            return Visit::Removing(Removing::Idle);
+        }
+    };
+    Visit::Adding(next)
+}
+
+/// The next step of one that removes the leaf.
+fn remove(removing: Removing, at: &mut At<'_>) -> Visit
+    requires { Removes (KEY ∷ []) VALUE at.old.world.now.sizes (view_at at.old.world.now.views at.old.pass) removing }
+    ensures only { IsSameAt at.old.world.ghost_name at.new.world.ghost_name at.old.pass at.new.pass × OnlyTurned at.old.world.now at.new.world.now at.old.pass }
+    ensures step { (view_at at.new.world.now.views at.new.pass).steps ≤ (view_at at.old.world.now.views at.old.pass).steps + 1 }
+    ensures visits { Visits (KEY ∷ []) VALUE at.new.world.now.sizes (view_at at.new.world.now.views at.new.pass) result }
+{
+    let leaves = leaves_of(at.world);
+    let next = match removing {
+        Removing::Idle => match begin(at) {
+            Some(stamp) => Removing::Stamped(stamp),
+            None => Removing::Idle,
+        },
+        Removing::Stamped(stamp) => see_leaf(at, stamp, leaves),
+        Removing::Reading(stamp, leaf, place) if place < 3 => {
+            match read_leaf(at, &stamp, leaf, place) == leaf_word(place) {
+                true => Removing::Reading(stamp, leaf, place + 1),
+                false => Removing::Idle,
             }
+        }
+        Removing::Reading(stamp, leaf, _) => match upgrade(at, stamp) {
+            Ok(held) => Removing::Locked(held, leaf),
+            Err(_) => Removing::Idle,
+        },
+        Removing::Locked(held, leaf) => {
+            let mut anchor = held;
+            write_child(at, &mut anchor, 0);
+            Removing::Written(anchor, leaf)
+        }
+        Removing::Written(held, leaf) => {
+            take_out(at, held, leaf);
+            return Visit::Idle;
+        }
+    };
+    Visit::Removing(next)
+}
+
+/// How many leaves there are.
+fn leaves_of(world: &World) -> u32
+    ensures { result ≡ world.now.sizes.leaves }
+{
+    world.sizes.leaves
+}
+
+/// Reads which leaf the anchor names.
+fn see_leaf<S: Steps>(steps: &mut S, stamp: Stamp, leaves: u32) -> Removing
+    requires leaves { leaves ≡ (S.sizes steps.old).leaves }
+    requires idle { IsIdle (S.view steps.old) }
+    requires stamp { StampsAnchor (S.view steps.old) stamp }
+    ensures sizes { S.sizes steps.new ≡ S.sizes steps.old }
+    ensures only { S.only steps.old steps.new }
+    ensures step { (S.view steps.new).steps ≤ (S.view steps.old).steps + 1 }
+    ensures removes { Removes (KEY ∷ []) VALUE (S.sizes steps.new) (S.view steps.new) result }
+{
+    match Link::named_by(read_anchor(steps, &stamp)) {
+        Some(Link::Leaf(leaf)) if leaf < leaves => Removing::Reading(stamp, leaf, 0),
+        _ => Removing::Idle,
+    }
+}
+
+/// Commits that the row is removed, and gives the leaf's number back, which no stamp can name.
+fn take_out(at: &mut At<'_>, held: Held, leaf: u32)
+    requires { Removes (KEY ∷ []) VALUE at.old.world.now.sizes (view_at at.old.world.now.views at.old.pass) (Removing.Written held leaf) }
+    ensures only { IsSameAt at.old.world.ghost_name at.new.world.ghost_name at.old.pass at.new.pass × OnlyTurned at.old.world.now at.new.world.now at.old.pass }
+    ensures step { (view_at at.new.world.now.views at.new.pass).steps ≤ (view_at at.old.world.now.views at.old.pass).steps + 1 }
+    ensures idle { IsIdle (view_at at.new.world.now.views at.new.pass) }
+{
+    let number = commit_remove(at, held, leaf);
+    at.world.give_back(at.pass, number);
+}
+
+/// Takes a leaf's number into the hand, if one is free, which is no step.
+fn take_leaf(at: &mut At<'_>) -> Visit
+    requires { IsIdle (view_at at.old.world.now.views at.old.pass) }
+    ensures only { IsSameAt at.old.world.ghost_name at.new.world.ghost_name at.old.pass at.new.pass × OnlyTurned at.old.world.now at.new.world.now at.old.pass }
+    ensures step { (view_at at.new.world.now.views at.new.pass).steps ≤ (view_at at.old.world.now.views at.old.pass).steps + 1 }
+    ensures visits { Visits (KEY ∷ []) VALUE at.new.world.now.sizes (view_at at.new.world.now.views at.new.pass) result }
+{
+    match at.world.first_free(at.pass, Pool::Leaves) {
+        Some(number) => Visit::Adding(Adding::Filling(number, 0)),
+        None => Visit::Idle,
+    }
+}
+
+/// The next step of a task, and what is kept then.
+fn go_on(task: Task, visit: Visit, at: &mut At<'_>) -> Visit
+    requires { Visits (KEY ∷ []) VALUE at.old.world.now.sizes (view_at at.old.world.now.views at.old.pass) visit }
+    ensures only { IsSameAt at.old.world.ghost_name at.new.world.ghost_name at.old.pass at.new.pass × OnlyTurned at.old.world.now at.new.world.now at.old.pass }
+    ensures step { (view_at at.new.world.now.views at.new.pass).steps ≤ (view_at at.old.world.now.views at.old.pass).steps + 1 }
+    ensures visits { Visits (KEY ∷ []) VALUE at.new.world.now.sizes (view_at at.new.world.now.views at.new.pass) result }
+{
+    match visit {
+        Visit::Idle => match task {
+            Task::Change => take_leaf(at),
+            _ => look(task, None, at),
+        },
+        Visit::Stamped(stamp) => look(task, Some(stamp), at),
+        Visit::Locked(held) => {
+            let_go(at, held);
             Visit::Idle
         }
+        Visit::Adding(adding) => add(adding, at),
+        Visit::Removing(removing) => remove(removing, at),
     }
 }
 
@@ -175,15 +450,42 @@ impl Visitor {
             visit,
         } = self;
         match visit {
-            Visit::Idle => {}
-            Visit::Stamped(_) => {}
-            Visit::Locked(Held { cell: _ }) => {}
+            Visit::Idle | Visit::Stamped(_) => {}
+            Visit::Locked(held) => end_held(held),
+            Visit::Adding(adding) => end_adding(adding),
+            Visit::Removing(removing) => end_removing(removing),
         }
     }
 }
 
+/// The test ends with the anchor locked.
+fn end_held(held: Held) {
+    let Held { cell: _ } = held;
+}
+
+fn end_adding(adding: Adding) {
+    match adding {
+        Adding::Filling(number, _) | Adding::Stamped(number, _) | Adding::Seen(number, _) => {
+            let_number_go(Some(number));
+        }
+        Adding::Locked(number, held) | Adding::Written(number, held) => {
+            let_number_go(Some(number));
+            end_held(held);
+        }
+    }
+}
+
+fn end_removing(removing: Removing) {
+    match removing {
+        Removing::Idle | Removing::Stamped(_) | Removing::Reading(_, _, _) => {}
+        Removing::Locked(held, _) | Removing::Written(held, _) => end_held(held),
+    }
+}
+
 impl Actor for Visitor {
-    ghost fits = { λ a z v. Visits a.visit v };
+    ghost use Rattle.art_cell.specs.declared.actor_tests.TheConstants.{KEY, VALUE};
+
+    ghost fits = { λ a z v. Visits (KEY ∷ []) VALUE z v a.visit };
 
     ghost has_ended = { λ a. false };
 
@@ -198,7 +500,7 @@ impl Actor for Visitor {
     fn turn(&mut self, at: &mut At<'_>) -> bool {
         self.turns = self.turns.wrapping_add(1);
         let visit = replace(&mut self.visit, Visit::Idle);
-        let next = step(self.task, visit, at);
+        let next = go_on(self.task, visit, at);
         let before = replace(&mut self.visit, next);
         let Visit::Idle = before else { unreachable!() };
         false
@@ -297,11 +599,13 @@ fn visitors_take_turns(rt: HostRuntime) -> Result<(), Fail> {
     let mut visitors = [
         Visitor::new(Task::Look),
         Visitor::new(Task::GiveUp),
-        Visitor::new(Task::Commit),
+        Visitor::new(Task::Change),
     ];
     let mut numbers = Pcg32::seed_from_u64(1);
     let mut drawn = [0u64; 4];
     let mut last = world.version(Cell::Anchor);
+    let mut named = world.word(Cell::Anchor, 1);
+    let mut changes = 0u64;
     assert_eq!(rt; last, 0);
     assert!(rt; words_are_formed(&world));
     for _ in 0..10000 {
@@ -312,18 +616,22 @@ fn visitors_take_turns(rt: HostRuntime) -> Result<(), Fail> {
         let version = world.version(Cell::Anchor);
         assert!(rt; last <= version);
         last = version;
+        let names = world.word(Cell::Anchor, 1);
+        if names != named {
+            changes = changes.wrapping_add(1);
+        }
+        named = names;
     }
+    assert!(rt; changes > 20);
     assert!(rt; last > 0);
-    let [looker, locker, committer] = visitors;
-    assert_eq!(rt; [looker.turns, locker.turns, committer.turns], [drawn[0], drawn[1], drawn[2]]);
+    let [looker, locker, changer] = visitors;
+    assert_eq!(rt;
+        [looker.turns, locker.turns, changer.turns],
+        [drawn[0], drawn[1], drawn[2]]
+    );
     looker.end();
     locker.end();
-    committer.end();
-    let World {
-        sizes: _,
-        words: _,
-        views: _,
-    } = world;
+    changer.end();
     Ok(())
 }
 
@@ -343,10 +651,5 @@ fn the_anchor_at_the_end_of_its_counter_is_exhausted(rt: HostRuntime) -> Result<
         Err(fault) => assert_eq!(rt; fault, UpgradeFault::Exhausted(Cell::Anchor)),
     }
     assert_eq!(rt; at.world.version(Cell::Anchor), 18446744073709551584);
-    let World {
-        sizes: _,
-        words: _,
-        views: _,
-    } = world;
     Ok(())
 }

@@ -14,9 +14,9 @@ mod cells;
 mod commit_laws;
 mod deeds;
 mod laws;
+mod layouts;
 #[cfg(test)]
 mod life_tests;
-mod layouts;
 mod made_steps;
 mod node_kinds;
 mod opening;

@@ -1,5 +1,6 @@
-use Rattle.std.proofs.Common.{◌≡◌, ℕ, length, Some}
+use Rattle.std.proofs.Common.{◌≡◌, ℕ, [], ◌∷◌, length, Some}
 use Rattle.std.specs.List.{slice_get}
+use Rattle.art_cell.specs.declared.actor_tests.TheConstants.{KEY, VALUE}
 use Rattle.art_cell.specs.declared.actor_tests.Visitor.{Visitor}
 use Rattle.art_cell.specs.Visits.{Visits}
 use Rattle.art_cell.specs.WorldWords.{view_at}
@@ -9,5 +10,5 @@ abbrev pub invariant-loop : goal.invariant-loop
 invariant-loop g l = record {
   passes : length l.world.views ≡ 3;
   visitors : length l.visitors ≡ 3;
-  fits : (p : ℕ) (a : Visitor) → slice_get l.visitors p ≡ Some a → Visits a.visit (view_at l.world.views p);
+  fits : (p : ℕ) (a : Visitor) → slice_get l.visitors p ≡ Some a → Visits (KEY ∷ []) VALUE l.world.sizes (view_at l.world.views p) a.visit;
 }
