@@ -1,5 +1,5 @@
 -- A pass that holds the anchor alone writes its child word, and commits.
-use Rattle.std.proofs.Common.{◌≡◌, ℕ, ◌+◌, ◌*◌, ◌^◌, ◌<◌, true, false, List, [], ◌∷◌, ◌++◌, set, Some, None, Option, refl, sym, ap, ap₂, ◌∙◌, subst, subst₂, inl, inr, ⊎_elim, arith, get_or-set_same}
+use Rattle.std.proofs.Common.{◌≡◌, ◌≢◌, ℕ, ◌+◌, ◌*◌, ◌^◌, ◌<◌, true, false, List, [], ◌∷◌, ◌++◌, set, Some, None, Option, refl, sym, ap, ap₂, ◌∙◌, subst, subst₂, inl, inr, ⊎_elim, arith, get_or-set_same}
 use Rattle.std.specs.List.{cons_option}
 use Rattle.art_cell.specs.declared.cells.Cell.{Cell}
 use Rattle.art_cell.specs.declared.cells.Cell.TheVariants as cell
@@ -13,6 +13,7 @@ use Rattle.art_cell.specs.declared.views.Bound.TheVariants.{To}
 use Rattle.art_cell.specs.declared.views.Fact.TheVariants.{LeafWord}
 use Rattle.art_cell.specs.declared.views.Holding.{Holding}
 use Rattle.art_cell.specs.declared.views.InHand.{InHand}
+use Rattle.art_cell.specs.declared.views.Retired.{Retired}
 use Rattle.art_cell.specs.declared.views.Sizes.{Sizes}
 use Rattle.art_cell.specs.declared.views.View.{View}
 use Rattle.art_cell.specs.declared.views.What.{What}
@@ -22,18 +23,19 @@ use Rattle.art_cell.specs.CommitLaws.{HoldsJust, ClaimedAmong}
 use Rattle.art_cell.specs.Heaps.{Cells, heap_of}
 use Rattle.art_cell.specs.Leaves.{leaf_word}
 use Rattle.art_cell.specs.Looks.{Before}
-use Rattle.art_cell.specs.Shown.{Committed, IsHolding, Wrote, claimed_node, claimed_nodes, coming, link_of_number, links_of}
-use Rattle.art_cell.specs.StepRows.{AllNew, Commits, IsInLimbo, IsNotHeld, Knows, MayBeFirst, MayCommit, MayWrite, note_of, all_retired, retired, stamp_of}
+use Rattle.art_cell.specs.Shown.{Committed, Freed, IsHolding, Wrote, claimed_node, claimed_nodes, coming, link_of_number, links_of}
+use Rattle.art_cell.specs.StepRows.{AllNew, Commits, IsInLimbo, IsNotHeld, Knows, MayBeFirst, MayCommit, MayFree, MayWrite, note_of, all_retired, retired, stamp_of}
 use Rattle.art_cell.specs.Tree.{Top}
-use Rattle.art_cell.specs.Views.{Member, words_in}
+use Rattle.art_cell.specs.Views.{Member, Views, words_in}
 use Rattle.art_cell.specs.Visits.{HasNone, HasJust, IsAway, IsIdle, anchor_held, HoldsAnchor, HoldsUnchanged, HoldsWord, ChangesWord, Fills, NotesLeaf}
 use Rattle.art_cell.specs.Words.{Words}
 use Rattle.art_cell.proofs.ChangeCommits.{add_commits, drop_commits}
 use Rattle.art_cell.proofs.ChildWords.{link_back}
 use Rattle.art_cell.proofs.Frame.{opened_unlinked}
-use Rattle.art_cell.proofs.IdlePasses.{none_left}
+use Rattle.art_cell.proofs.IdlePasses.{none_left, still_away, still_empty}
 use Rattle.art_cell.proofs.LeavesInHand.{first_words, has_leaf, leaf_link}
 use Rattle.art_cell.proofs.NodeLives.{key_is_one}
+use Rattle.art_cell.proofs.Places.{same_link}
 use Rattle.art_cell.proofs.StepCommits.{either_held}
 
 -- ---- nothing is claimed
@@ -256,3 +258,45 @@ removed_limbo v w h x a b l what us ls one c committed =
 pub one_link : (word l : ℕ) → l < 2 ^ 32 → word ≡ child_word (leaf l) → links_of (word ∷ []) ≡ leaf l ∷ []
 one_link word l small e = ap (λ (o : Option Link). cons_option o []) (ap link_of e ∙ link_back (leaf l) small)
 
+
+-- ---- and it goes back, since no stamp is a leaf's
+
+-- the list without the leaf
+without_leaf : (l : ℕ) (es : List Retired) → (ks : List Retired) × ((e : Retired) → Member e ks → Member e es × (e.link ≢ leaf l)) × ((e : Retired) → Member e es → e.link ≢ leaf l → Member e ks)
+without_leaf l [] = ([], λ e i. absurd i, λ e i other. absurd i)
+without_leaf l (a ∷ es) =
+    let rest = without_leaf l es in
+    ⊎_elim
+    (λ (is : a.link ≡ leaf l). (
+      rest.0,
+      (λ e i. let o = rest.1 e i in (inr o.0, o.1)),
+      (λ e i other. ⊎_elim (λ (same : e ≡ a). absurd (other (ap (λ (y : Retired). y.link) same ∙ is))) (λ (j : Member e es). rest.2 e j other) i),
+    ))
+    (λ (not : a.link ≢ leaf l). (
+      a ∷ rest.0,
+      (λ e i. ⊎_elim
+          (λ (same : e ≡ a). (inl same, λ is. not (sym (ap (λ (y : Retired). y.link) same) ∙ is)))
+          (λ (j : Member e rest.0). let o = rest.1 e j in (inr o.0, o.1))
+          i),
+      (λ e i other. ⊎_elim (λ (same : e ≡ a). inl same) (λ (j : Member e es). inr (rest.2 e j other)) i),
+    ))
+    (same_link a.link (leaf l))
+
+pub may_give_back : (f : Views) (v : View) (d : Link) (l : ℕ) → d ≡ leaf l → IsInLimbo v (leaf l) → (es : List Retired) × MayFree f v d es
+may_give_back f v d l is limbo =
+    let rest = without_leaf l v.limbo in (
+      rest.0,
+      subst (λ (c : Link). MayFree f v c rest.0) (sym is) (record {
+        limbo = limbo;
+        free = λ n e. absurd (cc);
+        unstamped = λ q u n at e. absurd (cc);
+        was = rest.1;
+        stays = rest.2;
+      }),
+    )
+
+pub freed_idle : (v w : View) (d : Link) → IsIdle v → Freed v w d → IsIdle w
+freed_idle v w d idle f = record {
+  away = still_away v w (ap (λ (y : View). y.pin) f.is) (ap (λ (y : View). y.held) f.is) idle.away;
+  hand = still_empty v w idle.hand (ap (λ (y : View). y.hand) f.is);
+}

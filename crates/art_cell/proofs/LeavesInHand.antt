@@ -1,5 +1,5 @@
 -- A leaf in hand, whose words are written one after another.
-use Rattle.std.proofs.Common.{◌≡◌, ℕ, zero, suc, ◌+◌, ◌*◌, ◌/◌, ◌%◌, ◌^◌, ◌<◌, ◌≤◌, List, [], ◌∷◌, length, get_or, map, set, refl, sym, ap, ◌∙◌, subst, subst₂, inl, inr, ⊎_elim, arith, get_or-set_other, get_or-set_same}
+use Rattle.std.proofs.Common.{◌≡◌, ℕ, zero, suc, ◌+◌, ◌*◌, ◌/◌, ◌%◌, ◌^◌, ◌<◌, ◌≤◌, true, List, [], ◌∷◌, length, get_or, map, set, refl, sym, ap, ◌∙◌, subst, subst₂, inl, inr, ⊎_elim, arith, get_or-set_other, get_or-set_same}
 use Rattle.std.proofs.lemmas.Bool.{cases_eq, cases_lt}
 use Rattle.std.proofs.lemmas.List.{get_or_past, length-set}
 use Rattle.std.proofs.lemmas.List.FromFn.{get_or-map-range_with_len, fill_by_all}
@@ -17,11 +17,15 @@ use Rattle.art_cell.specs.CommitLaws.{HasLeaf}
 use Rattle.art_cell.specs.Leaves.{IsLeaf, leaf_word}
 use Rattle.art_cell.specs.Packed.{IsEight, byte_of-from_be_bytes}
 use Rattle.art_cell.specs.Shown.{IsInHand, Took, WroteLeaf, link_of_number}
+use Rattle.art_cell.specs.Sound.{IsSound}
 use Rattle.art_cell.specs.StepRows.{MayWriteLeaf}
-use Rattle.art_cell.specs.Views.{Member, words_in}
-use Rattle.art_cell.specs.Visits.{HasNone, HasJust, IsAway, Fills, leaf_in_hand}
+use Rattle.art_cell.specs.Views.{IsNumber, Member, words_in}
+use Rattle.art_cell.specs.Visits.{HasNone, HasJust, IsAway, IsIdle, Fills, leaf_in_hand}
 use Rattle.art_cell.specs.Words.{Words, byte_of, packed}
+use Rattle.art_cell.specs.WorldWords.{Kept, OnlyTurned, memory_now, view_at, views_of}
 use Rattle.art_cell.proofs.IdlePasses.{just_one, no_members, still_away}
+use Rattle.art_cell.proofs.WorldFree.{free_is_number}
+use Rattle.art_cell.proofs.WorldViews.{at_view}
 
 -- ---- what ten words mean
 
@@ -91,6 +95,32 @@ took_fills z v w n k value none pool inside small t long = record {
     hand = ap (λ (y : View). y.hand) t.is
         ∙ (ap (λ (xs : List InHand). record { link = link_of_number n; words = t.words } ∷ xs) (no_members v.hand none)
         ∙ ap (λ (d : Link). record { link = d; words = t.words } ∷ []) (leaf_link n pool))
+
+-- it was free, so there is such a leaf; and all is sound, so it has ten words
+pub took_leaf : (a b : Kept) (p : ℕ) (n : Number) (k : List ℕ) (value : ℕ) → p < length a.views → OnlyTurned a b p → IsSound b.sizes (memory_now b) (views_of b.views) → b.sizes.leaves < 2 ^ 32 → IsIdle (view_at a.views p)
+    → n.pool ≡ Leaves → (memory_now a).free (link_of_number n) ≡ true → Took (view_at a.views p) (view_at b.views p) (link_of_number n) → IsAway (view_at b.views p) × Fills b.sizes (view_at b.views p).hand n k value 0
+took_leaf a b p n k value low turned sound few idle pool free t = (
+  still_away v w (ap (λ (y : View). y.pin) t.is) (ap (λ (y : View). y.held) t.is) idle.away,
+  took_fills b.sizes v w n k value idle.hand pool inside (omega (arith, inside, few)) t long,
+)
+  where
+    v : View
+    v = view_at a.views p
+
+    w : View
+    w = view_at b.views p
+
+    inside : n.number < b.sizes.leaves
+    inside = subst₂ (λ (z : Sizes) (d : Link). IsNumber z d) (sym turned.sizes) (leaf_link n pool) (free_is_number a.sizes a.words (link_of_number n) free)
+
+    taken : InHand
+    taken = record { link = link_of_number n; words = t.words }
+
+    has : Member taken w.hand
+    has = subst (Member taken) (sym (ap (λ (y : View). y.hand) t.is)) (inl refl)
+
+    long : length t.words ≡ 10
+    long = ((sound.numbers.accounts p w (at_view b.views p (subst (λ (m : ℕ). p < m) (sym turned.count) low))).leaves taken n.number has (leaf_link n pool)).0
 
 -- the next word may be written
 pub may_fill : (z : Sizes) (v : View) (n : Number) (k : List ℕ) (value place : ℕ) → place < 10 → Fills z v.hand n k value place

@@ -10,9 +10,10 @@ ghost use Rattle.art_cell.specs.Children.{child_word};
 ghost use Rattle.art_cell.specs.Leaves.{leaf_word};
 ghost use Rattle.art_cell.specs.NodeLives.{IsNoted, OnlyLearns};
 ghost use Rattle.art_cell.specs.Shown.{link_of_number};
+ghost use Rattle.art_cell.specs.Sound.{IsSound};
 ghost use Rattle.art_cell.specs.StepRows.{IsInLimbo, stamp_of};
 ghost use Rattle.art_cell.specs.Visits.{Adds, ChangesWord, Counts, Fills, HoldsUnchanged, HoldsWord, IsAway, IsIdle, Locks, NotesLeaf, Removes, StampsAnchor, Visits, counts_none, counts_one_more};
-ghost use Rattle.art_cell.specs.WorldWords.{IsSameAt, OnlyTurned, view_at};
+ghost use Rattle.art_cell.specs.WorldWords.{IsSameAt, OnlyTurned, memory_now, view_at, views_of};
 
 use super::*;
 use crate::visits::{Adding, Removing, Visit};
@@ -363,9 +364,10 @@ fn remove(removing: Removing, at: &mut At<'_>) -> Visit
     Visit::Removing(next)
 }
 
-/// How many leaves there are.
+/// How many leaves a world has. What always holds of a world holds of it.
 fn leaves_of(world: &World) -> u32
-    ensures { result ≡ world.now.sizes.leaves }
+    ensures leaves { result ≡ world.now.sizes.leaves }
+    ensures sound { IsSound world.now.sizes (memory_now world.now) (views_of world.now.views) }
 {
     world.sizes.leaves
 }
@@ -404,10 +406,11 @@ fn take_leaf(at: &mut At<'_>) -> Visit
     ensures step { (view_at at.new.world.now.views at.new.pass).steps ≤ (view_at at.old.world.now.views at.old.pass).steps + 1 }
     ensures visits { Visits (KEY ∷ []) VALUE at.new.world.now.sizes (view_at at.new.world.now.views at.new.pass) result }
 {
-    match at.world.first_free(at.pass, Pool::Leaves) {
-        Some(number) => Visit::Adding(Adding::Filling(number, 0)),
-        None => Visit::Idle,
-    }
+    let Some(number) = at.world.first_free(at.pass, Pool::Leaves) else {
+        return Visit::Idle;
+    };
+    let _leaves = leaves_of(at.world);
+    Visit::Adding(Adding::Filling(number, 0))
 }
 
 /// The next step of a task, and what is kept then.
