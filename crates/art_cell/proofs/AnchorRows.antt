@@ -9,7 +9,6 @@ use Rattle.art_cell.specs.declared.layouts.Number.{Number}
 use Rattle.art_cell.specs.declared.steps.Held.{Held}
 use Rattle.art_cell.specs.declared.views.Answer.TheVariants.{Inserted, Removed}
 use Rattle.art_cell.specs.declared.views.Asked.TheVariants.{Insert, Remove}
-use Rattle.art_cell.specs.declared.views.Bound.TheVariants.{To}
 use Rattle.art_cell.specs.declared.views.Fact.TheVariants.{LeafWord}
 use Rattle.art_cell.specs.declared.views.Holding.{Holding}
 use Rattle.art_cell.specs.declared.views.InHand.{InHand}
@@ -17,17 +16,16 @@ use Rattle.art_cell.specs.declared.views.Retired.{Retired}
 use Rattle.art_cell.specs.declared.views.Sizes.{Sizes}
 use Rattle.art_cell.specs.declared.views.View.{View}
 use Rattle.art_cell.specs.declared.views.What.{What}
-use Rattle.art_cell.specs.declared.views.What.TheVariants.{Done, Look}
+use Rattle.art_cell.specs.declared.views.What.TheVariants.{Done}
 use Rattle.art_cell.specs.Children.{child_word, link_of}
 use Rattle.art_cell.specs.CommitLaws.{HoldsJust, ClaimedAmong}
 use Rattle.art_cell.specs.Heaps.{Cells, heap_of}
 use Rattle.art_cell.specs.Leaves.{leaf_word}
-use Rattle.art_cell.specs.Looks.{Before}
 use Rattle.art_cell.specs.Shown.{Committed, Freed, IsHolding, Wrote, claimed_node, claimed_nodes, coming, link_of_number, links_of}
-use Rattle.art_cell.specs.StepRows.{AllNew, Commits, IsInLimbo, IsNotHeld, Knows, MayBeFirst, MayCommit, MayFree, MayWrite, note_of, all_retired, retired, stamp_of}
+use Rattle.art_cell.specs.StepRows.{AllNew, Commits, IsInLimbo, Knows, MayBeFirst, MayCommit, MayFree, MayWrite, note_of, all_retired, retired, stamp_of}
 use Rattle.art_cell.specs.Tree.{Top}
 use Rattle.art_cell.specs.Views.{Member, Views, words_in}
-use Rattle.art_cell.specs.Visits.{HasNone, HasJust, IsAway, IsIdle, anchor_held, HoldsAnchor, HoldsUnchanged, HoldsWord, ChangesWord, Fills, NotesLeaf}
+use Rattle.art_cell.specs.Visits.{HasNone, HasJust, IsAway, IsIdle, anchor_held, HoldsAnchor, HoldsWord, ChangesWord, Fills, NotesLeaf}
 use Rattle.art_cell.specs.Words.{Words}
 use Rattle.art_cell.proofs.ChangeCommits.{add_commits, drop_commits}
 use Rattle.art_cell.proofs.ChildWords.{link_back}
@@ -36,7 +34,6 @@ use Rattle.art_cell.proofs.IdlePasses.{none_left, still_away, still_empty}
 use Rattle.art_cell.proofs.LeavesInHand.{first_words, has_leaf, leaf_link}
 use Rattle.art_cell.proofs.NodeLives.{key_is_one}
 use Rattle.art_cell.proofs.Places.{same_link}
-use Rattle.art_cell.proofs.StepCommits.{either_held}
 
 -- ---- nothing is claimed
 
@@ -89,43 +86,6 @@ module _ (w : View) (h : Held) (x : ℕ) (old new : List ℕ) (holds : HoldsAnch
   committed_hand u what us ls committed y i =
       let r = committed (anchor_held x old new) (holds.just.has, sym holds.cell) in
       r.hands.was y (subst (Member y) (ap (λ (z : View). z.hand) r.is) i)
-
--- ---- a look of an empty range
-
--- no word changes
-same_words : (w : View) (h : Held) (s s' : Cells) → HoldsUnchanged w h → Knows w s → AllNew w.held s s' → (c : Cell) → s' c ≡ s c
-same_words w h s s' holds knows turns c = ⊎_elim
-    (λ (a : (k : Holding) × Member k w.held × (k.cell ≡ c)).
-    let e = holds.2.just.only a.0 a.1 in
-    let new = ap (λ (y : Holding). words_in y.new) e in
-    let old = ap (λ (y : Holding). words_in y.old) e in
-    ap s' (sym a.2) ∙ (turns.here a.0 a.1 ∙ (new ∙ (sym old ∙ (sym (knows.old a.0 a.1) ∙ ap s a.2)))))
-    (λ (free : IsNotHeld w.held c). turns.there c free)
-    (either_held w.held c)
-
--- no row is in the range from a key on, before the same key
-pub may_look : (z : Sizes) (w : View) (h : Held) (lo hi : List ℕ) → lo ≡ hi → HoldsUnchanged w h → MayCommit z w (Look lo (To hi) None) [] (claimed_nodes w.held)
-may_look z w h lo hi e holds s s' shape knows turns =
-    let same : s' ≡ s = λ j. λ c. same_words w h s s' holds knows turns c j in
-    let k = holds.2 in
-    subst (λ (t : Cells). Commits z w (Look lo (To hi) None) [] (claimed_nodes w.held) s t) (sym same) (record {
-      shape = shape;
-      rows = λ m r. ((λ key value is inside. inside.0 (subst (Before key) (sym e) inside.1)), r);
-      others = λ n p free at. at;
-      leaves = λ d i. absurd i;
-      comes = λ d i. absurd (subst (Member d) (none_coming w h holds.0 holds.1 holds.1 k) i);
-      stays = λ d i. inr i;
-      linked = λ d i. inr i;
-      held = λ n i. absurd i;
-      claimed = λ a n i none is. absurd (not_claimed w h holds.0 holds.1 holds.1 k a i none);
-    })
-
--- and then it is idle
-pub looked_idle : (w u : View) (h : Held) (what : What) (us ls : List Link) → HasNone w.hand → HoldsUnchanged w h → ((k : Holding) → IsHolding w h.cell k → Committed w u what us ls k) → IsIdle u
-looked_idle w u h what us ls none holds committed = record {
-  away = committed_away w h holds.0 holds.1 holds.1 holds.2 u what us ls committed;
-  hand = λ y i. none y (committed_hand w h holds.0 holds.1 holds.1 holds.2 u what us ls committed y i).0;
-}
 
 -- ---- the child word is written
 

@@ -51,39 +51,15 @@ either_way : {A : Type 0} (b : Bool) (P : View → A) (v w : View) (a : A) → P
 either_way true P v w a e f = e
 either_way false P v w a e f = f
 
--- to begin changes neither what is held, nor the hand, nor the pin
+-- to begin changes neither what is held nor the pin
 begun_held : (v : View) (c : Cell) (x : ℕ) → (begun v c x).held ≡ v.held
 begun_held v c x = either_way (eqb (x % 4) 0) (λ (u : View). u.held) _ _ v.held refl refl
-
-pub begun_hand : (v : View) (c : Cell) (x : ℕ) → (begun v c x).hand ≡ v.hand
-begun_hand v c x = either_way (eqb (x % 4) 0) (λ (u : View). u.hand) _ _ v.hand refl refl
 
 begun_pin : (v : View) (c : Cell) (x : ℕ) → (begun v c x).pin ≡ v.pin
 begun_pin v c x = either_way (eqb (x % 4) 0) (λ (u : View). u.pin) _ _ v.pin refl refl
 
-pub begun_steps : (v : View) (c : Cell) (x : ℕ) → (begun v c x).steps ≡ v.steps + 1
-begun_steps v c x = either_way (eqb (x % 4) 0) (λ (u : View). u.steps) _ _ (v.steps + 1) refl refl
-
 pub begun_away : (v : View) (c : Cell) (x : ℕ) → IsAway v → IsAway (begun v c x)
 begun_away v c x = still_away v (begun v c x) (begun_pin v c x) (begun_held v c x)
-
-clear_view : (b : Bool) (v w : View) → b ≡ true → cond b v w ≡ v
-clear_view true v w e = refl
-clear_view false v w e = cc
-
-eqb_of : (a : ℕ) → a ≡ 0 → eqb a 0 ≡ true
-eqb_of a e = ap (λ (n : ℕ). eqb n 0) e
-
--- a clear word gives a stamp of the anchor
-pub begun_stamp : (v w : View) (x : Stamp) → x.cell ≡ cell.Anchor → IsClear x.version → w ≡ begun v cell.Anchor x.version → StampsAnchor w x
-begun_stamp v w x anchor clear e =
-    let is = e ∙ clear_view (eqb (x.version % 4) 0) _ _ (eqb_of (x.version % 4) clear) in
-    let same : x ≡ stamp_of cell.Anchor x.version = ap (λ (c : Cell). stamp_of c x.version) anchor in
-    record {
-      cell = anchor;
-      stamp = subst (Member x) (sym (ap (λ (u : View). u.stamps) is)) (inl same);
-      path = subst (Member (note_of x (Starts []))) (sym (ap (λ (u : View). u.notes) is)) (inl (ap (λ (y : Stamp). note_of y (Starts [])) same));
-    }
 
 -- ---- upgrade
 
@@ -120,15 +96,6 @@ refused_away v w x (fault.Exhausted c) away f = subst IsAway (sym f.2) away
 pub locks_or_away : (v w : View) (x : Stamp) (r : Result Held UpgradeFault) → IsAway v → StampsAnchor v x → MatchResult r (λ h. (h.cell ≡ x.cell) × Upgraded v w x) (λ e. FailedUpgrade v w x e) → MatchResult r (Locks v w x) (λ _. IsAway w)
 locks_or_away v w x (Ok h) away stamps row = locks v w x h away stamps.cell row.0 row.1
 locks_or_away v w x (Err e) away stamps row = refused_away v w x e away row
-
-refused_hand : (v w : View) (x : Stamp) (e : UpgradeFault) → FailedUpgrade v w x e → w.hand ≡ v.hand
-refused_hand v w x (fault.Changed c) f = ap (λ (y : View). y.hand) f.3.is
-refused_hand v w x (fault.Exhausted c) f = ap (λ (y : View). y.hand) f.2
-
--- the hand stays
-pub upgraded_hand : (v w : View) (x : Stamp) (r : Result Held UpgradeFault) → MatchResult r (λ h. (h.cell ≡ x.cell) × Upgraded v w x) (λ e. FailedUpgrade v w x e) → w.hand ≡ v.hand
-upgraded_hand v w x (Ok h) row = ap (λ (y : View). y.hand) row.1.is
-upgraded_hand v w x (Err e) row = refused_hand v w x e row
 
 -- ---- release
 

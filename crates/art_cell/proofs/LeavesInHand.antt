@@ -165,18 +165,7 @@ filled_away v w d place word y away has wrote =
 pub fills_hand : (z : Sizes) (v : View) (n : Number) (k : List ℕ) (value place : ℕ) (f : Fills z v.hand n k value place) → IsInHand v (link_of_number n) (leaf_in_hand n.number f.words)
 fills_hand z v n k value place f = (f.just.has, sym (leaf_link n f.pool))
 
--- ten words are all
-pub filled_all : (z : Sizes) (hand : List InHand) (n : Number) (k : List ℕ) (value place : ℕ) → 10 ≤ place → Fills z hand n k value place → Fills z hand n k value 10
-filled_all z hand n k value place high f = record {
-  pool = f.pool;
-  inside = f.inside;
-  small = f.small;
-  words = f.words;
-  long = f.long;
-  just = f.just;
-  written = λ i low. f.written i (omega (arith, low, high));
-}
-
+-- with the same sizes and the same in hand
 pub fills_on : (z z' : Sizes) (hand hand' : List InHand) (n : Number) (k : List ℕ) (value place : ℕ) → z' ≡ z → hand' ≡ hand → Fills z hand n k value place → Fills z' hand' n k value place
 fills_on z z' hand hand' n k value place e i f = subst₂ (λ (y : Sizes) (xs : List InHand). Fills y xs n k value place) (sym e) (sym i) f
 
@@ -191,20 +180,7 @@ has_leaf z v n b value small f = record {
   fits = f.small;
 }
 
--- ---- the words that are written, where the key has one byte
+-- ---- the first words of a leaf whose key has one byte
 
 pub first_words : (b value : ℕ) → (leaf_word (b ∷ []) value 0 ≡ value) × (leaf_word (b ∷ []) value 1 ≡ 1) × (leaf_word (b ∷ []) value 2 ≡ b * 2 ^ 56)
 first_words b value = (refl, refl, omega arith)
-
-pub later_words : (b value i : ℕ) → 3 ≤ i → i < 10 → leaf_word (b ∷ []) value i ≡ 0
-later_words b value zero low high = absurd (omega (arith, low))
-later_words b value (suc zero) low high = absurd (omega (arith, low))
-later_words b value (suc (suc zero)) low high = absurd (omega (arith, low))
-later_words b value (suc (suc (suc zero))) low high = refl
-later_words b value (suc (suc (suc (suc zero)))) low high = refl
-later_words b value (suc (suc (suc (suc (suc zero))))) low high = refl
-later_words b value (suc (suc (suc (suc (suc (suc zero)))))) low high = refl
-later_words b value (suc (suc (suc (suc (suc (suc (suc zero))))))) low high = refl
-later_words b value (suc (suc (suc (suc (suc (suc (suc (suc zero)))))))) low high = refl
-later_words b value (suc (suc (suc (suc (suc (suc (suc (suc (suc zero))))))))) low high = refl
-later_words b value (suc (suc (suc (suc (suc (suc (suc (suc (suc (suc i)))))))))) low high = absurd (omega (arith, high))

@@ -1,24 +1,18 @@
 //! Three actors on one world, and an anchor at the end of its counter.
-ghost use Rattle.std.specs.Prelude.{◌≡◌, ◌<◌, ◌≤◌, ◌+◌, ◌∷◌, [], ℕ, false, refl, filter_map, IfSome, MatchResult};
-ghost use Rattle.std.specs.Option.{option_map};
+ghost use Rattle.std.specs.Prelude.{◌≡◌, ◌≤◌, ◌+◌, ◌∷◌, [], false, refl, IfSome};
 ghost use Rattle.std.proofs.Common.{◌∙◌};
 ghost use Rattle.std.proofs.lemmas.Bool.{false≢true};
-ghost use Rattle.art_cell.specs.declared.cells.Cell.TheVariants.{Anchor as anchor_cell};
-ghost use Rattle.art_cell.specs.declared.cells.Link.TheVariants.{Leaf as leaf_link};
-ghost use Rattle.art_cell.specs.declared.views.Fact.TheVariants.{LeafWord as leaf_word_fact, Word as word_fact};
-ghost use Rattle.art_cell.specs.Children.{child_word};
-ghost use Rattle.art_cell.specs.Leaves.{leaf_word};
-ghost use Rattle.art_cell.specs.NodeLives.{IsNoted, OnlyLearns};
-ghost use Rattle.art_cell.specs.Shown.{link_of_number};
 ghost use Rattle.art_cell.specs.Sound.{IsSound};
-ghost use Rattle.art_cell.specs.StepRows.{IsInLimbo, stamp_of};
-ghost use Rattle.art_cell.specs.Visits.{Adds, ChangesWord, Counts, Fills, HoldsUnchanged, HoldsWord, IsAway, IsIdle, Locks, NotesLeaf, Removes, StampsAnchor, Visits, counts_none, counts_one_more};
+ghost use Rattle.art_cell.specs.Visits.{Adds, Counts, IsIdle, Removes, StampsAnchor, Visits, counts_none, counts_one_more};
 ghost use Rattle.art_cell.specs.WorldWords.{IsSameAt, OnlyTurned, memory_now, view_at, views_of};
 
 use super::*;
+use crate::anchor_steps::{
+    KEY, VALUE, begin, check, commit_insert, commit_remove, fill, leaf_word, let_go, let_number_go,
+    read_anchor, read_leaf, upgrade, word_of_leaf, write_child,
+};
 use crate::visits::{Adding, Removing, Visit};
-use crate::word_places::pool_of_layout;
-use art_key::Key;
+use crate::word_forms::words_are_formed;
 use rand_pcg::Pcg32;
 use rand_pcg::rand_core::{Rng, SeedableRng};
 use std::mem::replace;
@@ -32,216 +26,6 @@ const SIZES: Sizes = Sizes {
     n256: 1,
     passes: 3,
 };
-
-/// The row that comes and goes.
-const KEY: u8 = 75;
-
-const VALUE: u64 = 7;
-
-/// No counter that is this or more goes on by an upgrade.
-const LAST_COUNTER: u64 = (1 << 62) - 8;
-
-// ---- the steps
-
-/// Begins the anchor. There is no stamp if it is locked.
-fn begin<S: Steps>(steps: &mut S) -> Option<Stamp>
-    requires { IsAway (S.view steps.old) }
-    ensures sizes { S.sizes steps.new ≡ S.sizes steps.old }
-    ensures only { S.only steps.old steps.new }
-    ensures step { (S.view steps.new).steps ≤ (S.view steps.old).steps + 1 }
-    ensures hand { (S.view steps.new).hand ≡ (S.view steps.old).hand }
-    ensures away { IsAway (S.view steps.new) }
-    ensures stamp { IfSome result (StampsAnchor (S.view steps.new)) }
-{
-    match steps.begin(Cell::Anchor) {
-        Ok(stamp) => Some(stamp),
-        Err(_) => None,
-    }
-}
-
-/// Checks the stamp. It stays if the anchor is unchanged.
-fn check<S: Steps>(steps: &mut S, stamp: Stamp) -> Option<Stamp>
-    requires away { IsAway (S.view steps.old) }
-    requires stamp { StampsAnchor (S.view steps.old) stamp }
-    ensures sizes { S.sizes steps.new ≡ S.sizes steps.old }
-    ensures only { S.only steps.old steps.new }
-    ensures step { (S.view steps.new).steps ≤ (S.view steps.old).steps + 1 }
-    ensures hand { (S.view steps.new).hand ≡ (S.view steps.old).hand }
-    ensures away { IsAway (S.view steps.new) }
-    ensures stamp { IfSome result (StampsAnchor (S.view steps.new)) }
-{
-    match steps.check(&stamp, None) {
-        Ok(()) => Some(stamp),
-        Err(_) => None,
-    }
-}
-
-/// Locks the anchor, if it is unchanged.
-fn upgrade<S: Steps>(steps: &mut S, stamp: Stamp) -> Result<Held, UpgradeFault>
-    requires away { IsAway (S.view steps.old) }
-    requires stamp { StampsAnchor (S.view steps.old) stamp }
-    ensures sizes { S.sizes steps.new ≡ S.sizes steps.old }
-    ensures only { S.only steps.old steps.new }
-    ensures step { (S.view steps.new).steps ≤ (S.view steps.old).steps + 1 }
-    ensures hand { (S.view steps.new).hand ≡ (S.view steps.old).hand }
-    ensures locks { MatchResult result (Locks (S.view steps.old) (S.view steps.new) stamp) (λ _. IsAway (S.view steps.new)) }
-{
-    steps.upgrade(stamp)
-}
-
-/// Lets the anchor go unchanged.
-fn let_go<S: Steps>(steps: &mut S, held: Held)
-    requires { HoldsUnchanged (S.view steps.old) held }
-    ensures sizes { S.sizes steps.new ≡ S.sizes steps.old }
-    ensures only { S.only steps.old steps.new }
-    ensures step { (S.view steps.new).steps ≤ (S.view steps.old).steps + 1 }
-    ensures hand { (S.view steps.new).hand ≡ (S.view steps.old).hand }
-    ensures away { IsAway (S.view steps.new) }
-{
-    steps.release(held, false);
-}
-
-/// Reads the anchor's child word.
-fn read_anchor<S: Steps>(steps: &mut S, stamp: &Stamp) -> u64
-    requires away { IsAway (S.view steps.old) }
-    requires stamp { StampsAnchor (S.view steps.old) stamp.now }
-    ensures sizes { S.sizes steps.new ≡ S.sizes steps.old }
-    ensures only { S.only steps.old steps.new }
-    ensures step { (S.view steps.new).steps ≤ (S.view steps.old).steps + 1 }
-    ensures learns { OnlyLearns (S.view steps.old) (S.view steps.new) }
-    ensures noted { IsNoted (S.view steps.new) stamp.now (word_fact 1 result) }
-{
-    steps.read(stamp, Cell::Anchor, 1)
-}
-
-/// Reads the next word of the leaf that the anchor names.
-fn read_leaf<S: Steps>(steps: &mut S, stamp: &Stamp, leaf: u32, place: usize) -> u64
-    requires away { IsAway (S.view steps.old) }
-    requires stamp { StampsAnchor (S.view steps.old) stamp.now }
-    requires notes { NotesLeaf (S.sizes steps.old) (S.view steps.old) stamp.now leaf (KEY ∷ []) VALUE place }
-    requires place { place < 10 }
-    ensures sizes { S.sizes steps.new ≡ S.sizes steps.old }
-    ensures only { S.only steps.old steps.new }
-    ensures step { (S.view steps.new).steps ≤ (S.view steps.old).steps + 1 }
-    ensures learns { OnlyLearns (S.view steps.old) (S.view steps.new) }
-    ensures noted { IsNoted (S.view steps.new) stamp.now (leaf_word_fact leaf place result) }
-{
-    steps.read(stamp, Cell::Leaf(leaf), place)
-}
-
-/// Writes the next word of the leaf in hand.
-fn fill<S: Steps>(steps: &mut S, number: &mut Number, place: usize)
-    requires away { IsAway (S.view steps.old) }
-    requires fills { Fills (S.sizes steps.old) (S.view steps.old).hand number.old (KEY ∷ []) VALUE place }
-    requires place { place < 10 }
-    ensures sizes { S.sizes steps.new ≡ S.sizes steps.old }
-    ensures only { S.only steps.old steps.new }
-    ensures step { (S.view steps.new).steps ≤ (S.view steps.old).steps + 1 }
-    ensures away { IsAway (S.view steps.new) }
-    ensures fills { Fills (S.sizes steps.new) (S.view steps.new).hand number.new (KEY ∷ []) VALUE (place + 1) }
-{
-    steps.write_leaf(number, place, leaf_word(place));
-}
-
-/// The word at a place of the leaf.
-fn leaf_word(place: usize) -> u64
-    requires { place < 10 }
-    ensures { result ≡ leaf_word (KEY ∷ []) VALUE place }
-{
-    match place {
-        0 => VALUE,
-        1 => 1,
-        2 => (KEY as u64) << 56,
-        _ => 0,
-    }
-}
-
-/// The child word that names a leaf.
-fn word_of_leaf(number: u32) -> u64
-    ensures { result ≡ child_word (leaf_link number) }
-{
-    8 * number as u64 + 1
-}
-
-/// Writes the anchor's child word.
-fn write_child<S: Steps>(steps: &mut S, held: &mut Held, word: u64)
-    requires { (x : ℕ) × (a : ℕ) × HoldsWord (S.view steps.old) held.old x a }
-    ensures sizes { S.sizes steps.new ≡ S.sizes steps.old }
-    ensures only { S.only steps.old steps.new }
-    ensures step { (S.view steps.new).steps ≤ (S.view steps.old).steps + 1 }
-    ensures hand { (S.view steps.new).hand ≡ (S.view steps.old).hand }
-    ensures notes { (S.view steps.new).notes ≡ (S.view steps.old).notes }
-    ensures changes { (x a : ℕ) → HoldsWord (S.view steps.old) held.old x a → ChangesWord (S.view steps.new) held.new x a word }
-{
-    steps.write(held, 1, word);
-}
-
-/// The key of the row.
-fn row_key() -> Key
-    ensures { result.items ≡ KEY ∷ [] }
-{
-    let mut key = Key::new();
-    key.push(KEY);
-    key
-}
-
-/// Commits that the row is inserted.
-fn commit_insert<S: Steps>(steps: &mut S, held: Held, number: Number)
-    requires fills { Fills (S.sizes steps.old) (S.view steps.old).hand number (KEY ∷ []) VALUE 10 }
-    requires changes { (x : ℕ) × ChangesWord (S.view steps.old) held x 0 (child_word (leaf_link number.number)) }
-    ensures sizes { S.sizes steps.new ≡ S.sizes steps.old }
-    ensures only { S.only steps.old steps.new }
-    ensures step { (S.view steps.new).steps ≤ (S.view steps.old).steps + 1 }
-    ensures idle { IsIdle (S.view steps.new) }
-{
-    let deed = Deed::Done(Act::Insert(row_key(), VALUE), Answer::Inserted);
-    let [first, second, third] = steps.commit(held, false, &deed, Some(number), &[]);
-    let_number_go(first);
-    let_number_go(second);
-    let_number_go(third);
-}
-
-/// Commits that the row is removed. The number of its leaf comes back.
-fn commit_remove<S: Steps>(steps: &mut S, held: Held, leaf: u32) -> Number
-    requires { Removes (KEY ∷ []) VALUE (S.sizes steps.old) (S.view steps.old) (Removing.Written held leaf) }
-    ensures sizes { S.sizes steps.new ≡ S.sizes steps.old }
-    ensures only { S.only steps.old steps.new }
-    ensures step { (S.view steps.new).steps ≤ (S.view steps.old).steps + 1 }
-    ensures idle { IsIdle (S.view steps.new) }
-    ensures number { link_of_number result ≡ leaf_link leaf }
-    ensures limbo { IsInLimbo (S.view steps.new) (leaf_link leaf) }
-{
-    let deed = Deed::Done(Act::Remove(row_key()), Answer::Removed(VALUE));
-    let word = word_of_leaf(leaf);
-    let numbers = steps.commit(held, false, &deed, None, &[word]);
-    one_number(numbers, leaf)
-}
-
-/// A commit that unlinks nothing hands out no number.
-fn let_number_go(number: Option<Number>) {
-    if let Some(Number { pool: _, number: _ }) = number {}
-}
-
-/// The number of the one leaf that a commit unlinked.
-fn one_number(numbers: Unlinked, leaf: u32) -> Number
-    requires { filter_map (option_map link_of_number) numbers ≡ leaf_link leaf ∷ [] }
-    ensures { link_of_number result ≡ leaf_link leaf }
-{
-    let [first, second, third] = numbers;
-    if let Some(number) = first {
-        let_number_go(second);
-        let_number_go(third);
-        return number;
-    }
-    if let Some(number) = second {
-        let_number_go(third);
-        return number;
-    }
-    let Some(number) = third else { unreachable!() };
-    number
-}
-
-// ---- the visitors
 
 /// What a visitor does with the anchor.
 #[derive(Clone, Copy, Debug, PartialEq, Eq)]
@@ -409,6 +193,7 @@ fn take_leaf(at: &mut At<'_>) -> Visit
     let Some(number) = at.world.first_free(at.pass, Pool::Leaves) else {
         return Visit::Idle;
     };
+    // The world is sound, so that ten words came into the hand.
     let _leaves = leaves_of(at.world);
     Visit::Adding(Adding::Filling(number, 0))
 }
@@ -446,10 +231,11 @@ impl Visitor {
         }
     }
 
-    fn end(self) {
+    /// How many turns it had.
+    fn end(self) -> u64 {
         let Visitor {
             task: _,
-            turns: _,
+            turns,
             visit,
         } = self;
         match visit {
@@ -458,6 +244,7 @@ impl Visitor {
             Visit::Adding(adding) => end_adding(adding),
             Visit::Removing(removing) => end_removing(removing),
         }
+        turns
     }
 }
 
@@ -486,7 +273,7 @@ fn end_removing(removing: Removing) {
 }
 
 impl Actor for Visitor {
-    ghost use Rattle.art_cell.specs.declared.actor_tests.TheConstants.{KEY, VALUE};
+    ghost use Rattle.art_cell.specs.declared.anchor_steps.TheConstants.{KEY, VALUE};
 
     ghost fits = { λ a z v. Visits (KEY ∷ []) VALUE z v a.visit };
 
@@ -512,88 +299,6 @@ impl Actor for Visitor {
     fn ended(&self) -> bool {
         false
     }
-}
-
-// ---- the forms of words
-
-/// A version word is clear, locked or obsolete, and within its limit.
-fn version_is_formed(word: u64, may_be_locked: bool) -> bool {
-    match word % 4 {
-        0 => word <= 4 * LAST_COUNTER + 4,
-        1 => word <= 4 * LAST_COUNTER + 1,
-        2 => may_be_locked && word <= 4 * LAST_COUNTER + 2,
-        _ => false,
-    }
-}
-
-/// The anchor's child word is 0 or names a leaf inside.
-fn child_word_is_formed(sizes: Sizes, word: u64) -> bool {
-    match Link::named_by(word) {
-        Some(Link::Leaf(number)) => number < sizes.leaves,
-        Some(Link::Node(_)) => false,
-        None => word == 0,
-    }
-}
-
-/// The version word of a node is formed, and not locked. Of its other words nothing is said.
-fn node_word_is_formed(sizes: Sizes, place: usize, word: u64) -> bool {
-    let layout = if place < sizes.first_cell(Pool::N16) {
-        Layout::Node4
-    } else if place < sizes.first_cell(Pool::N48) {
-        Layout::Node16
-    } else if place < sizes.first_cell(Pool::N256) {
-        Layout::Node48
-    } else {
-        Layout::Node256
-    };
-    let first = sizes.first_cell(pool_of_layout(layout));
-    place.wrapping_sub(first) % layout.size() != 0 || version_is_formed(word, false)
-}
-
-/// No bit of a word of free numbers stands beyond its pool.
-fn free_word_is_formed(sizes: Sizes, place: usize, word: u64) -> bool {
-    let pool = if place < sizes.first_free_word(Pool::N4) {
-        Pool::Leaves
-    } else if place < sizes.first_free_word(Pool::N16) {
-        Pool::N4
-    } else if place < sizes.first_free_word(Pool::N48) {
-        Pool::N16
-    } else if place < sizes.first_free_word(Pool::N256) {
-        Pool::N48
-    } else {
-        Pool::N256
-    };
-    let index = place.wrapping_sub(sizes.first_free_word(pool));
-    let before = index.wrapping_mul(64);
-    let bits = (sizes.pool_size(pool) as usize).saturating_sub(before);
-    bits >= 64 || word >> bits == 0
-}
-
-/// The word at a place has the form that all words there have, where no cell but the anchor is ever locked or changed.
-fn word_is_formed(sizes: Sizes, place: usize, word: u64) -> bool {
-    if place == 0 {
-        version_is_formed(word, true)
-    } else if place == 1 {
-        child_word_is_formed(sizes, word)
-    } else if place < sizes.first_cell(Pool::N4) {
-        true
-    } else if place < sizes.cells_end() {
-        node_word_is_formed(sizes, place, word)
-    } else if place < sizes.epoch_place() {
-        free_word_is_formed(sizes, place, word)
-    } else {
-        word == 1
-    }
-}
-
-/// All words have their forms.
-fn words_are_formed(world: &World) -> bool {
-    for (place, word) in world.words.iter().enumerate() {
-        if !word_is_formed(world.sizes, place, *word) {
-            return false;
-        }
-    }
-    true
 }
 
 #[test]
@@ -628,13 +333,9 @@ fn visitors_take_turns(rt: HostRuntime) -> Result<(), Fail> {
     assert!(rt; changes > 20);
     assert!(rt; last > 0);
     let [looker, locker, changer] = visitors;
-    assert_eq!(rt;
-        [looker.turns, locker.turns, changer.turns],
-        [drawn[0], drawn[1], drawn[2]]
-    );
-    looker.end();
-    locker.end();
-    changer.end();
+    assert_eq!(rt; looker.end(), drawn[0]);
+    assert_eq!(rt; locker.end(), drawn[1]);
+    assert_eq!(rt; changer.end(), drawn[2]);
     Ok(())
 }
 

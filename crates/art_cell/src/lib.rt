@@ -8,6 +8,8 @@
 
 #[cfg(test)]
 mod actor_tests;
+#[cfg(test)]
+mod anchor_steps;
 mod at;
 mod bodies;
 mod cells;
@@ -28,6 +30,8 @@ mod steps;
 mod tests;
 mod views;
 mod visits;
+#[cfg(test)]
+mod word_forms;
 mod word_places;
 mod world;
 mod world_numbers;

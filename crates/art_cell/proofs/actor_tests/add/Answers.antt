@@ -1,6 +1,6 @@
 use Rattle.std.specs.Prelude.{[], ◌∷◌, ℕ}
 use Rattle.std.proofs.Common.{subst}
-use Rattle.art_cell.specs.declared.actor_tests.TheConstants.{KEY, VALUE}
+use Rattle.art_cell.specs.declared.anchor_steps.TheConstants.{KEY, VALUE}
 use Rattle.art_cell.specs.declared.views.Fact.TheVariants.{Word}
 use Rattle.art_cell.specs.NodeLives.{IsNoted}
 use Rattle.art_cell.specs.Visits.{ChangesWord}

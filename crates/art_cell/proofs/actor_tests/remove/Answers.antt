@@ -1,6 +1,6 @@
 use Rattle.std.specs.Prelude.{[], ◌∷◌, ◌≡◌, ◌+◌}
 use Rattle.std.proofs.Common.{◌∙◌, arith, subst, sym}
-use Rattle.art_cell.specs.declared.actor_tests.TheConstants.{KEY, VALUE}
+use Rattle.art_cell.specs.declared.anchor_steps.TheConstants.{KEY, VALUE}
 use Rattle.art_cell.specs.declared.cells.Link.TheVariants.{Leaf as leaf}
 use Rattle.art_cell.specs.Children.{child_word}
 use Rattle.art_cell.specs.Leaves.{leaf_word}

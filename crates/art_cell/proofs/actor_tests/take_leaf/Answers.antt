@@ -1,6 +1,6 @@
 use Rattle.std.specs.Prelude.{[], ◌∷◌}
 use Rattle.std.proofs.Common.{arith}
-use Rattle.art_cell.specs.declared.actor_tests.TheConstants.{KEY, VALUE}
+use Rattle.art_cell.specs.declared.anchor_steps.TheConstants.{KEY, VALUE}
 use Rattle.art_cell.proofs.LeavesInHand.{took_leaf}
 use Rattle.art_cell.proofs.actor_tests.take_leaf.Goals as goal
 

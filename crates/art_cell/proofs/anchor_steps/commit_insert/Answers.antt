@@ -1,12 +1,12 @@
 use Rattle.std.proofs.Common.{[], ◌∷◌, List, ℕ, Some, arith, subst, sym}
-use Rattle.art_cell.specs.declared.actor_tests.TheConstants.{KEY, VALUE}
+use Rattle.art_cell.specs.declared.anchor_steps.TheConstants.{KEY, VALUE}
 use Rattle.art_cell.specs.declared.views.Answer.TheVariants.{Inserted}
 use Rattle.art_cell.specs.declared.views.Asked.TheVariants.{Insert}
 use Rattle.art_cell.specs.declared.views.What.TheVariants.{Done}
 use Rattle.art_cell.specs.Shown.{coming, link_of_number}
 use Rattle.art_cell.specs.StepRows.{MayCommit}
 use Rattle.art_cell.proofs.AnchorRows.{added_idle, anchor_first, committed_steps, may_add}
-use Rattle.art_cell.proofs.actor_tests.commit_insert.Goals as goal
+use Rattle.art_cell.proofs.anchor_steps.commit_insert.Goals as goal
 
 pub commit-requires-clause-first : goal.commit-requires-clause-first
 commit-requires-clause-first g c = let r = c.requires.changes in anchor_first (g.S.Steps.view c.args.steps.now) c.args.held r.0 r.1.old r.1.new r.1.holds []

@@ -1,6 +1,6 @@
 use Rattle.std.specs.Prelude.{None}
 use Rattle.art_cell.proofs.IdlePasses.{failed_away, passed_away, passed_stamp}
-use Rattle.art_cell.proofs.actor_tests.check.Goals as goal
+use Rattle.art_cell.proofs.anchor_steps.check.Goals as goal
 
 pub returns-in-Ok-clause-away : goal.returns-in-Ok-clause-away
 returns-in-Ok-clause-away g c = passed_away (g.S.Steps.sizes c.args.steps.now) (g.S.Steps.view c.args.steps.now) (g.S.Steps.view c.check.new.self) c.args.stamp None c.requires.away c.in-Ok.ensures.row

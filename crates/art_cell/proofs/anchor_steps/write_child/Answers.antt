@@ -2,7 +2,7 @@ use Rattle.std.proofs.Common.{arith, subst, sym}
 use Rattle.art_cell.specs.declared.steps.Held.{Held}
 use Rattle.art_cell.specs.Visits.{ChangesWord}
 use Rattle.art_cell.proofs.AnchorRows.{child_hand, child_notes, child_steps, child_written, may_write_child}
-use Rattle.art_cell.proofs.actor_tests.write_child.Goals as goal
+use Rattle.art_cell.proofs.anchor_steps.write_child.Goals as goal
 
 pub write-requires-clause-may : goal.write-requires-clause-may
 write-requires-clause-may g c = let r = c.requires in may_write_child (g.S.Steps.view c.args.steps.now) c.args.held.now r.0 r.1 r.2

@@ -1,10 +1,10 @@
 use Rattle.std.proofs.Common.{[], ◌∷◌, ◌+◌, ℕ, List, arith, subst, sym}
-use Rattle.art_cell.specs.declared.actor_tests.TheConstants.{KEY, VALUE}
+use Rattle.art_cell.specs.declared.anchor_steps.TheConstants.{KEY, VALUE}
 use Rattle.art_cell.specs.declared.layouts.Number.{Number}
 use Rattle.art_cell.specs.declared.views.Sizes.{Sizes}
 use Rattle.art_cell.specs.Visits.{Fills}
 use Rattle.art_cell.proofs.LeavesInHand.{filled_away, filled_more, fills_hand, may_fill}
-use Rattle.art_cell.proofs.actor_tests.fill.Goals as goal
+use Rattle.art_cell.proofs.anchor_steps.fill.Goals as goal
 
 pub write_leaf-requires : goal.write_leaf-requires
 write_leaf-requires g c = record { inside = may_fill (g.S.Steps.sizes c.args.steps.now) (g.S.Steps.view c.args.steps.now) c.args.number.now (KEY ∷ []) VALUE c.args.place c.requires.place c.requires.fills }

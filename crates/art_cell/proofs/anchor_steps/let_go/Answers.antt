@@ -1,6 +1,6 @@
 use Rattle.std.proofs.Common.{arith}
 use Rattle.art_cell.proofs.IdlePasses.{let_go_away, let_go_same, may_let_go}
-use Rattle.art_cell.proofs.actor_tests.let_go.Goals as goal
+use Rattle.art_cell.proofs.anchor_steps.let_go.Goals as goal
 
 pub release-requires-clause-may : goal.release-requires-clause-may
 release-requires-clause-may g c = may_let_go (g.S.Steps.view c.args.steps.now) c.args.held c.requires

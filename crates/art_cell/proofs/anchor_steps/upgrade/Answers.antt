@@ -1,5 +1,5 @@
 use Rattle.art_cell.proofs.IdlePasses.{locks_or_away, may_lock}
-use Rattle.art_cell.proofs.actor_tests.upgrade.Goals as goal
+use Rattle.art_cell.proofs.anchor_steps.upgrade.Goals as goal
 
 pub upgrade-requires-clause-early : goal.upgrade-requires-clause-early
 upgrade-requires-clause-early g c = may_lock (g.S.Steps.view c.args.steps.now) c.requires.away

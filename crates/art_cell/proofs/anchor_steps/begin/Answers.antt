@@ -1,7 +1,7 @@
 use Rattle.std.proofs.Common.{sym, subst}
 use Rattle.art_cell.specs.Visits.{IsAway}
 use Rattle.art_cell.proofs.IdlePasses.{begun_away}
-use Rattle.art_cell.proofs.actor_tests.begin.Goals as goal
+use Rattle.art_cell.proofs.anchor_steps.begin.Goals as goal
 
 pub returns-in-Ok-clause-away : goal.returns-in-Ok-clause-away
 returns-in-Ok-clause-away g c = subst IsAway (sym c.in-Ok.ensures.row.2) (begun_away (g.S.Steps.view c.args.steps.now) _ _ c.requires)

@@ -1,5 +1,5 @@
 use Rattle.std.proofs.Common.{[], ◌∷◌, List, ℕ, None, arith, subst, subst₂, sym}
-use Rattle.art_cell.specs.declared.actor_tests.TheConstants.{KEY, VALUE}
+use Rattle.art_cell.specs.declared.anchor_steps.TheConstants.{KEY, VALUE}
 use Rattle.art_cell.specs.declared.cells.Link.{Link}
 use Rattle.art_cell.specs.declared.views.Answer.TheVariants.{Removed}
 use Rattle.art_cell.specs.declared.views.Asked.TheVariants.{Remove}
@@ -7,7 +7,7 @@ use Rattle.art_cell.specs.declared.views.What.TheVariants.{Done}
 use Rattle.art_cell.specs.Shown.{coming}
 use Rattle.art_cell.specs.StepRows.{MayCommit}
 use Rattle.art_cell.proofs.AnchorRows.{anchor_first, committed_steps, may_remove, one_link, removed_idle, removed_limbo}
-use Rattle.art_cell.proofs.actor_tests.commit_remove.Goals as goal
+use Rattle.art_cell.proofs.anchor_steps.commit_remove.Goals as goal
 
 pub commit-numbers-requires-clause-first : goal.commit-numbers-requires-clause-first
 commit-numbers-requires-clause-first g c = let r = c.requires.1 in anchor_first (g.S.Steps.view c.args.steps.now) c.args.held r.0 r.1.old r.1.new r.1.holds _
