@@ -22,6 +22,7 @@ pub mod IdlePasses
 pub mod Kept
 pub mod LeafPair
 pub mod LeavesInHand
+pub mod LifePairs
 pub mod LifeSteps
 pub mod Looking
 pub mod Lookup

@@ -22,11 +22,13 @@ use Rattle.art_cell.specs.CommitLaws.{HasLeaf, HasNode}
 use Rattle.art_cell.specs.Heaps.{Cells, heap_of}
 use Rattle.art_cell.specs.Knowledge.{IsShape, CellAt, HoldsAll, NamesLeaf, Names}
 use Rattle.art_cell.specs.NodeLives.{IsNoted, OnlyLearns, IsStampAt, NotesRoot, NotesKey, key_of_one, HoldsTwo, stamped_holding, claimed_holding, HoldsLeafRoot, HasClaimed, IsWholePair, HasForked}
-use Rattle.art_cell.specs.Shown.{IsHolding, Upgraded, Wrote, Committed, Released}
-use Rattle.art_cell.specs.StepRows.{MayBeFirst, MayRelease, Puts, with_word, MayWrite, Drops, has_read, note_of, stamp_of, MayReadLeaf, IsNotHeld}
+use Rattle.art_cell.specs.Shown.{Claimed, IsHolding, Upgraded, Wrote, Committed, Released}
+use Rattle.art_cell.specs.StepRows.{MayBeFirst, MayClaim, MayRelease, Puts, with_word, MayWrite, Drops, has_read, note_of, stamp_of, MayReadLeaf, IsNotHeld}
 use Rattle.art_cell.specs.Tree.{top}
 use Rattle.art_cell.specs.Views.{Member, size_of, words_in}
+use Rattle.art_cell.specs.WordChanges.{FitsWord}
 use Rattle.art_cell.specs.Words.{size}
+use Rattle.art_cell.proofs.ChildWords.{link_back}
 
 -- ---- what a pass learns
 
@@ -69,6 +71,10 @@ root_names z v x l d is seen s shape holds =
     subst (λ (c : Cell). NamesLeaf s c l) (sym seen.at.cell)
     record { path = []; there = refl; byte = 0; names = ap link_of (sym (ap (λ (c : Cell). s c 1) seen.at.cell) ∙ word) ∙ (seen.names ∙ ap Some is) }
 
+-- a word that is the child word of a cell names it
+pub root_noted : (v : View) (x : Stamp) (word : ℕ) (d : Link) → IsStampAt v x cell.Anchor [] → IsNoted v x (Word 1 word) → word ≡ child_word d → FitsWord d → NotesRoot v x d
+root_noted v x word d at noted is fits = record { at = at; word = word; noted = noted; names = ap link_of is ∙ link_back d fits }
+
 pub root_seen_on : (v w : View) (x : Stamp) (d : Link) → OnlyLearns v w → NotesRoot v x d → NotesRoot w x d
 root_seen_on v w x d more seen = record {
   at = record { cell = seen.at.cell; stamp = more.stamps x seen.at.stamp; path = more.notes (note_of x (Starts [])) seen.at.path };
@@ -84,7 +90,7 @@ key_noted v x l b n k len key is_len is_key = record {
   key = subst (λ (i : ℕ). IsNoted v x (LeafWord l 2 i)) is_key key;
 }
 
-stamp_is : (x : Stamp) (c : Cell) → x.cell ≡ c → stamp_of c x.version ≡ x
+pub stamp_is : (x : Stamp) (c : Cell) → x.cell ≡ c → stamp_of c x.version ≡ x
 stamp_is x c e = ap (λ (d : Cell). stamp_of d x.version) (sym e)
 
 -- the anchor is locked above a leaf
@@ -118,7 +124,7 @@ holds_other_way hs h k two = record {
 }
 
 -- one of them is another now
-puts_one : (hs : List Holding) (h k x : Holding) (ks : List Holding) → x.cell ≡ h.cell → HoldsTwo hs h k → Puts hs h x ks → HoldsTwo ks x k
+pub puts_one : (hs : List Holding) (h k x : Holding) (ks : List Holding) → x.cell ≡ h.cell → HoldsTwo hs h k → Puts hs h x ks → HoldsTwo ks x k
 puts_one hs h k x ks same two puts = record {
   one = puts.has;
   two = puts.stays k two.two (λ e. two.apart (ap (λ (j : Holding). j.cell) (sym e)));
@@ -134,11 +140,50 @@ none_left [] none = refl
 none_left (h ∷ hs) none = absurd (none h (inl refl))
 
 -- and no more once both went
-both_dropped : (hs : List Holding) (h k : Holding) (c : Cell) (ks ls : List Holding) → HoldsTwo hs h k → Drops hs h.cell ks → k.cell ≡ c → Drops ks c ls → ls ≡ []
+pub both_dropped : (hs : List Holding) (h k : Holding) (c : Cell) (ks ls : List Holding) → HoldsTwo hs h k → Drops hs h.cell ks → k.cell ≡ c → Drops ks c ls → ls ≡ []
 both_dropped hs h k c ks ls two first is second = none_left ls (λ j i.
     let late = second.was j i in
     let soon = first.was j late.0 in
     ⊎_elim (λ (e : j ≡ h). soon.1 (ap (λ (y : Holding). y.cell) e)) (λ (e : j ≡ k). late.1 (ap (λ (y : Holding). y.cell) e ∙ is)) (two.only j soon.0))
+
+-- ---- the node is claimed
+
+pub may_claim_beside : (z : Sizes) (v : View) (m : Node) (a : ℕ) → HoldsLeafRoot v a → HasNode z v m → MayClaim v m
+may_claim_beside z v m a r has = record {
+  hand = (has.hand, has.has, has.link);
+  free = λ h i e. ⊎_elim
+      (λ (is : h ≡ stamped_holding (stamp_of cell.Anchor r.version) r.words r.words). let bad : cell.Anchor ≡ cell.Node m = sym (ap (λ (k : Holding). k.cell) is) ∙ e in cc)
+      (λ (none : ⊥). none)
+      (subst (Member h) r.held i);
+  early = inl r.early;
+}
+
+pub claimed_beside : (z : Sizes) (v w : View) (m : Node) (a : ℕ) (ws : List ℕ) → m.layout ≡ Node4 → HoldsLeafRoot v a → HasNode z v m → Claimed v w m → HasClaimed z w m a ws 0
+claimed_beside z v w m a ws layout r has k = record {
+  version = r.version;
+  words = r.words;
+  unused = k.words;
+  body = k.words;
+  held = subst (λ (hs : List Holding). HoldsTwo hs above below) (sym (ap (λ (u : View). u.held) k.is ∙ ap (λ (hs : List Holding). below ∷ hs) r.held)) record {
+    one = inr (inl refl);
+    two = inl refl;
+    only = λ j i. ⊎_elim (λ (e : j ≡ below). inr e) (λ (i : Member j (above ∷ [])). ⊎_elim (λ (e : j ≡ above). inl e) (λ (none : ⊥). absurd none) i) i;
+    apart = λ e. cc;
+  };
+  long = r.long;
+  names = r.names;
+  key = subst (λ (u : View). NotesKey u (stamp_of cell.Anchor r.version) a 97) (sym k.is) record { len = r.key.len; key = r.key.key };
+  whole = k.long ∙ ap size layout;
+  first = k.version;
+  written = λ i low. absurd (omega (arith, low));
+  node_in_hand = node_stays z v w m (ap (λ (u : View). u.hand) k.is) has;
+  early = ap (λ (u : View). u.committed) k.is;
+}
+  where
+    above : Holding
+    above = stamped_holding (stamp_of cell.Anchor r.version) r.words r.words
+    below : Holding
+    below = claimed_holding m k.words k.words
 
 -- ---- the node is written
 
@@ -183,8 +228,8 @@ module _ (z : Sizes) (v w : View) (m : Node) (a : ℕ) (ws : List ℕ) (n : ℕ)
         early = ap (λ (u : View). u.committed) o.is ∙ r.early;
       }
 
-  pub wrote_hand : (x : ℕ) → ((h : Holding) → IsHolding v (cell.Node m) h → Wrote v w h (n + 1) x) → w.hand ≡ v.hand
-  wrote_hand x each = ap (λ (u : View). u.hand) (each the_claimed (r.held.two, refl)).is
+  pub wrote_rest : (x : ℕ) → ((h : Holding) → IsHolding v (cell.Node m) h → Wrote v w h (n + 1) x) → (w.hand ≡ v.hand) × (w.pin ≡ v.pin)
+  wrote_rest x each = let o = each the_claimed (r.held.two, refl) in (ap (λ (u : View). u.hand) o.is, ap (λ (u : View). u.pin) o.is)
 
 -- ---- and then the anchor
 
@@ -244,6 +289,17 @@ module _ (z : Sizes) (v w : View) (m : Node) (a l value : ℕ) (ws : List ℕ) (
         node_in_hand = node_stays z v w m hand r.node_in_hand;
         early = ap (λ (u : View). u.committed) o.is ∙ r.early;
       }
+
+  pub wrote_above_rest : (x : ℕ) → ((h : Holding) → IsHolding v cell.Anchor h → Wrote v w h 1 x) → w.pin ≡ v.pin
+  wrote_above_rest x each = ap (λ (u : View). u.pin) (each (the_anchor z v v m a ws 14 r) (r.held.one, refl)).is
+
+-- the words and cells by what stands for them
+pub forked_by : (z y : Sizes) (v w : View) (m : Node) (a l value n first second x : ℕ) (c : Cell) → y ≡ z → 14 ≤ n → n ≤ 14 → HasClaimed z v m a (pair_words first second) n → m.layout ≡ Node4
+    → first ≡ child_word (leaf a) → second ≡ child_word (leaf l) → HasLeaf z v l (98 ∷ []) value → c ≡ cell.Anchor → x ≡ child_word (node m) → ((h : Holding) → IsHolding v c h → Wrote v w h 1 x) → HasForked y w m a l value
+forked_by z y v w m a l value n first second x c same low high r layout is_first is_second has is_anchor is_word each =
+    subst (λ (t : Sizes). HasForked t w m a l value) (sym same)
+    (wrote_above z v w m a l value (pair_words first second) (subst (HasClaimed z v m a (pair_words first second)) (omega (arith, low, high)) r) layout (ap₂ pair_words is_first is_second) has
+    (λ h i. subst (λ (k : ℕ). Wrote v w h 1 k) is_word (each h (i.0, i.1 ∙ sym is_anchor))))
 
 -- ---- the fork is committed at the node's release, and the anchor is released
 

@@ -1,18 +1,19 @@
 //! A node through two lives: it comes between the anchor and a leaf, and goes again.
-ghost use Rattle.std.specs.Prelude.{◌≡◌, ◌≢◌, ◌<◌, ◌∷◌, [], ℕ, get_or, IfSome, filter_map, false};
+ghost use Rattle.std.specs.Prelude.{◌≡◌, ◌≢◌, ◌<◌, ◌∷◌, [], ℕ, List, get_or, IfSome, filter_map, false, true};
 ghost use Rattle.std.specs.Option.{option_map};
 ghost use Rattle.art_cell.specs.declared.cells.Cell.TheVariants.{Anchor as anchor_cell, Node as node_cell};
 ghost use Rattle.art_cell.specs.declared.cells.Link.TheVariants.{Leaf as leaf_link, Node as node_link};
 ghost use Rattle.art_cell.specs.declared.layouts.Layout.TheVariants.{Node4 as node4};
 ghost use Rattle.art_cell.specs.declared.layouts.Pool.TheVariants.{Leaves as leaves_pool};
-ghost use Rattle.art_cell.specs.declared.views.Fact.TheVariants.{LeafWord};
+ghost use Rattle.art_cell.specs.declared.views.Fact.TheVariants.{LeafWord, Word as word_fact};
 ghost use Rattle.art_cell.specs.Children.{child_word};
-ghost use Rattle.art_cell.specs.CommitLaws.{HasLeaf};
+ghost use Rattle.art_cell.specs.CommitLaws.{HasLeaf, HasNode};
 ghost use Rattle.art_cell.specs.Knowledge.{Names};
-ghost use Rattle.art_cell.specs.NodeLives.{HasClaimed, HoldsLeafRoot, HoldsPair, IsNoted, IsStampAt, NotesPair, NotesRoot, OnlyLearns};
+ghost use Rattle.art_cell.specs.NodeLives.{HasClaimed, HoldsLeafRoot, HoldsPair, IsNoted, IsStampAt, NotesKey, NotesPair, NotesRoot, OnlyLearns};
 ghost use Rattle.art_cell.specs.Shown.{link_of_number};
 ghost use Rattle.art_cell.specs.StepRows.{IsInLimbo, IsNotHeld};
 ghost use Rattle.art_cell.specs.Views.{Member};
+ghost use Rattle.art_cell.specs.WordChanges.{FitsWord};
 ghost use Rattle.art_cell.specs.WorldWords.{IsInside};
 
 use super::*;
@@ -31,21 +32,22 @@ const SIZES: Sizes = Sizes {
 /// The bytes of the two keys, as the first of their word.
 const FIRST_KEY: u64 = 97 << 56;
 const SECOND_KEY: u64 = 98 << 56;
+const PAIR_BYTES: u64 = FIRST_KEY + (98 << 48);
 const SECOND_VALUE: u64 = 2;
 
-/// The anchor's stamp, and what the anchor names.
-fn see_root<S: Steps>(steps: &mut S) -> Option<(Stamp, Link)>
+/// The anchor's stamp, and its child word.
+fn see_root<S: Steps>(steps: &mut S) -> Option<(Stamp, u64)>
     requires pinned { (S.view steps.old).pin ≢ 0 }
     requires free { (S.view steps.old).held ≡ [] }
     ensures sizes { S.sizes steps.new ≡ S.sizes steps.old }
     ensures only { S.only steps.old steps.new }
     ensures learns { IfSome result (λ _. OnlyLearns (S.view steps.old) (S.view steps.new)) }
-    ensures seen { IfSome result (λ p. NotesRoot (S.view steps.new) p.0 p.1) }
+    ensures at { IfSome result (λ p. IsStampAt (S.view steps.new) p.0 anchor_cell []) }
+    ensures word { IfSome result (λ p. IsNoted (S.view steps.new) p.0 (word_fact 1 p.1)) }
 {
     let stamp = steps.begin(Cell::Anchor).ok()?;
     let word = steps.read(&stamp, Cell::Anchor, 1);
-    let link = Link::named_by(word)?;
-    Some((stamp, link))
+    Some((stamp, word))
 }
 
 /// The first three words of a leaf that the stamp's cell names.
@@ -78,11 +80,8 @@ fn lock_above_leaf<S: Steps>(steps: &mut S, leaf: u32) -> Option<Held>
     ensures hand { IfSome result (λ _. (S.view steps.new).hand ≡ (S.view steps.old).hand) }
     ensures holds { IfSome result (λ h. (h.cell ≡ anchor_cell) × HoldsLeafRoot (S.view steps.new) leaf) }
 {
-    let (stamp, link) = see_root(steps)?;
-    let Link::Leaf(found) = link else {
-        return None;
-    };
-    if found != leaf {
+    let (stamp, word) = see_root(steps)?;
+    if word != leaf_word(leaf) {
         return None;
     }
     let words = leaf_words(steps, &stamp, leaf);
@@ -93,4 +92,195 @@ fn lock_above_leaf<S: Steps>(steps: &mut S, leaf: u32) -> Option<Held>
         Ok(held) => Some(held),
         Err(_) => None,
     }
+}
+
+/// Claims the node, beside the locked anchor.
+fn claim_beside<S: Steps>(steps: &mut S, number: Number, node: Node, first: u32) -> Held
+    requires inside { IsInside (S.sizes steps.old) (node_cell node) }
+    requires layout { node.layout ≡ node4 }
+    requires link { link_of_number number ≡ node_link node }
+    requires number { HasNode (S.sizes steps.old) (S.view steps.old) node }
+    requires holds { HoldsLeafRoot (S.view steps.old) first }
+    ensures sizes { S.sizes steps.new ≡ S.sizes steps.old }
+    ensures only { S.only steps.old steps.new }
+    ensures cell { result.cell ≡ node_cell node }
+    ensures hand { (S.view steps.new).hand ≡ (S.view steps.old).hand }
+    ensures pin { (S.view steps.new).pin ≡ (S.view steps.old).pin }
+    ensures claimed { (ws : List ℕ) → HasClaimed (S.sizes steps.new) (S.view steps.new) node first ws 0 }
+{
+    steps.claim(number)
+}
+
+/// The child word of a leaf, and of a Node4.
+fn leaf_word(leaf: u32) -> u64
+    ensures { result ≡ child_word (leaf_link leaf) }
+{
+    8 * u64::from(leaf) + 1
+}
+
+fn node4_word(node: Node) -> u64
+    requires { node.layout ≡ node4 }
+    ensures { result ≡ child_word (node_link node) }
+{
+    8 * u64::from(node.number) + 2
+}
+
+/// The key of one byte.
+fn one_byte(byte: u8) -> Key
+    ensures { result.items ≡ byte ∷ [] }
+{
+    let mut key = Key::new();
+    key.push(byte);
+    key
+}
+
+/// Writes the claimed node above the two leaves, and commits it as the insert of the second key.
+fn fork<S: Steps>(steps: &mut S, mut anchor: Held, mut claimed: Held, node: Node, first: u32, leaf: Number)
+    requires inside { IsInside (S.sizes steps.old) (node_cell node) }
+    requires layout { node.layout ≡ node4 }
+    requires above { anchor.cell ≡ anchor_cell }
+    requires below { claimed.cell ≡ node_cell node }
+    requires pool { leaf.pool ≡ leaves_pool }
+    requires claimed { (ws : List ℕ) → HasClaimed (S.sizes steps.old) (S.view steps.old) node first ws 0 }
+    requires leaf { HasLeaf (S.sizes steps.old) (S.view steps.old) leaf.number (98 ∷ []) 2 }
+    ensures sizes { S.sizes steps.new ≡ S.sizes steps.old }
+    ensures only { S.only steps.old steps.new }
+    ensures idle { ((S.view steps.new).held ≡ []) × ((S.view steps.new).pin ≡ (S.view steps.old).pin) }
+{
+    let words = [2, 0, 0, 0, 0, 0, 0, 0, 0, PAIR_BYTES, leaf_word(first), leaf_word(leaf.number), 0, 0];
+    for place in 0..14 {
+        steps.write(&mut claimed, place + 1, words[place]);
+    }
+    steps.write(&mut anchor, 1, node4_word(node));
+    let deed = Deed::Done(Act::Insert(one_byte(98), SECOND_VALUE), Answer::Inserted);
+    let [first, second, third] = steps.commit(claimed, false, &deed, Some(leaf), &[]);
+    let_number_go(first);
+    let_number_go(second);
+    let_number_go(third);
+    steps.release(anchor, false);
+}
+
+/// Stamps the node that the anchor names, and notes its path.
+fn begin_below<S: Steps>(steps: &mut S, root: &Stamp, node: Node) -> Option<Stamp>
+    requires inside { IsInside (S.sizes steps.old) (node_cell node) }
+    requires pinned { (S.view steps.old).pin ≢ 0 }
+    requires seen { NotesRoot (S.view steps.old) root.now (node_link node) }
+    ensures sizes { S.sizes steps.new ≡ S.sizes steps.old }
+    ensures only { S.only steps.old steps.new }
+    ensures learns { IfSome result (λ _. OnlyLearns (S.view steps.old) (S.view steps.new)) }
+    ensures at { IfSome result (λ x. IsStampAt (S.view steps.new) x (node_cell node) []) }
+{
+    let stamp = match steps.begin(Cell::Node(node)) {
+        Ok(stamp) => stamp,
+        Err(_) => return None,
+    };
+    match steps.check(root, None) {
+        Ok(()) => Some(stamp),
+        Err(_) => None,
+    }
+}
+
+/// Whether the stamped node has these two leaves alone, at the bytes of the two keys.
+fn sees_pair<S: Steps>(steps: &mut S, stamp: &Stamp, node: Node, first: u32, second: u32) -> bool
+    requires inside { IsInside (S.sizes steps.old) (node_cell node) }
+    requires layout { node.layout ≡ node4 }
+    requires free { (S.view steps.old).held ≡ [] }
+    requires at { IsStampAt (S.view steps.old) stamp.now (node_cell node) [] }
+    ensures sizes { S.sizes steps.new ≡ S.sizes steps.old }
+    ensures only { S.only steps.old steps.new }
+    ensures learns { OnlyLearns (S.view steps.old) (S.view steps.new) }
+    ensures pair { result ≡ true → NotesPair (S.view steps.new) stamp.now first second }
+{
+    let cell = Cell::Node(node);
+    let header = steps.read(stamp, cell, 1);
+    let bytes = steps.read(stamp, cell, 10);
+    let one = steps.read(stamp, cell, 11);
+    let two = steps.read(stamp, cell, 12);
+    if header != 2 || bytes != PAIR_BYTES {
+        return false;
+    }
+    if one != leaf_word(first) || two != leaf_word(second) {
+        return false;
+    }
+    true
+}
+
+/// Locks the node, and then the anchor above it.
+fn lock_both<S: Steps>(steps: &mut S, root: Stamp, stamp: Stamp, node: Node) -> Option<(Held, Held)>
+    requires inside { IsInside (S.sizes steps.old) (node_cell node) }
+    requires free { (S.view steps.old).held ≡ [] }
+    requires seen { NotesRoot (S.view steps.old) root (node_link node) }
+    requires at { IsStampAt (S.view steps.old) stamp (node_cell node) [] }
+    ensures sizes { S.sizes steps.new ≡ S.sizes steps.old }
+    ensures only { S.only steps.old steps.new }
+    ensures pin { IfSome result (λ _. (S.view steps.new).pin ≡ (S.view steps.old).pin) }
+    ensures cells { IfSome result (λ p. (p.0.cell ≡ anchor_cell) × (p.1.cell ≡ node_cell node)) }
+    ensures holds { (a b value : ℕ) → NotesPair (S.view steps.old) stamp a b → NotesKey (S.view steps.old) stamp b 98 → IsNoted (S.view steps.old) stamp (LeafWord b 0 value) → IfSome result (λ _. HoldsPair (S.view steps.new) node a b value) }
+{
+    let below = match steps.upgrade(stamp) {
+        Ok(below) => below,
+        Err(_) => return None,
+    };
+    match steps.upgrade(root) {
+        Ok(anchor) => Some((anchor, below)),
+        Err(_) => {
+            let Held { cell: _ } = below;
+            None
+        }
+    }
+}
+
+/// Locks the anchor and the node of the two leaves below it.
+fn lock_pair<S: Steps>(steps: &mut S, node: Node, first: u32, second: u32) -> Option<(Held, Held)>
+    requires inside { IsInside (S.sizes steps.old) (node_cell node) }
+    requires fits { FitsWord (node_link node) }
+    requires layout { node.layout ≡ node4 }
+    requires number { second < (S.sizes steps.old).leaves }
+    requires pinned { (S.view steps.old).pin ≢ 0 }
+    requires free { (S.view steps.old).held ≡ [] }
+    ensures sizes { S.sizes steps.new ≡ S.sizes steps.old }
+    ensures only { S.only steps.old steps.new }
+    ensures pin { IfSome result (λ _. (S.view steps.new).pin ≡ (S.view steps.old).pin) }
+    ensures cells { IfSome result (λ p. (p.0.cell ≡ anchor_cell) × (p.1.cell ≡ node_cell node)) }
+    ensures holds { IfSome result (λ _. HoldsPair (S.view steps.new) node first second 2) }
+{
+    let (root, word) = see_root(steps)?;
+    if word != node4_word(node) {
+        return None;
+    }
+    let stamp = begin_below(steps, &root, node)?;
+    if !sees_pair(steps, &stamp, node, first, second) {
+        return None;
+    }
+    let words = leaf_words(steps, &stamp, second);
+    if words[0] != SECOND_VALUE || words[1] != 1 || words[2] != SECOND_KEY {
+        return None;
+    }
+    lock_both(steps, root, stamp, node)
+}
+
+/// Writes the first leaf in place of the node, and commits it as the removal of the second key.
+fn merge<S: Steps>(steps: &mut S, mut anchor: Held, below: Held, node: Node, first: u32, second: u32) -> Unlinked
+    requires inside { IsInside (S.sizes steps.old) (node_cell node) }
+    requires layout { node.layout ≡ node4 }
+    requires above { anchor.cell ≡ anchor_cell }
+    requires below { below.cell ≡ node_cell node }
+    requires holds { HoldsPair (S.view steps.old) node first second 2 }
+    ensures sizes { S.sizes steps.new ≡ S.sizes steps.old }
+    ensures only { S.only steps.old steps.new }
+    ensures idle { ((S.view steps.new).held ≡ []) × ((S.view steps.new).pin ≡ (S.view steps.old).pin) }
+    ensures numbers { filter_map (option_map link_of_number) result ≡ node_link node ∷ leaf_link second ∷ [] }
+    ensures limbo { IsInLimbo (S.view steps.new) (node_link node) × IsInLimbo (S.view steps.new) (leaf_link second) }
+{
+    steps.write(&mut anchor, 1, leaf_word(first));
+    let deed = Deed::Done(Act::Remove(one_byte(98)), Answer::Removed(SECOND_VALUE));
+    let gone = [node4_word(node), leaf_word(second)];
+    let unlinked = steps.commit(anchor, false, &deed, None, &gone);
+    steps.release(below, true);
+    unlinked
+}
+
+/// A commit that unlinks nothing hands out no number.
+fn let_number_go(number: Option<Number>) {
+    if let Some(Number { pool: _, number: _ }) = number {}
 }

@@ -1,0 +1,247 @@
+-- The node of two leaves is found below the anchor, locked with it, and taken out of the tree.
+use Rattle.std.proofs.Common.{◌≡◌, ◌≢◌, ◌⊎◌, ℕ, ◌+◌, ◌*◌, ◌%◌, ◌^◌, ◌<◌, ◌≤◌, List, [], ◌∷◌, ◌++◌, length, set, inl, inr, ⊎_elim, sym, refl, ap, ap₂, ◌∙◌, subst, subst₂, arith, eq-eqb, get_or-set_same}
+use Rattle.std.specs.List.{cons_option}
+use Rattle.std.specs.Prelude.{Option, Some, None, true, false}
+use Rattle.art_cell.specs.declared.cells.Cell.{Cell}
+use Rattle.art_cell.specs.declared.cells.Cell.TheVariants as cell
+use Rattle.art_cell.specs.declared.cells.Link.{Link}
+use Rattle.art_cell.specs.declared.cells.Link.TheVariants.{Leaf as leaf, Node as node}
+use Rattle.art_cell.specs.declared.cells.Node.{Node}
+use Rattle.art_cell.specs.declared.layouts.Layout.{Layout}
+use Rattle.art_cell.specs.declared.layouts.Layout.TheVariants.{Node4}
+use Rattle.art_cell.specs.declared.views.Fact.TheVariants.{Starts, Word, LeafWord}
+use Rattle.art_cell.specs.declared.views.Holding.{Holding}
+use Rattle.art_cell.specs.declared.views.Retired.{Retired}
+use Rattle.art_cell.specs.declared.views.Sizes.{Sizes}
+use Rattle.art_cell.specs.declared.views.Stamp.{Stamp}
+use Rattle.art_cell.specs.declared.views.View.{View}
+use Rattle.art_cell.specs.declared.views.What.{What}
+use Rattle.art_cell.specs.Children.{child_word, link_of}
+use Rattle.art_cell.specs.Heaps.{Cells, heap_of}
+use Rattle.art_cell.specs.Knowledge.{IsShape, CellAt, HoldsAll, NamesLeaf, Leads, Names}
+use Rattle.art_cell.specs.NodeLives.{IsNoted, OnlyLearns, IsStampAt, NotesRoot, NotesKey, key_of_one, HoldsTwo, stamped_holding, IsPair, HoldsPair, NotesPair, HasMerged}
+use Rattle.art_cell.specs.Shown.{links_of, IsHolding, MayReadCell, Passed, Upgraded, Wrote, Committed, Released}
+use Rattle.art_cell.specs.StepRows.{MayBeFirst, MayRelease, MayWrite, Drops, with_word, begun, note_of, stamp_of, IsInLimbo, IsNodeAmong}
+use Rattle.art_cell.specs.Tree.{top, held, Slot}
+use Rattle.art_cell.specs.Views.{IsClear, Member, size_of, words_in}
+use Rattle.art_cell.specs.WordChanges.{FitsWord, two_children}
+use Rattle.art_cell.specs.Words.{size, child_of}
+use Rattle.art_cell.proofs.ChildWords.{link_back, link_exact}
+use Rattle.art_cell.proofs.LeafPair.{pair_child}
+use Rattle.art_cell.proofs.LifeSteps.{both_dropped, puts_one, stamp_is}
+use Rattle.art_cell.proofs.Meanings.{child_is, child_named}
+use Rattle.art_cell.proofs.Turns.{member_back, member_front}
+
+-- ---- the node is stamped, and its path is noted
+
+pub begun_learns : (v w : View) (x : Stamp) (n : Node) → x.cell ≡ cell.Node n → IsClear x.version → w ≡ begun v (cell.Node n) x.version → OnlyLearns v w × Member x w.stamps
+begun_learns v w x n is clear e =
+    let same : begun v (cell.Node n) x.version ≡ record v { steps = v.steps + 1; stamps = stamp_of (cell.Node n) x.version ∷ v.stamps; found = (begun v (cell.Node n) x.version).found } = rw (eq-eqb (x.version % 4) 0 clear) refl in
+    subst (λ (u : View). OnlyLearns v u × Member x u.stamps) (sym (e ∙ same))
+    (record { pin = refl; held = refl; committed = refl; hand = refl; limbo = refl; stamps = λ a i. inr i; notes = λ a i. i }, inl (sym (stamp_is x (cell.Node n) is)))
+
+pub passed_learns : (z : Sizes) (v w : View) (x : Stamp) (o : Option What) → Passed z v w x o → OnlyLearns v w
+passed_learns z v w x o p = subst (OnlyLearns v) (sym p.is) record { pin = refl; held = refl; committed = refl; hand = refl; limbo = refl; stamps = λ a i. i; notes = λ y i. member_back y p.paths v.notes i }
+
+-- what the anchor names has the empty path
+root_leads : (z : Sizes) (v : View) (x : Stamp) (n : Node) → NotesRoot v x (node n) → Leads z v x (cell.Node n) []
+unfolding heap_of
+root_leads z v x n seen s shape holds =
+    let word = holds (note_of x (Word 1 seen.word)) seen.noted refl in
+    top (ap link_of (sym (ap (λ (c : Cell). s c 1) seen.at.cell) ∙ word) ∙ seen.names) refl
+
+pub below_root : (z : Sizes) (v w : View) (x d : Stamp) (n : Node) (o : Option What) → Member d v.stamps → d.cell ≡ cell.Node n → NotesRoot v x (node n) → Passed z v w x o → IsStampAt w d (cell.Node n) []
+below_root z v w x d n o stamped is seen p = record {
+  cell = is;
+  stamp = (passed_learns z v w x o p).stamps d stamped;
+  path = subst (λ (u : View). IsNoted u d (Starts [])) (sym p.is)
+      (member_front (note_of d (Starts [])) p.paths v.notes (p.led d [] stamped (subst (λ (c : Cell). Leads z v x c []) (sym is) (root_leads z v x n seen))));
+}
+
+-- ---- its words are read
+
+pub stamp_at_on : (v w : View) (x : Stamp) (c : Cell) (p : List ℕ) → OnlyLearns v w → IsStampAt v x c p → IsStampAt w x c p
+stamp_at_on v w x c p more at = record { cell = at.cell; stamp = more.stamps x at.stamp; path = more.notes (note_of x (Starts p)) at.path }
+
+pub may_read_node : (z : Sizes) (v : View) (x : Stamp) (n : Node) (i : ℕ) → n.layout ≡ Node4 → v.held ≡ [] → IsStampAt v x (cell.Node n) [] → 0 < i → i < 15 → MayReadCell z v x (cell.Node n) i
+may_read_node z v x n i layout free at low high = (
+  at.cell,
+  record {
+    stamp = at.stamp;
+    free = λ h j. absurd (subst (Member h) free j);
+    place = (low, subst (λ (c : Cell). i < size_of c) (sym at.cell) (subst (λ (k : Layout). i < size k) (sym layout) high));
+  },
+)
+
+-- the words that were read are those of a node of these leaves
+pub pair_noted : (v : View) (x : Stamp) (a b header bytes one two : ℕ) → IsNoted v x (Word 1 header) → IsNoted v x (Word 10 bytes) → IsNoted v x (Word 11 one) → IsNoted v x (Word 12 two)
+    → header ≡ 2 → bytes ≡ 97 * 256 ^ 7 + 98 * 256 ^ 6 → one ≡ child_word (leaf a) → two ≡ child_word (leaf b) → FitsWord (leaf a) → FitsWord (leaf b) → NotesPair v x a b
+pair_noted v x a b header bytes one two n1 n10 n11 n12 is_header is_bytes is_one is_two fits_a fits_b = record {
+  header = subst (λ (k : ℕ). IsNoted v x (Word 1 k)) is_header n1;
+  bytes = subst (λ (k : ℕ). IsNoted v x (Word 10 k)) is_bytes n10;
+  first = subst (λ (k : ℕ). IsNoted v x (Word 11 k)) is_one n11;
+  second = subst (λ (k : ℕ). IsNoted v x (Word 12 k)) is_two n12;
+  fits_first = fits_a;
+  fits_second = fits_b;
+}
+
+pub pair_on : (v w : View) (x : Stamp) (a b : ℕ) → OnlyLearns v w → NotesPair v x a b → NotesPair w x a b
+pair_on v w x a b more pair = record {
+  header = more.notes _ pair.header;
+  bytes = more.notes _ pair.bytes;
+  first = more.notes _ pair.first;
+  second = more.notes _ pair.second;
+  fits_first = pair.fits_first;
+  fits_second = pair.fits_second;
+}
+
+-- and so it names the second leaf
+pub pair_names : (z : Sizes) (v : View) (x : Stamp) (n : Node) (a b : ℕ) → n.layout ≡ Node4 → IsStampAt v x (cell.Node n) [] → NotesPair v x a b → Names z v x b
+pair_names z v x n a b layout at pair s shape holds =
+    subst (λ (c : Cell). NamesLeaf s c b) (sym at.cell) record {
+      path = [];
+      there = subst (λ (c : Cell). CellAt s c []) at.cell (holds (note_of x (Starts [])) at.path refl);
+      byte = 98;
+      names = child_is s n 98 ∙ child_named (child_of n.layout (s (cell.Node n))) 98 (leaf b) (omega arith) pair.fits_second
+          (subst (λ (k : Layout). child_of k (s (cell.Node n)) 98 ≡ two_children 97 (leaf a) 98 (leaf b) 98) (sym layout) (pair_child (s (cell.Node n)) (leaf a) (leaf b) is_pair 98));
+    }
+  where
+    word : (i value : ℕ) → IsNoted v x (Word i value) → s (cell.Node n) i ≡ value
+    word i value noted = ap (λ (c : Cell). s c i) (sym at.cell) ∙ holds (note_of x (Word i value)) noted refl
+    is_pair : IsPair (s (cell.Node n)) (leaf a) (leaf b)
+    is_pair = record { header = word 1 _ pair.header; bytes = word 10 _ pair.bytes; first = word 11 _ pair.first; second = word 12 _ pair.second }
+
+-- notes that stay say the same
+pair_kept : (v w : View) (x : Stamp) (a b : ℕ) → w.notes ≡ v.notes → NotesPair v x a b → NotesPair w x a b
+pair_kept v w x a b same pair = record {
+  header = subst (Member (note_of x (Word 1 2))) (sym same) pair.header;
+  bytes = subst (Member (note_of x (Word 10 (97 * 256 ^ 7 + 98 * 256 ^ 6)))) (sym same) pair.bytes;
+  first = subst (Member (note_of x (Word 11 (child_word (leaf a))))) (sym same) pair.first;
+  second = subst (Member (note_of x (Word 12 (child_word (leaf b))))) (sym same) pair.second;
+  fits_first = pair.fits_first;
+  fits_second = pair.fits_second;
+}
+
+key_kept : (v w : View) (x : Stamp) (l b : ℕ) → w.notes ≡ v.notes → NotesKey v x l b → NotesKey w x l b
+key_kept v w x l b same key = record {
+  len = subst (Member (note_of x (LeafWord l 1 1))) (sym same) key.len;
+  key = subst (Member (note_of x (LeafWord l 2 (key_of_one b)))) (sym same) key.key;
+}
+
+-- ---- both are locked
+
+pub locked_both : (v w u : View) (x d : Stamp) (n : Node) (a b value : ℕ) → v.held ≡ [] → NotesRoot v x (node n) → IsStampAt v d (cell.Node n) [] → NotesPair v d a b → NotesKey v d b 98 → IsNoted v d (LeafWord b 0 value)
+    → Upgraded v w d → Upgraded w u x → HoldsPair u n a b value
+locked_both v w u x d n a b value free seen at pair key noted first second = record {
+  version = x.version;
+  second = d.version;
+  words = second.words;
+  body = first.words;
+  held = subst (λ (hs : List Holding). HoldsTwo hs above below) (sym held_is) record {
+    one = inl refl;
+    two = inr (inl refl);
+    only = λ j i. ⊎_elim (λ (e : j ≡ above). inl e) (λ (i : Member j (below ∷ [])). ⊎_elim (λ (e : j ≡ below). inr e) (λ (none : ⊥). absurd none) i) i;
+    apart = λ e. cc;
+  };
+  long = second.long ∙ ap size_of seen.at.cell;
+  names = ap link_of (second.agrees 1 seen.word (subst (λ (y : View). IsNoted y x (Word 1 seen.word)) (sym first.is) seen.noted)) ∙ seen.names;
+  pair = subst (λ (t : Stamp). NotesPair u t a b) same (pair_kept v u d a b notes pair);
+  key = subst (λ (t : Stamp). NotesKey u t b 98) same (key_kept v u d b 98 notes key);
+  value_noted = subst (λ (t : Stamp). IsNoted u t (LeafWord b 0 value)) same (subst (Member (note_of d (LeafWord b 0 value))) (sym notes) noted);
+  early = ap (λ (y : View). y.committed) second.is;
+}
+  where
+    above : Holding
+    above = stamped_holding (stamp_of cell.Anchor x.version) second.words second.words
+    below : Holding
+    below = stamped_holding (stamp_of (cell.Node n) d.version) first.words first.words
+    notes : u.notes ≡ v.notes
+    notes = ap (λ (y : View). y.notes) second.is ∙ ap (λ (y : View). y.notes) first.is
+    same : d ≡ stamp_of (cell.Node n) d.version
+    same = sym (stamp_is d (cell.Node n) at.cell)
+    held_is : u.held ≡ above ∷ below ∷ []
+    held_is = ap (λ (y : View). y.held) second.is
+        ∙ ap₂ (λ (c : Cell) (hs : List Holding). record { cell = c; stamped = Some x.version; old = second.words; new = second.words } ∷ hs) seen.at.cell
+        (ap (λ (y : View). y.held) first.is ∙ ap₂ (λ (c : Cell) (hs : List Holding). record { cell = c; stamped = Some d.version; old = first.words; new = first.words } ∷ hs) at.cell free)
+
+-- ---- the first leaf is written in place of the node
+
+module _ (v w : View) (n : Node) (a b value : ℕ) (r : HoldsPair v n a b value) where
+  abbrev pair_anchor : Holding
+  pair_anchor = stamped_holding (stamp_of cell.Anchor r.version) r.words r.words
+
+  abbrev pair_node : Holding
+  pair_node = stamped_holding (stamp_of (cell.Node n) r.second) r.body r.body
+
+  pub may_write_pair : (h : Holding) × (h.cell ≡ cell.Anchor) × MayWrite v h 1
+  may_write_pair = (pair_anchor, refl, record { held = r.held.one; early = r.early; place = (omega arith, omega arith) })
+
+  pub wrote_pair : n.layout ≡ Node4 → (c : Cell) (x : ℕ) → c ≡ cell.Anchor → x ≡ child_word (leaf a) → ((h : Holding) → IsHolding v c h → Wrote v w h 1 x) → HasMerged w n a b value × (w.pin ≡ v.pin)
+  wrote_pair layout c x is_anchor is_word each =
+      let o = each pair_anchor (r.held.one, sym is_anchor) in (
+        record {
+          version = r.version;
+          second = r.second;
+          old = r.words;
+          new = set r.words 1 x;
+          body = r.body;
+          held = subst (λ (u : View). HoldsTwo u.held (with_word pair_anchor 1 x) pair_node) (sym o.is) (puts_one v.held pair_anchor pair_node (with_word pair_anchor 1 x) o.held refl r.held o.puts);
+          layout = layout;
+          was = r.names;
+          now = get_or-set_same r.words 1 x 0 (omega (arith, r.long)) ∙ is_word;
+          pair = pair_kept v w (stamp_of (cell.Node n) r.second) a b (ap (λ (u : View). u.notes) o.is) r.pair;
+          key = key_kept v w (stamp_of (cell.Node n) r.second) b 98 (ap (λ (u : View). u.notes) o.is) r.key;
+          value_noted = subst (λ (u : View). IsNoted u (stamp_of (cell.Node n) r.second) (LeafWord b 0 value)) (sym o.is) r.value_noted;
+          early = ap (λ (u : View). u.committed) o.is ∙ r.early;
+        },
+        ap (λ (u : View). u.pin) o.is,
+      )
+
+-- ---- the merge is committed at the anchor's release, and the node is released as obsolete
+
+module _ (v w : View) (n : Node) (a b value : ℕ) (r : HasMerged v n a b value) where
+  abbrev merged_anchor : Holding
+  merged_anchor = stamped_holding (stamp_of cell.Anchor r.version) r.old r.new
+
+  abbrev merged_node : Holding
+  merged_node = stamped_holding (stamp_of (cell.Node n) r.second) r.body r.body
+
+  pub anchor_may_be_first : (h : Holding) × (h.cell ≡ cell.Anchor) × MayBeFirst v (node n ∷ leaf b ∷ []) h false
+  anchor_may_be_first = (merged_anchor, refl, record { early = r.early; held = r.held.one; obsolete = ((λ e. cc), (λ o. let bad = o.1 in absurd (cc))) })
+
+  module _ (what : What) (us ls : List Link) (are : us ≡ node n ∷ leaf b ∷ []) (c : Cell) (same : c ≡ cell.Anchor) (each : (h : Holding) → IsHolding v c h → Committed v w what us ls h) where
+    abbrev o : Committed v w what (node n ∷ leaf b ∷ []) ls merged_anchor
+    o = subst (λ (ks : List Link). Committed v w what ks ls merged_anchor) are (each merged_anchor (r.held.one, sym same))
+
+    node_left : Member merged_node w.held
+    node_left = subst (λ (u : View). Member merged_node u.held) (sym o.is) (o.drops.stays merged_node r.held.two (λ e. cc))
+
+    node_in_limbo : IsInLimbo w (node n)
+    node_in_limbo = subst (λ (u : View). IsInLimbo u (node n)) (sym o.is) (_, inl refl, refl)
+
+    leaf_in_limbo : IsInLimbo w (leaf b)
+    leaf_in_limbo = subst (λ (u : View). IsInLimbo u (leaf b)) (sym o.is) (_, inr (inl refl), refl)
+
+    pub node_may_go : (h : Holding) × (h.cell ≡ cell.Node n) × MayRelease w h true
+    node_may_go = (merged_node, refl, (node_left, inl (ap (λ (u : View). u.committed) o.is, ((λ e. (n, refl, node_in_limbo)), (λ k. refl)))))
+
+    pub merge_ends : (u : View) → ((h : Holding) → IsHolding w (cell.Node n) h → Released w u h) → (u.held ≡ []) × (u.pin ≡ v.pin) × IsInLimbo u (node n) × IsInLimbo u (leaf b)
+    merge_ends u released =
+        let last = released merged_node (node_left, refl) in
+        (
+          ap (λ (y : View). y.held) last.is
+          ∙ both_dropped v.held merged_anchor merged_node (cell.Node n) o.held last.held r.held o.drops refl
+          (subst (λ (hs : List Holding). Drops hs (cell.Node n) last.held) (ap (λ (y : View). y.held) o.is) last.drops),
+          ap (λ (y : View). y.pin) last.is ∙ ap (λ (y : View). y.pin) o.is,
+          subst (λ (y : View). IsInLimbo y (node n)) (sym last.is) node_in_limbo,
+          subst (λ (y : View). IsInLimbo y (leaf b)) (sym last.is) leaf_in_limbo,
+        )
+
+-- what two child words name
+pub two_links : (x y : ℕ) (c d : Link) → x ≡ child_word c → y ≡ child_word d → FitsWord c → FitsWord d → links_of (x ∷ y ∷ []) ≡ c ∷ d ∷ []
+two_links x y c d is_c is_d fits_c fits_d =
+    ap₂ (λ (a b : Option Link). cons_option a (cons_option b [])) (ap link_of is_c ∙ link_back c fits_c) (ap link_of is_d ∙ link_back d fits_d)
+
+-- the anchor's word names the node, whose number so takes 32 bits
+pub node_fits : (v : View) (n : Node) (a b value : ℕ) → HoldsPair v n a b value → FitsWord (node n)
+node_fits v n a b value r = (link_exact (words_in r.words 1) (node n) r.names).1
