@@ -1,11 +1,10 @@
 -- A pass that has stamped the anchor reads its child word, and the words of the leaf that it names.
-use Rattle.std.proofs.Common.{◌≡◌, ℕ, suc, ◌+◌, ◌^◌, ◌<◌, ◌≤◌, List, [], ◌∷◌, Some, refl, sym, ap, ◌∙◌, subst, subst₂, ⊎_elim, arith}
+use Rattle.std.proofs.Common.{◌≡◌, ℕ, ◌+◌, ◌<◌, ◌≤◌, List, [], Some, refl, sym, ap, subst, ⊎_elim, arith}
 use Rattle.std.proofs.lemmas.Bool.{cases_eq}
 use Rattle.art_cell.specs.declared.cells.Cell.{Cell}
 use Rattle.art_cell.specs.declared.cells.Cell.TheVariants as cell
 use Rattle.art_cell.specs.declared.cells.Link.TheVariants.{Leaf as leaf}
 use Rattle.art_cell.specs.declared.steps.Held.{Held}
-use Rattle.art_cell.specs.declared.views.Fact.{Fact}
 use Rattle.art_cell.specs.declared.views.Fact.TheVariants.{Starts, Word, LeafWord}
 use Rattle.art_cell.specs.declared.views.Note.{Note}
 use Rattle.art_cell.specs.declared.views.Sizes.{Sizes}
@@ -18,7 +17,7 @@ use Rattle.art_cell.specs.NodeLives.{IsNoted, OnlyLearns}
 use Rattle.art_cell.specs.Shown.{MayReadCell}
 use Rattle.art_cell.specs.StepRows.{MayReadLeaf, note_of, stamp_of}
 use Rattle.art_cell.specs.Views.{Member, size_of}
-use Rattle.art_cell.specs.Visits.{HasNone, IsAway, IsIdle, StampsAnchor, HoldsWord, Locks, NotesLeaf}
+use Rattle.art_cell.specs.Visits.{IsAway, IsIdle, StampsAnchor, HoldsWord, Locks, NotesLeaf}
 use Rattle.art_cell.proofs.ChildWords.{link_back, link_exact}
 use Rattle.art_cell.proofs.IdlePasses.{still_away, still_empty}
 use Rattle.art_cell.proofs.LifeSteps.{root_names}

@@ -1,5 +1,5 @@
 -- A pass that holds the anchor alone writes its child word, and commits.
-use Rattle.std.proofs.Common.{◌≡◌, ◌≢◌, ℕ, ◌+◌, ◌*◌, ◌^◌, ◌<◌, true, false, List, [], ◌∷◌, ◌++◌, set, Some, None, Option, refl, sym, ap, ap₂, ◌∙◌, subst, subst₂, inl, inr, ⊎_elim, arith, get_or-set_same}
+use Rattle.std.proofs.Common.{◌≡◌, ◌≢◌, ℕ, ◌+◌, ◌^◌, ◌<◌, false, List, [], ◌∷◌, ◌++◌, set, Some, None, Option, refl, sym, ap, ap₂, ◌∙◌, subst, subst₂, inl, inr, ⊎_elim, arith, get_or-set_same}
 use Rattle.std.specs.List.{cons_option}
 use Rattle.art_cell.specs.declared.cells.Cell.{Cell}
 use Rattle.art_cell.specs.declared.cells.Cell.TheVariants as cell
@@ -24,8 +24,8 @@ use Rattle.art_cell.specs.Leaves.{leaf_word}
 use Rattle.art_cell.specs.Shown.{Committed, Freed, IsHolding, Wrote, claimed_node, claimed_nodes, coming, link_of_number, links_of}
 use Rattle.art_cell.specs.StepRows.{AllNew, Commits, IsInLimbo, Knows, MayBeFirst, MayCommit, MayFree, MayWrite, note_of, all_retired, retired, stamp_of}
 use Rattle.art_cell.specs.Tree.{Top}
-use Rattle.art_cell.specs.Views.{Member, Views, words_in}
-use Rattle.art_cell.specs.Visits.{HasNone, HasJust, IsAway, IsIdle, anchor_held, HoldsAnchor, HoldsWord, ChangesWord, Fills, NotesLeaf}
+use Rattle.art_cell.specs.Views.{Member, Views}
+use Rattle.art_cell.specs.Visits.{HasNone, IsAway, IsIdle, anchor_held, HoldsAnchor, HoldsWord, ChangesWord, Fills, NotesLeaf}
 use Rattle.art_cell.specs.Words.{Words}
 use Rattle.art_cell.proofs.ChangeCommits.{add_commits, drop_commits}
 use Rattle.art_cell.proofs.ChildWords.{link_back}
@@ -217,7 +217,6 @@ removed_limbo v w h x a b l what us ls one c committed =
 -- the one cell that its child word names
 pub one_link : (word l : ℕ) → l < 2 ^ 32 → word ≡ child_word (leaf l) → links_of (word ∷ []) ≡ leaf l ∷ []
 one_link word l small e = ap (λ (o : Option Link). cons_option o []) (ap link_of e ∙ link_back (leaf l) small)
-
 
 -- ---- and it goes back, since no stamp is a leaf's
 

@@ -1,6 +1,6 @@
 -- A pass that holds nothing, or that has stamped the anchor, or that holds the anchor unchanged.
-use Rattle.std.proofs.Common.{◌≡◌, ◌≢◌, ℕ, ◌+◌, ◌%◌, true, false, cond, eqb, List, [], ◌∷◌, Bool, Option, Some, None, refl, sym, ap, ◌∙◌, subst, inl, inr, ⊎_elim}
-use Rattle.std.specs.Prelude.{IfSome, MatchResult, Result, Ok, Err}
+use Rattle.std.proofs.Common.{◌≡◌, ℕ, ◌+◌, ◌%◌, true, false, cond, eqb, List, [], ◌∷◌, Bool, Option, Some, refl, sym, ap, ◌∙◌, subst, inl, inr, ⊎_elim}
+use Rattle.std.specs.Prelude.{MatchResult, Result, Ok, Err}
 use Rattle.art_cell.specs.declared.cells.Cell.{Cell}
 use Rattle.art_cell.specs.declared.cells.Cell.TheVariants as cell
 use Rattle.art_cell.specs.declared.steps.Held.{Held}
@@ -17,9 +17,9 @@ use Rattle.art_cell.specs.declared.visits.Adding.{Adding}
 use Rattle.art_cell.specs.declared.visits.Removing.{Removing}
 use Rattle.art_cell.specs.declared.visits.Visit.{Visit}
 use Rattle.art_cell.specs.Shown.{Failed, FailedUpgrade, IsHolding, Passed, Released, Upgraded}
-use Rattle.art_cell.specs.StepRows.{Drops, MayLock, MayRelease, begun, note_of, stamp_of}
-use Rattle.art_cell.specs.Views.{IsClear, Member, size_of}
-use Rattle.art_cell.specs.Visits.{HasNone, HasJust, IsAway, IsIdle, StampsAnchor, anchor_held, HoldsAnchor, HoldsUnchanged, Locks, Adds, Removes, Visits}
+use Rattle.art_cell.specs.StepRows.{Drops, MayLock, MayRelease, begun, note_of}
+use Rattle.art_cell.specs.Views.{Member, size_of}
+use Rattle.art_cell.specs.Visits.{HasNone, HasJust, IsAway, IsIdle, StampsAnchor, anchor_held, HoldsUnchanged, Locks, Adds, Removes, Visits}
 use Rattle.art_cell.proofs.Turns.{member_back}
 
 -- ---- lists with few members

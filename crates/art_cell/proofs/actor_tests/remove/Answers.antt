@@ -1,4 +1,4 @@
-use Rattle.std.specs.Prelude.{[], ◌∷◌, ◌≡◌, ◌+◌}
+use Rattle.std.specs.Prelude.{[], ◌∷◌, ◌≡◌}
 use Rattle.std.proofs.Common.{◌∙◌, arith, subst, sym}
 use Rattle.art_cell.specs.declared.anchor_steps.TheConstants.{KEY, VALUE}
 use Rattle.art_cell.specs.declared.cells.Link.TheVariants.{Leaf as leaf}

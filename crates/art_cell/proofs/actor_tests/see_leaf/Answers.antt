@@ -1,4 +1,4 @@
-use Rattle.std.proofs.Common.{◌≡◌, ◌∙◌, ◌<◌, [], ◌∷◌, Some, ap, sym, subst, arith}
+use Rattle.std.proofs.Common.{◌≡◌, ◌<◌, [], ◌∷◌, Some, sym, subst, arith}
 use Rattle.art_cell.specs.declared.anchor_steps.TheConstants.{KEY, VALUE}
 use Rattle.art_cell.specs.declared.cells.Link.TheVariants.{Leaf as leaf}
 use Rattle.art_cell.specs.declared.views.Sizes.{Sizes}

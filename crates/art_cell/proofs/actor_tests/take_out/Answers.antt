@@ -1,6 +1,3 @@
-use Rattle.std.proofs.Common.{subst}
-use Rattle.art_cell.specs.declared.views.View.{View}
-use Rattle.art_cell.specs.Shown.{Freed}
 use Rattle.art_cell.specs.WorldWords.{view_at, views_of}
 use Rattle.art_cell.proofs.AnchorRows.{may_give_back, freed_idle}
 use Rattle.art_cell.proofs.actor_tests.take_out.Goals as goal

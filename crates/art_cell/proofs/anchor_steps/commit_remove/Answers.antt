@@ -1,4 +1,4 @@
-use Rattle.std.proofs.Common.{[], ◌∷◌, List, ℕ, None, arith, subst, subst₂, sym}
+use Rattle.std.proofs.Common.{List, ℕ, None, arith, subst₂, sym}
 use Rattle.art_cell.specs.declared.anchor_steps.TheConstants.{KEY, VALUE}
 use Rattle.art_cell.specs.declared.cells.Link.{Link}
 use Rattle.art_cell.specs.declared.views.Answer.TheVariants.{Removed}

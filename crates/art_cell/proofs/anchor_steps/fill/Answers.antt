@@ -1,4 +1,4 @@
-use Rattle.std.proofs.Common.{[], ◌∷◌, ◌+◌, ℕ, List, arith, subst, sym}
+use Rattle.std.proofs.Common.{[], ◌∷◌, ◌+◌, arith, subst, sym}
 use Rattle.art_cell.specs.declared.anchor_steps.TheConstants.{KEY, VALUE}
 use Rattle.art_cell.specs.declared.layouts.Number.{Number}
 use Rattle.art_cell.specs.declared.views.Sizes.{Sizes}
