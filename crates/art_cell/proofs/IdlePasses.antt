@@ -1,7 +1,6 @@
--- A pass that is idle, or that has stamped the anchor, or that holds the anchor unchanged.
-use Rattle.std.proofs.Common.{◌≡◌, ◌≢◌, ℕ, ◌+◌, ◌%◌, true, false, cond, eqb, List, [], ◌∷◌, Bool, Option, Some, None, refl, sym, ap, ◌∙◌, subst, inl, inr, ⊎_elim}
-use Rattle.std.specs.Prelude.{IfSome, MatchOption, MatchResult}
-use Rattle.std.specs.Prelude.{Result, Ok, Err}
+-- A pass that holds nothing, or that has stamped the anchor, or that holds the anchor unchanged.
+use Rattle.std.proofs.Common.{◌≡◌, ℕ, ◌+◌, ◌%◌, true, false, cond, eqb, List, [], ◌∷◌, Bool, Option, Some, refl, sym, ap, ◌∙◌, subst, inl, inr, ⊎_elim}
+use Rattle.std.specs.Prelude.{MatchResult, Result, Ok, Err}
 use Rattle.art_cell.specs.declared.cells.Cell.{Cell}
 use Rattle.art_cell.specs.declared.cells.Cell.TheVariants as cell
 use Rattle.art_cell.specs.declared.steps.Held.{Held}
@@ -9,35 +8,41 @@ use Rattle.art_cell.specs.declared.steps.UpgradeFault.{UpgradeFault}
 use Rattle.art_cell.specs.declared.steps.UpgradeFault.TheVariants as fault
 use Rattle.art_cell.specs.declared.views.Fact.TheVariants.{Starts}
 use Rattle.art_cell.specs.declared.views.Holding.{Holding}
+use Rattle.art_cell.specs.declared.views.InHand.{InHand}
 use Rattle.art_cell.specs.declared.views.Stamp.{Stamp}
 use Rattle.art_cell.specs.declared.views.Sizes.{Sizes}
 use Rattle.art_cell.specs.declared.views.View.{View}
-use Rattle.art_cell.specs.declared.views.InHand.{InHand}
 use Rattle.art_cell.specs.declared.views.What.{What}
-use Rattle.art_cell.specs.declared.views.What.TheVariants.{Look}
-use Rattle.art_cell.specs.declared.views.Bound.TheVariants.{To}
-use Rattle.art_cell.specs.declared.cells.Link.{Link}
-use Rattle.art_cell.specs.Heaps.{Cells}
-use Rattle.art_cell.specs.Looks.{Before}
-use Rattle.art_cell.specs.Shown.{Committed, Failed, FailedUpgrade, IsHolding, Passed, Released, Upgraded, claimed_nodes}
-use Rattle.art_cell.specs.StepRows.{AllNew, Commits, Drops, IsNotHeld, Knows, MayBeFirst, MayCommit, MayRelease, begun, note_of, stamp_of}
-use Rattle.art_cell.specs.Views.{IsClear, Member, words_in}
-use Rattle.art_cell.proofs.StepCommits.{either_held}
+use Rattle.art_cell.specs.declared.visits.Adding.{Adding}
+use Rattle.art_cell.specs.declared.visits.Removing.{Removing}
+use Rattle.art_cell.specs.declared.visits.Visit.{Visit}
+use Rattle.art_cell.specs.Shown.{Failed, FailedUpgrade, IsHolding, Passed, Released, Upgraded}
+use Rattle.art_cell.specs.StepRows.{Drops, MayLock, MayRelease, begun, note_of}
+use Rattle.art_cell.specs.Views.{Member, size_of}
+use Rattle.art_cell.specs.Visits.{HasNone, HasJust, IsAway, IsIdle, StampsAnchor, anchor_held, HoldsUnchanged, Locks, Adds, Removes, Visits}
 use Rattle.art_cell.proofs.Turns.{member_back}
 
--- ---- what the places of a pass's loop say of its view
+-- ---- lists with few members
 
--- it is pinned, holds no cell, and has nothing in hand
-abbrev pub Idles : View → Type 0
-Idles v = (v.pin ≢ 0) × (v.held ≡ []) × (v.hand ≡ [])
+pub no_members : {A : Type 0} (xs : List A) → HasNone xs → xs ≡ []
+no_members [] none = refl
+no_members (x ∷ xs) none = absurd (none x (inl refl))
 
--- the stamp is one of the anchor, whose path is noted
-abbrev pub StampsAnchor : View → Stamp → Type 0
-StampsAnchor v x = (x.cell ≡ cell.Anchor) × Member x v.stamps × Member (note_of x (Starts [])) v.notes
+pub just_one : {A : Type 0} (x : A) → HasJust (x ∷ []) x
+just_one x = record { has = inl refl; only = λ y i. ⊎_elim (λ (e : y ≡ x). e) (λ (h : ⊥). absurd h) i }
 
--- it holds the anchor alone, stamped and unchanged, and has nothing in hand
-abbrev pub HoldsAnchor : View → Type 0
-HoldsAnchor v = (v.pin ≢ 0) × (v.hand ≡ []) × (v.committed ≡ false) × ((x : ℕ) × (ws : List ℕ) × (v.held ≡ record { cell = cell.Anchor; stamped = Some x; old = ws; new = ws } ∷ []))
+-- without that one cell nothing is held
+pub none_left : (hs ks : List Holding) (h : Holding) (c : Cell) → HasJust hs h → h.cell ≡ c → Drops hs c ks → HasNone ks
+none_left hs ks h c just is drops k i = let o = drops.was k i in o.1 (ap (λ (y : Holding). y.cell) (just.only k o.0) ∙ is)
+
+-- ---- what is the same of two views
+
+-- a pass stays away, where neither its pin nor what it holds changes
+pub still_away : (v w : View) → w.pin ≡ v.pin → w.held ≡ v.held → IsAway v → IsAway w
+still_away v w pin held away = record {
+  pinned = λ zero. away.pinned (sym pin ∙ zero);
+  held = subst (λ (hs : List Holding). HasNone hs) (sym held) away.held;
+}
 
 -- ---- begin
 
@@ -46,217 +51,124 @@ either_way : {A : Type 0} (b : Bool) (P : View → A) (v w : View) (a : A) → P
 either_way true P v w a e f = e
 either_way false P v w a e f = f
 
--- to begin changes neither what is held, nor the hand, nor the pin
-pub begun_held : (v : View) (c : Cell) (x : ℕ) → (begun v c x).held ≡ v.held
+-- to begin changes neither what is held nor the pin
+begun_held : (v : View) (c : Cell) (x : ℕ) → (begun v c x).held ≡ v.held
 begun_held v c x = either_way (eqb (x % 4) 0) (λ (u : View). u.held) _ _ v.held refl refl
 
-pub begun_hand : (v : View) (c : Cell) (x : ℕ) → (begun v c x).hand ≡ v.hand
-begun_hand v c x = either_way (eqb (x % 4) 0) (λ (u : View). u.hand) _ _ v.hand refl refl
-
-pub begun_pin : (v : View) (c : Cell) (x : ℕ) → (begun v c x).pin ≡ v.pin
+begun_pin : (v : View) (c : Cell) (x : ℕ) → (begun v c x).pin ≡ v.pin
 begun_pin v c x = either_way (eqb (x % 4) 0) (λ (u : View). u.pin) _ _ v.pin refl refl
 
-pub begun_steps : (v : View) (c : Cell) (x : ℕ) → (begun v c x).steps ≡ v.steps + 1
-begun_steps v c x = either_way (eqb (x % 4) 0) (λ (u : View). u.steps) _ _ (v.steps + 1) refl refl
-
-pub begun_idle : (v w : View) (c : Cell) (x : ℕ) → w ≡ begun v c x → Idles v → Idles w
-begun_idle v w c x e k = (
-  λ zero. k.0 (sym (ap (λ (u : View). u.pin) e ∙ begun_pin v c x) ∙ zero),
-  ap (λ (u : View). u.held) e ∙ (begun_held v c x ∙ k.1),
-  ap (λ (u : View). u.hand) e ∙ (begun_hand v c x ∙ k.2),
-)
-
-clear_view : (b : Bool) (v w : View) → b ≡ true → cond b v w ≡ v
-clear_view true v w e = refl
-clear_view false v w e = cc
-
-eqb_of : (a : ℕ) → a ≡ 0 → eqb a 0 ≡ true
-eqb_of a e = ap (λ (n : ℕ). eqb n 0) e
-
--- a clear word gives a stamp of the anchor
-pub begun_stamp : (v w : View) (x : Stamp) → x.cell ≡ cell.Anchor → IsClear x.version → w ≡ begun v cell.Anchor x.version → StampsAnchor w x
-begun_stamp v w x anchor clear e =
-    let is = e ∙ clear_view (eqb (x.version % 4) 0) _ _ (eqb_of (x.version % 4) clear) in
-    let same : x ≡ stamp_of cell.Anchor x.version = ap (λ (c : Cell). stamp_of c x.version) anchor in (
-      anchor,
-      subst (Member x) (sym (ap (λ (u : View). u.stamps) is)) (inl same),
-      subst (Member (note_of x (Starts []))) (sym (ap (λ (u : View). u.notes) is)) (inl (ap (λ (y : Stamp). note_of y (Starts [])) same)),
-    )
+pub begun_away : (v : View) (c : Cell) (x : ℕ) → IsAway v → IsAway (begun v c x)
+begun_away v c x = still_away v (begun v c x) (begun_pin v c x) (begun_held v c x)
 
 -- ---- upgrade
 
+pub may_lock : (v : View) → IsAway v → MayLock v
+may_lock v away = inr (no_members v.held away.held)
+
 -- what an upgrade of a pass that held nothing made
-pub alone : (v w : View) (x : Stamp) → Idles v → x.cell ≡ cell.Anchor → Upgraded v w x → HoldsAnchor w
-alone v w x k anchor u = (
-  λ zero. k.0 (sym (ap (λ (y : View). y.pin) u.is) ∙ zero),
-  ap (λ (y : View). y.hand) u.is ∙ k.2,
-  ap (λ (y : View). y.committed) u.is,
-  (
-    x.version,
-    u.words,
-    (ap (λ (y : View). y.held) u.is
-        ∙ (ap (λ (hs : List Holding). record { cell = x.cell; stamped = Some x.version; old = u.words; new = u.words } ∷ hs) k.1
-        ∙ ap (λ (c : Cell). record { cell = c; stamped = Some x.version; old = u.words; new = u.words } ∷ []) anchor)),
-  ),
-)
+pub locks : (v w : View) (x : Stamp) (h : Held) → IsAway v → x.cell ≡ cell.Anchor → h.cell ≡ x.cell → Upgraded v w x → Locks v w x h
+locks v w x h away anchor is u = record {
+  words = u.words;
+  long = u.long ∙ ap size_of anchor;
+  agrees = u.agrees;
+  holds = record {
+    cell = is ∙ anchor;
+    pinned = λ zero. away.pinned (sym (ap (λ (y : View). y.pin) u.is) ∙ zero);
+    early = ap (λ (y : View). y.committed) u.is;
+    just = subst (λ (hs : List Holding). HasJust hs (anchor_held x.version u.words u.words)) (sym held) (just_one (anchor_held x.version u.words u.words));
+  };
+  notes = ap (λ (y : View). y.notes) u.is;
+}
+  where
+    held : w.held ≡ anchor_held x.version u.words u.words ∷ []
+    held = ap (λ (y : View). y.held) u.is
+        ∙ (ap (λ (hs : List Holding). record { cell = x.cell; stamped = Some x.version; old = u.words; new = u.words } ∷ hs) (no_members v.held away.held)
+        ∙ ap (λ (c : Cell). record { cell = c; stamped = Some x.version; old = u.words; new = u.words } ∷ []) anchor)
 
-pub failed_idle : (v w : View) (x : Stamp) (word : ℕ) → Idles v → Failed v w x word → Idles w
-failed_idle v w x word k f = (
-  λ zero. k.0 (sym (ap (λ (y : View). y.pin) f.is) ∙ zero),
-  ap (λ (y : View). y.held) f.is ∙ k.1,
-  ap (λ (y : View). y.hand) f.is ∙ k.2,
-)
+pub failed_away : (v w : View) (x : Stamp) (word : ℕ) → IsAway v → Failed v w x word → IsAway w
+failed_away v w x word away f = still_away v w (ap (λ (y : View). y.pin) f.is) (ap (λ (y : View). y.held) f.is) away
 
-pub refused_idle : (v w : View) (x : Stamp) (e : UpgradeFault) → Idles v → FailedUpgrade v w x e → Idles w
-refused_idle v w x (fault.Changed c) k f = failed_idle v w x c.found k f.3
-refused_idle v w x (fault.Exhausted c) k f = subst Idles (sym f.2) k
+refused_away : (v w : View) (x : Stamp) (e : UpgradeFault) → IsAway v → FailedUpgrade v w x e → IsAway w
+refused_away v w x (fault.Changed c) away f = failed_away v w x c.found away f.3
+refused_away v w x (fault.Exhausted c) away f = subst IsAway (sym f.2) away
 
-pub upgraded_or_idle : (v w : View) (x : Stamp) (r : Result Held UpgradeFault) → Idles v → x.cell ≡ cell.Anchor → MatchResult r (λ h. (h.cell ≡ x.cell) × Upgraded v w x) (λ e. FailedUpgrade v w x e) → MatchResult r (λ h. (h.cell ≡ cell.Anchor) × HoldsAnchor w) (λ _. Idles w)
-upgraded_or_idle v w x (Ok h) k anchor row = (row.0 ∙ anchor, alone v w x k anchor row.1)
-upgraded_or_idle v w x (Err e) k anchor row = refused_idle v w x e k row
+pub locks_or_away : (v w : View) (x : Stamp) (r : Result Held UpgradeFault) → IsAway v → StampsAnchor v x → MatchResult r (λ h. (h.cell ≡ x.cell) × Upgraded v w x) (λ e. FailedUpgrade v w x e) → MatchResult r (Locks v w x) (λ _. IsAway w)
+locks_or_away v w x (Ok h) away stamps row = locks v w x h away stamps.cell row.0 row.1
+locks_or_away v w x (Err e) away stamps row = refused_away v w x e away row
 
 -- ---- release
 
--- what it holds then
-abbrev pub holding : ℕ → List ℕ → Holding
-holding x ws = record { cell = cell.Anchor; stamped = Some x; old = ws; new = ws }
-
 -- it may let the anchor go
-pub may_let_go : (w : View) → HoldsAnchor w → (h : Holding) × (h.cell ≡ cell.Anchor) × MayRelease w h false
-may_let_go w k =
-    let x = k.3.0 in
-    let ws = k.3.1 in (
-      holding x ws,
-      refl,
+pub may_let_go : (w : View) (h : Held) → HoldsUnchanged w h → (k : Holding) × (k.cell ≡ h.cell) × MayRelease w k false
+may_let_go w h holds =
+    let x = holds.0 in
+    let ws = holds.1 in
+    let k = holds.2 in (
+      anchor_held x ws ws,
+      sym k.cell,
       (
-        subst (Member (holding x ws)) (sym k.3.2) (inl refl),
+        k.just.has,
         inr (
-          k.2,
+          k.early,
           refl,
-          (λ h i. ⊎_elim
-              (λ (e : h ≡ holding x ws). (ap (λ (y : Holding). y.new) e ∙ sym (ap (λ (y : Holding). y.old) e), (x, ap (λ (y : Holding). y.stamped) e)))
-              (λ (e : ⊥). absurd e)
-              (subst (Member h) k.3.2 i)),
+          (λ y i. let e = k.just.only y i in
+              (ap (λ (z : Holding). z.new) e ∙ sym (ap (λ (z : Holding). z.old) e), (x, ap (λ (z : Holding). z.stamped) e))),
         ),
       ),
     )
 
-nothing : (hs : List Holding) → ((h : Holding) → Member h hs → ⊥) → hs ≡ []
-nothing [] none = refl
-nothing (h ∷ hs) none = absurd (none h (inl refl))
+abbrev IsReleased : View → View → Held → Type 0
+IsReleased w u h = (k : Holding) → IsHolding w h.cell k → Released w u k
 
--- without the anchor nothing is held
-pub dropped : (w : View) (hs : List Holding) → HoldsAnchor w → Drops w.held cell.Anchor hs → hs ≡ []
-dropped w hs k drops = nothing hs (λ h i. let o = drops.was h i in ⊎_elim
-    (λ (e : h ≡ holding k.3.0 k.3.1). o.1 (ap (λ (y : Holding). y.cell) e))
-    (λ (e : ⊥). e)
-    (subst (Member h) k.3.2 o.0))
+-- and then it is away
+pub let_go_away : (w u : View) (h : Held) → HoldsUnchanged w h → IsReleased w u h → IsAway u
+let_go_away w u h holds released =
+    let k = holds.2 in
+    let r = released (anchor_held holds.0 holds.1 holds.1) (k.just.has, sym k.cell) in
+    record {
+      pinned = λ zero. k.pinned (sym (ap (λ (y : View). y.pin) r.is) ∙ zero);
+      held = subst (λ (hs : List Holding). HasNone hs) (sym (ap (λ (y : View). y.held) r.is)) (none_left w.held r.held _ cell.Anchor k.just refl r.drops);
+    }
 
--- and then it is idle
-pub let_go : (w u : View) (c : Cell) → c ≡ cell.Anchor → HoldsAnchor w → ((h : Holding) → IsHolding w c h → Released w u h) → Idles u × (u.steps ≡ w.steps + 1)
-unfolding may_let_go
-let_go w u c same k released =
-    let m = may_let_go w k in
-    let r = released m.0 (m.2.0, sym same) in (
-      (
-        λ zero. k.0 (sym (ap (λ (y : View). y.pin) r.is) ∙ zero),
-        ap (λ (y : View). y.held) r.is ∙ dropped w r.held k r.drops,
-        ap (λ (y : View). y.hand) r.is ∙ k.1,
-      ),
-      ap (λ (y : View). y.steps) r.is,
-    )
+-- with the same in hand, one step later
+pub let_go_same : (w u : View) (h : Held) → HoldsUnchanged w h → IsReleased w u h → (u.hand ≡ w.hand) × (u.steps ≡ w.steps + 1)
+let_go_same w u h holds released =
+    let k = holds.2 in
+    let r = released (anchor_held holds.0 holds.1 holds.1) (k.just.has, sym k.cell) in
+    (ap (λ (y : View). y.hand) r.is, ap (λ (y : View). y.steps) r.is)
 
 -- ---- check
 
 -- a stamp whose word is unchanged stays, with its path
-pub passed_stamp : (z : Sizes) (v w : View) (x : Stamp) (o : Option What) → Idles v → StampsAnchor v x → Passed z v w x o → Idles w × StampsAnchor w x
-passed_stamp z v w x o k s p = (
-  (
-    λ zero. k.0 (sym (ap (λ (y : View). y.pin) p.is) ∙ zero),
-    ap (λ (y : View). y.held) p.is ∙ k.1,
-    ap (λ (y : View). y.hand) p.is ∙ k.2,
-  ),
-  (
-    s.0,
-    subst (Member x) (sym (ap (λ (y : View). y.stamps) p.is)) s.1,
-    subst (Member (note_of x (Starts []))) (sym (ap (λ (y : View). y.notes) p.is)) (member_back (note_of x (Starts [])) p.paths v.notes s.2),
-  ),
-)
+pub passed_stamp : (z : Sizes) (v w : View) (x : Stamp) (o : Option What) → StampsAnchor v x → Passed z v w x o → StampsAnchor w x
+passed_stamp z v w x o s p = record {
+  cell = s.cell;
+  stamp = subst (Member x) (sym (ap (λ (y : View). y.stamps) p.is)) s.stamp;
+  path = subst (Member (note_of x (Starts []))) (sym (ap (λ (y : View). y.notes) p.is)) (member_back (note_of x (Starts [])) p.paths v.notes s.path);
+}
 
--- ---- what is kept between turns
+pub passed_away : (z : Sizes) (v w : View) (x : Stamp) (o : Option What) → IsAway v → Passed z v w x o → IsAway w
+passed_away z v w x o away p = still_away v w (ap (λ (y : View). y.pin) p.is) (ap (λ (y : View). y.held) p.is) away
 
-abbrev pub Fits : Option Stamp → Option Held → View → Type 0
-Fits stamp held v = MatchOption held (Idles v × IfSome stamp (λ x. (x.cell ≡ cell.Anchor) × Member x v.stamps × Member (note_of x (Starts [])) v.notes)) (λ h. (h.cell ≡ cell.Anchor) × HoldsAnchor v)
+-- ---- what a visitor knows
 
--- ---- commit
+-- where its state is this one
+pub at_adding : (k : List ℕ) (value : ℕ) (z : Sizes) (v : View) (a b : Adding) → a ≡ b → Adds k value z v a → Adds k value z v b
+at_adding k value z v a b e known = subst (Adds k value z v) e known
 
--- it may be the first cell that is released
-pub may_be_first : (w : View) → HoldsAnchor w → (h : Holding) × (h.cell ≡ cell.Anchor) × MayBeFirst w [] h false
-may_be_first w k =
-    let h = holding k.3.0 k.3.1 in (
-      h,
-      refl,
-      record {
-        early = k.2;
-        held = subst (Member h) (sym k.3.2) (inl refl);
-        obsolete = ((λ e. cc), (λ o. absurd o.2));
-      },
-    )
+pub at_removing : (k : List ℕ) (value : ℕ) (z : Sizes) (v : View) (a b : Removing) → a ≡ b → Removes k value z v a → Removes k value z v b
+at_removing k value z v a b e known = subst (Removes k value z v) e known
 
--- nothing is claimed, so nothing comes into the tree
-pub none_coming : (w : View) → HoldsAnchor w → claimed_nodes w.held ≡ []
-none_coming w k = ap claimed_nodes k.3.2
+pub at_state : (k : List ℕ) (value : ℕ) (z : Sizes) (v : View) (a b : Visit) → a ≡ b → Visits k value z v a → Visits k value z v b
+at_state k value z v a b e known = subst (Visits k value z v) e known
 
--- no word changes
-same_tree : (w : View) (s s' : Cells) → HoldsAnchor w → Knows w s → AllNew w.held s s' → (c : Cell) → s' c ≡ s c
-same_tree w s s' k knows turns c = ⊎_elim
-    (λ (a : (h : Holding) × Member h w.held × (h.cell ≡ c)).
-    ⊎_elim
-    (λ (e : a.0 ≡ holding k.3.0 k.3.1).
-    let new = ap (λ (y : Holding). words_in y.new) e in
-    let old = ap (λ (y : Holding). words_in y.old) e in
-    ap s' (sym a.2) ∙ (turns.here a.0 a.1 ∙ (new ∙ (sym old ∙ (sym (knows.old a.0 a.1) ∙ ap s a.2)))))
-    (λ (e : ⊥). absurd e)
-    (subst (Member a.0) k.3.2 a.1))
-    (λ (free : IsNotHeld w.held c). turns.there c free)
-    (either_held w.held c)
+-- the hand stays empty
+pub still_empty : (v w : View) → HasNone v.hand → w.hand ≡ v.hand → HasNone w.hand
+still_empty v w none hand = subst (λ (xs : List InHand). HasNone xs) (sym hand) none
 
-not_claimed : (w : View) (h : Holding) → HoldsAnchor w → Member h w.held → h.stamped ≡ None → ⊥
-not_claimed w h k i e = ⊎_elim
-    (λ (is : h ≡ holding k.3.0 k.3.1). let was = ap (λ (y : Holding). y.stamped) is in cc)
-    (λ (no : ⊥). no)
-    (subst (Member h) k.3.2 i)
+pub idle_then : (v w : View) → HasNone v.hand → w.hand ≡ v.hand → IsAway w → IsIdle w
+idle_then v w none hand away = record { away = away; hand = still_empty v w none hand }
 
--- no row is in the range from a key on, before the same key
-pub may_commit : (z : Sizes) (w : View) (lo hi : List ℕ) → lo ≡ hi → HoldsAnchor w → MayCommit z w (Look lo (To hi) None) [] (claimed_nodes w.held)
-may_commit z w lo hi e k s s' shape knows turns =
-    let same : s' ≡ s = λ j. λ c. same_tree w s s' k knows turns c j in
-    subst (λ (t : Cells). Commits z w (Look lo (To hi) None) [] (claimed_nodes w.held) s t) (sym same) (record {
-      shape = shape;
-      rows = λ m r. ((λ key value is inside. inside.0 (subst (Before key) (sym e) inside.1)), r);
-      others = λ n p free at. at;
-      leaves = λ d i. absurd i;
-      comes = λ d i. absurd (subst (Member d) (none_coming w k) i);
-      stays = λ d i. inr i;
-      linked = λ d i. inr i;
-      held = λ n i. absurd i;
-      claimed = λ h n i none is. absurd (not_claimed w h k i none);
-    })
-
-empty_hand : (xs : List InHand) → ((x : InHand) → Member x xs → ⊥) → xs ≡ []
-empty_hand [] none = refl
-empty_hand (x ∷ xs) none = absurd (none x (inl refl))
-
--- and then it is idle
-pub committed_idle : (w u : View) (c : Cell) (what : What) (ls : List Link) → c ≡ cell.Anchor → HoldsAnchor w → ((h : Holding) → IsHolding w c h → Committed w u what [] ls h) → Idles u × (u.steps ≡ w.steps + 1)
-unfolding may_be_first
-committed_idle w u c what ls same k committed =
-    let h = holding k.3.0 k.3.1 in
-    let r = committed h (subst (Member h) (sym k.3.2) (inl refl), sym same) in (
-      (
-        λ zero. k.0 (sym (ap (λ (y : View). y.pin) r.is) ∙ zero),
-        ap (λ (y : View). y.held) r.is ∙ dropped w r.held k r.drops,
-        ap (λ (y : View). y.hand) r.is ∙ empty_hand r.hand (λ x i. subst (Member x) k.1 (r.hands.was x i).0),
-      ),
-      ap (λ (y : View). y.steps) r.is,
-    )
+pub locked_then : (v w : View) (x : Stamp) (h : Held) → HasNone v.hand → w.hand ≡ v.hand → Locks v w x h → HasNone w.hand × HoldsUnchanged w h
+locked_then v w x h none hand made = (still_empty v w none hand, (x.version, made.words, made.holds))

@@ -1,4 +1,6 @@
 pub mod After
+pub mod AnchorReads
+pub mod AnchorRows
 pub mod ByteTexts
 pub mod ChangeCommits
 pub mod ChangeForks
@@ -19,6 +21,7 @@ pub mod Histories
 pub mod IdlePasses
 pub mod Kept
 pub mod LeafPair
+pub mod LeavesInHand
 pub mod LifePairs
 pub mod LifeSteps
 pub mod Looking

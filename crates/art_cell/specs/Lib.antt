@@ -27,6 +27,7 @@ pub mod StepRows
 pub mod Tree
 pub mod Turns
 pub mod Views
+pub mod Visits
 pub mod WordChanges
 pub mod Words
 pub mod WorldWords

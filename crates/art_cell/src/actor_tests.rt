@@ -1,13 +1,18 @@
 //! Three actors on one world, and an anchor at the end of its counter.
-ghost use Rattle.std.specs.Prelude.{◌≡◌, ◌≢◌, ◌≤◌, ◌+◌, [], ◌∷◌, ℕ, List, None, Some, IfSome, MatchOption, MatchResult, false, refl};
-ghost use Rattle.art_cell.specs.declared.cells.Cell.TheVariants.{Anchor as anchor};
-ghost use Rattle.art_cell.specs.declared.views.Fact.TheVariants.{Starts};
-ghost use Rattle.art_cell.specs.StepRows.{note_of};
-ghost use Rattle.art_cell.specs.Views.{Member};
+ghost use Rattle.std.specs.Prelude.{◌≡◌, ◌≤◌, ◌+◌, ◌∷◌, [], false, refl, IfSome};
 ghost use Rattle.std.proofs.Common.{◌∙◌};
+ghost use Rattle.std.proofs.lemmas.Bool.{false≢true};
+ghost use Rattle.art_cell.specs.Sound.{IsSound};
+ghost use Rattle.art_cell.specs.Visits.{Adds, Counts, IsIdle, Removes, StampsAnchor, Visits, counts_none, counts_one_more};
+ghost use Rattle.art_cell.specs.WorldWords.{IsSameAt, OnlyTurned, memory_now, view_at, views_of};
 
 use super::*;
-use art_key::{Bound as KeyBound, Key};
+use crate::anchor_steps::{
+    KEY, VALUE, begin, check, commit_insert, commit_remove, fill, leaf_word, let_go, let_number_go,
+    read_anchor, read_leaf, upgrade, word_of_leaf, write_child,
+};
+use crate::visits::{Adding, Removing, Visit};
+use crate::word_forms::words_are_formed;
 use rand_pcg::Pcg32;
 use rand_pcg::rand_core::{Rng, SeedableRng};
 use std::mem::replace;
@@ -22,172 +27,272 @@ const SIZES: Sizes = Sizes {
     passes: 3,
 };
 
-/// Begins the anchor. There is no stamp if it is locked.
-fn begin<S: Steps>(steps: &mut S) -> Option<Stamp>
-    requires idle { ((S.view steps.old).pin ≢ 0) × ((S.view steps.old).held ≡ []) × ((S.view steps.old).hand ≡ []) }
-    ensures sizes { S.sizes steps.new ≡ S.sizes steps.old }
-    ensures only { S.only steps.old steps.new }
-    ensures step { (S.view steps.new).steps ≤ (S.view steps.old).steps + 1 }
-    ensures idle { ((S.view steps.new).pin ≢ 0) × ((S.view steps.new).held ≡ []) × ((S.view steps.new).hand ≡ []) }
-    ensures stamp { IfSome result (λ x. (x.cell ≡ anchor) × Member x (S.view steps.new).stamps × Member (note_of x (Starts [])) (S.view steps.new).notes) }
-{
-    match steps.begin(Cell::Anchor) {
-        Ok(stamp) => Some(stamp),
-        Err(_) => None,
-    }
-}
-
-/// Locks the anchor.
-fn upgrade<S: Steps>(steps: &mut S, stamp: Stamp) -> Result<Held, UpgradeFault>
-    requires idle { ((S.view steps.old).pin ≢ 0) × ((S.view steps.old).held ≡ []) × ((S.view steps.old).hand ≡ []) }
-    requires stamp { (stamp.cell ≡ anchor) × Member stamp (S.view steps.old).stamps × Member (note_of stamp (Starts [])) (S.view steps.old).notes }
-    ensures sizes { S.sizes steps.new ≡ S.sizes steps.old }
-    ensures only { S.only steps.old steps.new }
-    ensures step { (S.view steps.new).steps ≤ (S.view steps.old).steps + 1 }
-    ensures holds { MatchResult result (λ h. (h.cell ≡ anchor) × (((S.view steps.new).pin ≢ 0) × ((S.view steps.new).hand ≡ []) × ((S.view steps.new).committed ≡ false) × ((x : ℕ) × (ws : List ℕ) × ((S.view steps.new).held ≡ record { cell = anchor; stamped = Some x; old = ws; new = ws } ∷ [])))) (λ _. ((S.view steps.new).pin ≢ 0) × ((S.view steps.new).held ≡ []) × ((S.view steps.new).hand ≡ [])) }
-{
-    steps.upgrade(stamp)
-}
-
-/// Commits a look of an empty range, which changes no word but the anchor's version.
-fn commit_look<S: Steps>(steps: &mut S, held: Held)
-    requires anchor { held.cell ≡ anchor }
-    requires holds { ((S.view steps.old).pin ≢ 0) × ((S.view steps.old).hand ≡ []) × ((S.view steps.old).committed ≡ false) × ((x : ℕ) × (ws : List ℕ) × ((S.view steps.old).held ≡ record { cell = anchor; stamped = Some x; old = ws; new = ws } ∷ [])) }
-    ensures sizes { S.sizes steps.new ≡ S.sizes steps.old }
-    ensures only { S.only steps.old steps.new }
-    ensures step { (S.view steps.new).steps ≤ (S.view steps.old).steps + 1 }
-    ensures idle { ((S.view steps.new).pin ≢ 0) × ((S.view steps.new).held ≡ []) × ((S.view steps.new).hand ≡ []) }
-{
-    let deed = Deed::Look(Key::new(), KeyBound::At(Key::new()), None);
-    let [first, second, third] = steps.commit(held, false, &deed, None, &[]);
-    let_number_go(first);
-    let_number_go(second);
-    let_number_go(third);
-}
-
-/// A commit that unlinks nothing hands out no number.
-fn let_number_go(number: Option<Number>) {
-    if let Some(Number { pool: _, number: _ }) = number {}
-}
-
-/// Lets the anchor go unchanged.
-fn let_go<S: Steps>(steps: &mut S, held: Held)
-    requires anchor { held.cell ≡ anchor }
-    requires holds { ((S.view steps.old).pin ≢ 0) × ((S.view steps.old).hand ≡ []) × ((S.view steps.old).committed ≡ false) × ((x : ℕ) × (ws : List ℕ) × ((S.view steps.old).held ≡ record { cell = anchor; stamped = Some x; old = ws; new = ws } ∷ [])) }
-    ensures sizes { S.sizes steps.new ≡ S.sizes steps.old }
-    ensures only { S.only steps.old steps.new }
-    ensures step { (S.view steps.new).steps ≤ (S.view steps.old).steps + 1 }
-    ensures idle { ((S.view steps.new).pin ≢ 0) × ((S.view steps.new).held ≡ []) × ((S.view steps.new).hand ≡ []) }
-{
-    steps.release(held, false);
-}
-
-/// Checks the stamp. It stays if the anchor is unchanged.
-fn check<S: Steps>(steps: &mut S, stamp: Stamp) -> Option<Stamp>
-    requires idle { ((S.view steps.old).pin ≢ 0) × ((S.view steps.old).held ≡ []) × ((S.view steps.old).hand ≡ []) }
-    requires stamp { (stamp.cell ≡ anchor) × Member stamp (S.view steps.old).stamps × Member (note_of stamp (Starts [])) (S.view steps.old).notes }
-    ensures sizes { S.sizes steps.new ≡ S.sizes steps.old }
-    ensures only { S.only steps.old steps.new }
-    ensures step { (S.view steps.new).steps ≤ (S.view steps.old).steps + 1 }
-    ensures idle { ((S.view steps.new).pin ≢ 0) × ((S.view steps.new).held ≡ []) × ((S.view steps.new).hand ≡ []) }
-    ensures stamp { IfSome result (λ x. (x.cell ≡ anchor) × Member x (S.view steps.new).stamps × Member (note_of x (Starts [])) (S.view steps.new).notes) }
-{
-    match steps.check(&stamp, None) {
-        Ok(()) => Some(stamp),
-        Err(_) => None,
-    }
-}
-
-/// What a visitor does once it has stamped the anchor.
+/// What a visitor does with the anchor.
 #[derive(Clone, Copy, Debug, PartialEq, Eq)]
 enum Task {
+    /// Stamps it, and checks the stamp until it fails.
     Look,
+    /// Locks it, and lets it go.
     GiveUp,
-    Commit,
+    /// Puts a leaf below it, and takes the leaf out again.
+    Change,
 }
 
-/// Loops for ever over its task. Between two turns it keeps its stamp or the anchor.
+/// Loops for ever over its task, and counts its turns.
 struct Visitor {
     task: Task,
-    stamp: Option<Stamp>,
-    held: Option<Held>,
+    turns: u64,
+    visit: Visit,
+}
+
+/// The next step of one that changes nothing.
+fn look<S: Steps>(task: Task, stamp: Option<Stamp>, steps: &mut S) -> Visit
+    requires idle { IsIdle (S.view steps.old) }
+    requires stamp { IfSome stamp (StampsAnchor (S.view steps.old)) }
+    ensures sizes { S.sizes steps.new ≡ S.sizes steps.old }
+    ensures only { S.only steps.old steps.new }
+    ensures step { (S.view steps.new).steps ≤ (S.view steps.old).steps + 1 }
+    ensures visits { Visits (KEY ∷ []) VALUE (S.sizes steps.new) (S.view steps.new) result }
+{
+    let Some(stamp) = stamp else {
+        return match begin(steps) {
+            Some(stamp) => Visit::Stamped(stamp),
+            None => Visit::Idle,
+        };
+    };
+    match task {
+        Task::Look => match check(steps, stamp) {
+            Some(stamp) => Visit::Stamped(stamp),
+            None => Visit::Idle,
+        },
+        _ => match upgrade(steps, stamp) {
+            Ok(held) => Visit::Locked(held),
+            Err(_) => Visit::Idle,
+        },
+    }
+}
+
+/// The next step of one that adds the leaf.
+fn add<S: Steps>(adding: Adding, steps: &mut S) -> Visit
+    requires { Adds (KEY ∷ []) VALUE (S.sizes steps.old) (S.view steps.old) adding }
+    ensures sizes { S.sizes steps.new ≡ S.sizes steps.old }
+    ensures only { S.only steps.old steps.new }
+    ensures step { (S.view steps.new).steps ≤ (S.view steps.old).steps + 1 }
+    ensures visits { Visits (KEY ∷ []) VALUE (S.sizes steps.new) (S.view steps.new) result }
+{
+    let next = match adding {
+        Adding::Filling(number, place) if place < 10 => {
+            let mut leaf = number;
+            fill(steps, &mut leaf, place);
+            Adding::Filling(leaf, place + 1)
+        }
+        Adding::Filling(number, _) => match begin(steps) {
+            Some(stamp) => Adding::Stamped(number, stamp),
+            None => Adding::Filling(number, 10),
+        },
+        Adding::Stamped(number, stamp) => match read_anchor(steps, &stamp) {
+            0 => Adding::Seen(number, stamp),
+            _ => Adding::Filling(number, 10),
+        },
+        Adding::Seen(number, stamp) => match upgrade(steps, stamp) {
+            Ok(held) => Adding::Locked(number, held),
+            Err(_) => Adding::Filling(number, 10),
+        },
+        Adding::Locked(number, held) => {
+            let mut anchor = held;
+            write_child(steps, &mut anchor, word_of_leaf(number.number));
+            Adding::Written(number, anchor)
+        }
+        Adding::Written(number, held) => {
+            commit_insert(steps, held, number);
+            return Visit::Removing(Removing::Idle);
+        }
+    };
+    Visit::Adding(next)
+}
+
+/// The next step of one that removes the leaf.
+fn remove(removing: Removing, at: &mut At<'_>) -> Visit
+    requires { Removes (KEY ∷ []) VALUE at.old.world.now.sizes (view_at at.old.world.now.views at.old.pass) removing }
+    ensures only { IsSameAt at.old.world.ghost_name at.new.world.ghost_name at.old.pass at.new.pass × OnlyTurned at.old.world.now at.new.world.now at.old.pass }
+    ensures step { (view_at at.new.world.now.views at.new.pass).steps ≤ (view_at at.old.world.now.views at.old.pass).steps + 1 }
+    ensures visits { Visits (KEY ∷ []) VALUE at.new.world.now.sizes (view_at at.new.world.now.views at.new.pass) result }
+{
+    let leaves = leaves_of(at.world);
+    let next = match removing {
+        Removing::Idle => match begin(at) {
+            Some(stamp) => Removing::Stamped(stamp),
+            None => Removing::Idle,
+        },
+        Removing::Stamped(stamp) => see_leaf(at, stamp, leaves),
+        Removing::Reading(stamp, leaf, place) if place < 3 => {
+            match read_leaf(at, &stamp, leaf, place) == leaf_word(place) {
+                true => Removing::Reading(stamp, leaf, place + 1),
+                false => Removing::Idle,
+            }
+        }
+        Removing::Reading(stamp, leaf, _) => match upgrade(at, stamp) {
+            Ok(held) => Removing::Locked(held, leaf),
+            Err(_) => Removing::Idle,
+        },
+        Removing::Locked(held, leaf) => {
+            let mut anchor = held;
+            write_child(at, &mut anchor, 0);
+            Removing::Written(anchor, leaf)
+        }
+        Removing::Written(held, leaf) => {
+            take_out(at, held, leaf);
+            return Visit::Idle;
+        }
+    };
+    Visit::Removing(next)
+}
+
+/// How many leaves a world has. What always holds of a world holds of it.
+fn leaves_of(world: &World) -> u32
+    ensures leaves { result ≡ world.now.sizes.leaves }
+    ensures sound { IsSound world.now.sizes (memory_now world.now) (views_of world.now.views) }
+{
+    world.sizes.leaves
+}
+
+/// Reads which leaf the anchor names.
+fn see_leaf<S: Steps>(steps: &mut S, stamp: Stamp, leaves: u32) -> Removing
+    requires leaves { leaves ≡ (S.sizes steps.old).leaves }
+    requires idle { IsIdle (S.view steps.old) }
+    requires stamp { StampsAnchor (S.view steps.old) stamp }
+    ensures sizes { S.sizes steps.new ≡ S.sizes steps.old }
+    ensures only { S.only steps.old steps.new }
+    ensures step { (S.view steps.new).steps ≤ (S.view steps.old).steps + 1 }
+    ensures removes { Removes (KEY ∷ []) VALUE (S.sizes steps.new) (S.view steps.new) result }
+{
+    match Link::named_by(read_anchor(steps, &stamp)) {
+        Some(Link::Leaf(leaf)) if leaf < leaves => Removing::Reading(stamp, leaf, 0),
+        _ => Removing::Idle,
+    }
+}
+
+/// Commits that the row is removed, and gives the leaf's number back, which no stamp can name.
+fn take_out(at: &mut At<'_>, held: Held, leaf: u32)
+    requires { Removes (KEY ∷ []) VALUE at.old.world.now.sizes (view_at at.old.world.now.views at.old.pass) (Removing.Written held leaf) }
+    ensures only { IsSameAt at.old.world.ghost_name at.new.world.ghost_name at.old.pass at.new.pass × OnlyTurned at.old.world.now at.new.world.now at.old.pass }
+    ensures step { (view_at at.new.world.now.views at.new.pass).steps ≤ (view_at at.old.world.now.views at.old.pass).steps + 1 }
+    ensures idle { IsIdle (view_at at.new.world.now.views at.new.pass) }
+{
+    let number = commit_remove(at, held, leaf);
+    at.world.give_back(at.pass, number);
+}
+
+/// Takes a leaf's number into the hand, if one is free, which is no step.
+fn take_leaf(at: &mut At<'_>) -> Visit
+    requires { IsIdle (view_at at.old.world.now.views at.old.pass) }
+    ensures only { IsSameAt at.old.world.ghost_name at.new.world.ghost_name at.old.pass at.new.pass × OnlyTurned at.old.world.now at.new.world.now at.old.pass }
+    ensures step { (view_at at.new.world.now.views at.new.pass).steps ≤ (view_at at.old.world.now.views at.old.pass).steps + 1 }
+    ensures visits { Visits (KEY ∷ []) VALUE at.new.world.now.sizes (view_at at.new.world.now.views at.new.pass) result }
+{
+    let Some(number) = at.world.first_free(at.pass, Pool::Leaves) else {
+        return Visit::Idle;
+    };
+    // The world is sound, so that ten words came into the hand.
+    let _leaves = leaves_of(at.world);
+    Visit::Adding(Adding::Filling(number, 0))
 }
 
 /// The next step of a task, and what is kept then.
-fn step<S: Steps>(
-    task: Task,
-    stamp: Option<Stamp>,
-    held: Option<Held>,
-    steps: &mut S,
-) -> (Option<Stamp>, Option<Held>)
-    requires { MatchOption held ((((S.view steps.old).pin ≢ 0) × ((S.view steps.old).held ≡ []) × ((S.view steps.old).hand ≡ [])) × IfSome stamp (λ x. (x.cell ≡ anchor) × Member x (S.view steps.old).stamps × Member (note_of x (Starts [])) (S.view steps.old).notes)) (λ h. (h.cell ≡ anchor) × (((S.view steps.old).pin ≢ 0) × ((S.view steps.old).hand ≡ []) × ((S.view steps.old).committed ≡ false) × ((x : ℕ) × (ws : List ℕ) × ((S.view steps.old).held ≡ record { cell = anchor; stamped = Some x; old = ws; new = ws } ∷ [])))) }
-    ensures sizes { S.sizes steps.new ≡ S.sizes steps.old }
-    ensures only { S.only steps.old steps.new }
-    ensures step { (S.view steps.new).steps ≤ (S.view steps.old).steps + 1 }
-    ensures fits { MatchOption result.1 ((((S.view steps.new).pin ≢ 0) × ((S.view steps.new).held ≡ []) × ((S.view steps.new).hand ≡ [])) × IfSome result.0 (λ x. (x.cell ≡ anchor) × Member x (S.view steps.new).stamps × Member (note_of x (Starts [])) (S.view steps.new).notes)) (λ h. (h.cell ≡ anchor) × (((S.view steps.new).pin ≢ 0) × ((S.view steps.new).hand ≡ []) × ((S.view steps.new).committed ≡ false) × ((x : ℕ) × (ws : List ℕ) × ((S.view steps.new).held ≡ record { cell = anchor; stamped = Some x; old = ws; new = ws } ∷ [])))) }
+fn go_on(task: Task, visit: Visit, at: &mut At<'_>) -> Visit
+    requires { Visits (KEY ∷ []) VALUE at.old.world.now.sizes (view_at at.old.world.now.views at.old.pass) visit }
+    ensures only { IsSameAt at.old.world.ghost_name at.new.world.ghost_name at.old.pass at.new.pass × OnlyTurned at.old.world.now at.new.world.now at.old.pass }
+    ensures step { (view_at at.new.world.now.views at.new.pass).steps ≤ (view_at at.old.world.now.views at.old.pass).steps + 1 }
+    ensures visits { Visits (KEY ∷ []) VALUE at.new.world.now.sizes (view_at at.new.world.now.views at.new.pass) result }
 {
-    match held {
-        Some(held) => {
-            match task {
-                Task::Commit => commit_look(steps, held),
-                _ => let_go(steps, held),
-            }
-            (None, None)
-        }
-        None => match stamp {
-            Some(stamp) => match task {
-                Task::Look => (check(steps, stamp), None),
-                _ => match upgrade(steps, stamp) {
-                    Ok(held) => (None, Some(held)),
-                    Err(_) => (None, None),
-                },
-            },
-            None => (begin(steps), None),
+    match visit {
+        Visit::Idle => match task {
+            Task::Change => take_leaf(at),
+            _ => look(task, None, at),
         },
+        Visit::Stamped(stamp) => look(task, Some(stamp), at),
+        Visit::Locked(held) => {
+            let_go(at, held);
+            Visit::Idle
+        }
+        Visit::Adding(adding) => add(adding, at),
+        Visit::Removing(removing) => remove(removing, at),
     }
 }
 
 impl Visitor {
     fn new(task: Task) -> Visitor
-        ensures stamp { result.stamp ≡ None }
-        ensures held { result.held ≡ None }
+        ensures { result.visit ≡ Visit.Idle }
     {
         Visitor {
             task,
-            stamp: None,
-            held: None,
+            turns: 0,
+            visit: Visit::Idle,
         }
     }
 
-    fn end(self) {
+    /// How many turns it had.
+    fn end(self) -> u64 {
         let Visitor {
             task: _,
-            stamp: _,
-            held,
+            turns,
+            visit,
         } = self;
-        if let Some(Held { cell: _ }) = held {}
+        match visit {
+            Visit::Idle | Visit::Stamped(_) => {}
+            Visit::Locked(held) => end_held(held),
+            Visit::Adding(adding) => end_adding(adding),
+            Visit::Removing(removing) => end_removing(removing),
+        }
+        turns
+    }
+}
+
+/// The test ends with the anchor locked.
+fn end_held(held: Held) {
+    let Held { cell: _ } = held;
+}
+
+fn end_adding(adding: Adding) {
+    match adding {
+        Adding::Filling(number, _) | Adding::Stamped(number, _) | Adding::Seen(number, _) => {
+            let_number_go(Some(number));
+        }
+        Adding::Locked(number, held) | Adding::Written(number, held) => {
+            let_number_go(Some(number));
+            end_held(held);
+        }
+    }
+}
+
+fn end_removing(removing: Removing) {
+    match removing {
+        Removing::Idle | Removing::Stamped(_) | Removing::Reading(_, _, _) => {}
+        Removing::Locked(held, _) | Removing::Written(held, _) => end_held(held),
     }
 }
 
 impl Actor for Visitor {
-    ghost fits = { λ a z v. MatchOption a.held (((v.pin ≢ 0) × (v.held ≡ []) × (v.hand ≡ [])) × IfSome a.stamp (λ x. (x.cell ≡ anchor) × Member x v.stamps × Member (note_of x (Starts [])) v.notes)) (λ h. (h.cell ≡ anchor) × ((v.pin ≢ 0) × (v.hand ≡ []) × (v.committed ≡ false) × ((x : ℕ) × (ws : List ℕ) × (v.held ≡ record { cell = anchor; stamped = Some x; old = ws; new = ws } ∷ [])))) };
+    ghost use Rattle.art_cell.specs.declared.anchor_steps.TheConstants.{KEY, VALUE};
+
+    ghost fits = { λ a z v. Visits (KEY ∷ []) VALUE z v a.visit };
 
     ghost has_ended = { λ a. false };
 
-    ghost after = { λ n a b. b.task ≡ a.task };
+    ghost after = { λ n a b. (b.task ≡ a.task) × Counts n a.turns b.turns };
 
-    ghost at_first = { λ a. refl };
+    ghost at_first = { λ a. (refl, counts_none a.turns) };
 
-    ghost one_more = { λ n a b c x y. y ∙ x };
+    ghost one_more = { λ n a b c x y. (y.0 ∙ x.0, counts_one_more n a.turns b.turns c.turns x.1 y.1) };
 
-    ghost stays = { λ n a b x e. x };
+    ghost stays = { λ n a b x e. absurd (false≢true e) };
 
     fn turn(&mut self, at: &mut At<'_>) -> bool {
-        let held = self.held.take();
-        let (stamp, kept) = step(self.task, self.stamp, held, at);
-        self.stamp = stamp;
-        let before = replace(&mut self.held, kept);
-        let None = before else { unreachable!() };
+        self.turns = self.turns.wrapping_add(1);
+        let visit = replace(&mut self.visit, Visit::Idle);
+        let next = go_on(self.task, visit, at);
+        let before = replace(&mut self.visit, next);
+        let Visit::Idle = before else { unreachable!() };
         false
     }
 
@@ -202,28 +307,35 @@ fn visitors_take_turns(rt: HostRuntime) -> Result<(), Fail> {
     let mut visitors = [
         Visitor::new(Task::Look),
         Visitor::new(Task::GiveUp),
-        Visitor::new(Task::Commit),
+        Visitor::new(Task::Change),
     ];
     let mut numbers = Pcg32::seed_from_u64(1);
+    let mut drawn = [0u64; 4];
     let mut last = world.version(Cell::Anchor);
+    let mut named = world.word(Cell::Anchor, 1);
+    let mut changes = 0u64;
     assert_eq!(rt; last, 0);
+    assert!(rt; words_are_formed(&world));
     for _ in 0..10000 {
-        world.run(&mut visitors, &[numbers.next_u32() % 4]);
+        let pass = numbers.next_u32() % 4;
+        world.run(&mut visitors, &[pass]);
+        drawn[pass as usize] = drawn[pass as usize].wrapping_add(1);
+        assert!(rt; words_are_formed(&world));
         let version = world.version(Cell::Anchor);
-        assert!(rt; version % 4 == 0 || version % 4 == 2);
         assert!(rt; last <= version);
         last = version;
+        let names = world.word(Cell::Anchor, 1);
+        if names != named {
+            changes = changes.wrapping_add(1);
+        }
+        named = names;
     }
+    assert!(rt; changes > 20);
     assert!(rt; last > 0);
-    let [looker, locker, committer] = visitors;
-    looker.end();
-    locker.end();
-    committer.end();
-    let World {
-        sizes: _,
-        words: _,
-        views: _,
-    } = world;
+    let [looker, locker, changer] = visitors;
+    assert_eq!(rt; looker.end(), drawn[0]);
+    assert_eq!(rt; locker.end(), drawn[1]);
+    assert_eq!(rt; changer.end(), drawn[2]);
     Ok(())
 }
 
@@ -243,10 +355,5 @@ fn the_anchor_at_the_end_of_its_counter_is_exhausted(rt: HostRuntime) -> Result<
         Err(fault) => assert_eq!(rt; fault, UpgradeFault::Exhausted(Cell::Anchor)),
     }
     assert_eq!(rt; at.world.version(Cell::Anchor), 18446744073709551584);
-    let World {
-        sizes: _,
-        words: _,
-        views: _,
-    } = world;
     Ok(())
 }

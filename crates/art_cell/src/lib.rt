@@ -8,15 +8,17 @@
 
 #[cfg(test)]
 mod actor_tests;
+#[cfg(test)]
+mod anchor_steps;
 mod at;
 mod bodies;
 mod cells;
 mod commit_laws;
 mod deeds;
 mod laws;
+mod layouts;
 #[cfg(test)]
 mod life_tests;
-mod layouts;
 mod made_steps;
 mod node_kinds;
 mod opening;
@@ -27,6 +29,9 @@ mod steps;
 #[cfg(test)]
 mod tests;
 mod views;
+mod visits;
+#[cfg(test)]
+mod word_forms;
 mod word_places;
 mod world;
 mod world_numbers;

@@ -1,0 +1,186 @@
+-- A leaf in hand, whose words are written one after another.
+use Rattle.std.proofs.Common.{◌≡◌, ℕ, zero, suc, ◌+◌, ◌*◌, ◌/◌, ◌%◌, ◌^◌, ◌<◌, ◌≤◌, true, List, [], ◌∷◌, length, get_or, map, set, refl, sym, ap, ◌∙◌, subst, subst₂, inl, inr, ⊎_elim, arith, get_or-set_other, get_or-set_same}
+use Rattle.std.proofs.lemmas.Bool.{cases_eq, cases_lt}
+use Rattle.std.proofs.lemmas.List.{get_or_past, length-set}
+use Rattle.std.proofs.lemmas.List.FromFn.{get_or-map-range_with_len, fill_by_all}
+use Rattle.std.specs.List.{range_with_len}
+use Rattle.art_cell.specs.declared.cells.Link.{Link}
+use Rattle.art_cell.specs.declared.cells.Link.TheVariants.{Leaf as leaf}
+use Rattle.art_cell.specs.declared.layouts.Number.{Number}
+use Rattle.art_cell.specs.declared.layouts.Pool.{Pool}
+use Rattle.art_cell.specs.declared.layouts.Pool.TheVariants.{Leaves}
+use Rattle.art_cell.specs.declared.views.InHand.{InHand}
+use Rattle.art_cell.specs.declared.views.Sizes.{Sizes}
+use Rattle.art_cell.specs.declared.views.View.{View}
+use Rattle.art_cell.specs.Children.{link_in_pool}
+use Rattle.art_cell.specs.CommitLaws.{HasLeaf}
+use Rattle.art_cell.specs.Leaves.{IsLeaf, leaf_word}
+use Rattle.art_cell.specs.Packed.{IsEight, byte_of-from_be_bytes}
+use Rattle.art_cell.specs.Shown.{IsInHand, Took, WroteLeaf, link_of_number}
+use Rattle.art_cell.specs.Sound.{IsSound}
+use Rattle.art_cell.specs.StepRows.{MayWriteLeaf}
+use Rattle.art_cell.specs.Views.{IsNumber, Member, words_in}
+use Rattle.art_cell.specs.Visits.{HasNone, HasJust, IsAway, IsIdle, Fills, leaf_in_hand}
+use Rattle.art_cell.specs.Words.{Words, byte_of, packed}
+use Rattle.art_cell.specs.WorldWords.{Kept, OnlyTurned, memory_now, view_at, views_of}
+use Rattle.art_cell.proofs.IdlePasses.{just_one, no_members, still_away}
+use Rattle.art_cell.proofs.WorldFree.{free_is_number}
+use Rattle.art_cell.proofs.WorldViews.{at_view}
+
+-- ---- what ten words mean
+
+module _ (w : Words) (key : List ℕ) (value : ℕ) (words : (i : ℕ) → i < 10 → w i ≡ leaf_word key value i) (bytes : (i : ℕ) → get_or key i 0 < 256) where
+  eight_bytes : (from : ℕ) → IsEight (map (λ i. get_or key (from + i) 0) (range_with_len 0 8))
+  eight_bytes from = record { eight = refl; small = small }
+    where
+      small : (i : ℕ) → get_or (map (λ i. get_or key (from + i) 0) (range_with_len 0 8)) i 0 < 256
+      small i =
+          elim (cases_lt i 8) [
+            | inl low ↦ rw (get_or-map-range_with_len (λ j. get_or key (from + j) 0) 0 8 i i 0 low (omega arith)) (bytes (from + i))
+            | inr past ↦ rw (get_or_past (map (λ j. get_or key (from + j) 0) (range_with_len 0 8)) i 0 past) (omega arith)
+          ]
+
+  -- byte i of the words is byte i of the key, and 0 after its last
+  byte_is : (i : ℕ) → i < 64 → packed w 2 i ≡ get_or key i 0
+  unfolding packed
+  byte_is i low =
+      let from = 8 * (i / 8) in
+      let at = i % 8 in
+      let small : at < 8 = omega arith in
+      ap (λ (word : ℕ). byte_of word at) (words (2 + i / 8) (omega arith) ∙ ap (leaf_word key value) (two_more (i / 8)))
+      ∙ byte_of-from_be_bytes (map (λ j. get_or key (from + j) 0) (range_with_len 0 8)) at (eight_bytes from) small
+      ∙ get_or-map-range_with_len (λ j. get_or key (from + j) 0) 0 8 at at 0 small (omega arith)
+      ∙ ap (λ (j : ℕ). get_or key j 0) (omega arith)
+    where
+      two_more : (n : ℕ) → 2 + n ≡ suc (suc n)
+      two_more n = omega arith
+
+  -- they are those of the leaf
+  pub words_mean_leaf : length key ≤ 64 → IsLeaf w key value
+  words_mean_leaf few = record {
+    value = words 0 (omega arith);
+    len = len;
+    key =
+        ap (λ (n : ℕ). map (packed w 2) (range_with_len 0 n)) len
+        ∙ sym (fill_by_all (packed w 2) key (length key) 0 refl (λ i low. sym (byte_is i (omega (arith, low, few)))));
+    unused = λ i past low. byte_is i low ∙ get_or_past key i 0 past;
+  }
+    where
+      len : w 1 ≡ length key
+      len = words 1 (omega arith)
+
+one_byte : (b : ℕ) → b < 256 → (i : ℕ) → get_or (b ∷ []) i 0 < 256
+one_byte b small zero = small
+one_byte b small (suc i) = omega arith
+
+-- ---- the hand
+
+pub leaf_link : (n : Number) → n.pool ≡ Leaves → link_of_number n ≡ leaf n.number
+leaf_link n e = ap (λ (p : Pool). link_in_pool p n.number) e
+
+-- a number that was just taken
+pub took_fills : (z : Sizes) (v w : View) (n : Number) (k : List ℕ) (value : ℕ) → HasNone v.hand → n.pool ≡ Leaves → n.number < z.leaves → n.number < 2 ^ 32
+    → (t : Took v w (link_of_number n)) → length t.words ≡ 10 → Fills z w.hand n k value 0
+took_fills z v w n k value none pool inside small t long = record {
+  pool = pool;
+  inside = inside;
+  small = small;
+  words = t.words;
+  long = long;
+  just = subst (λ (xs : List InHand). HasJust xs (leaf_in_hand n.number t.words)) (sym hand) (just_one (leaf_in_hand n.number t.words));
+  written = λ i low. absurd (omega (arith, low));
+}
+  where
+    hand : w.hand ≡ leaf_in_hand n.number t.words ∷ []
+    hand = ap (λ (y : View). y.hand) t.is
+        ∙ (ap (λ (xs : List InHand). record { link = link_of_number n; words = t.words } ∷ xs) (no_members v.hand none)
+        ∙ ap (λ (d : Link). record { link = d; words = t.words } ∷ []) (leaf_link n pool))
+
+-- it was free, so there is such a leaf; and all is sound, so it has ten words
+pub took_leaf : (a b : Kept) (p : ℕ) (n : Number) (k : List ℕ) (value : ℕ) → p < length a.views → OnlyTurned a b p → IsSound b.sizes (memory_now b) (views_of b.views) → b.sizes.leaves < 2 ^ 32 → IsIdle (view_at a.views p)
+    → n.pool ≡ Leaves → (memory_now a).free (link_of_number n) ≡ true → Took (view_at a.views p) (view_at b.views p) (link_of_number n) → IsAway (view_at b.views p) × Fills b.sizes (view_at b.views p).hand n k value 0
+took_leaf a b p n k value low turned sound few idle pool free t = (
+  still_away v w (ap (λ (y : View). y.pin) t.is) (ap (λ (y : View). y.held) t.is) idle.away,
+  took_fills b.sizes v w n k value idle.hand pool inside (omega (arith, inside, few)) t long,
+)
+  where
+    v : View
+    v = view_at a.views p
+
+    w : View
+    w = view_at b.views p
+
+    inside : n.number < b.sizes.leaves
+    inside = subst₂ (λ (z : Sizes) (d : Link). IsNumber z d) (sym turned.sizes) (leaf_link n pool) (free_is_number a.sizes a.words (link_of_number n) free)
+
+    taken : InHand
+    taken = record { link = link_of_number n; words = t.words }
+
+    has : Member taken w.hand
+    has = subst (Member taken) (sym (ap (λ (y : View). y.hand) t.is)) (inl refl)
+
+    long : length t.words ≡ 10
+    long = ((sound.numbers.accounts p w (at_view b.views p (subst (λ (m : ℕ). p < m) (sym turned.count) low))).leaves taken n.number has (leaf_link n pool)).0
+
+-- the next word may be written
+pub may_fill : (z : Sizes) (v : View) (n : Number) (k : List ℕ) (value place : ℕ) → place < 10 → Fills z v.hand n k value place
+    → (l : ℕ) × (y : InHand) × (link_of_number n ≡ leaf l) × (l < z.leaves) × MayWriteLeaf v y l place
+may_fill z v n k value place low f = (n.number, leaf_in_hand n.number f.words, leaf_link n f.pool, f.inside, record { hand = f.just.has; leaf = refl; place = low })
+
+-- and then it is as the leaf has it
+pub filled_more : (z : Sizes) (v w : View) (n : Number) (k : List ℕ) (value place word : ℕ) → place < 10 → word ≡ leaf_word k value place → Fills z v.hand n k value place
+    → ((y : InHand) → IsInHand v (link_of_number n) y → WroteLeaf v w y place word) → Fills z w.hand n k value (place + 1)
+filled_more z v w n k value place word low is f wrote = record {
+  pool = f.pool;
+  inside = f.inside;
+  small = f.small;
+  words = set f.words place word;
+  long = length-set f.words place word ∙ f.long;
+  just = record {
+    has = subst (Member (leaf_in_hand n.number (set f.words place word))) (sym hand) row.puts.has;
+    only = λ y i. ⊎_elim
+        (λ (e : y ≡ leaf_in_hand n.number (set f.words place word)). e)
+        (λ (a : Member y v.hand × (y ≡ leaf_in_hand n.number f.words → ⊥)). absurd (a.1 (f.just.only y a.0)))
+        (row.puts.was y (subst (Member y) hand i));
+  };
+  written = λ i below. ⊎_elim
+      (λ (e : i ≡ place). ap (λ (j : ℕ). get_or (set f.words place word) j 0) e ∙ (get_or-set_same f.words place word 0 (omega (arith, low, f.long)) ∙ (is ∙ ap (leaf_word k value) (sym e))))
+      (λ (other : i ≡ place → ⊥). get_or-set_other f.words place i word 0 other ∙ f.written i (omega (arith, below, other)))
+      (cases_eq i place);
+}
+  where
+    row : WroteLeaf v w (leaf_in_hand n.number f.words) place word
+    row = wrote (leaf_in_hand n.number f.words) (f.just.has, sym (leaf_link n f.pool))
+
+    hand : w.hand ≡ row.hand
+    hand = ap (λ (y : View). y.hand) row.is
+
+-- the pass stays away, one step later
+pub filled_away : (v w : View) (d : Link) (place word : ℕ) (y : InHand) → IsAway v → IsInHand v d y → ((x : InHand) → IsInHand v d x → WroteLeaf v w x place word) → IsAway w × (w.steps ≡ v.steps + 1)
+filled_away v w d place word y away has wrote =
+    let is = (wrote y has).is in
+    (still_away v w (ap (λ (x : View). x.pin) is) (ap (λ (x : View). x.held) is) away, ap (λ (x : View). x.steps) is)
+
+-- the number's leaf is in hand
+pub fills_hand : (z : Sizes) (v : View) (n : Number) (k : List ℕ) (value place : ℕ) (f : Fills z v.hand n k value place) → IsInHand v (link_of_number n) (leaf_in_hand n.number f.words)
+fills_hand z v n k value place f = (f.just.has, sym (leaf_link n f.pool))
+
+-- with the same sizes and the same in hand
+pub fills_on : (z z' : Sizes) (hand hand' : List InHand) (n : Number) (k : List ℕ) (value place : ℕ) → z' ≡ z → hand' ≡ hand → Fills z hand n k value place → Fills z' hand' n k value place
+fills_on z z' hand hand' n k value place e i f = subst₂ (λ (y : Sizes) (xs : List InHand). Fills y xs n k value place) (sym e) (sym i) f
+
+pub has_leaf : (z : Sizes) (v : View) (n : Number) (b value : ℕ) → b < 256 → Fills z v.hand n (b ∷ []) value 10 → HasLeaf z v n.number (b ∷ []) value
+has_leaf z v n b value small f = record {
+  hand = leaf_in_hand n.number f.words;
+  has = f.just.has;
+  link = refl;
+  words = words_mean_leaf (words_in f.words) (b ∷ []) value f.written (one_byte b small) (omega arith);
+  short = omega arith;
+  number = f.inside;
+  fits = f.small;
+}
+
+-- ---- the first words of a leaf whose key has one byte
+
+pub first_words : (b value : ℕ) → (leaf_word (b ∷ []) value 0 ≡ value) × (leaf_word (b ∷ []) value 1 ≡ 1) × (leaf_word (b ∷ []) value 2 ≡ b * 2 ^ 56)
+first_words b value = (refl, refl, omega arith)

@@ -1,0 +1,8 @@
+use Rattle.art_cell.proofs.IdlePasses.{locks_or_away, may_lock}
+use Rattle.art_cell.proofs.anchor_steps.upgrade.Goals as goal
+
+pub upgrade-requires-clause-early : goal.upgrade-requires-clause-early
+upgrade-requires-clause-early g c = may_lock (g.S.Steps.view c.args.steps.now) c.requires.away
+
+pub returns-clause-locks : goal.returns-clause-locks
+returns-clause-locks g c = locks_or_away _ _ c.args.stamp c.upgrade.result c.requires.away c.requires.stamp c.upgrade.ensures.row
