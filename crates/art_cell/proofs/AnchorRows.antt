@@ -220,18 +220,18 @@ one_link word l small e = ap (λ (o : Option Link). cons_option o []) (ap link_o
 
 -- ---- and it goes back, since no stamp is a leaf's
 
--- the list without the leaf
-without_leaf : (l : ℕ) (es : List Retired) → (ks : List Retired) × ((e : Retired) → Member e ks → Member e es × (e.link ≢ leaf l)) × ((e : Retired) → Member e es → e.link ≢ leaf l → Member e ks)
-without_leaf l [] = ([], λ e i. absurd i, λ e i other. absurd i)
-without_leaf l (a ∷ es) =
-    let rest = without_leaf l es in
+-- the list without the number
+pub without_link : (d : Link) (es : List Retired) → (ks : List Retired) × ((e : Retired) → Member e ks → Member e es × (e.link ≢ d)) × ((e : Retired) → Member e es → e.link ≢ d → Member e ks)
+without_link d [] = ([], λ e i. absurd i, λ e i other. absurd i)
+without_link d (a ∷ es) =
+    let rest = without_link d es in
     ⊎_elim
-    (λ (is : a.link ≡ leaf l). (
+    (λ (is : a.link ≡ d). (
       rest.0,
       (λ e i. let o = rest.1 e i in (inr o.0, o.1)),
       (λ e i other. ⊎_elim (λ (same : e ≡ a). absurd (other (ap (λ (y : Retired). y.link) same ∙ is))) (λ (j : Member e es). rest.2 e j other) i),
     ))
-    (λ (not : a.link ≢ leaf l). (
+    (λ (not : a.link ≢ d). (
       a ∷ rest.0,
       (λ e i. ⊎_elim
           (λ (same : e ≡ a). (inl same, λ is. not (sym (ap (λ (y : Retired). y.link) same) ∙ is)))
@@ -239,11 +239,11 @@ without_leaf l (a ∷ es) =
           i),
       (λ e i other. ⊎_elim (λ (same : e ≡ a). inl same) (λ (j : Member e es). inr (rest.2 e j other)) i),
     ))
-    (same_link a.link (leaf l))
+    (same_link a.link d)
 
 pub may_give_back : (f : Views) (v : View) (d : Link) (l : ℕ) → d ≡ leaf l → IsInLimbo v (leaf l) → (es : List Retired) × MayFree f v d es
 may_give_back f v d l is limbo =
-    let rest = without_leaf l v.limbo in (
+    let rest = without_link (leaf l) v.limbo in (
       rest.0,
       subst (λ (c : Link). MayFree f v c rest.0) (sym is) (record {
         limbo = limbo;

@@ -1,7 +1,9 @@
 -- The node of two leaves is found below the anchor, locked with it, and taken out of the tree.
-use Rattle.std.proofs.Common.{◌≡◌, ◌≢◌, ◌⊎◌, ℕ, ◌+◌, ◌*◌, ◌%◌, ◌^◌, ◌<◌, ◌≤◌, List, [], ◌∷◌, ◌++◌, length, set, inl, inr, ⊎_elim, sym, refl, ap, ap₂, ◌∙◌, subst, subst₂, arith, eq-eqb, get_or-set_same}
+use Rattle.std.proofs.Common.{◌≡◌, ◌≢◌, ◌⊎◌, ℕ, zero, suc, ◌+◌, ◌*◌, ◌%◌, ◌^◌, ◌<◌, ◌≤◌, List, [], ◌∷◌, ◌++◌, length, get_or, set, inl, inr, ⊎_elim, sym, refl, ap, ap₂, ◌∙◌, subst, subst₂, arith, eq-eqb, get_or-set_same}
+use Rattle.std.proofs.lemmas.Option.{same_Some}
 use Rattle.std.specs.List.{cons_option}
-use Rattle.std.specs.Prelude.{Option, Some, None, true, false}
+use Rattle.std.specs.Option.{option_map}
+use Rattle.std.specs.Prelude.{filter_map, Option, Some, None, true, false}
 use Rattle.art_cell.specs.declared.cells.Cell.{Cell}
 use Rattle.art_cell.specs.declared.cells.Cell.TheVariants as cell
 use Rattle.art_cell.specs.declared.cells.Link.{Link}
@@ -9,27 +11,36 @@ use Rattle.art_cell.specs.declared.cells.Link.TheVariants.{Leaf as leaf, Node as
 use Rattle.art_cell.specs.declared.cells.Node.{Node}
 use Rattle.art_cell.specs.declared.layouts.Layout.{Layout}
 use Rattle.art_cell.specs.declared.layouts.Layout.TheVariants.{Node4}
+use Rattle.art_cell.specs.declared.layouts.Number.{Number}
+use Rattle.art_cell.specs.declared.layouts.Pool.{Pool}
+use Rattle.art_cell.specs.declared.layouts.Pool.TheVariants.{N4}
 use Rattle.art_cell.specs.declared.views.Fact.TheVariants.{Starts, Word, LeafWord}
 use Rattle.art_cell.specs.declared.views.Holding.{Holding}
+use Rattle.art_cell.specs.declared.views.InHand.{InHand}
 use Rattle.art_cell.specs.declared.views.Retired.{Retired}
 use Rattle.art_cell.specs.declared.views.Sizes.{Sizes}
 use Rattle.art_cell.specs.declared.views.Stamp.{Stamp}
 use Rattle.art_cell.specs.declared.views.View.{View}
 use Rattle.art_cell.specs.declared.views.What.{What}
-use Rattle.art_cell.specs.Children.{child_word, link_of}
+use Rattle.art_cell.specs.Children.{child_word, link_in_pool, link_of}
+use Rattle.art_cell.specs.CommitLaws.{HasLeaf, HasNode}
 use Rattle.art_cell.specs.Heaps.{Cells, heap_of}
 use Rattle.art_cell.specs.Knowledge.{IsShape, CellAt, HoldsAll, NamesLeaf, Leads, Names}
 use Rattle.art_cell.specs.NodeLives.{IsNoted, OnlyLearns, IsStampAt, NotesRoot, NotesKey, key_of_one, HoldsTwo, stamped_holding, IsPair, HoldsPair, NotesPair, HasMerged}
-use Rattle.art_cell.specs.Shown.{links_of, IsHolding, MayReadCell, Passed, Upgraded, Wrote, Committed, Released}
-use Rattle.art_cell.specs.StepRows.{MayBeFirst, MayRelease, MayWrite, Drops, with_word, begun, note_of, stamp_of, IsInLimbo, IsNodeAmong}
+use Rattle.art_cell.specs.Shown.{Freed, Took, link_of_number, links_of, IsHolding, MayReadCell, Passed, Upgraded, Wrote, Committed, Released}
+use Rattle.art_cell.specs.StepRows.{MayFree, MayBeFirst, MayRelease, MayWrite, Drops, with_word, begun, note_of, stamp_of, IsInLimbo, IsNodeAmong}
 use Rattle.art_cell.specs.Tree.{top, held, Slot}
-use Rattle.art_cell.specs.Views.{IsClear, Member, size_of, words_in}
+use Rattle.art_cell.specs.Views.{IsClear, IsNumber, Member, size_of, words_in}
+use Rattle.art_cell.specs.Visits.{Fills, HasNone, IsIdle}
 use Rattle.art_cell.specs.WordChanges.{FitsWord, two_children}
 use Rattle.art_cell.specs.Words.{size, child_of}
+use Rattle.art_cell.specs.WorldWords.{Kept, OnlyTurned, memory_now, view_at, views_of}
+use Rattle.art_cell.proofs.AnchorRows.{without_link}
 use Rattle.art_cell.proofs.ChildWords.{link_back, link_exact}
 use Rattle.art_cell.proofs.LeafPair.{pair_child}
 use Rattle.art_cell.proofs.LifeSteps.{both_dropped, puts_one, stamp_is}
 use Rattle.art_cell.proofs.Meanings.{child_is, child_named}
+use Rattle.art_cell.proofs.WorldFree.{free_is_number}
 use Rattle.art_cell.proofs.Turns.{member_back, member_front}
 
 -- ---- the node is stamped, and its path is noted
@@ -176,7 +187,7 @@ module _ (v w : View) (n : Node) (a b value : ℕ) (r : HoldsPair v n a b value)
   pub may_write_pair : (h : Holding) × (h.cell ≡ cell.Anchor) × MayWrite v h 1
   may_write_pair = (pair_anchor, refl, record { held = r.held.one; early = r.early; place = (omega arith, omega arith) })
 
-  pub wrote_pair : n.layout ≡ Node4 → (c : Cell) (x : ℕ) → c ≡ cell.Anchor → x ≡ child_word (leaf a) → ((h : Holding) → IsHolding v c h → Wrote v w h 1 x) → HasMerged w n a b value × (w.pin ≡ v.pin)
+  pub wrote_pair : n.layout ≡ Node4 → (c : Cell) (x : ℕ) → c ≡ cell.Anchor → x ≡ child_word (leaf a) → ((h : Holding) → IsHolding v c h → Wrote v w h 1 x) → HasMerged w n a b value × (w.pin ≡ v.pin) × (w.hand ≡ v.hand)
   wrote_pair layout c x is_anchor is_word each =
       let o = each pair_anchor (r.held.one, sym is_anchor) in (
         record {
@@ -195,6 +206,7 @@ module _ (v w : View) (n : Node) (a b value : ℕ) (r : HoldsPair v n a b value)
           early = ap (λ (u : View). u.committed) o.is ∙ r.early;
         },
         ap (λ (u : View). u.pin) o.is,
+        ap (λ (u : View). u.hand) o.is,
       )
 
 -- ---- the merge is committed at the anchor's release, and the node is released as obsolete
@@ -225,8 +237,8 @@ module _ (v w : View) (n : Node) (a b value : ℕ) (r : HasMerged v n a b value)
     pub node_may_go : (h : Holding) × (h.cell ≡ cell.Node n) × MayRelease w h true
     node_may_go = (merged_node, refl, (node_left, inl (ap (λ (u : View). u.committed) o.is, ((λ e. (n, refl, node_in_limbo)), (λ k. refl)))))
 
-    pub merge_ends : (u : View) → ((h : Holding) → IsHolding w (cell.Node n) h → Released w u h) → (u.held ≡ []) × (u.pin ≡ v.pin) × IsInLimbo u (node n) × IsInLimbo u (leaf b)
-    merge_ends u released =
+    pub merge_ends : (u : View) → HasNone v.hand → ((h : Holding) → IsHolding w (cell.Node n) h → Released w u h) → (u.held ≡ []) × (u.pin ≡ v.pin) × IsInLimbo u (node n) × IsInLimbo u (leaf b) × HasNone u.hand
+    merge_ends u none released =
         let last = released merged_node (node_left, refl) in
         (
           ap (λ (y : View). y.held) last.is
@@ -235,6 +247,7 @@ module _ (v w : View) (n : Node) (a b value : ℕ) (r : HasMerged v n a b value)
           ap (λ (y : View). y.pin) last.is ∙ ap (λ (y : View). y.pin) o.is,
           subst (λ (y : View). IsInLimbo y (node n)) (sym last.is) node_in_limbo,
           subst (λ (y : View). IsInLimbo y (leaf b)) (sym last.is) leaf_in_limbo,
+          λ x i. none x (o.hands.was x (subst (Member x) (ap (λ (y : View). y.hand) last.is ∙ ap (λ (y : View). y.hand) o.is) i)).0,
         )
 
 -- what two child words name
@@ -245,3 +258,95 @@ two_links x y c d is_c is_d fits_c fits_d =
 -- the anchor's word names the node, whose number so takes 32 bits
 pub node_fits : (v : View) (n : Node) (a b value : ℕ) → HoldsPair v n a b value → FitsWord (node n)
 node_fits v n a b value r = (link_exact (words_in r.words 1) (node n) r.names).1
+
+-- a commit that unlinked two cells hands out two numbers
+pub few_numbers : (xs : List (Option Number)) (d e : Link) → length xs ≡ 3 → get_or xs 0 None ≡ None → get_or xs 1 None ≡ None → filter_map (option_map link_of_number) xs ≡ d ∷ e ∷ [] → ⊥
+few_numbers [] d e long first second are = cc
+few_numbers (a ∷ []) d e long first second are = absurd (omega (arith, long))
+few_numbers (a ∷ b ∷ []) d e long first second are = absurd (omega (arith, long))
+few_numbers (a ∷ b ∷ c ∷ x ∷ xs) d e long first second are = absurd (omega (arith, long))
+few_numbers (a ∷ b ∷ c ∷ []) d e long first second are =
+    let bad = sym (ap₂ (λ (u v : Option Number). length (filter_map (option_map link_of_number) (u ∷ v ∷ c ∷ []))) first second) ∙ ap length are in
+    at_most_one c bad
+  where
+    at_most_one : (c : Option Number) → length (filter_map (option_map link_of_number) (None ∷ None ∷ c ∷ [])) ≡ 2 → ⊥
+    at_most_one None bad = omega (arith, bad)
+    at_most_one (Some n) bad = omega (arith, bad)
+
+-- a node's number that was free is one in hand
+pub took_node : (a b : Kept) (p : ℕ) (n : Number) → OnlyTurned a b p → b.sizes.n4 < 2 ^ 32 → n.pool ≡ N4 → (memory_now a).free (link_of_number n) ≡ true → Took (view_at a.views p) (view_at b.views p) (link_of_number n)
+    → HasNode b.sizes (view_at b.views p) (record { layout = Node4; number = n.number })
+took_node a b p n turned few pool free t = record {
+  hand = record { link = link_of_number n; words = t.words };
+  has = subst (Member (record { link = link_of_number n; words = t.words })) (sym (ap (λ (y : View). y.hand) t.is)) (inl refl);
+  link = is;
+  number = inside;
+  fits = omega (arith, inside, few);
+}
+  where
+    is : link_of_number n ≡ node (record { layout = Node4; number = n.number })
+    is = ap (λ (q : Pool). link_in_pool q n.number) pool
+    inside : n.number < b.sizes.n4
+    inside = subst₂ (λ (z : Sizes) (d : Link). IsNumber z d) (sym turned.sizes) is (free_is_number a.sizes a.words (link_of_number n) free)
+
+-- ---- both numbers are in hand
+
+pub is_node4 : (n : Number) (m : Node) → n.pool ≡ N4 → n.number ≡ m.number → m.layout ≡ Node4 → link_of_number n ≡ node m
+is_node4 n m pool number layout =
+    ap (λ (q : Pool). link_in_pool q n.number) pool ∙ ap₂ (λ (k : Layout) (i : ℕ). node (record { layout = k; number = i })) (sym layout) number
+
+pub leaf_beside : (z y : Sizes) (v w : View) (x : InHand) (l : ℕ) (k : List ℕ) (value : ℕ) → y ≡ z → w.hand ≡ x ∷ v.hand → HasLeaf z v l k value → HasLeaf y w l k value
+leaf_beside z y v w x l k value same are has = record {
+  hand = has.hand;
+  has = subst (Member has.hand) (sym are) (inr has.has);
+  link = has.link;
+  words = has.words;
+  short = has.short;
+  number = subst (λ (t : Sizes). IsNumber t (leaf l)) (sym same) has.number;
+  fits = has.fits;
+}
+
+pub just_both : (z : Sizes) (v w : View) (n : Number) (d : Link) (e : Link) (words k : List ℕ) (value place : ℕ) → e ≡ d → Fills z v.hand n k value place → w.hand ≡ record { link = e; words = words } ∷ v.hand
+    → (x : InHand) → Member x w.hand → (x.link ≡ leaf n.number) ⊎ (x.link ≡ d)
+just_both z v w n d e words k value place is fills are x i = ⊎_elim
+    (λ (same : x ≡ record { link = e; words = words }). inr (ap (λ (y : InHand). y.link) same ∙ is))
+    (λ (j : Member x v.hand). inl (ap (λ (y : InHand). y.link) (fills.just.only x j)))
+    (subst (Member x) are i)
+
+-- ---- numbers in limbo go back
+
+-- of one pass alone there is one view
+one_view_alone : (vs : List View) (p q : ℕ) (u : View) → length vs ≡ 1 → p < length vs → views_of vs q ≡ Some u → u ≡ view_at vs p
+one_view_alone [] p q u one low at = absurd (omega (arith, one))
+one_view_alone (a ∷ b ∷ vs) p q u one low at = absurd (omega (arith, one))
+one_view_alone (a ∷ []) (suc p) q u one low at = absurd (omega (arith, low))
+one_view_alone (a ∷ []) zero zero u one low at = sym (same_Some a u at)
+one_view_alone (a ∷ []) zero (suc q) u one low at = absurd (cc)
+
+pub may_free_node : (vs : List View) (p : ℕ) (d : Link) (n : Node) → length vs ≡ 1 → p < length vs → (view_at vs p).stamps ≡ [] → (view_at vs p).held ≡ [] → d ≡ node n → IsInLimbo (view_at vs p) (node n)
+    → (es : List Retired) × MayFree (views_of vs) (view_at vs p) d es
+may_free_node vs p d n one low none free is limbo =
+    let rest = without_link (node n) (view_at vs p).limbo in (
+      rest.0,
+      subst (λ (c : Link). MayFree (views_of vs) (view_at vs p) c rest.0) (sym is) (record {
+        limbo = limbo;
+        free = λ m e h i. absurd (subst (Member h) free i);
+        unstamped = λ q u m at e stamped. subst (Member stamped.0) (ap (λ (v : View). v.stamps) (one_view_alone vs p q u one low at) ∙ none) stamped.1;
+        was = rest.1;
+        stays = rest.2;
+      }),
+    )
+
+-- the others stay in limbo
+pub stays_in_limbo : (v w : View) (d c : Link) → c ≢ d → IsInLimbo v c → Freed v w d → IsInLimbo w c
+stays_in_limbo v w d c other limbo f =
+    subst (λ (u : View). IsInLimbo u c) (sym f.is) (limbo.0, f.stays limbo.0 limbo.1 (λ e. other (sym limbo.2 ∙ e)), limbo.2)
+
+pub idle_by : (u v : View) → u.pin ≢ 0 → v.pin ≡ u.pin → v.held ≡ [] → HasNone v.hand → IsIdle v
+idle_by u v pinned same free none = record {
+  away = record { pinned = λ e. pinned (sym same ∙ e); held = λ h i. subst (Member h) free i };
+  hand = none;
+}
+
+pub in_limbo_on : (v w : View) (d : Link) → w.limbo ≡ v.limbo → IsInLimbo v d → IsInLimbo w d
+in_limbo_on v w d same limbo = (limbo.0, subst (Member limbo.0) (sym same) limbo.1, limbo.2)

@@ -13,6 +13,7 @@ use Rattle.art_cell.specs.declared.layouts.Layout.TheVariants.{Node4}
 use Rattle.art_cell.specs.declared.views.Fact.{Fact}
 use Rattle.art_cell.specs.declared.views.Fact.TheVariants.{Starts, Word, LeafWord}
 use Rattle.art_cell.specs.declared.views.Holding.{Holding}
+use Rattle.art_cell.specs.declared.views.InHand.{InHand}
 use Rattle.art_cell.specs.declared.views.Sizes.{Sizes}
 use Rattle.art_cell.specs.declared.views.Stamp.{Stamp}
 use Rattle.art_cell.specs.declared.views.View.{View}
@@ -22,13 +23,15 @@ use Rattle.art_cell.specs.CommitLaws.{HasLeaf, HasNode}
 use Rattle.art_cell.specs.Heaps.{Cells, heap_of}
 use Rattle.art_cell.specs.Knowledge.{IsShape, CellAt, HoldsAll, NamesLeaf, Names}
 use Rattle.art_cell.specs.NodeLives.{IsNoted, OnlyLearns, IsStampAt, NotesRoot, NotesKey, key_of_one, HoldsTwo, stamped_holding, claimed_holding, HoldsLeafRoot, HasClaimed, IsWholePair, HasForked}
-use Rattle.art_cell.specs.Shown.{Claimed, IsHolding, Upgraded, Wrote, Committed, Released}
+use Rattle.art_cell.specs.Shown.{claimed_nodes, coming, Claimed, IsHolding, Upgraded, Wrote, Committed, Released}
 use Rattle.art_cell.specs.StepRows.{MayBeFirst, MayClaim, MayRelease, Puts, with_word, MayWrite, Drops, has_read, note_of, stamp_of, MayReadLeaf, IsNotHeld}
 use Rattle.art_cell.specs.Tree.{top}
 use Rattle.art_cell.specs.Views.{Member, size_of, words_in}
+use Rattle.art_cell.specs.Visits.{HasNone}
 use Rattle.art_cell.specs.WordChanges.{FitsWord}
 use Rattle.art_cell.specs.Words.{size}
 use Rattle.art_cell.proofs.ChildWords.{link_back}
+use Rattle.art_cell.proofs.NodeLives.{is_claimed}
 
 -- ---- what a pass learns
 
@@ -293,6 +296,9 @@ module _ (z : Sizes) (v w : View) (m : Node) (a l value : ℕ) (ws : List ℕ) (
   pub wrote_above_rest : (x : ℕ) → ((h : Holding) → IsHolding v cell.Anchor h → Wrote v w h 1 x) → w.pin ≡ v.pin
   wrote_above_rest x each = ap (λ (u : View). u.pin) (each (the_anchor z v v m a ws 14 r) (r.held.one, refl)).is
 
+  pub wrote_above_hand : (x : ℕ) → ((h : Holding) → IsHolding v cell.Anchor h → Wrote v w h 1 x) → w.hand ≡ v.hand
+  wrote_above_hand x each = ap (λ (u : View). u.hand) (each (the_anchor z v v m a ws 14 r) (r.held.one, refl)).is
+
 -- the words and cells by what stands for them
 pub forked_by : (z y : Sizes) (v w : View) (m : Node) (a l value n first second x : ℕ) (c : Cell) → y ≡ z → 14 ≤ n → n ≤ 14 → HasClaimed z v m a (pair_words first second) n → m.layout ≡ Node4
     → first ≡ child_word (leaf a) → second ≡ child_word (leaf l) → HasLeaf z v l (98 ∷ []) value → c ≡ cell.Anchor → x ≡ child_word (node m) → ((h : Holding) → IsHolding v c h → Wrote v w h 1 x) → HasForked y w m a l value
@@ -322,6 +328,16 @@ module _ (z : Sizes) (v w : View) (m : Node) (a l value : ℕ) (r : HasForked z 
 
     pub anchor_may_go : (h : Holding) × (h.cell ≡ cell.Anchor) × MayRelease w h false
     anchor_may_go = (forked_anchor, refl, (anchor_left, inl (ap (λ (u : View). u.committed) o.is, ((λ e. cc), (λ k. let bad = k.1 in absurd (cc))))))
+
+    -- nothing is left in hand
+    pub fork_empties : (u : View) → ls ≡ coming v (Some (leaf l)) → ((x : InHand) → Member x v.hand → (x.link ≡ leaf l) ⊎ (x.link ≡ node m)) → ((h : Holding) → IsHolding w cell.Anchor h → Released w u h) → HasNone u.hand
+    fork_empties u are only released x i =
+        let last = released forked_anchor (anchor_left, refl) in
+        let was = o.hands.was x (subst (Member x) (ap (λ (y : View). y.hand) last.is ∙ ap (λ (y : View). y.hand) o.is) i) in
+        ⊎_elim
+        (λ (e : x.link ≡ leaf l). was.1 (subst (Member x.link) (sym are) (inl e)))
+        (λ (e : x.link ≡ node m). was.1 (subst (Member x.link) (sym are) (inr (subst (λ (d : Link). Member d (claimed_nodes v.held)) (sym e) (is_claimed v.held forked_node m r.held.two refl refl)))))
+        (only x was.0)
 
     pub fork_ends : (u : View) → ((h : Holding) → IsHolding w cell.Anchor h → Released w u h) → (u.held ≡ []) × (u.pin ≡ v.pin)
     fork_ends u released =

@@ -187,7 +187,7 @@ claimed_is (h ∷ hs) d i = by_cell (λ j. claimed_is hs d j) h.cell h.stamped r
     by_cell rest cell.Anchor o e f j = let k = rest j in (k.0, k.1, inr k.2, k.3, k.4, k.5)
     by_cell rest (cell.Leaf l) o e f j = let k = rest j in (k.0, k.1, inr k.2, k.3, k.4, k.5)
 
-is_claimed : (hs : List Holding) (h : Holding) (n : Node) → Member h hs → h.cell ≡ cell.Node n → h.stamped ≡ None → Member (node n) (claimed_nodes hs)
+pub is_claimed : (hs : List Holding) (h : Holding) (n : Node) → Member h hs → h.cell ≡ cell.Node n → h.stamped ≡ None → Member (node n) (claimed_nodes hs)
 is_claimed [] h n i e f = absurd i
 is_claimed (k ∷ hs) h n i e f = ⊎_elim
     (λ (is : h ≡ k). subst₂ (λ (c : Cell) (o : Option ℕ). Member (node n) (claimed_node c o (claimed_nodes hs))) (sym e ∙ ap (λ (j : Holding). j.cell) is) (sym f ∙ ap (λ (j : Holding). j.stamped) is) (inl refl))

@@ -1,15 +1,14 @@
 //! Three actors on one world, and an anchor at the end of its counter.
-ghost use Rattle.std.specs.Prelude.{◌≡◌, ◌≤◌, ◌+◌, ◌∷◌, [], false, refl, IfSome};
+ghost use Rattle.std.specs.Prelude.{◌≡◌, ◌≤◌, ◌+◌, ◌∷◌, [], false, true, refl, IfSome};
 ghost use Rattle.std.proofs.Common.{◌∙◌};
 ghost use Rattle.std.proofs.lemmas.Bool.{false≢true};
-ghost use Rattle.art_cell.specs.Sound.{IsSound};
 ghost use Rattle.art_cell.specs.Visits.{Adds, Counts, IsIdle, Removes, StampsAnchor, Visits, counts_none, counts_one_more};
-ghost use Rattle.art_cell.specs.WorldWords.{IsSameAt, OnlyTurned, memory_now, view_at, views_of};
+ghost use Rattle.art_cell.specs.WorldWords.{IsSameAt, OnlyTurned, view_at};
 
 use super::*;
 use crate::anchor_steps::{
-    KEY, VALUE, begin, check, commit_insert, commit_remove, fill, leaf_word, let_go, let_number_go,
-    read_anchor, read_leaf, upgrade, word_of_leaf, write_child,
+    KEY, VALUE, begin, check, commit_insert, commit_remove, fill, leaf_word, leaves_of, let_go, let_number_go,
+    read_anchor, read_leaf, take_leaf, upgrade, word_of_leaf, write_child,
 };
 use crate::visits::{Adding, Removing, Visit};
 use crate::word_forms::words_are_formed;
@@ -29,7 +28,7 @@ const SIZES: Sizes = Sizes {
 
 /// What a visitor does with the anchor.
 #[derive(Clone, Copy, Debug, PartialEq, Eq)]
-enum Task {
+pub(crate) enum Task {
     /// Stamps it, and checks the stamp until it fails.
     Look,
     /// Locks it, and lets it go.
@@ -39,7 +38,7 @@ enum Task {
 }
 
 /// Loops for ever over its task, and counts its turns.
-struct Visitor {
+pub(crate) struct Visitor {
     task: Task,
     turns: u64,
     visit: Visit,
@@ -83,7 +82,7 @@ fn add<S: Steps>(adding: Adding, steps: &mut S) -> Visit
     let next = match adding {
         Adding::Filling(number, place) if place < 10 => {
             let mut leaf = number;
-            fill(steps, &mut leaf, place);
+            fill(steps, &mut leaf, KEY, VALUE, place);
             Adding::Filling(leaf, place + 1)
         }
         Adding::Filling(number, _) => match begin(steps) {
@@ -126,7 +125,7 @@ fn remove(removing: Removing, at: &mut At<'_>) -> Visit
         },
         Removing::Stamped(stamp) => see_leaf(at, stamp, leaves),
         Removing::Reading(stamp, leaf, place) if place < 3 => {
-            match read_leaf(at, &stamp, leaf, place) == leaf_word(place) {
+            match read_leaf(at, &stamp, leaf, place) == leaf_word(KEY, VALUE, place) {
                 true => Removing::Reading(stamp, leaf, place + 1),
                 false => Removing::Idle,
             }
@@ -146,14 +145,6 @@ fn remove(removing: Removing, at: &mut At<'_>) -> Visit
         }
     };
     Visit::Removing(next)
-}
-
-/// How many leaves a world has. What always holds of a world holds of it.
-fn leaves_of(world: &World) -> u32
-    ensures leaves { result ≡ world.now.sizes.leaves }
-    ensures sound { IsSound world.now.sizes (memory_now world.now) (views_of world.now.views) }
-{
-    world.sizes.leaves
 }
 
 /// Reads which leaf the anchor names.
@@ -183,21 +174,6 @@ fn take_out(at: &mut At<'_>, held: Held, leaf: u32)
     at.world.give_back(at.pass, number);
 }
 
-/// Takes a leaf's number into the hand, if one is free, which is no step.
-fn take_leaf(at: &mut At<'_>) -> Visit
-    requires { IsIdle (view_at at.old.world.now.views at.old.pass) }
-    ensures only { IsSameAt at.old.world.ghost_name at.new.world.ghost_name at.old.pass at.new.pass × OnlyTurned at.old.world.now at.new.world.now at.old.pass }
-    ensures step { (view_at at.new.world.now.views at.new.pass).steps ≤ (view_at at.old.world.now.views at.old.pass).steps + 1 }
-    ensures visits { Visits (KEY ∷ []) VALUE at.new.world.now.sizes (view_at at.new.world.now.views at.new.pass) result }
-{
-    let Some(number) = at.world.first_free(at.pass, Pool::Leaves) else {
-        return Visit::Idle;
-    };
-    // The world is sound, so that ten words came into the hand.
-    let _leaves = leaves_of(at.world);
-    Visit::Adding(Adding::Filling(number, 0))
-}
-
 /// The next step of a task, and what is kept then.
 fn go_on(task: Task, visit: Visit, at: &mut At<'_>) -> Visit
     requires { Visits (KEY ∷ []) VALUE at.old.world.now.sizes (view_at at.old.world.now.views at.old.pass) visit }
@@ -207,7 +183,10 @@ fn go_on(task: Task, visit: Visit, at: &mut At<'_>) -> Visit
 {
     match visit {
         Visit::Idle => match task {
-            Task::Change => take_leaf(at),
+            Task::Change => match take_leaf(at) {
+                Some(number) => Visit::Adding(Adding::Filling(number, 0)),
+                None => Visit::Idle,
+            },
             _ => look(task, None, at),
         },
         Visit::Stamped(stamp) => look(task, Some(stamp), at),
@@ -221,7 +200,7 @@ fn go_on(task: Task, visit: Visit, at: &mut At<'_>) -> Visit
 }
 
 impl Visitor {
-    fn new(task: Task) -> Visitor
+    pub(crate) fn new(task: Task) -> Visitor
         ensures { result.visit ≡ Visit.Idle }
     {
         Visitor {
@@ -231,8 +210,18 @@ impl Visitor {
         }
     }
 
+    /// Whether its leaf stands below the anchor, and it holds nothing.
+    pub(crate) fn has_added(&self) -> bool
+        ensures { result ≡ true → self.now.visit ≡ Visit.Removing (Removing.Idle) }
+    {
+        match self.visit {
+            Visit::Removing(Removing::Idle) => true,
+            _ => false,
+        }
+    }
+
     /// How many turns it had.
-    fn end(self) -> u64 {
+    pub(crate) fn end(self) -> u64 {
         let Visitor {
             task: _,
             turns,

@@ -1,5 +1,5 @@
 //! The steps of a pass that visits the anchor, each by what it knows before and after.
-ghost use Rattle.std.specs.Prelude.{◌≡◌, ◌<◌, ◌≤◌, ◌+◌, ◌∷◌, [], ℕ, filter_map, IfSome, MatchResult};
+ghost use Rattle.std.specs.Prelude.{◌≡◌, ◌<◌, ◌≤◌, ◌+◌, ◌∷◌, [], ℕ, filter_map, IfNone, IfSome, MatchResult};
 ghost use Rattle.std.specs.Option.{option_map};
 ghost use Rattle.art_cell.specs.declared.cells.Link.TheVariants.{Leaf as leaf_link};
 ghost use Rattle.art_cell.specs.declared.views.Fact.TheVariants.{LeafWord as leaf_word_fact, Word as word_fact};
@@ -8,14 +8,16 @@ ghost use Rattle.art_cell.specs.Children.{child_word};
 ghost use Rattle.art_cell.specs.Leaves.{leaf_word};
 ghost use Rattle.art_cell.specs.NodeLives.{IsNoted, OnlyLearns};
 ghost use Rattle.art_cell.specs.Shown.{link_of_number};
+ghost use Rattle.art_cell.specs.Sound.{IsSound};
 ghost use Rattle.art_cell.specs.StepRows.{IsInLimbo};
 ghost use Rattle.art_cell.specs.Visits.{ChangesWord, Fills, HoldsUnchanged, HoldsWord, IsAway, IsIdle, Locks, NotesLeaf, Removes, StampsAnchor};
+ghost use Rattle.art_cell.specs.WorldWords.{IsSameAt, OnlyTurned, memory_now, view_at, views_of};
 
 use super::*;
 use art_key::Key;
 
 /// The row that comes and goes.
-pub(crate) const KEY: u8 = 75;
+pub(crate) const KEY: u8 = 97;
 
 pub(crate) const VALUE: u64 = 7;
 
@@ -105,29 +107,51 @@ pub(crate) fn read_leaf<S: Steps>(steps: &mut S, stamp: &Stamp, leaf: u32, place
     steps.read(stamp, Cell::Leaf(leaf), place)
 }
 
-/// Writes the next word of the leaf in hand.
-pub(crate) fn fill<S: Steps>(steps: &mut S, number: &mut Number, place: usize)
+/// How many leaves a world has. What always holds of a world holds of it.
+pub(crate) fn leaves_of(world: &World) -> u32
+    ensures leaves { result ≡ world.now.sizes.leaves }
+    ensures sound { IsSound world.now.sizes (memory_now world.now) (views_of world.now.views) }
+{
+    world.sizes.leaves
+}
+
+/// Takes a leaf's number into the hand, if one is free, which is no step.
+pub(crate) fn take_leaf(at: &mut At<'_>) -> Option<Number>
+    requires { IsIdle (view_at at.old.world.now.views at.old.pass) }
+    ensures only { IsSameAt at.old.world.ghost_name at.new.world.ghost_name at.old.pass at.new.pass × OnlyTurned at.old.world.now at.new.world.now at.old.pass }
+    ensures step { (view_at at.new.world.now.views at.new.pass).steps ≤ (view_at at.old.world.now.views at.old.pass).steps + 1 }
+    ensures idle { IfNone result (IsIdle (view_at at.new.world.now.views at.new.pass)) }
+    ensures away { IfSome result (λ _. IsAway (view_at at.new.world.now.views at.new.pass)) }
+    ensures fills { (key value : ℕ) → IfSome result (λ n. Fills at.new.world.now.sizes (view_at at.new.world.now.views at.new.pass).hand n (key ∷ []) value 0) }
+{
+    let number = at.world.first_free(at.pass, Pool::Leaves)?;
+    let _leaves = leaves_of(at.world);
+    Some(number)
+}
+
+/// Writes the next word of the leaf in hand, whose key has one byte.
+pub(crate) fn fill<S: Steps>(steps: &mut S, number: &mut Number, key: u8, value: u64, place: usize)
     requires away { IsAway (S.view steps.old) }
-    requires fills { Fills (S.sizes steps.old) (S.view steps.old).hand number.old (KEY ∷ []) VALUE place }
+    requires fills { Fills (S.sizes steps.old) (S.view steps.old).hand number.old (key ∷ []) value place }
     requires place { place < 10 }
     ensures sizes { S.sizes steps.new ≡ S.sizes steps.old }
     ensures only { S.only steps.old steps.new }
     ensures step { (S.view steps.new).steps ≤ (S.view steps.old).steps + 1 }
     ensures away { IsAway (S.view steps.new) }
-    ensures fills { Fills (S.sizes steps.new) (S.view steps.new).hand number.new (KEY ∷ []) VALUE (place + 1) }
+    ensures fills { Fills (S.sizes steps.new) (S.view steps.new).hand number.new (key ∷ []) value (place + 1) }
 {
-    steps.write_leaf(number, place, leaf_word(place));
+    steps.write_leaf(number, place, leaf_word(key, value, place));
 }
 
-/// The word at a place of the leaf.
-pub(crate) fn leaf_word(place: usize) -> u64
+/// The word at a place of a leaf whose key has one byte.
+pub(crate) fn leaf_word(key: u8, value: u64, place: usize) -> u64
     requires { place < 10 }
-    ensures { result ≡ leaf_word (KEY ∷ []) VALUE place }
+    ensures { result ≡ leaf_word (key ∷ []) value place }
 {
     match place {
-        0 => VALUE,
+        0 => value,
         1 => 1,
-        2 => (KEY as u64) << 56,
+        2 => u64::from(key) << 56,
         _ => 0,
     }
 }

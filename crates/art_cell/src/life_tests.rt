@@ -1,11 +1,12 @@
 //! A node through two lives: it comes between the anchor and a leaf, and goes again.
-ghost use Rattle.std.specs.Prelude.{◌≡◌, ◌≢◌, ◌<◌, ◌∷◌, [], ℕ, List, get_or, IfSome, filter_map, false, true};
+ghost use Rattle.std.specs.Prelude.{◌≡◌, ◌≢◌, ◌<◌, ◌⊎◌, ◌∷◌, [], ℕ, List, get_or, length, IfSome, filter_map, false, true};
 ghost use Rattle.std.specs.Option.{option_map};
 ghost use Rattle.art_cell.specs.declared.cells.Cell.TheVariants.{Anchor as anchor_cell, Node as node_cell};
 ghost use Rattle.art_cell.specs.declared.cells.Link.TheVariants.{Leaf as leaf_link, Node as node_link};
 ghost use Rattle.art_cell.specs.declared.layouts.Layout.TheVariants.{Node4 as node4};
 ghost use Rattle.art_cell.specs.declared.layouts.Pool.TheVariants.{Leaves as leaves_pool};
 ghost use Rattle.art_cell.specs.declared.views.Fact.TheVariants.{LeafWord, Word as word_fact};
+ghost use Rattle.art_cell.specs.declared.views.InHand.{InHand as InHandOf};
 ghost use Rattle.art_cell.specs.Children.{child_word};
 ghost use Rattle.art_cell.specs.CommitLaws.{HasLeaf, HasNode};
 ghost use Rattle.art_cell.specs.Knowledge.{Names};
@@ -13,11 +14,14 @@ ghost use Rattle.art_cell.specs.NodeLives.{HasClaimed, HoldsLeafRoot, HoldsPair,
 ghost use Rattle.art_cell.specs.Shown.{link_of_number};
 ghost use Rattle.art_cell.specs.StepRows.{IsInLimbo, IsNotHeld};
 ghost use Rattle.art_cell.specs.Views.{Member};
+ghost use Rattle.art_cell.specs.Visits.{Fills, HasNone, IsAway, IsIdle, Visits};
 ghost use Rattle.art_cell.specs.WordChanges.{FitsWord};
 ghost use Rattle.art_cell.specs.WorldWords.{IsInside, IsSameAt, OnlyTurned, view_at};
 ghost use Rattle.art_cell.specs.declared.layouts.Pool.TheVariants.{N4 as n4_pool};
 
 use super::*;
+use crate::actor_tests::{Task, Visitor};
+use crate::anchor_steps::{KEY, VALUE, fill, let_number_go, one_number, take_leaf, word_of_leaf};
 use art_key::Key;
 use std::test::*;
 
@@ -80,9 +84,10 @@ fn lock_above_leaf<S: Steps>(steps: &mut S, leaf: u32) -> Option<Held>
     ensures only { S.only steps.old steps.new }
     ensures hand { IfSome result (λ _. (S.view steps.new).hand ≡ (S.view steps.old).hand) }
     ensures holds { IfSome result (λ h. (h.cell ≡ anchor_cell) × HoldsLeafRoot (S.view steps.new) leaf) }
+    ensures pin { IfSome result (λ _. (S.view steps.new).pin ≡ (S.view steps.old).pin) }
 {
     let (stamp, word) = see_root(steps)?;
-    if word != leaf_word(leaf) {
+    if word != word_of_leaf(leaf) {
         return None;
     }
     let words = leaf_words(steps, &stamp, leaf);
@@ -112,13 +117,7 @@ fn claim_beside<S: Steps>(steps: &mut S, number: Number, node: Node, first: u32)
     steps.claim(number)
 }
 
-/// The child word of a leaf, and of a Node4.
-fn leaf_word(leaf: u32) -> u64
-    ensures { result ≡ child_word (leaf_link leaf) }
-{
-    8 * u64::from(leaf) + 1
-}
-
+/// The child word of a Node4.
 fn node4_word(node: Node) -> u64
     requires { node.layout ≡ node4 }
     ensures { result ≡ child_word (node_link node) }
@@ -144,11 +143,13 @@ fn fork<S: Steps>(steps: &mut S, mut anchor: Held, mut claimed: Held, node: Node
     requires pool { leaf.pool ≡ leaves_pool }
     requires claimed { (ws : List ℕ) → HasClaimed (S.sizes steps.old) (S.view steps.old) node first ws 0 }
     requires leaf { HasLeaf (S.sizes steps.old) (S.view steps.old) leaf.number (98 ∷ []) 2 }
+    requires hand { (x : InHandOf) → Member x (S.view steps.old).hand → (x.link ≡ leaf_link leaf.number) ⊎ (x.link ≡ node_link node) }
     ensures sizes { S.sizes steps.new ≡ S.sizes steps.old }
     ensures only { S.only steps.old steps.new }
     ensures idle { ((S.view steps.new).held ≡ []) × ((S.view steps.new).pin ≡ (S.view steps.old).pin) }
+    ensures hand { HasNone (S.view steps.new).hand }
 {
-    let words = [2, 0, 0, 0, 0, 0, 0, 0, 0, PAIR_BYTES, leaf_word(first), leaf_word(leaf.number), 0, 0];
+    let words = [2, 0, 0, 0, 0, 0, 0, 0, 0, PAIR_BYTES, word_of_leaf(first), word_of_leaf(leaf.number), 0, 0];
     for place in 0..14 {
         steps.write(&mut claimed, place + 1, words[place]);
     }
@@ -200,7 +201,7 @@ fn sees_pair<S: Steps>(steps: &mut S, stamp: &Stamp, node: Node, first: u32, sec
     if header != 2 || bytes != PAIR_BYTES {
         return false;
     }
-    if one != leaf_word(first) || two != leaf_word(second) {
+    if one != word_of_leaf(first) || two != word_of_leaf(second) {
         return false;
     }
     true
@@ -215,6 +216,7 @@ fn lock_both<S: Steps>(steps: &mut S, root: Stamp, stamp: Stamp, node: Node) -> 
     ensures sizes { S.sizes steps.new ≡ S.sizes steps.old }
     ensures only { S.only steps.old steps.new }
     ensures pin { IfSome result (λ _. (S.view steps.new).pin ≡ (S.view steps.old).pin) }
+    ensures hand { IfSome result (λ _. (S.view steps.new).hand ≡ (S.view steps.old).hand) }
     ensures cells { IfSome result (λ p. (p.0.cell ≡ anchor_cell) × (p.1.cell ≡ node_cell node)) }
     ensures holds { (a b value : ℕ) → NotesPair (S.view steps.old) stamp a b → NotesKey (S.view steps.old) stamp b 98 → IsNoted (S.view steps.old) stamp (LeafWord b 0 value) → IfSome result (λ _. HoldsPair (S.view steps.new) node a b value) }
 {
@@ -242,6 +244,7 @@ fn lock_pair<S: Steps>(steps: &mut S, node: Node, first: u32, second: u32) -> Op
     ensures sizes { S.sizes steps.new ≡ S.sizes steps.old }
     ensures only { S.only steps.old steps.new }
     ensures pin { IfSome result (λ _. (S.view steps.new).pin ≡ (S.view steps.old).pin) }
+    ensures hand { IfSome result (λ _. (S.view steps.new).hand ≡ (S.view steps.old).hand) }
     ensures cells { IfSome result (λ p. (p.0.cell ≡ anchor_cell) × (p.1.cell ≡ node_cell node)) }
     ensures holds { IfSome result (λ _. HoldsPair (S.view steps.new) node first second 2) }
 {
@@ -267,15 +270,17 @@ fn merge<S: Steps>(steps: &mut S, mut anchor: Held, below: Held, node: Node, fir
     requires above { anchor.cell ≡ anchor_cell }
     requires below { below.cell ≡ node_cell node }
     requires holds { HoldsPair (S.view steps.old) node first second 2 }
+    requires hand { HasNone (S.view steps.old).hand }
     ensures sizes { S.sizes steps.new ≡ S.sizes steps.old }
     ensures only { S.only steps.old steps.new }
     ensures idle { ((S.view steps.new).held ≡ []) × ((S.view steps.new).pin ≡ (S.view steps.old).pin) }
     ensures numbers { filter_map (option_map link_of_number) result ≡ node_link node ∷ leaf_link second ∷ [] }
+    ensures hand { HasNone (S.view steps.new).hand }
     ensures limbo { IsInLimbo (S.view steps.new) (node_link node) × IsInLimbo (S.view steps.new) (leaf_link second) }
 {
-    steps.write(&mut anchor, 1, leaf_word(first));
+    steps.write(&mut anchor, 1, word_of_leaf(first));
     let deed = Deed::Done(Act::Remove(one_byte(98)), Answer::Removed(SECOND_VALUE));
-    let gone = [node4_word(node), leaf_word(second)];
+    let gone = [node4_word(node), word_of_leaf(second)];
     let unlinked = steps.commit(anchor, false, &deed, None, &gone);
     steps.release(below, true);
     unlinked
@@ -288,20 +293,16 @@ fn two_numbers(numbers: Unlinked, node: Node, leaf: u32) -> (Number, Number)
     ensures leaf { link_of_number result.1 ≡ leaf_link leaf }
 {
     let [first, second, third] = numbers;
-    match (first, second, third) {
-        (Some(one), Some(two), none) => {
-            let_number_go(none);
-            (one, two)
-        }
-        (Some(one), None, Some(two)) => (one, two),
-        (None, Some(one), Some(two)) => (one, two),
-        (one, two, three) => {
-            let_number_go(one);
-            let_number_go(two);
-            let_number_go(three);
-            unreachable!()
-        }
+    if let Some(one) = first {
+        let two = one_number([second, third, None], leaf);
+        return (one, two);
     }
+    let Some(one) = second else {
+        let_number_go(third);
+        unreachable!();
+    };
+    let two = one_number([third, None, None], leaf);
+    (one, two)
 }
 
 /// Finds the node obsolete, at which the pass lets all its stamps go.
@@ -312,6 +313,7 @@ fn forget<S: Steps>(steps: &mut S, node: Node) -> bool
     ensures only { S.only steps.old steps.new }
     ensures held { (S.view steps.new).held ≡ (S.view steps.old).held }
     ensures pin { (S.view steps.new).pin ≡ (S.view steps.old).pin }
+    ensures hand { (S.view steps.new).hand ≡ (S.view steps.old).hand }
     ensures limbo { (S.view steps.new).limbo ≡ (S.view steps.old).limbo }
     ensures stamps { result ≡ true → (S.view steps.new).stamps ≡ [] }
 {
@@ -326,13 +328,157 @@ fn take_node(at: &mut At<'_>) -> Option<Number>
     ensures only { IsSameAt at.old.world.ghost_name at.new.world.ghost_name at.old.pass at.new.pass × OnlyTurned at.old.world.now at.new.world.now at.old.pass }
     ensures held { (view_at at.new.world.now.views at.new.pass).held ≡ (view_at at.old.world.now.views at.old.pass).held }
     ensures pin { (view_at at.new.world.now.views at.new.pass).pin ≡ (view_at at.old.world.now.views at.old.pass).pin }
-    ensures hand { (l value : ℕ) (k : List ℕ) → HasLeaf at.old.world.now.sizes (view_at at.old.world.now.views at.old.pass) l k value → HasLeaf at.new.world.now.sizes (view_at at.new.world.now.views at.new.pass) l k value }
+    ensures hand { IfSome result (λ n. (words : List ℕ) × ((view_at at.new.world.now.views at.new.pass).hand ≡ record { link = link_of_number n; words = words } ∷ (view_at at.old.world.now.views at.old.pass).hand)) }
     ensures node { IfSome result (λ n. (n.pool ≡ n4_pool) × HasNode at.new.world.now.sizes (view_at at.new.world.now.views at.new.pass) (record { layout = node4; number = n.number })) }
 {
-    at.world.first_free(at.pass, Pool::N4)
+    let number = at.world.first_free(at.pass, Pool::N4)?;
+    let _nodes = nodes_of(at.world);
+    Some(number)
 }
 
-/// A commit that unlinks nothing hands out no number.
-fn let_number_go(number: Option<Number>) {
-    if let Some(Number { pool: _, number: _ }) = number {}
+/// How many Node4s a world has.
+fn nodes_of(world: &World) -> u32
+    ensures { result ≡ world.now.sizes.n4 }
+{
+    world.sizes.n4
+}
+
+/// Takes the number of a leaf into the hand, writes the second row to it, and tells it.
+fn take_second(at: &mut At<'_>) -> Option<Number>
+    requires idle { IsIdle (view_at at.old.world.now.views at.old.pass) }
+    ensures only { IsSameAt at.old.world.ghost_name at.new.world.ghost_name at.old.pass at.new.pass × OnlyTurned at.old.world.now at.new.world.now at.old.pass }
+    ensures away { IfSome result (λ _. IsAway (view_at at.new.world.now.views at.new.pass)) }
+    ensures fills { IfSome result (λ n. Fills at.new.world.now.sizes (view_at at.new.world.now.views at.new.pass).hand n (98 ∷ []) 2 10) }
+{
+    let mut number = take_leaf(at)?;
+    fill_second(at, &mut number);
+    Some(number)
+}
+
+/// Writes the second row to the leaf in hand.
+fn fill_second<S: Steps>(steps: &mut S, number: &mut Number)
+    requires away { IsAway (S.view steps.old) }
+    requires fills { Fills (S.sizes steps.old) (S.view steps.old).hand number.old (98 ∷ []) 2 0 }
+    ensures sizes { S.sizes steps.new ≡ S.sizes steps.old }
+    ensures only { S.only steps.old steps.new }
+    ensures away { IsAway (S.view steps.new) }
+    ensures fills { Fills (S.sizes steps.new) (S.view steps.new).hand number.new (98 ∷ []) 2 10 }
+{
+    for place in 0..10 {
+        fill(steps, number, 98, SECOND_VALUE, place);
+    }
+}
+
+/// Takes a leaf with the second row and the node into the hand.
+fn take_both(at: &mut At<'_>, node: Node) -> Option<(Number, Number)>
+    requires idle { IsIdle (view_at at.old.world.now.views at.old.pass) }
+    requires layout { node.layout ≡ node4 }
+    ensures only { IsSameAt at.old.world.ghost_name at.new.world.ghost_name at.old.pass at.new.pass × OnlyTurned at.old.world.now at.new.world.now at.old.pass }
+    ensures away { IfSome result (λ _. ((view_at at.new.world.now.views at.new.pass).held ≡ []) × ((view_at at.new.world.now.views at.new.pass).pin ≢ 0)) }
+    ensures hand { IfSome result (λ p. (x : InHandOf) → Member x (view_at at.new.world.now.views at.new.pass).hand → (x.link ≡ leaf_link p.0.number) ⊎ (x.link ≡ node_link node)) }
+    ensures leaf { IfSome result (λ p. (p.0.pool ≡ leaves_pool) × HasLeaf at.new.world.now.sizes (view_at at.new.world.now.views at.new.pass) p.0.number (98 ∷ []) 2) }
+    ensures node { IfSome result (λ p. (link_of_number p.1 ≡ node_link node) × HasNode at.new.world.now.sizes (view_at at.new.world.now.views at.new.pass) node) }
+{
+    let leaf = take_second(at)?;
+    let Some(number) = take_node(at) else {
+        let_number_go(Some(leaf));
+        return None;
+    };
+    if number.number != node.number {
+        let_number_go(Some(leaf));
+        let_number_go(Some(number));
+        return None;
+    }
+    Some((leaf, number))
+}
+
+/// Inserts the second row, for which the node comes above both leaves. Tells the second leaf, and the node's version word
+/// once the node is claimed and once it is released.
+fn grow(at: &mut At<'_>, node: Node, first: u32) -> Option<(u32, [u64; 2])>
+    requires idle { IsIdle (view_at at.old.world.now.views at.old.pass) }
+    requires inside { IsInside at.old.world.now.sizes (node_cell node) }
+    requires layout { node.layout ≡ node4 }
+    requires number { first < at.old.world.now.sizes.leaves }
+    ensures only { IsSameAt at.old.world.ghost_name at.new.world.ghost_name at.old.pass at.new.pass × OnlyTurned at.old.world.now at.new.world.now at.old.pass }
+    ensures idle { IfSome result (λ _. IsIdle (view_at at.new.world.now.views at.new.pass)) }
+    ensures second { IfSome result (λ p. p.0 < at.new.world.now.sizes.leaves) }
+{
+    let (leaf, number) = take_both(at, node)?;
+    let second = leaf.number;
+    let Some(anchor) = lock_above_leaf(at, first) else {
+        let_number_go(Some(leaf));
+        let_number_go(Some(number));
+        return None;
+    };
+    let claimed = claim_beside(at, number, node, first);
+    let locked = at.world.version(Cell::Node(node));
+    fork(at, anchor, claimed, node, first, leaf);
+    let clear = at.world.version(Cell::Node(node));
+    Some((second, [locked, clear]))
+}
+
+/// Removes the second row, for which the node goes. Tells the node's version word once it is locked and once it is obsolete.
+/// The numbers of the node and of the leaf are free again.
+fn shrink(at: &mut At<'_>, node: Node, first: u32, second: u32) -> Option<[u64; 2]>
+    requires idle { IsIdle (view_at at.old.world.now.views at.old.pass) }
+    requires alone { length at.old.world.now.views ≡ 1 }
+    requires inside { IsInside at.old.world.now.sizes (node_cell node) }
+    requires fits { FitsWord (node_link node) }
+    requires layout { node.layout ≡ node4 }
+    requires number { second < at.old.world.now.sizes.leaves }
+    ensures only { IsSameAt at.old.world.ghost_name at.new.world.ghost_name at.old.pass at.new.pass × OnlyTurned at.old.world.now at.new.world.now at.old.pass }
+    ensures idle { IfSome result (λ _. IsIdle (view_at at.new.world.now.views at.new.pass)) }
+{
+    let (anchor, below) = lock_pair(at, node, first, second)?;
+    let locked = at.world.version(Cell::Node(node));
+    let unlinked = merge(at, anchor, below, node, first, second);
+    let obsolete = at.world.version(Cell::Node(node));
+    let (number, leaf) = two_numbers(unlinked, node, second);
+    if !forget(at, node) {
+        let_number_go(Some(number));
+        let_number_go(Some(leaf));
+        return None;
+    }
+    at.world.give_back(at.pass, number);
+    at.world.give_back(at.pass, leaf);
+    Some([locked, obsolete])
+}
+
+/// The leaf below the anchor, where the visitor has added one and is done.
+fn added_leaf(world: &World, visitor: Visitor) -> Option<u32>
+    requires { Visits (KEY ∷ []) VALUE world.now.sizes (view_at world.now.views 0) visitor.visit }
+    ensures leaf { IfSome result (λ l. l < world.now.sizes.leaves) }
+    ensures idle { IfSome result (λ _. IsIdle (view_at world.now.views 0)) }
+{
+    let added = visitor.has_added();
+    let _turns = visitor.end();
+    if !added {
+        return None;
+    }
+    match Link::named_by(world.word(Cell::Anchor, 1)) {
+        Some(Link::Leaf(leaf)) if leaf < world.sizes.leaves => Some(leaf),
+        _ => None,
+    }
+}
+
+#[test]
+fn the_words_of_a_node_in_two_lives(rt: HostRuntime) -> Result<(), Fail> {
+    let mut world = World::open(rt.alloc(), &SIZES, 0)?;
+    let node = Node {
+        layout: Layout::Node4,
+        number: 0,
+    };
+    assert_eq!(rt; world.version(Cell::Node(node)), 1);
+    let mut visitors = [Visitor::new(Task::Change)];
+    world.run(&mut visitors, &[0; 15]);
+    let [visitor] = visitors;
+    let first = added_leaf(&world, visitor).expect(&rt, "the first leaf comes");
+    let mut at = world.at(0);
+    let (second, words) = grow(&mut at, node, first).expect(&rt, "the node comes");
+    assert_eq!(rt; words, [2, 4]);
+    let words = shrink(&mut at, node, first, second).expect(&rt, "the node goes");
+    assert_eq!(rt; words, [6, 9]);
+    let (_, words) = grow(&mut at, node, first).expect(&rt, "the node comes again");
+    assert_eq!(rt; words, [10, 12]);
+    Ok(())
 }

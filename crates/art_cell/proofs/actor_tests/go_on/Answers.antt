@@ -1,3 +1,4 @@
+use Rattle.art_cell.specs.declared.anchor_steps.TheConstants.{KEY, VALUE}
 use Rattle.art_cell.specs.WorldWords.{view_at}
 use Rattle.art_cell.proofs.IdlePasses.{at_state, idle_then}
 use Rattle.art_cell.proofs.actor_tests.go_on.Goals as goal
@@ -7,3 +8,6 @@ returns-in-Locked-clause-visits c =
     let k = at_state _ _ _ _ _ _ c.in-Locked.is c.requires in
     let e = c.let_go.ensures in
     idle_then (view_at c.args.at.now.world.now.views c.args.at.now.pass) _ k.0 e.hand e.away
+
+pub returns-in-Some-clause-visits : goal.returns-in-Some-clause-visits
+returns-in-Some-clause-visits c = (c.in-Some.ensures.away, c.in-Some.ensures.fills KEY VALUE)

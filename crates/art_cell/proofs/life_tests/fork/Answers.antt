@@ -12,8 +12,9 @@ use Rattle.art_cell.specs.Shown.{coming}
 use Rattle.art_cell.specs.StepRows.{MayCommit}
 use Rattle.art_cell.specs.CommitLaws.{HasLeaf}
 use Rattle.art_cell.specs.NodeLives.{HasClaimed, HasForked}
+use Rattle.art_cell.specs.Views.{Member}
 use Rattle.art_cell.proofs.ChangeForks.{fork_commits}
-use Rattle.art_cell.proofs.LifeSteps.{anchor_may_go, fork_ends, forked_by, leaf_stays, may_write_above, may_write_claimed, node_may_be_first, wrote_above, wrote_above_rest, wrote_claimed, wrote_rest}
+use Rattle.art_cell.proofs.LifeSteps.{anchor_may_go, fork_empties, fork_ends, forked_by, leaf_stays, may_write_above, may_write_claimed, node_may_be_first, wrote_above_hand, wrote_above_rest, wrote_claimed, wrote_rest}
 use Rattle.art_cell.proofs.NodeLives.{may_fork}
 use Rattle.art_cell.proofs.life_tests.fork.Goals as goal
 
@@ -33,8 +34,9 @@ loop-place-preserved g c =
       sizes = c.write.ensures.sizes ∙ c.loop-place.invariant.sizes;
       only = g.met.S.Steps.only_then _ _ _ c.loop-place.invariant.only c.write.ensures.only;
       below = search;
-      claimed = subst (λ (z : Sizes). HasClaimed z (g.S.Steps.view c.write.new.self) c.args.node c.args.first (2 ∷ 0 ∷ 0 ∷ 0 ∷ 0 ∷ 0 ∷ 0 ∷ 0 ∷ 0 ∷ 7017171169396654080 ∷ c.leaf_word.result ∷ c.leaf_word-2.result ∷ 0 ∷ 0 ∷ []) (c.loop-place.place + 1)) (sym c.write.ensures.sizes) written;
+      claimed = subst (λ (z : Sizes). HasClaimed z (g.S.Steps.view c.write.new.self) c.args.node c.args.first (2 ∷ 0 ∷ 0 ∷ 0 ∷ 0 ∷ 0 ∷ 0 ∷ 0 ∷ 0 ∷ 7017171169396654080 ∷ c.word_of_leaf.result ∷ c.word_of_leaf-2.result ∷ 0 ∷ 0 ∷ []) (c.loop-place.place + 1)) (sym c.write.ensures.sizes) written;
       leaf_in_hand = subst (λ (z : Sizes). HasLeaf z (g.S.Steps.view c.write.new.self) c.args.leaf.number (98 ∷ []) 2) (sym c.write.ensures.sizes) (leaf_stays _ _ _ _ _ _ rest.0 c.loop-place.invariant.leaf_in_hand);
+      hand = rest.0 ∙ c.loop-place.invariant.hand;
       pin = rest.1 ∙ c.loop-place.invariant.pin;
     }
 
@@ -45,20 +47,20 @@ write-requires-2-clause-may g c =
 
 pub commit-requires-clause-first : goal.commit-requires-clause-first
 commit-requires-clause-first g c =
-    let r = forked_by _ _ _ (g.S.Steps.view c.write-2.new.self) _ _ c.args.leaf.number 2 _ _ _ _ _ c.write-2.ensures.sizes c.loop-place-test.false c.loop-place.auto.place-end c.loop-place.invariant.claimed c.requires.layout c.leaf_word.ensures c.leaf_word-2.ensures c.loop-place.invariant.leaf_in_hand c.requires.above c.node4_word.ensures c.write-2.ensures.row in
+    let r = forked_by _ _ _ (g.S.Steps.view c.write-2.new.self) _ _ c.args.leaf.number 2 _ _ _ _ _ c.write-2.ensures.sizes c.loop-place-test.false c.loop-place.auto.place-end c.loop-place.invariant.claimed c.requires.layout c.word_of_leaf.ensures c.word_of_leaf-2.ensures c.loop-place.invariant.leaf_in_hand c.requires.above c.node4_word.ensures c.write-2.ensures.row in
     let k = node_may_be_first _ _ (g.S.Steps.view c.write-2.new.self) _ _ _ _ r in
     (k.0, k.1 ∙ sym (c.loop-place.invariant.below ∙ c.requires.below), k.2)
 
 pub commit-requires-clause-may : goal.commit-requires-clause-may
 commit-requires-clause-may g c =
-    let r = forked_by _ _ _ (g.S.Steps.view c.write-2.new.self) _ _ c.args.leaf.number 2 _ _ _ _ _ c.write-2.ensures.sizes c.loop-place-test.false c.loop-place.auto.place-end c.loop-place.invariant.claimed c.requires.layout c.leaf_word.ensures c.leaf_word-2.ensures c.loop-place.invariant.leaf_in_hand c.requires.above c.node4_word.ensures c.write-2.ensures.row in
+    let r = forked_by _ _ _ (g.S.Steps.view c.write-2.new.self) _ _ c.args.leaf.number 2 _ _ _ _ _ c.write-2.ensures.sizes c.loop-place-test.false c.loop-place.auto.place-end c.loop-place.invariant.claimed c.requires.layout c.word_of_leaf.ensures c.word_of_leaf-2.ensures c.loop-place.invariant.leaf_in_hand c.requires.above c.node4_word.ensures c.write-2.ensures.row in
     let named = ap (λ (p : Pool). link_in_pool p c.args.leaf.number) c.requires.pool in
     subst₂ (λ (k : List ℕ) (d : Link). MayCommit (g.S.Steps.sizes c.write-2.new.self) (g.S.Steps.view c.write-2.new.self) (Done (Insert k 2) Inserted) [] (coming (g.S.Steps.view c.write-2.new.self) (Some d)))
     (sym c.one_byte.ensures) (sym named) (may_fork _ _ _ _ _ 2 fork_commits r)
 
 pub release-requires-clause-may : goal.release-requires-clause-may
 release-requires-clause-may g c =
-    let r = forked_by _ _ _ (g.S.Steps.view c.write-2.new.self) _ _ c.args.leaf.number 2 _ _ _ _ _ c.write-2.ensures.sizes c.loop-place-test.false c.loop-place.auto.place-end c.loop-place.invariant.claimed c.requires.layout c.leaf_word.ensures c.leaf_word-2.ensures c.loop-place.invariant.leaf_in_hand c.requires.above c.node4_word.ensures c.write-2.ensures.row in
+    let r = forked_by _ _ _ (g.S.Steps.view c.write-2.new.self) _ _ c.args.leaf.number 2 _ _ _ _ _ c.write-2.ensures.sizes c.loop-place-test.false c.loop-place.auto.place-end c.loop-place.invariant.claimed c.requires.layout c.word_of_leaf.ensures c.word_of_leaf-2.ensures c.loop-place.invariant.leaf_in_hand c.requires.above c.node4_word.ensures c.write-2.ensures.row in
     let below = c.loop-place.invariant.below ∙ c.requires.below in
     let above = ap (λ (h : Held). h.cell) c.write-2.ensures.same ∙ c.requires.above in
     let k = anchor_may_go _ _ _ _ _ _ _ r _ _ (λ h i. c.commit.ensures.row h (i.0, i.1 ∙ sym below)) in
@@ -66,9 +68,19 @@ release-requires-clause-may g c =
 
 pub returns-clause-idle : goal.returns-clause-idle
 returns-clause-idle g c =
-    let r = forked_by _ _ _ (g.S.Steps.view c.write-2.new.self) _ _ c.args.leaf.number 2 _ _ _ _ _ c.write-2.ensures.sizes c.loop-place-test.false c.loop-place.auto.place-end c.loop-place.invariant.claimed c.requires.layout c.leaf_word.ensures c.leaf_word-2.ensures c.loop-place.invariant.leaf_in_hand c.requires.above c.node4_word.ensures c.write-2.ensures.row in
+    let r = forked_by _ _ _ (g.S.Steps.view c.write-2.new.self) _ _ c.args.leaf.number 2 _ _ _ _ _ c.write-2.ensures.sizes c.loop-place-test.false c.loop-place.auto.place-end c.loop-place.invariant.claimed c.requires.layout c.word_of_leaf.ensures c.word_of_leaf-2.ensures c.loop-place.invariant.leaf_in_hand c.requires.above c.node4_word.ensures c.write-2.ensures.row in
     let below = c.loop-place.invariant.below ∙ c.requires.below in
     let above = ap (λ (h : Held). h.cell) c.write-2.ensures.same ∙ c.requires.above in
     let ends = fork_ends _ _ _ _ _ _ _ r _ _ (λ h i. c.commit.ensures.row h (i.0, i.1 ∙ sym below)) _ (λ h i. c.release.ensures.row h (i.0, i.1 ∙ sym above)) in
     let pin = wrote_above_rest _ _ (g.S.Steps.view c.write-2.new.self) _ _ c.args.leaf.number 2 _ (subst (HasClaimed _ _ _ _ _) (omega (arith, c.loop-place-test.false, c.loop-place.auto.place-end)) c.loop-place.invariant.claimed) _ (λ h i. c.write-2.ensures.row h (i.0, i.1 ∙ sym c.requires.above)) in
     (ends.0, ends.1 ∙ (pin ∙ c.loop-place.invariant.pin))
+
+pub returns-clause-hand : goal.returns-clause-hand
+returns-clause-hand g c =
+    let r = forked_by _ _ _ (g.S.Steps.view c.write-2.new.self) _ _ c.args.leaf.number 2 _ _ _ _ _ c.write-2.ensures.sizes c.loop-place-test.false c.loop-place.auto.place-end c.loop-place.invariant.claimed c.requires.layout c.word_of_leaf.ensures c.word_of_leaf-2.ensures c.loop-place.invariant.leaf_in_hand c.requires.above c.node4_word.ensures c.write-2.ensures.row in
+    let below = c.loop-place.invariant.below ∙ c.requires.below in
+    let above = ap (λ (h : Held). h.cell) c.write-2.ensures.same ∙ c.requires.above in
+    let named = ap (λ (p : Pool). link_in_pool p c.args.leaf.number) c.requires.pool in
+    let same = wrote_above_hand _ _ (g.S.Steps.view c.write-2.new.self) _ _ c.args.leaf.number 2 _ (subst (HasClaimed _ _ _ _ _) (omega (arith, c.loop-place-test.false, c.loop-place.auto.place-end)) c.loop-place.invariant.claimed) _ (λ h i. c.write-2.ensures.row h (i.0, i.1 ∙ sym c.requires.above)) in
+    fork_empties _ _ _ _ _ _ _ r _ _ (λ h i. c.commit.ensures.row h (i.0, i.1 ∙ sym below)) _ (ap (λ (d : Link). coming (g.S.Steps.view c.write-2.new.self) (Some d)) named)
+    (λ x i. c.requires.hand x (subst (Member x) (same ∙ c.loop-place.invariant.hand) i)) (λ h i. c.release.ensures.row h (i.0, i.1 ∙ sym above))

@@ -10,5 +10,6 @@ invariant-loop-place g l = record {
   below : l.claimed.cell ≡ l.initial.claimed.cell;
   claimed : HasClaimed (g.S.Steps.sizes l.steps) (g.S.Steps.view l.steps) l.node l.first l.words l.place;
   leaf_in_hand : HasLeaf (g.S.Steps.sizes l.steps) (g.S.Steps.view l.steps) l.leaf.number (98 ∷ []) 2;
+  hand : (g.S.Steps.view l.steps).hand ≡ (g.S.Steps.view l.initial.steps).hand;
   pin : (g.S.Steps.view l.steps).pin ≡ (g.S.Steps.view l.initial.steps).pin;
 }
