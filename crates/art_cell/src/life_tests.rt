@@ -470,7 +470,7 @@ fn the_words_of_a_node_in_two_lives(rt: HostRuntime) -> Result<(), Fail> {
     };
     assert_eq!(rt; world.version(Cell::Node(node)), 1);
     let mut visitors = [Visitor::new(Task::Change)];
-    world.run(&mut visitors, &[0; 15]);
+    world.run(&mut visitors, &[0; 16]);
     let [visitor] = visitors;
     let first = added_leaf(&world, visitor).expect(&rt, "the first leaf comes");
     let mut at = world.at(0);
