@@ -28,7 +28,7 @@ use Rattle.art_cell.specs.Heaps.{Cells, heap_of}
 use Rattle.art_cell.specs.Knowledge.{IsShape, CellAt, HoldsAll, NamesLeaf, Leads, Names}
 use Rattle.art_cell.specs.NodeLives.{IsNoted, OnlyLearns, IsStampAt, NotesRoot, NotesKey, key_of_one, HoldsTwo, stamped_holding, IsPair, HoldsPair, NotesPair, HasMerged}
 use Rattle.art_cell.specs.Shown.{Freed, Took, link_of_number, links_of, IsHolding, MayReadCell, Passed, Upgraded, Wrote, Committed, Released}
-use Rattle.art_cell.specs.StepRows.{MayFree, MayBeFirst, MayRelease, MayWrite, Drops, with_word, begun, note_of, stamp_of, IsInLimbo, IsNodeAmong}
+use Rattle.art_cell.specs.StepRows.{HasClaimedNone, MayFree, MayBeFirst, MayRelease, MayWrite, Drops, with_word, begun, note_of, stamp_of, IsInLimbo, IsNodeAmong}
 use Rattle.art_cell.specs.Tree.{top, held, Slot}
 use Rattle.art_cell.specs.Views.{IsClear, IsNumber, Member, size_of, words_in}
 use Rattle.art_cell.specs.Visits.{Fills, HasNone, IsIdle}
@@ -174,6 +174,13 @@ locked_both v w u x d n a b value free seen at pair key noted first second = rec
     held_is = ap (λ (y : View). y.held) second.is
         ∙ ap₂ (λ (c : Cell) (hs : List Holding). record { cell = c; stamped = Some x.version; old = second.words; new = second.words } ∷ hs) seen.at.cell
         (ap (λ (y : View). y.held) first.is ∙ ap₂ (λ (c : Cell) (hs : List Holding). record { cell = c; stamped = Some d.version; old = first.words; new = first.words } ∷ hs) at.cell free)
+
+-- after the first upgrade nothing that is held was claimed
+pub one_stamped : (v w : View) (x : Stamp) → v.held ≡ [] → Upgraded v w x → HasClaimedNone w
+one_stamped v w x free u h i = ⊎_elim
+    (λ (e : h ≡ record { cell = x.cell; stamped = Some x.version; old = u.words; new = u.words }). (x.version, ap (λ (k : Holding). k.stamped) e))
+    (λ (j : Member h v.held). absurd (subst (Member h) free j))
+    (subst (λ (y : View). Member h y.held) u.is i)
 
 -- ---- the first leaf is written in place of the node
 

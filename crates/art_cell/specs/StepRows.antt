@@ -147,11 +147,16 @@ forgetting v xs ys = record v { stamps = xs; notes = ys }
 
 -- ---- upgrade: a stamped cell is locked and held
 
+-- nothing that it holds was claimed: claims come after all upgrades of a change, which can so be given up where one fails
+abbrev pub HasClaimedNone : View → Type 0
+HasClaimedNone v = (h : Holding) → Member h v.held → (x : ℕ) × (h.stamped ≡ Some x)
+
 pub record MayUpgrade (v : View) (x : Stamp) : Type 0 where
   pub stamp : Member x v.stamps
   pub path : (q : List ℕ) × Member (note_of x (Starts q)) v.notes
   pub limit : x.version < 4 * last_counter
   pub early : MayLock v
+  pub unclaimed : HasClaimedNone v
 
 -- the list has the words of the cell
 pub record IsCopy (m : Memory) (c : Cell) (ws : List ℕ) : Type 0 where

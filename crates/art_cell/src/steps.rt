@@ -11,7 +11,7 @@ ghost use Rattle.art_cell.specs.declared.views.InHand.{InHand as InHandOf};
 ghost use Rattle.art_cell.specs.Children.{child_word};
 ghost use Rattle.art_cell.specs.Deeds.{what_of};
 ghost use Rattle.art_cell.specs.Shown.{Claimed, Committed, FailedUpgrade, Failed, IsHolding, IsInHand, MayReadCell, Passed, Released, Upgraded, Wrote, WroteLeaf, coming, fact_read, link_of_number, links_of};
-ghost use Rattle.art_cell.specs.StepRows.{MayBeFirst, MayClaim, MayCommit, MayLock, MayPass, MayRelease, MayWrite, MayWriteLeaf, begun, has_read, note_of};
+ghost use Rattle.art_cell.specs.StepRows.{HasClaimedNone, MayBeFirst, MayClaim, MayCommit, MayLock, MayPass, MayRelease, MayWrite, MayWriteLeaf, begun, has_read, note_of};
 ghost use Rattle.art_cell.specs.Views.{IsClear, Member};
 ghost use Rattle.art_cell.specs.WorldWords.{IsInside};
 
@@ -97,6 +97,7 @@ pub trait Steps {
         requires stamp { Member stamp (view self.old).stamps }
         requires path { (q : List ℕ) × Member (note_of stamp (Starts q)) (view self.old).notes }
         requires early { MayLock (view self.old) }
+        requires unclaimed { HasClaimedNone (view self.old) }
         ensures sizes { sizes self.new ≡ sizes self.old }
         ensures only { only self.old self.new }
         ensures row { MatchResult result (λ h. (h.cell ≡ stamp.cell) × Upgraded (view self.old) (view self.new) stamp) (λ e. FailedUpgrade (view self.old) (view self.new) stamp e) };

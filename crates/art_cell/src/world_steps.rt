@@ -13,7 +13,7 @@ ghost use Rattle.art_cell.specs.Heaps.{Cells};
 ghost use Rattle.art_cell.specs.Knowledge.{HoldsAll, IsShape};
 ghost use Rattle.art_cell.specs.Shown.{Claimed, Committed, FailedUpgrade, Failed, IsHolding, IsInHand, MayReadCell, Passed, Released, Upgraded, Wrote, WroteLeaf, coming, fact_read, link_of_number, links_of};
 ghost use Rattle.art_cell.specs.Sound.{OneHolder};
-ghost use Rattle.art_cell.specs.StepRows.{MayBeFirst, MayClaim, MayCommit, MayLock, MayPass, MayRelease, MayWrite, MayWriteLeaf, SetsVersion, SetsWord, begun, has_read, note_of};
+ghost use Rattle.art_cell.specs.StepRows.{HasClaimedNone, MayBeFirst, MayClaim, MayCommit, MayLock, MayPass, MayRelease, MayWrite, MayWriteLeaf, SetsVersion, SetsWord, begun, has_read, note_of};
 ghost use Rattle.art_cell.specs.Views.{IsClear, Member};
 ghost use Rattle.art_cell.specs.WorldWords.{IsInside, OnlyTurned, memory_now, view_at, views_of};
 
@@ -142,6 +142,7 @@ impl World {
         requires stamp { Member stamp (view_at self.old.views pass).stamps }
         requires path { (q : List ℕ) × Member (note_of stamp (Starts q)) (view_at self.old.views pass).notes }
         requires early { MayLock (view_at self.old.views pass) }
+        requires unclaimed { HasClaimedNone (view_at self.old.views pass) }
         ensures only { OnlyTurned self.old self.new pass }
         ensures memory { MatchResult result (λ _. SetsVersion (memory_now self.old) stamp.cell (stamp.version + 2) (memory_now self.new)) (λ _. self.new.words ≡ self.old.words) }
         ensures row { MatchResult result (λ h. (h.cell ≡ stamp.cell) × Upgraded (view_at self.old.views pass) (view_at self.new.views pass) stamp) (λ e. FailedUpgrade (view_at self.old.views pass) (view_at self.new.views pass) stamp e) }

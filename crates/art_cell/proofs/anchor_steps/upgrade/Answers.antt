@@ -6,3 +6,6 @@ upgrade-requires-clause-early g c = may_lock (g.S.Steps.view c.args.steps.now) c
 
 pub returns-clause-locks : goal.returns-clause-locks
 returns-clause-locks g c = locks_or_away _ _ c.args.stamp c.upgrade.result c.requires.away c.requires.stamp c.upgrade.ensures.row
+
+pub upgrade-requires-clause-unclaimed : goal.upgrade-requires-clause-unclaimed
+upgrade-requires-clause-unclaimed g c h i = absurd (c.requires.away.held h i)

@@ -14,7 +14,7 @@ changed-requires c =
     let found : ℕ = c.version-found.result in
     subst (λ (k : Kept). IsKept k → place ≡ place_of k.sizes c.args.stamp.cell → Next k.sizes k.views c.args.pass (set k.words place (found + 2)) (λ v w. Upgraded v w c.args.stamp)) (sym c.self.view_is)
     (λ i at. turn_upgrades now.sizes now.words now.views c.args.pass i.2 c.requires.pass i.0 c.args.stamp place found c.requires.inside at c.version-found.ensures c.if-found-stamp.false
-    record { stamp = c.requires.stamp; path = c.requires.path; limit = let low = c.if-stamp-ge-LAST_COUNTER.false in omega arith; early = c.requires.early })
+    record { stamp = c.requires.stamp; path = c.requires.path; limit = let low = c.if-stamp-ge-LAST_COUNTER.false in omega arith; early = c.requires.early; unclaimed = c.requires.unclaimed })
     c.self.invariant c.place_of-place.ensures
 
 pub returns-clause-memory : goal.returns-clause-memory
