@@ -1,5 +1,5 @@
 -- The words of a Node4 that has no prefix and two children, at the bytes 97 and 98.
-use Rattle.std.proofs.Common.{◌≡◌, ◌≢◌, ℕ, zero, suc, ◌+◌, ◌*◌, ◌/◌, ◌%◌, ◌^◌, ◌<◌, ◌≤◌, Bool, true, false, List, [], ◌∷◌, length, map, Option, Some, None, refl, sym, ap, ap₂, ◌∙◌, subst, ⊎_elim, eq-eqb, ne_eqb, eqb, cond, arith}
+use Rattle.std.proofs.Common.{◌≡◌, ◌≢◌, ℕ, zero, suc, ◌+◌, ◌*◌, ◌/◌, ◌%◌, ◌^◌, ◌<◌, ◌≤◌, Bool, true, false, [], length, map, Option, Some, None, refl, sym, ap, ap₂, ◌∙◌, subst, ⊎_elim, ne_eqb, arith}
 use Rattle.std.proofs.lemmas.Bool.{cases_eq, cases_lt}
 use Rattle.std.specs.List.{range_with_len}
 use Rattle.std.specs.Option.{option_and_then}
@@ -8,12 +8,12 @@ use Rattle.art_cell.specs.declared.cells.Link.{Link}
 use Rattle.art_cell.specs.declared.cells.Link.TheVariants.{Leaf as leaf, Node as node}
 use Rattle.art_cell.specs.declared.layouts.Layout.{Layout}
 use Rattle.art_cell.specs.declared.layouts.Layout.TheVariants.{Node4, Node16, Node48, Node256}
-use Rattle.art_cell.specs.Bodies.{HasPrefix, IsSorted, IsBody}
-use Rattle.art_cell.specs.Children.{child_word, code_of, code_of_layout, number_of}
+use Rattle.art_cell.specs.Bodies.{IsSorted}
+use Rattle.art_cell.specs.Children.{child_word, code_of, code_of_layout}
 use Rattle.art_cell.specs.Entries.{nonzero_some, same_listed}
 use Rattle.art_cell.specs.NodeLives.{IsPair, IsWholePair}
 use Rattle.art_cell.specs.WordChanges.{FitsWord, WritesNode, two_children}
-use Rattle.art_cell.specs.Words.{Words, byte_of, packed, prefix_of, key_byte, count_of, nonzero, sorted_child, child_of, listed, entries}
+use Rattle.art_cell.specs.Words.{Words, byte_of, packed, key_byte, count_of, nonzero, child_of, entries}
 
 -- the child at a byte, by the words that are looked at
 abbrev pair_at : ℕ → ℕ → ℕ → ℕ → Option ℕ
@@ -73,10 +73,13 @@ module _ (w : Words) (c d : Link) (whole : IsWholePair w c d) (small_c : FitsWor
     where
       key : w 10 < 2 ^ 64
       key = subst (λ (x : ℕ). x < 2 ^ 64) (sym whole.pair.bytes) (omega arith)
+
       one : w 11 < 2 ^ 64
       one = subst (λ (x : ℕ). x < 2 ^ 64) (sym whole.pair.first) (small_word c small_c)
+
       two : w 12 < 2 ^ 64
       two = subst (λ (x : ℕ). x < 2 ^ 64) (sym whole.pair.second) (small_word d small_d)
+
       past : (j : ℕ) → w (suc (suc j)) < 2 ^ 64
       past j = ⊎_elim
           (λ (low : j < 8). omega (arith, whole.no_prefix (suc (suc j)) (omega arith) (omega (arith, low))))
@@ -118,6 +121,7 @@ module _ (w : Words) (c d : Link) (whole : IsWholePair w c d) (small_c : FitsWor
     where
       count : count_of w ≡ 2
       count = ap (λ (h : ℕ). h % 512) whole.pair.header
+
       ascends : (i j : ℕ) → i < j → j < count_of w → key_byte w i < key_byte w j
       ascends i j lt high =
           let is_i : i ≡ 0 = omega (arith, lt, high, count) in
@@ -125,16 +129,19 @@ module _ (w : Words) (c d : Link) (whole : IsWholePair w c d) (small_c : FitsWor
           let a : key_byte w i ≡ 97 = ap (key_byte w) is_i ∙ byte_is 0 (omega arith) in
           let b : key_byte w j ≡ 98 = ap (key_byte w) is_j ∙ byte_is 1 (omega arith) in
           omega (arith, a, b)
+
       some : (i : ℕ) → i < count_of w → 0 < w (11 + i)
       some zero high = subst (λ (x : ℕ). 0 < x) (sym whole.pair.first) (omega (arith, some_code c))
       some (suc zero) high = subst (λ (x : ℕ). 0 < x) (sym whole.pair.second) (omega (arith, some_code d))
       some (suc (suc i)) high = absurd (omega (arith, high, count))
+
       no_byte : (i : ℕ) → count_of w ≤ i → i < 4 → key_byte w i ≡ 0
       no_byte zero past high = absurd (omega (arith, past, count))
       no_byte (suc zero) past high = absurd (omega (arith, past, count))
       no_byte (suc (suc zero)) past high = byte_is 2 (omega arith)
       no_byte (suc (suc (suc zero))) past high = byte_is 3 (omega arith)
       no_byte (suc (suc (suc (suc i)))) past high = absurd (omega (arith, high))
+
       no_child : (i : ℕ) → count_of w ≤ i → i < 4 → w (11 + i) ≡ 0
       no_child i past high = whole.no_more (11 + i) (omega (arith, past, count))
 

@@ -1,5 +1,5 @@
 -- The node of two leaves is found below the anchor, locked with it, and taken out of the tree.
-use Rattle.std.proofs.Common.{◌≡◌, ◌≢◌, ◌⊎◌, ℕ, zero, suc, ◌+◌, ◌*◌, ◌%◌, ◌^◌, ◌<◌, ◌≤◌, List, [], ◌∷◌, ◌++◌, length, get_or, set, inl, inr, ⊎_elim, sym, refl, ap, ap₂, ◌∙◌, subst, subst₂, arith, eq-eqb, get_or-set_same}
+use Rattle.std.proofs.Common.{◌≡◌, ◌≢◌, ◌⊎◌, ℕ, zero, suc, ◌+◌, ◌*◌, ◌%◌, ◌^◌, ◌<◌, List, [], ◌∷◌, length, get_or, set, inl, inr, ⊎_elim, sym, refl, ap, ap₂, ◌∙◌, subst, subst₂, arith, eq-eqb, get_or-set_same}
 use Rattle.std.proofs.lemmas.Option.{same_Some}
 use Rattle.std.specs.List.{cons_option}
 use Rattle.std.specs.Option.{option_map}
@@ -24,12 +24,12 @@ use Rattle.art_cell.specs.declared.views.View.{View}
 use Rattle.art_cell.specs.declared.views.What.{What}
 use Rattle.art_cell.specs.Children.{child_word, link_in_pool, link_of}
 use Rattle.art_cell.specs.CommitLaws.{HasLeaf, HasNode}
-use Rattle.art_cell.specs.Heaps.{Cells, heap_of}
-use Rattle.art_cell.specs.Knowledge.{IsShape, CellAt, HoldsAll, NamesLeaf, Leads, Names}
+use Rattle.art_cell.specs.Heaps.{heap_of}
+use Rattle.art_cell.specs.Knowledge.{CellAt, NamesLeaf, Leads, Names}
 use Rattle.art_cell.specs.NodeLives.{IsNoted, OnlyLearns, IsStampAt, NotesRoot, NotesKey, key_of_one, HoldsTwo, stamped_holding, IsPair, HoldsPair, NotesPair, HasMerged}
 use Rattle.art_cell.specs.Shown.{Freed, Took, link_of_number, links_of, IsHolding, MayReadCell, Passed, Upgraded, Wrote, Committed, Released}
-use Rattle.art_cell.specs.StepRows.{HasClaimedNone, MayFree, MayBeFirst, MayRelease, MayWrite, Drops, with_word, begun, note_of, stamp_of, IsInLimbo, IsNodeAmong}
-use Rattle.art_cell.specs.Tree.{top, held, Slot}
+use Rattle.art_cell.specs.StepRows.{HasClaimedNone, MayFree, MayBeFirst, MayRelease, MayWrite, Drops, with_word, begun, note_of, stamp_of, IsInLimbo}
+use Rattle.art_cell.specs.Tree.{top}
 use Rattle.art_cell.specs.Views.{IsClear, IsNumber, Member, size_of, words_in}
 use Rattle.art_cell.specs.Visits.{Fills, HasNone, IsIdle}
 use Rattle.art_cell.specs.WordChanges.{FitsWord, two_children}
@@ -119,6 +119,7 @@ pair_names z v x n a b layout at pair s shape holds =
   where
     word : (i value : ℕ) → IsNoted v x (Word i value) → s (cell.Node n) i ≡ value
     word i value noted = ap (λ (c : Cell). s c i) (sym at.cell) ∙ holds (note_of x (Word i value)) noted refl
+
     is_pair : IsPair (s (cell.Node n)) (leaf a) (leaf b)
     is_pair = record { header = word 1 _ pair.header; bytes = word 10 _ pair.bytes; first = word 11 _ pair.first; second = word 12 _ pair.second }
 
@@ -164,12 +165,16 @@ locked_both v w u x d n a b value free seen at pair key noted first second = rec
   where
     above : Holding
     above = stamped_holding (stamp_of cell.Anchor x.version) second.words second.words
+
     below : Holding
     below = stamped_holding (stamp_of (cell.Node n) d.version) first.words first.words
+
     notes : u.notes ≡ v.notes
     notes = ap (λ (y : View). y.notes) second.is ∙ ap (λ (y : View). y.notes) first.is
+
     same : d ≡ stamp_of (cell.Node n) d.version
     same = sym (stamp_is d (cell.Node n) at.cell)
+
     held_is : u.held ≡ above ∷ below ∷ []
     held_is = ap (λ (y : View). y.held) second.is
         ∙ ap₂ (λ (c : Cell) (hs : List Holding). record { cell = c; stamped = Some x.version; old = second.words; new = second.words } ∷ hs) seen.at.cell
@@ -246,11 +251,10 @@ module _ (v w : View) (n : Node) (a b value : ℕ) (r : HasMerged v n a b value)
 
     pub merge_ends : (u : View) → HasNone v.hand → ((h : Holding) → IsHolding w (cell.Node n) h → Released w u h) → (u.held ≡ []) × (u.pin ≡ v.pin) × IsInLimbo u (node n) × IsInLimbo u (leaf b) × HasNone u.hand
     merge_ends u none released =
-        let last = released merged_node (node_left, refl) in
-        (
+        let last = released merged_node (node_left, refl) in (
           ap (λ (y : View). y.held) last.is
-          ∙ both_dropped v.held merged_anchor merged_node (cell.Node n) o.held last.held r.held o.drops refl
-          (subst (λ (hs : List Holding). Drops hs (cell.Node n) last.held) (ap (λ (y : View). y.held) o.is) last.drops),
+              ∙ both_dropped v.held merged_anchor merged_node (cell.Node n) o.held last.held r.held o.drops refl
+              (subst (λ (hs : List Holding). Drops hs (cell.Node n) last.held) (ap (λ (y : View). y.held) o.is) last.drops),
           ap (λ (y : View). y.pin) last.is ∙ ap (λ (y : View). y.pin) o.is,
           subst (λ (y : View). IsInLimbo y (node n)) (sym last.is) node_in_limbo,
           subst (λ (y : View). IsInLimbo y (leaf b)) (sym last.is) leaf_in_limbo,
@@ -293,6 +297,7 @@ took_node a b p n turned few pool free t = record {
   where
     is : link_of_number n ≡ node (record { layout = Node4; number = n.number })
     is = ap (λ (q : Pool). link_in_pool q n.number) pool
+
     inside : n.number < b.sizes.n4
     inside = subst₂ (λ (z : Sizes) (d : Link). IsNumber z d) (sym turned.sizes) is (free_is_number a.sizes a.words (link_of_number n) free)
 

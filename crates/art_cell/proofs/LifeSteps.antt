@@ -1,8 +1,8 @@
 -- The steps by which a node comes into the tree and goes again, each by what it makes of the pass's view.
-use Rattle.std.proofs.Common.{◌≡◌, ◌≢◌, ◌⊎◌, ℕ, zero, suc, ◌+◌, ◌*◌, ◌^◌, ◌<◌, ◌≤◌, List, [], ◌∷◌, ◌++◌, length, get_or, set, inl, inr, ⊎_elim, sym, refl, ap, ap₂, ◌∙◌, subst, subst₂, arith, get_or-set_other, get_or-set_same}
+use Rattle.std.proofs.Common.{◌≡◌, ◌≢◌, ◌⊎◌, ℕ, zero, suc, ◌+◌, ◌*◌, ◌^◌, ◌<◌, ◌≤◌, List, [], ◌∷◌, length, get_or, set, inl, inr, ⊎_elim, sym, refl, ap, ap₂, ◌∙◌, subst, subst₂, arith, get_or-set_other, get_or-set_same}
 use Rattle.std.proofs.lemmas.Bool.{cases_eq}
 use Rattle.std.proofs.lemmas.List.{get_or_past, length-set}
-use Rattle.std.specs.Prelude.{Option, Some, None, true, false}
+use Rattle.std.specs.Prelude.{Some, false}
 use Rattle.art_cell.specs.declared.cells.Cell.{Cell}
 use Rattle.art_cell.specs.declared.cells.Cell.TheVariants as cell
 use Rattle.art_cell.specs.declared.cells.Node.{Node}
@@ -20,12 +20,11 @@ use Rattle.art_cell.specs.declared.views.View.{View}
 use Rattle.art_cell.specs.declared.views.What.{What}
 use Rattle.art_cell.specs.Children.{child_word, link_of}
 use Rattle.art_cell.specs.CommitLaws.{HasLeaf, HasNode}
-use Rattle.art_cell.specs.Heaps.{Cells, heap_of}
-use Rattle.art_cell.specs.Knowledge.{IsShape, CellAt, HoldsAll, NamesLeaf, Names}
+use Rattle.art_cell.specs.Heaps.{heap_of}
+use Rattle.art_cell.specs.Knowledge.{NamesLeaf, Names}
 use Rattle.art_cell.specs.NodeLives.{IsNoted, OnlyLearns, IsStampAt, NotesRoot, NotesKey, key_of_one, HoldsTwo, stamped_holding, claimed_holding, HoldsLeafRoot, HasClaimed, IsWholePair, HasForked}
 use Rattle.art_cell.specs.Shown.{claimed_nodes, coming, Claimed, IsHolding, Upgraded, Wrote, Committed, Released}
 use Rattle.art_cell.specs.StepRows.{MayBeFirst, MayClaim, MayRelease, Puts, with_word, MayWrite, Drops, has_read, note_of, stamp_of, MayReadLeaf, IsNotHeld}
-use Rattle.art_cell.specs.Tree.{top}
 use Rattle.art_cell.specs.Views.{Member, size_of, words_in}
 use Rattle.art_cell.specs.Visits.{HasNone}
 use Rattle.art_cell.specs.WordChanges.{FitsWord}
@@ -185,6 +184,7 @@ claimed_beside z v w m a ws layout r has k = record {
   where
     above : Holding
     above = stamped_holding (stamp_of cell.Anchor r.version) r.words r.words
+
     below : Holding
     below = claimed_holding m k.words k.words
 
@@ -256,6 +256,7 @@ whole_pair ws a l long first written = record {
     no_prefix (suc (suc (suc (suc (suc (suc (suc (suc zero)))))))) low high = written 7 (omega arith)
     no_prefix (suc (suc (suc (suc (suc (suc (suc (suc (suc zero))))))))) low high = written 8 (omega arith)
     no_prefix (suc (suc (suc (suc (suc (suc (suc (suc (suc (suc i)))))))))) low high = absurd (omega (arith, high))
+
     no_more : (i : ℕ) → 13 ≤ i → words_in ws i ≡ 0
     no_more i low = ⊎_elim
         (λ (e : i ≡ 13). ap (words_in ws) e ∙ written 12 (omega arith))
@@ -341,10 +342,9 @@ module _ (z : Sizes) (v w : View) (m : Node) (a l value : ℕ) (r : HasForked z 
 
     pub fork_ends : (u : View) → ((h : Holding) → IsHolding w cell.Anchor h → Released w u h) → (u.held ≡ []) × (u.pin ≡ v.pin)
     fork_ends u released =
-        let last = released forked_anchor (anchor_left, refl) in
-        (
+        let last = released forked_anchor (anchor_left, refl) in (
           ap (λ (y : View). y.held) last.is
-          ∙ both_dropped v.held forked_node forked_anchor cell.Anchor o.held last.held (holds_other_way v.held forked_anchor forked_node r.held) o.drops refl
-          (subst (λ (hs : List Holding). Drops hs cell.Anchor last.held) (ap (λ (y : View). y.held) o.is) last.drops),
+              ∙ both_dropped v.held forked_node forked_anchor cell.Anchor o.held last.held (holds_other_way v.held forked_anchor forked_node r.held) o.drops refl
+              (subst (λ (hs : List Holding). Drops hs cell.Anchor last.held) (ap (λ (y : View). y.held) o.is) last.drops),
           ap (λ (y : View). y.pin) last.is ∙ ap (λ (y : View). y.pin) o.is,
         )

@@ -1,6 +1,5 @@
 -- A node of two leaves is put into the tree, and taken out of it.
-use Rattle.std.proofs.Common.{◌≡◌, ◌≢◌, ◌⊎◌, ℕ, zero, suc, ◌+◌, ◌*◌, ◌/◌, ◌%◌, ◌^◌, ◌<◌, ◌≤◌, List, [], ◌∷◌, ◌++◌, length, map, get_or, inl, inr, ⊎_elim, sym, refl, ap, ap₂, ◌∙◌, subst, subst₂, ne_eqb, arith}
-use Rattle.std.proofs.lemmas.Bool.{cases_lt}
+use Rattle.std.proofs.Common.{◌≡◌, ◌≢◌, ◌⊎◌, ℕ, ◌<◌, List, [], ◌∷◌, map, get_or, inl, inr, ⊎_elim, sym, refl, ap, ◌∙◌, subst, subst₂, ne_eqb, arith}
 use Rattle.std.specs.List.{range_with_len}
 use Rattle.std.specs.Prelude.{nat_lt, if◌then◌else◌, Option, Some, None}
 use Rattle.art_cell.specs.declared.cells.Node.{Node}
@@ -9,27 +8,24 @@ use Rattle.art_cell.specs.declared.cells.Cell.TheVariants as cell
 use Rattle.art_cell.specs.declared.cells.Link.{Link}
 use Rattle.art_cell.specs.declared.cells.Link.TheVariants.{Leaf as leaf, Node as node}
 use Rattle.art_cell.specs.declared.layouts.Layout.{Layout}
-use Rattle.art_cell.specs.declared.layouts.Layout.TheVariants.{Node4}
 use Rattle.art_cell.specs.declared.views.Answer.TheVariants.{Inserted, Removed}
 use Rattle.art_cell.specs.declared.views.Asked.TheVariants.{Insert, Remove}
-use Rattle.art_cell.specs.declared.views.Fact.TheVariants.{Starts, Word, LeafWord}
+use Rattle.art_cell.specs.declared.views.Fact.TheVariants.{Word, LeafWord}
 use Rattle.art_cell.specs.declared.views.Holding.{Holding}
-use Rattle.art_cell.specs.declared.views.Note.{Note}
 use Rattle.art_cell.specs.declared.views.Sizes.{Sizes}
 use Rattle.art_cell.specs.declared.views.Stamp.{Stamp}
 use Rattle.art_cell.specs.declared.views.View.{View}
 use Rattle.art_cell.specs.declared.views.What.{What}
 use Rattle.art_cell.specs.declared.views.What.TheVariants.{Done}
-use Rattle.art_cell.specs.Children.{child_word, link_of}
-use Rattle.art_cell.specs.CommitLaws.{Before, HasLeaf, HasNode, HoldsJust, ClaimedAmong, IsItsNode, ForkCommits, MergeCommits}
+use Rattle.art_cell.specs.Children.{link_of}
+use Rattle.art_cell.specs.CommitLaws.{IsItsNode, ForkCommits, MergeCommits}
 use Rattle.art_cell.specs.Heaps.{Cells, key_of, heap_of}
-use Rattle.art_cell.specs.Knowledge.{IsShape, Holds}
-use Rattle.art_cell.specs.Leaves.{leaf_key}
-use Rattle.art_cell.specs.NodeLives.{IsNoted, NotesKey, key_of_one, HoldsTwo, stamped_holding, claimed_holding, IsPair, IsWholePair, HasForked, NotesPair, HasMerged}
+use Rattle.art_cell.specs.Knowledge.{IsShape}
+use Rattle.art_cell.specs.NodeLives.{IsNoted, NotesKey, key_of_one, stamped_holding, claimed_holding, IsPair, HasForked, HasMerged}
 use Rattle.art_cell.specs.Rows.{IsAbsent}
 use Rattle.art_cell.specs.Shown.{claimed_nodes, claimed_node, coming}
 use Rattle.art_cell.specs.StepRows.{Knows, AllNew, IsLinked, Commits, MayCommit, note_of, stamp_of}
-use Rattle.art_cell.specs.Tree.{Top, Slot, At, top, held, Begins}
+use Rattle.art_cell.specs.Tree.{Top, Slot, top, held}
 use Rattle.art_cell.specs.Views.{Member, words_in}
 use Rattle.art_cell.specs.WordChanges.{WritesNode, two_children}
 use Rattle.art_cell.specs.Words.{Words, byte_of, packed, child_of}

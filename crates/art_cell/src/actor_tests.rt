@@ -7,8 +7,8 @@ ghost use Rattle.art_cell.specs.WorldWords.{IsSameAt, OnlyTurned, view_at};
 
 use super::*;
 use crate::anchor_steps::{
-    KEY, VALUE, begin, check, commit_insert, commit_remove, fill, leaf_word, leaves_of, let_go, let_number_go,
-    read_anchor, read_leaf, take_leaf, upgrade, word_of_leaf, write_child,
+    KEY, VALUE, begin, check, commit_insert, commit_remove, fill, leaf_word, leaves_of, let_go,
+    let_number_go, read_anchor, read_leaf, take_leaf, upgrade, word_of_leaf, write_child,
 };
 use crate::visits::{Adding, Removing, Visit};
 use crate::word_forms::words_are_formed;

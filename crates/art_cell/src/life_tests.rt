@@ -36,8 +36,11 @@ const SIZES: Sizes = Sizes {
 
 /// The bytes of the two keys, as the first of their word.
 const FIRST_KEY: u64 = 97 << 56;
+
 const SECOND_KEY: u64 = 98 << 56;
+
 const PAIR_BYTES: u64 = FIRST_KEY + (98 << 48);
+
 const SECOND_VALUE: u64 = 2;
 
 /// The anchor's stamp, and its child word.
@@ -135,7 +138,14 @@ fn one_byte(byte: u8) -> Key
 }
 
 /// Writes the claimed node above the two leaves, and commits it as the insert of the second key.
-fn fork<S: Steps>(steps: &mut S, mut anchor: Held, mut claimed: Held, node: Node, first: u32, leaf: Number)
+fn fork<S: Steps>(
+    steps: &mut S,
+    mut anchor: Held,
+    mut claimed: Held,
+    node: Node,
+    first: u32,
+    leaf: Number,
+)
     requires inside { IsInside (S.sizes steps.old) (node_cell node) }
     requires layout { node.layout ≡ node4 }
     requires above { anchor.cell ≡ anchor_cell }
@@ -149,7 +159,22 @@ fn fork<S: Steps>(steps: &mut S, mut anchor: Held, mut claimed: Held, node: Node
     ensures idle { ((S.view steps.new).held ≡ []) × ((S.view steps.new).pin ≡ (S.view steps.old).pin) }
     ensures hand { HasNone (S.view steps.new).hand }
 {
-    let words = [2, 0, 0, 0, 0, 0, 0, 0, 0, PAIR_BYTES, word_of_leaf(first), word_of_leaf(leaf.number), 0, 0];
+    let words = [
+        2,
+        0,
+        0,
+        0,
+        0,
+        0,
+        0,
+        0,
+        0,
+        PAIR_BYTES,
+        word_of_leaf(first),
+        word_of_leaf(leaf.number),
+        0,
+        0,
+    ];
     for place in 0..14 {
         steps.write(&mut claimed, place + 1, words[place]);
     }
@@ -264,7 +289,14 @@ fn lock_pair<S: Steps>(steps: &mut S, node: Node, first: u32, second: u32) -> Op
 }
 
 /// Writes the first leaf in place of the node, and commits it as the removal of the second key.
-fn merge<S: Steps>(steps: &mut S, mut anchor: Held, below: Held, node: Node, first: u32, second: u32) -> Unlinked
+fn merge<S: Steps>(
+    steps: &mut S,
+    mut anchor: Held,
+    below: Held,
+    node: Node,
+    first: u32,
+    second: u32,
+) -> Unlinked
     requires inside { IsInside (S.sizes steps.old) (node_cell node) }
     requires layout { node.layout ≡ node4 }
     requires above { anchor.cell ≡ anchor_cell }

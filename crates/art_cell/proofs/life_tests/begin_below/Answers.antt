@@ -1,4 +1,3 @@
-use Rattle.art_cell.specs.NodeLives.{NotesRoot}
 use Rattle.art_cell.proofs.LifePairs.{begun_learns, below_root, passed_learns}
 use Rattle.art_cell.proofs.LifeSteps.{learns_then, root_seen_on}
 use Rattle.art_cell.proofs.life_tests.begin_below.Goals as goal

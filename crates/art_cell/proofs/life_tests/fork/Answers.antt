@@ -1,4 +1,4 @@
-use Rattle.std.proofs.Common.{[], ◌+◌, ◌∷◌, ◌≡◌, ◌∙◌, ap, arith, get_or, refl, subst, sym, ℕ}
+use Rattle.std.proofs.Common.{[], ◌+◌, ◌∷◌, ◌∙◌, ap, arith, refl, subst, sym, ℕ}
 use Rattle.std.proofs.Common.{List, Some, subst₂}
 use Rattle.art_cell.specs.declared.cells.Link.{Link}
 use Rattle.art_cell.specs.declared.layouts.Pool.{Pool}
@@ -11,7 +11,7 @@ use Rattle.art_cell.specs.Children.{link_in_pool}
 use Rattle.art_cell.specs.Shown.{coming}
 use Rattle.art_cell.specs.StepRows.{MayCommit}
 use Rattle.art_cell.specs.CommitLaws.{HasLeaf}
-use Rattle.art_cell.specs.NodeLives.{HasClaimed, HasForked}
+use Rattle.art_cell.specs.NodeLives.{HasClaimed}
 use Rattle.art_cell.specs.Views.{Member}
 use Rattle.art_cell.proofs.ChangeForks.{fork_commits}
 use Rattle.art_cell.proofs.LifeSteps.{anchor_may_go, fork_empties, fork_ends, forked_by, leaf_stays, may_write_above, may_write_claimed, node_may_be_first, wrote_above_hand, wrote_above_rest, wrote_claimed, wrote_rest}

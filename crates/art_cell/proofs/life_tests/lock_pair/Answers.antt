@@ -1,4 +1,4 @@
-use Rattle.std.proofs.Common.{arith, refl, subst, sym, ◌∙◌, ℕ}
+use Rattle.std.proofs.Common.{refl, subst, ◌∙◌, ℕ}
 use Rattle.art_cell.specs.declared.cells.Link.TheVariants.{Node as node}
 use Rattle.art_cell.specs.declared.views.Fact.TheVariants.{LeafWord}
 use Rattle.art_cell.specs.NodeLives.{IsNoted}

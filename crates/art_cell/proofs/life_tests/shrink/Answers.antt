@@ -1,6 +1,5 @@
-use Rattle.std.proofs.Common.{◌≡◌, List, refl, subst, sym, ◌∙◌}
+use Rattle.std.proofs.Common.{◌≡◌, refl, subst, ◌∙◌}
 use Rattle.art_cell.specs.declared.cells.Link.TheVariants.{Leaf as leaf, Node as node}
-use Rattle.art_cell.specs.declared.views.Retired.{Retired}
 use Rattle.art_cell.specs.Views.{Member}
 use Rattle.art_cell.specs.WorldWords.{view_at, views_of}
 use Rattle.art_cell.proofs.AnchorRows.{freed_idle, may_give_back}
@@ -32,6 +31,6 @@ pub returns-clause-idle : goal.returns-clause-idle
 returns-clause-idle c =
     let at = c.forget.new.steps in
     let idle = idle_by (view_at c.args.at.now.world.now.views c.args.at.now.pass) (view_at at.world.now.views at.pass) c.requires.idle.away.pinned
-        (c.if-not-forget.ensures.pin ∙ (c.merge-unlinked.ensures.idle.1 ∙ c.in_ok-anchor.ensures.pin)) (c.if-not-forget.ensures.held ∙ c.merge-unlinked.ensures.idle.0)
-        (λ x i. c.merge-unlinked.ensures.hand x (subst (Member x) c.if-not-forget.ensures.hand i)) in
+    (c.if-not-forget.ensures.pin ∙ (c.merge-unlinked.ensures.idle.1 ∙ c.in_ok-anchor.ensures.pin)) (c.if-not-forget.ensures.held ∙ c.merge-unlinked.ensures.idle.0)
+    (λ x i. c.merge-unlinked.ensures.hand x (subst (Member x) c.if-not-forget.ensures.hand i)) in
     freed_idle _ _ _ (freed_idle _ _ _ idle c.give_back.ensures.row) c.give_back-2.ensures.row
