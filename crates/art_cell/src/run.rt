@@ -1,5 +1,5 @@
 //! A world, run by a list of turns.
-ghost use Rattle.std.specs.Prelude.{◌≡◌, ◌≢◌, ◌⊎◌, ◌+◌, ◌≤◌, ◌<◌, ℕ, length, Bool, true, false, Some, refl};
+ghost use Rattle.std.specs.Prelude.{◌≡◌, ◌≢◌, ◌⊎◌, ◌+◌, ◌≤◌, ◌<◌, ℕ, length, Bool, true, false, None, Some, refl};
 ghost use Rattle.std.specs.List.{slice_get};
 ghost use Rattle.art_cell.specs.Turns.{turns_of};
 ghost use Rattle.art_cell.specs.WorldWords.{IsSameAt, OnlyTurned, view_at};
@@ -53,6 +53,8 @@ impl World {
         ensures fits { (p : ℕ) (a : _) → slice_get actors.new p ≡ Some a → T.fits a self.new.sizes (view_at self.new.views p) }
         ensures turns { (p : ℕ) (a b : _) → slice_get actors.old p ≡ Some a → slice_get actors.new p ≡ Some b → T.after (turns_of p turns.now) a b }
         ensures others { (q : ℕ) → length actors.old ≤ q → view_at self.new.views q ≡ view_at self.old.views q }
+        ensures steps { (p : ℕ) → (view_at self.new.views p).steps ≤ (view_at self.old.views p).steps + turns_of p turns.now }
+        ensures idle { ((p : ℕ) (a : _) → slice_get actors.old p ≡ Some a → T.has_ended a ≡ false → turns_of p turns.now ≡ 0) → (self.new ≡ self.old) × (actors.new ≡ actors.old) }
     {
         for turn in turns {
             self.take_turn(actors, *turn as usize);
@@ -69,6 +71,10 @@ impl World {
         ensures fits { (p : ℕ) (a : _) → slice_get actors.new p ≡ Some a → T.fits a self.new.sizes (view_at self.new.views p) }
         ensures others { (q : ℕ) → length actors.old ≤ q → view_at self.new.views q ≡ view_at self.old.views q }
         ensures same { (p : ℕ) → p ≢ pass → slice_get actors.new p ≡ slice_get actors.old p }
+        ensures step { (view_at self.new.views pass).steps ≤ (view_at self.old.views pass).steps + 1 }
+        ensures views { (q : ℕ) → q ≢ pass → view_at self.new.views q ≡ view_at self.old.views q }
+        ensures nobody { slice_get actors.old pass ≡ None → (self.new ≡ self.old) × (actors.new ≡ actors.old) }
+        ensures ended { (a : _) → slice_get actors.old pass ≡ Some a → T.has_ended a ≡ true → (self.new ≡ self.old) × (actors.new ≡ actors.old) }
         ensures turn { (a b : _) → slice_get actors.old pass ≡ Some a → slice_get actors.new pass ≡ Some b → T.after 1 a b ⊎ ((T.has_ended a ≡ true) × (b ≡ a)) }
     {
         if pass >= actors.len() {

@@ -1,4 +1,4 @@
-use Rattle.std.proofs.Common.{◌≡◌, ◌≤◌, ℕ, length, take, Some}
+use Rattle.std.proofs.Common.{◌≡◌, ◌≤◌, ◌+◌, ℕ, false, length, take, Some}
 use Rattle.std.specs.List.{slice_get}
 use Rattle.art_cell.specs.Turns.{turns_of}
 use Rattle.art_cell.specs.WorldWords.{view_at}
@@ -11,5 +11,7 @@ invariant-loop-turn g l = record {
   actors : length l.actors ≡ length l.initial.actors;
   fits : (p : ℕ) (a : g.row.T.Denot) → slice_get l.actors p ≡ Some a → g.T.Actor.fits a l.self.sizes (view_at l.self.views p);
   turns : (p : ℕ) (a b : g.row.T.Denot) → slice_get l.initial.actors p ≡ Some a → slice_get l.actors p ≡ Some b → g.T.Actor.after (turns_of p (take l.turn-index l.turns)) a b;
+  steps : (p : ℕ) → (view_at l.self.views p).steps ≤ (view_at l.initial.self.views p).steps + turns_of p (take l.turn-index l.turns);
+  idle : ((p : ℕ) (a : g.row.T.Denot) → slice_get l.initial.actors p ≡ Some a → g.T.Actor.has_ended a ≡ false → turns_of p (take l.turn-index l.turns) ≡ 0) → (l.self ≡ l.initial.self) × (l.actors ≡ l.initial.actors);
   others : (q : ℕ) → length l.initial.actors ≤ q → view_at l.self.views q ≡ view_at l.initial.self.views q;
 }
