@@ -9,7 +9,7 @@ use Rattle.art_cell.specs.declared.views.Stamp.{Stamp}
 use Rattle.art_cell.specs.declared.views.View.{View}
 use Rattle.art_cell.specs.declared.views.What.{What}
 use Rattle.art_cell.specs.Heaps.{Cells}
-use Rattle.art_cell.specs.Knowledge.{IsShape, HoldsAll}
+use Rattle.art_cell.specs.Instants.{FindsUnchanged}
 use Rattle.art_cell.specs.Shown.{IsHolding, Committed, coming}
 use Rattle.art_cell.specs.Sound.{Keeps, Holder, OneHolder}
 use Rattle.art_cell.specs.StepRows.{SetsVersion, IsNotHeld, AllNew, Drops, released_word}
@@ -23,11 +23,18 @@ use Rattle.art_cell.proofs.WorldViews.{at_view, turned_view}
 -- ---- a check
 
 -- what was noted under an unchanged stamp is what the cells say, where they mean a tree
-pub stands : (k : Kept) (p : ℕ) (x : Stamp) → IsKept k → p < length k.views → (memory_now k).version x.cell ≡ x.version
-    → (s : Cells) × OneHolder (memory_now k) (views_of k.views) s × IsShape k.sizes s × HoldsAll (view_at k.views p) x s
-stands k p x kept inside same =
+pub stands : (k : Kept) (p : ℕ) (x : Stamp) (n : Memory) (g : Views) → IsKept k → p < length k.views → x.version ≡ (memory_now k).version x.cell → n ≡ memory_now k
+    → FindsUnchanged k.sizes (view_at k.views p) x (memory_now k) (views_of k.views) n g
+stands k p x n g kept inside found same =
     let r = kept.2 in
-    (r.logical, r.holder, r.shows.shape, holds_all (memory_now k) r.logical (view_at k.views p) x (r.vouch p (view_at k.views p) (at_view k.views p inside)) same)
+    record {
+      found = found;
+      same = same;
+      logical = r.logical;
+      holder = r.holder;
+      shape = r.shows.shape;
+      holds = holds_all (memory_now k) r.logical (view_at k.views p) x (r.vouch p (view_at k.views p) (at_view k.views p inside)) (sym found);
+    }
 
 -- ---- a commit
 

@@ -10,6 +10,7 @@ pub mod Entries
 pub mod Headers
 pub mod Heaps
 pub mod Histories
+pub mod Instants
 pub mod Knowledge
 pub mod Laws
 pub mod Leaves

@@ -13,6 +13,7 @@ use Rattle.art_cell.specs.declared.cells.Link.{Link}
 use Rattle.art_cell.specs.declared.cells.Link.TheVariants.{Leaf as leaf, Node as node}
 use Rattle.art_cell.specs.declared.views.Sizes.{Sizes}
 use Rattle.art_cell.specs.declared.views.View.{View}
+use Rattle.art_cell.specs.Instants.{Instant}
 use Rattle.art_cell.specs.Sound.{IsSound}
 use Rattle.art_cell.specs.StepLaws.{newcomer}
 use Rattle.art_cell.specs.Views.{Memory, Views, size_of, IsNumber}
@@ -159,6 +160,10 @@ pub record Kept : Type 0 where
 
 abbrev pub memory_now : Kept → Memory
 memory_now k = memory_of k.sizes k.words
+
+-- this happened to the words of the world
+abbrev pub AtOnce : Instant → Kept → Kept → Type 0
+AtOnce I a b = I (memory_now a) (views_of a.views) (memory_now b) (views_of b.views)
 
 -- no view but that of the pass changes
 pub record OnlyTurned (a b : Kept) (p : ℕ) : Type 0 where

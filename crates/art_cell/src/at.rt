@@ -1,7 +1,7 @@
 //! A world, lent to one pass.
 ghost use Rattle.std.specs.Prelude.{◌≡◌, ◌<◌, length, refl};
 ghost use Rattle.std.proofs.Common.{◌∙◌};
-ghost use Rattle.art_cell.specs.WorldWords.{IsSameAt, OnlyTurned, only_same_turned, only_turned_then, view_at};
+ghost use Rattle.art_cell.specs.WorldWords.{AtOnce, IsSameAt, OnlyTurned, only_same_turned, only_turned_then, view_at};
 
 use crate::{
     Cell, Changed, Deed, Held, Locked, Number, Stamp, Steps, Unlinked, UpgradeFault, World,
@@ -21,6 +21,8 @@ impl Steps for At<'_> {
     ghost sizes = { λ a. a.world.now.sizes };
 
     ghost only = { λ a b. IsSameAt a.world.ghost_name b.world.ghost_name a.pass b.pass × OnlyTurned a.world.now b.world.now a.pass };
+
+    ghost at_once = { λ I a b. AtOnce I a.world.now b.world.now };
 
     ghost only_same = { λ a. ((refl, refl), only_same_turned a.world.now a.pass) };
 

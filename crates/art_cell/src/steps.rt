@@ -1,7 +1,7 @@
 //! The atomic steps of one pass, whoever keeps the words.
 ghost use Rattle.std.specs.Prelude.{◌≡◌, ◌≢◌, ◌<◌, ◌≤◌, ◌*◌, ◌∷◌, ℕ, List, length, map, filter_map, MatchResult, Some};
 ghost use Rattle.std.specs.Option.{option_map};
-ghost use Rattle.art_cell.specs.declared.cells.Cell.TheVariants.{Node as node_cell};
+ghost use Rattle.art_cell.specs.declared.cells.Cell.TheVariants.{Leaf as leaf_cell, Node as node_cell};
 ghost use Rattle.art_cell.specs.declared.cells.Link.{Link as LinkOf};
 ghost use Rattle.art_cell.specs.declared.cells.Link.TheVariants.{Leaf as leaf, Node as node};
 ghost use Rattle.art_cell.specs.declared.cells.Node.{Node as NodeOf};
@@ -10,6 +10,7 @@ ghost use Rattle.art_cell.specs.declared.views.Holding.{Holding as HoldingOf};
 ghost use Rattle.art_cell.specs.declared.views.InHand.{InHand as InHandOf};
 ghost use Rattle.art_cell.specs.Children.{child_word};
 ghost use Rattle.art_cell.specs.Deeds.{what_of};
+ghost use Rattle.art_cell.specs.Instants.{FindsUnchanged, FindsVersion, FindsWord, LocksClaimed, LocksNothing, LocksStamped, PutsWord, Unlocks, UnlocksFirst};
 ghost use Rattle.art_cell.specs.Shown.{Claimed, Committed, FailedUpgrade, Failed, IsHolding, IsInHand, MayReadCell, Passed, Released, Upgraded, Wrote, WroteLeaf, coming, fact_read, link_of_number, links_of};
 ghost use Rattle.art_cell.specs.StepRows.{HasClaimedNone, MayBeFirst, MayClaim, MayCommit, MayLock, MayPass, MayRelease, MayWrite, MayWriteLeaf, begun, has_read, note_of};
 ghost use Rattle.art_cell.specs.Views.{IsClear, Member};
@@ -52,10 +53,12 @@ pub type Unlinked = [Option<Number>; 3];
 /// The steps of one pass. Each call makes one atomic step, but for an upgrade that is refused as Exhausted, which makes
 /// none (DaMoN 2016).
 ///
-/// Contracts see the view of the pass before and after. `only` says what else stayed.
+/// Contracts see the view of the pass before and after, and what happened at once to the words that all passes share.
+/// `only` says what else stayed.
 pub trait Steps {
     ghost use Rattle.art_cell.specs.declared.views.Sizes.{Sizes};
     ghost use Rattle.art_cell.specs.declared.views.View.{View};
+    ghost use Rattle.art_cell.specs.Instants.{Instant};
 
     /// What the pass knows.
     ghost view: { Self → View };
@@ -66,12 +69,16 @@ pub trait Steps {
     /// The second is the first after steps of this pass alone.
     ghost only: { Self → Self → Type 0 };
 
+    /// This happened to the shared words, at one instant between the first and the second.
+    ghost at_once: { Instant → Self → Self → Type 0 };
+
     /// The version word of the anchor or of a node. A clear one gives a stamp.
     fn begin(&mut self, cell: Cell) -> Result<Stamp, Locked>
         requires inside { IsInside (sizes self.old) cell }
         requires pinned { (view self.old).pin ≢ 0 }
         ensures sizes { sizes self.new ≡ sizes self.old }
         ensures only { only self.old self.new }
+        ensures at_once { MatchResult result (λ x. at_once (FindsVersion cell x.version) self.old self.new) (λ l. at_once (FindsVersion cell l.found) self.old self.new) }
         ensures row { MatchResult result (λ x. (x.cell ≡ cell) × IsClear x.version × (view self.new ≡ begun (view self.old) cell x.version)) (λ l. (l.cell ≡ cell) × (IsClear l.found → ⊥) × (view self.new ≡ begun (view self.old) cell l.found)) };
 
     /// A word of the stamp's cell, or of a leaf that its words name.
@@ -80,6 +87,7 @@ pub trait Steps {
         requires may { MayReadCell (sizes self.old) (view self.old) stamp.now cell place }
         ensures sizes { sizes self.new ≡ sizes self.old }
         ensures only { only self.old self.new }
+        ensures at_once { at_once (FindsWord cell place result) self.old self.new }
         ensures row { view self.new ≡ has_read (view self.old) stamp.now (fact_read cell place result) };
 
     /// Whether the stamp's version word is unchanged: then what was read under the stamp is what the cell says at this
@@ -89,6 +97,7 @@ pub trait Steps {
         requires may { MayPass (sizes self.old) (view self.old) stamp.now (option_map (λ d. what_of d.now) deed) }
         ensures sizes { sizes self.new ≡ sizes self.old }
         ensures only { only self.old self.new }
+        ensures at_once { MatchResult result (λ _. at_once (FindsUnchanged (sizes self.old) (view self.old) stamp.now) self.old self.new) (λ c. at_once (FindsVersion stamp.now.cell c.found) self.old self.new) }
         ensures row { MatchResult result (λ _. Passed (sizes self.old) (view self.old) (view self.new) stamp.now (option_map (λ d. what_of d.now) deed.entry)) (λ c. (c.cell ≡ stamp.now.cell) × (c.seen ≡ stamp.now.version) × (c.found ≢ c.seen) × Failed (view self.old) (view self.new) stamp.now c.found) };
 
     /// Locks the stamp's cell, whose path is known, if its version word is unchanged.
@@ -100,6 +109,7 @@ pub trait Steps {
         requires unclaimed { HasClaimedNone (view self.old) }
         ensures sizes { sizes self.new ≡ sizes self.old }
         ensures only { only self.old self.new }
+        ensures at_once { MatchResult result (λ _. at_once (LocksStamped stamp) self.old self.new) (λ e. at_once (LocksNothing stamp e) self.old self.new) }
         ensures row { MatchResult result (λ h. (h.cell ≡ stamp.cell) × Upgraded (view self.old) (view self.new) stamp) (λ e. FailedUpgrade (view self.old) (view self.new) stamp e) };
 
     /// Locks a node whose number is in hand.
@@ -107,6 +117,7 @@ pub trait Steps {
         requires inside { (n : NodeOf) × (link_of_number number ≡ node n) × IsInside (sizes self.old) (node_cell n) × MayClaim (view self.old) n }
         ensures sizes { sizes self.new ≡ sizes self.old }
         ensures only { only self.old self.new }
+        ensures at_once { (n : NodeOf) → link_of_number number ≡ node n → at_once (LocksClaimed n) self.old self.new }
         ensures row { (n : NodeOf) → link_of_number number ≡ node n → (result.cell ≡ node_cell n) × Claimed (view self.old) (view self.new) n };
 
     /// Writes a word of a held cell, before the commit.
@@ -115,6 +126,7 @@ pub trait Steps {
         requires may { (h : HoldingOf) × (h.cell ≡ held.old.cell) × MayWrite (view self.old) h place }
         ensures sizes { sizes self.new ≡ sizes self.old }
         ensures only { only self.old self.new }
+        ensures at_once { at_once (PutsWord held.old.cell place value) self.old self.new }
         ensures same { held.new ≡ held.old }
         ensures row { (h : HoldingOf) → IsHolding (view self.old) held.old.cell h → Wrote (view self.old) (view self.new) h place value };
 
@@ -123,6 +135,7 @@ pub trait Steps {
         requires inside { (l : ℕ) × (y : InHandOf) × (link_of_number number.old ≡ leaf l) × (l < (sizes self.old).leaves) × MayWriteLeaf (view self.old) y l place }
         ensures sizes { sizes self.new ≡ sizes self.old }
         ensures only { only self.old self.new }
+        ensures at_once { (l : ℕ) → link_of_number number.old ≡ leaf l → at_once (PutsWord (leaf_cell l) place value) self.old self.new }
         ensures same { number.new ≡ number.old }
         ensures row { (y : InHandOf) → IsInHand (view self.old) (link_of_number number.old) y → WroteLeaf (view self.old) (view self.new) y place value };
 
@@ -143,6 +156,7 @@ pub trait Steps {
         requires may { MayCommit (sizes self.old) (view self.old) (what_of deed.now) (links_of unlinked.now) (coming (view self.old) (option_map link_of_number leaf)) }
         ensures sizes { sizes self.new ≡ sizes self.old }
         ensures only { only self.old self.new }
+        ensures at_once { at_once (UnlocksFirst (view self.old) held.cell obsolete) self.old self.new }
         ensures numbers { filter_map (option_map link_of_number) result ≡ links_of unlinked.now }
         ensures row { (h : HoldingOf) → IsHolding (view self.old) held.cell h → Committed (view self.old) (view self.new) (what_of deed.now) (links_of unlinked.now) (coming (view self.old) (option_map link_of_number leaf)) h };
 
@@ -152,6 +166,7 @@ pub trait Steps {
         requires may { (h : HoldingOf) × (h.cell ≡ held.cell) × MayRelease (view self.old) h obsolete }
         ensures sizes { sizes self.new ≡ sizes self.old }
         ensures only { only self.old self.new }
+        ensures at_once { at_once (Unlocks held.cell obsolete) self.old self.new }
         ensures row { (h : HoldingOf) → IsHolding (view self.old) held.cell h → Released (view self.old) (view self.new) h };
 
     ghost only_same: { (a : Self) → only a a };

@@ -5,11 +5,10 @@ ghost use Rattle.std.specs.List.{slice_get};
 ghost use Rattle.art_cell.specs.declared.views.Holding.{Holding as HoldingOf};
 ghost use Rattle.art_cell.specs.Children.{child_word, link_of};
 ghost use Rattle.art_cell.specs.Deeds.{what_of};
-ghost use Rattle.art_cell.specs.Heaps.{Cells};
+ghost use Rattle.art_cell.specs.Instants.{Unlocks, UnlocksFirst};
 ghost use Rattle.art_cell.specs.Shown.{Committed, IsHolding, Released, coming, link_of_number, links_of};
-ghost use Rattle.art_cell.specs.Sound.{OneHolder};
-ghost use Rattle.art_cell.specs.StepRows.{AllNew, MayBeFirst, MayCommit, MayRelease, SetsVersion, released_word};
-ghost use Rattle.art_cell.specs.WorldWords.{IsInside, OnlyTurned, memory_now, view_at, views_of};
+ghost use Rattle.art_cell.specs.StepRows.{MayBeFirst, MayCommit, MayRelease, released_word};
+ghost use Rattle.art_cell.specs.WorldWords.{AtOnce, IsInside, OnlyTurned, view_at};
 
 use crate::made_steps::{Commits, Releases};
 use crate::{Deed, Held, Link, Number, Unlinked, World};
@@ -68,8 +67,7 @@ impl World {
         requires first { (h : HoldingOf) × (h.cell ≡ held.cell) × MayBeFirst (view_at self.old.views pass) (links_of unlinked.now) h obsolete }
         requires may { MayCommit self.old.sizes (view_at self.old.views pass) (what_of deed.now) (links_of unlinked.now) (coming (view_at self.old.views pass) (option_map link_of_number leaf)) }
         ensures only { OnlyTurned self.old self.new pass }
-        ensures memory { SetsVersion (memory_now self.old) held.cell (released_word ((memory_now self.old).version held.cell) obsolete) (memory_now self.new) }
-        ensures bodies { (s t : Cells) → OneHolder (memory_now self.old) (views_of self.old.views) s → OneHolder (memory_now self.new) (views_of self.new.views) t → AllNew (view_at self.old.views pass).held s t }
+        ensures at_once { AtOnce (UnlocksFirst (view_at self.old.views pass) held.cell obsolete) self.old self.new }
         ensures numbers { filter_map (option_map link_of_number) result ≡ links_of unlinked.now }
         ensures row { (h : HoldingOf) → IsHolding (view_at self.old.views pass) held.cell h → Committed (view_at self.old.views pass) (view_at self.new.views pass) (what_of deed.now) (links_of unlinked.now) (coming (view_at self.old.views pass) (option_map link_of_number leaf)) h }
     {
@@ -97,7 +95,7 @@ impl World {
         requires inside { IsInside self.old.sizes held.cell }
         requires may { (h : HoldingOf) × (h.cell ≡ held.cell) × MayRelease (view_at self.old.views pass) h obsolete }
         ensures only { OnlyTurned self.old self.new pass }
-        ensures memory { SetsVersion (memory_now self.old) held.cell (released_word ((memory_now self.old).version held.cell) obsolete) (memory_now self.new) }
+        ensures at_once { AtOnce (Unlocks held.cell obsolete) self.old self.new }
         ensures row { (h : HoldingOf) → IsHolding (view_at self.old.views pass) held.cell h → Released (view_at self.old.views pass) (view_at self.new.views pass) h }
     {
         let Held { cell } = held;

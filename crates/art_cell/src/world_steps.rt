@@ -1,5 +1,5 @@
 //! The steps of one pass on a world.
-ghost use Rattle.std.specs.Prelude.{◌≡◌, ◌≢◌, ◌<◌, ◌≤◌, ◌+◌, ◌*◌, ◌∷◌, ℕ, List, length, map, IfOk, MatchResult, Some};
+ghost use Rattle.std.specs.Prelude.{◌≡◌, ◌≢◌, ◌<◌, ◌≤◌, ◌+◌, ◌*◌, ◌∷◌, ℕ, List, length, map, MatchResult, Some};
 ghost use Rattle.std.specs.Option.{option_map};
 ghost use Rattle.art_cell.specs.declared.cells.Cell.TheVariants.{Leaf as leaf_cell, Node as node_cell};
 ghost use Rattle.art_cell.specs.declared.cells.Link.TheVariants.{Leaf as leaf, Node as node};
@@ -9,13 +9,11 @@ ghost use Rattle.art_cell.specs.declared.views.Holding.{Holding as HoldingOf};
 ghost use Rattle.art_cell.specs.declared.views.InHand.{InHand as InHandOf};
 ghost use Rattle.art_cell.specs.Children.{child_word};
 ghost use Rattle.art_cell.specs.Deeds.{what_of};
-ghost use Rattle.art_cell.specs.Heaps.{Cells};
-ghost use Rattle.art_cell.specs.Knowledge.{HoldsAll, IsShape};
+ghost use Rattle.art_cell.specs.Instants.{FindsUnchanged, FindsVersion, FindsWord, LocksClaimed, LocksNothing, LocksStamped, PutsWord};
 ghost use Rattle.art_cell.specs.Shown.{Claimed, Committed, FailedUpgrade, Failed, IsHolding, IsInHand, MayReadCell, Passed, Released, Upgraded, Wrote, WroteLeaf, coming, fact_read, link_of_number, links_of};
-ghost use Rattle.art_cell.specs.Sound.{OneHolder};
-ghost use Rattle.art_cell.specs.StepRows.{HasClaimedNone, MayBeFirst, MayClaim, MayCommit, MayLock, MayPass, MayRelease, MayWrite, MayWriteLeaf, SetsVersion, SetsWord, begun, has_read, note_of};
+ghost use Rattle.art_cell.specs.StepRows.{HasClaimedNone, MayBeFirst, MayClaim, MayCommit, MayLock, MayPass, MayRelease, MayWrite, MayWriteLeaf, begun, has_read, note_of};
 ghost use Rattle.art_cell.specs.Views.{IsClear, Member};
-ghost use Rattle.art_cell.specs.WorldWords.{IsInside, OnlyTurned, memory_now, view_at, views_of};
+ghost use Rattle.art_cell.specs.WorldWords.{AtOnce, IsInside, OnlyTurned, memory_now, view_at};
 
 use crate::made_steps::{
     Begins, Claims, Commits, Fails, Passes, Reads, Releases, Upgrades, Writes, WritesLeaf,
@@ -34,7 +32,7 @@ impl World {
         requires inside { IsInside self.old.sizes cell }
         requires pinned { (view_at self.old.views pass).pin ≢ 0 }
         ensures only { OnlyTurned self.old self.new pass }
-        ensures words { self.new.words ≡ self.old.words }
+        ensures at_once { MatchResult result (λ x. AtOnce (FindsVersion cell x.version) self.old self.new) (λ l. AtOnce (FindsVersion cell l.found) self.old self.new) }
         ensures row { MatchResult result (λ x. (x.cell ≡ cell) × IsClear x.version × (view_at self.new.views pass ≡ begun (view_at self.old.views pass) cell x.version)) (λ l. (l.cell ≡ cell) × (IsClear l.found → ⊥) × (view_at self.new.views pass ≡ begun (view_at self.old.views pass) cell l.found)) }
     {
         let found = self.version(cell);
@@ -47,14 +45,13 @@ impl World {
         self.views = self
             .views
             .changed::<Vec<u64>, Begins, Begins>(&self.words, &turn);
-        if found % 4 == 0 {
-            Ok(Stamp {
-                cell,
-                version: found,
-            })
-        } else {
-            Err(Locked { cell, found })
+        if found % 4 != 0 {
+            return Err(Locked { cell, found });
         }
+        Ok(Stamp {
+            cell,
+            version: found,
+        })
     }
 
     pub(crate) fn read(&mut self, pass: usize, stamp: &Stamp, cell: Cell, place: usize) -> u64
@@ -62,7 +59,7 @@ impl World {
         requires inside { IsInside self.old.sizes cell }
         requires may { MayReadCell self.old.sizes (view_at self.old.views pass) stamp.now cell place }
         ensures only { OnlyTurned self.old self.new pass }
-        ensures words { self.new.words ≡ self.old.words }
+        ensures at_once { AtOnce (FindsWord cell place result) self.old self.new }
         ensures row { view_at self.new.views pass ≡ has_read (view_at self.old.views pass) stamp.now (fact_read cell place result) }
     {
         let value = self.word(cell, place);
@@ -90,8 +87,7 @@ impl World {
         requires inside { IsInside self.old.sizes stamp.now.cell }
         requires may { MayPass self.old.sizes (view_at self.old.views pass) stamp.now (option_map (λ d. what_of d.now) deed) }
         ensures only { OnlyTurned self.old self.new pass }
-        ensures words { self.new.words ≡ self.old.words }
-        ensures stands { IfOk result (λ _. (s : Cells) × OneHolder (memory_now self.old) (views_of self.old.views) s × IsShape self.old.sizes s × HoldsAll (view_at self.old.views pass) stamp.now s) }
+        ensures at_once { MatchResult result (λ _. AtOnce (FindsUnchanged self.old.sizes (view_at self.old.views pass) stamp.now) self.old self.new) (λ c. AtOnce (FindsVersion stamp.now.cell c.found) self.old self.new) }
         ensures row { MatchResult result (λ _. Passed self.old.sizes (view_at self.old.views pass) (view_at self.new.views pass) stamp.now (option_map (λ d. what_of d.now) deed.entry)) (λ c. (c.cell ≡ stamp.now.cell) × (c.seen ≡ stamp.now.version) × (c.found ≢ c.seen) × Failed (view_at self.old.views pass) (view_at self.new.views pass) stamp.now c.found) }
     {
         let found = self.version(stamp.cell);
@@ -116,7 +112,7 @@ impl World {
         requires inside { IsInside self.old.sizes stamp.cell }
         requires found { found ≡ (memory_now self.old).version stamp.cell }
         ensures only { OnlyTurned self.old self.new pass }
-        ensures words { self.new.words ≡ self.old.words }
+        ensures at_once { AtOnce (FindsVersion stamp.cell result.found) self.old self.new }
         ensures changed { result ≡ record { cell = stamp.cell; seen = stamp.version; found = found } }
         ensures row { Failed (view_at self.old.views pass) (view_at self.new.views pass) stamp found }
     {
@@ -144,7 +140,7 @@ impl World {
         requires early { MayLock (view_at self.old.views pass) }
         requires unclaimed { HasClaimedNone (view_at self.old.views pass) }
         ensures only { OnlyTurned self.old self.new pass }
-        ensures memory { MatchResult result (λ _. SetsVersion (memory_now self.old) stamp.cell (stamp.version + 2) (memory_now self.new)) (λ _. self.new.words ≡ self.old.words) }
+        ensures at_once { MatchResult result (λ _. AtOnce (LocksStamped stamp) self.old self.new) (λ e. AtOnce (LocksNothing stamp e) self.old self.new) }
         ensures row { MatchResult result (λ h. (h.cell ≡ stamp.cell) × Upgraded (view_at self.old.views pass) (view_at self.new.views pass) stamp) (λ e. FailedUpgrade (view_at self.old.views pass) (view_at self.new.views pass) stamp e) }
     {
         if stamp.version / 4 >= LAST_COUNTER {
@@ -171,7 +167,7 @@ impl World {
         requires pass { pass < length self.old.views }
         requires inside { (n : NodeOf) × (link_of_number number ≡ node n) × IsInside self.old.sizes (node_cell n) × MayClaim (view_at self.old.views pass) n }
         ensures only { OnlyTurned self.old self.new pass }
-        ensures memory { (n : NodeOf) → link_of_number number ≡ node n → SetsVersion (memory_now self.old) (node_cell n) ((memory_now self.old).version (node_cell n) + 1) (memory_now self.new) }
+        ensures at_once { (n : NodeOf) → link_of_number number ≡ node n → AtOnce (LocksClaimed n) self.old self.new }
         ensures row { (n : NodeOf) → link_of_number number ≡ node n → (result.cell ≡ node_cell n) × Claimed (view_at self.old.views pass) (view_at self.new.views pass) n }
     {
         let link = number.link();
@@ -199,7 +195,7 @@ impl World {
         requires inside { IsInside self.old.sizes held.old.cell }
         requires may { (h : HoldingOf) × (h.cell ≡ held.old.cell) × MayWrite (view_at self.old.views pass) h place }
         ensures only { OnlyTurned self.old self.new pass }
-        ensures memory { SetsWord (memory_now self.old) held.old.cell place value (memory_now self.new) }
+        ensures at_once { AtOnce (PutsWord held.old.cell place value) self.old self.new }
         ensures same { held.new ≡ held.old }
         ensures row { (h : HoldingOf) → IsHolding (view_at self.old.views pass) held.old.cell h → Wrote (view_at self.old.views pass) (view_at self.new.views pass) h place value }
     {
@@ -222,7 +218,7 @@ impl World {
         requires pass { pass < length self.old.views }
         requires inside { (l : ℕ) × (y : InHandOf) × (link_of_number number.old ≡ leaf l) × (l < self.old.sizes.leaves) × MayWriteLeaf (view_at self.old.views pass) y l place }
         ensures only { OnlyTurned self.old self.new pass }
-        ensures memory { (l : ℕ) → link_of_number number.old ≡ leaf l → SetsWord (memory_now self.old) (leaf_cell l) place value (memory_now self.new) }
+        ensures at_once { (l : ℕ) → link_of_number number.old ≡ leaf l → AtOnce (PutsWord (leaf_cell l) place value) self.old self.new }
         ensures same { number.new ≡ number.old }
         ensures row { (y : InHandOf) → IsInHand (view_at self.old.views pass) (link_of_number number.old) y → WroteLeaf (view_at self.old.views pass) (view_at self.new.views pass) y place value }
     {

@@ -1,11 +1,11 @@
 -- An unchanged version word is found.
-use Rattle.std.proofs.Common.{◌∙◌, sym, subst}
+use Rattle.std.proofs.Common.{◌∙◌, ap, sym, subst}
 use Rattle.std.specs.Prelude.{Option}
 use Rattle.std.specs.Option.{option_map}
 use Rattle.art_cell.specs.declared.views.What.{What}
 use Rattle.art_cell.specs.Deeds.{what_of}
 use Rattle.art_cell.specs.Shown.{Passed}
-use Rattle.art_cell.specs.WorldWords.{Kept}
+use Rattle.art_cell.specs.WorldWords.{Kept, memory_now}
 use Rattle.art_cell.proofs.WorldLogical.{stands}
 use Rattle.art_cell.proofs.WorldTurns.{IsKept, Next, turn_passes}
 use Rattle.art_cell.proofs.world.World.check.Goals as goal
@@ -18,6 +18,6 @@ changed-requires c =
     (λ i. turn_passes now.sizes now.words now.views c.args.pass i.2 c.requires.pass i.0 c.args.stamp.now what (sym c.version-found.ensures ∙ c.if-found-stamp.false) c.requires.may)
     c.self.invariant
 
-pub returns-clause-stands : goal.returns-clause-stands
-returns-clause-stands c =
-    stands c.args.self.now c.args.pass c.args.stamp.now (subst IsKept c.self.view_is c.self.invariant) c.requires.pass (sym c.version-found.ensures ∙ c.if-found-stamp.false)
+pub returns-clause-at_once : goal.returns-clause-at_once
+returns-clause-at_once c =
+    stands c.args.self.now c.args.pass c.args.stamp.now _ _ (subst IsKept c.self.view_is c.self.invariant) c.requires.pass (sym c.if-found-stamp.false ∙ c.version-found.ensures) (ap memory_now c.self.view_is)

@@ -28,8 +28,8 @@ changed-requires c =
     (λ i at. turn_claims now.sizes now.words now.views c.args.pass i.2 c.requires.pass i.0 n place found may.0 at c.version-found.ensures may.1)
     c.self.invariant c.place_of-place.ensures
 
-pub returns-clause-memory : goal.returns-clause-memory
-returns-clause-memory c n is =
+pub returns-clause-at_once : goal.returns-clause-at_once
+returns-clause-at_once c n is =
     let now : Kept = c.args.self.now in
     let place : ℕ = c.place_of-place.result in
     let found : ℕ = c.version-found.result in

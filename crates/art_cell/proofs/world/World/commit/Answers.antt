@@ -37,16 +37,15 @@ changed-requires c =
     Next k.sizes k.views c.args.pass (slice_set k.words (place_of k.sizes cell) c.released.result) (λ v w. (h : Holding) → IsHolding v cell h → Committed v w what us (coming v leaf) h)) (sym c.self.view_is)
     (turn_commits now.sizes now.words now.views c.args.pass kept.2 c.requires.pass kept.0 cell first.0 what us leaf c.args.obsolete c.released.result first.1 first.2 may c.requires.inside word))
 
-pub returns-clause-memory : goal.returns-clause-memory
-returns-clause-memory c =
+pub returns-clause-at_once : goal.returns-clause-at_once
+returns-clause-at_once c =
     let now : Kept = c.args.self.now in
     let cell : Cell = c.args.held.cell in
     let place : ℕ = c.place_of-place.result in
     let first = c.requires.first in
     let word = c.released.ensures ∙ ap (λ (x : ℕ). released_word x c.args.obsolete) c.version-found.ensures in
-    subst (λ (k : Kept). IsKept k → place ≡ place_of k.sizes cell → SetsVersion (memory_now now) cell (released_word ((memory_now now).version cell) c.args.obsolete) (memory_of k.sizes (slice_set k.words place c.released.result))) (sym c.self.view_is)
-    (λ i at. release_sets now.sizes now.words now.views c.args.pass i.2 c.requires.pass i.0 cell first.0 c.args.obsolete c.released.result place first.1 first.2.held c.requires.inside word at)
-    c.self.invariant c.place_of-place.ensures
-
-pub returns-clause-bodies : goal.returns-clause-bodies
-returns-clause-bodies c = let first = c.requires.first in bodies c.args.obsolete c.spent-leaf.result first.0 c.self.view_is c.requires.pass first.1 first.2.held (returns-clause-memory c) c.changed.ensures
+    let unlocks =
+            subst (λ (k : Kept). IsKept k → place ≡ place_of k.sizes cell → SetsVersion (memory_now now) cell (released_word ((memory_now now).version cell) c.args.obsolete) (memory_of k.sizes (slice_set k.words place c.released.result))) (sym c.self.view_is)
+        (λ i at. release_sets now.sizes now.words now.views c.args.pass i.2 c.requires.pass i.0 cell first.0 c.args.obsolete c.released.result place first.1 first.2.held c.requires.inside word at)
+        c.self.invariant c.place_of-place.ensures in
+    record { unlocks = unlocks; bodies = bodies c.args.obsolete c.spent-leaf.result first.0 c.self.view_is c.requires.pass first.1 first.2.held unlocks c.changed.ensures }

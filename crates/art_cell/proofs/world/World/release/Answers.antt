@@ -27,8 +27,8 @@ changed-requires c =
     (subst (λ (k : Kept). Next k.sizes k.views c.args.pass (slice_set k.words (place_of k.sizes cell) c.released.result) (λ v w. (h : Holding) → IsHolding v cell h → Released v w h)) (sym c.self.view_is)
     (turn_releases now.sizes now.words now.views c.args.pass kept.2 c.requires.pass kept.0 cell may.0 c.args.obsolete c.released.result may.1 may.2 c.requires.inside word))
 
-pub returns-clause-memory : goal.returns-clause-memory
-returns-clause-memory c =
+pub returns-clause-at_once : goal.returns-clause-at_once
+returns-clause-at_once c =
     let now : Kept = c.args.self.now in
     let cell : Cell = c.args.held.cell in
     let place : ℕ = c.place_of-place.result in

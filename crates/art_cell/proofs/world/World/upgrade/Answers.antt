@@ -1,5 +1,5 @@
 -- A stamped cell is locked.
-use Rattle.std.proofs.Common.{◌≡◌, ℕ, ◌+◌, set, sym, subst, arith}
+use Rattle.std.proofs.Common.{◌≡◌, ◌∙◌, ℕ, ◌+◌, set, sym, subst, arith}
 use Rattle.art_cell.specs.declared.views.Stamp.{Stamp}
 use Rattle.art_cell.specs.Shown.{Upgraded}
 use Rattle.art_cell.specs.StepRows.{SetsVersion}
@@ -17,12 +17,15 @@ changed-requires c =
     record { stamp = c.requires.stamp; path = c.requires.path; limit = let low = c.if-stamp-ge-LAST_COUNTER.false in omega arith; early = c.requires.early; unclaimed = c.requires.unclaimed })
     c.self.invariant c.place_of-place.ensures
 
-pub returns-clause-memory : goal.returns-clause-memory
-returns-clause-memory c =
+pub returns-clause-at_once : goal.returns-clause-at_once
+returns-clause-at_once c =
     let now : Kept = c.args.self.now in
     let place : ℕ = c.place_of-place.result in
     let found : ℕ = c.version-found.result in
     let x : Stamp = c.args.stamp in
-    subst (λ (k : Kept). IsKept k → place ≡ place_of k.sizes x.cell → SetsVersion (memory_now now) x.cell (x.version + 2) (memory_of k.sizes (set k.words place (found + 2)))) (sym c.self.view_is)
-    (λ i at. upgrade_sets now.sizes now.words now.views c.args.pass i.2 c.requires.pass i.0 x place found c.requires.inside at c.version-found.ensures c.if-found-stamp.false c.requires.stamp)
-    c.self.invariant c.place_of-place.ensures
+    record {
+      found = sym c.if-found-stamp.false ∙ c.version-found.ensures;
+      sets =     subst (λ (k : Kept). IsKept k → place ≡ place_of k.sizes x.cell → SetsVersion (memory_now now) x.cell (x.version + 2) (memory_of k.sizes (set k.words place (found + 2)))) (sym c.self.view_is)
+          (λ i at. upgrade_sets now.sizes now.words now.views c.args.pass i.2 c.requires.pass i.0 x place found c.requires.inside at c.version-found.ensures c.if-found-stamp.false c.requires.stamp)
+          c.self.invariant c.place_of-place.ensures;
+    }

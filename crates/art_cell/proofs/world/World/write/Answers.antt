@@ -21,8 +21,8 @@ changed-requires c =
     (λ i at. turn_writes now.sizes now.words now.views c.args.pass i.2 c.requires.pass i.0 held o.0 place value first c.requires.inside at o.1 o.2)
     c.self.invariant c.place_of-first.ensures
 
-pub returns-clause-memory : goal.returns-clause-memory
-returns-clause-memory c =
+pub returns-clause-at_once : goal.returns-clause-at_once
+returns-clause-at_once c =
     let now : Kept = c.args.self.now in
     let o = c.requires.may in
     let held : Cell = c.args.held.now.cell in

@@ -26,8 +26,8 @@ changed-requires c =
     (λ i at. turn_writes_leaf now.sizes now.words now.views c.args.pass i.2 c.requires.pass i.0 o.1 l place value first may.0 at may.1)
     c.self.invariant c.place_of-first.ensures
 
-pub returns-clause-memory : goal.returns-clause-memory
-returns-clause-memory c l is =
+pub returns-clause-at_once : goal.returns-clause-at_once
+returns-clause-at_once c l is =
     let now : Kept = c.args.self.now in
     let o = c.requires.inside in
     let first : ℕ = c.place_of-first.result in
