@@ -22,7 +22,7 @@ use Rattle.art_cell.proofs.StepNumbers.{take_law, give_law, free_law}
 use Rattle.art_cell.proofs.WorldFree.{frees_number, takes_number, free_is_number, free_found}
 use Rattle.art_cell.proofs.WorldMemory.{copy_of, is_taken}
 use Rattle.art_cell.proofs.WorldPlaces.{free_below}
-use Rattle.art_cell.proofs.WorldTurns.{Next, turned}
+use Rattle.art_cell.proofs.WorldTurns.{IsKept, Next, turned}
 use Rattle.art_cell.proofs.WorldViews.{at_view}
 
 -- ---- the word that has a number's bit
@@ -138,3 +138,28 @@ module _ (z : Sizes) (ws : List ℕ) (vs : List View) (p : ℕ) (r : IsSound z (
     pub turn_frees : (es : List Retired) → MayFree (views_of vs) v d es → Next z vs p us (λ u w. Freed u w d)
     turn_frees es may = turned z ws vs p r inside long us (λ u w. Freed u w d) (freed v es) record { limbo = es; was = may.was; stays = may.stays; is = refl }
         (λ g t. free_law z (memory_of z ws) (views_of vs) p v at (memory_of z us) g d es r may sets t)
+
+-- ---- the calls that free a number
+
+-- the number is one that there is, and not free; once its bit is set, the pass is shown W
+pub record Freeing (k : Kept) (p : ℕ) (d : Link) (W : View → View → Link → Type 0) : Type 0 where
+  pub number : IsNumber k.sizes d
+  pub taken : (memory_now k).free d ≡ false
+  pub turn : (us : List ℕ) → SetsFree (memory_now k) d true (memory_of k.sizes us) → Next k.sizes k.views p us (λ v w. W v w d)
+
+-- of the world as it is now, seen as k
+module _ {k now : Kept} (seen : k ≡ now) (kept : IsKept k) (p : ℕ) (inside : p < length now.views) (d : Link) where
+  seen_so : (W : View → View → Link → Type 0) → (IsKept now → Freeing now p d W) → Freeing k p d W
+  seen_so W f = subst (λ (j : Kept). IsKept j → Freeing j p d W) (sym seen) f kept
+
+  -- a number in hand can be freed
+  pub giving : (xs : List InHand) × MayGive (view_at now.views p) d xs → Freeing k p d Gave
+  giving may = seen_so Gave (λ i.
+      let taken = in_hand now.sizes now.words now.views p i.2 inside i.0 d may.0 may.1 in
+      record { number = taken.0; taken = taken.1; turn = λ us sets. turn_gives now.sizes now.words now.views p i.2 inside i.0 us d sets may.0 may.1 })
+
+  -- and one in limbo
+  pub freeing : (es : List Retired) × MayFree (views_of now.views) (view_at now.views p) d es → Freeing k p d Freed
+  freeing may = seen_so Freed (λ i.
+      let taken = in_limbo now.sizes now.words now.views p i.2 inside i.0 d may.0 may.1 in
+      record { number = taken.0; taken = taken.1; turn = λ us sets. turn_frees now.sizes now.words now.views p i.2 inside i.0 us d sets may.0 may.1 })
