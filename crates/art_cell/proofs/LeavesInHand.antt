@@ -17,15 +17,13 @@ use Rattle.art_cell.specs.CommitLaws.{HasLeaf}
 use Rattle.art_cell.specs.Leaves.{IsLeaf, leaf_word}
 use Rattle.art_cell.specs.Packed.{IsEight, byte_of-from_be_bytes}
 use Rattle.art_cell.specs.Shown.{IsInHand, Took, WroteLeaf, link_of_number}
-use Rattle.art_cell.specs.Sound.{IsSound}
-use Rattle.art_cell.specs.StepRows.{MayWriteLeaf}
-use Rattle.art_cell.specs.Views.{IsNumber, Member, words_in}
+use Rattle.art_cell.specs.StepRows.{IsTaken, MayWriteLeaf}
+use Rattle.art_cell.specs.Views.{IsNumber, Member, Memory, words_in}
 use Rattle.art_cell.specs.Visits.{HasNone, HasJust, IsAway, IsIdle, Fills, leaf_in_hand}
+use Rattle.art_cell.specs.WordChanges.{FitsWord}
 use Rattle.art_cell.specs.Words.{Words, byte_of, packed}
-use Rattle.art_cell.specs.WorldWords.{Kept, OnlyTurned, memory_now, view_at, views_of}
+use Rattle.art_cell.specs.WorldWords.{Kept, OnlyTurned, memory_now, view_at}
 use Rattle.art_cell.proofs.IdlePasses.{just_one, no_members, still_away}
-use Rattle.art_cell.proofs.WorldFree.{free_is_number}
-use Rattle.art_cell.proofs.WorldViews.{at_view}
 
 -- ---- what ten words mean
 
@@ -79,14 +77,14 @@ pub leaf_link : (n : Number) → n.pool ≡ Leaves → link_of_number n ≡ leaf
 leaf_link n e = ap (λ (p : Pool). link_in_pool p n.number) e
 
 -- a number that was just taken
-pub took_fills : (z : Sizes) (v w : View) (n : Number) (k : List ℕ) (value : ℕ) → HasNone v.hand → n.pool ≡ Leaves → n.number < z.leaves → n.number < 2 ^ 32
-    → (t : Took v w (link_of_number n)) → length t.words ≡ 10 → Fills z w.hand n k value 0
-took_fills z v w n k value none pool inside small t long = record {
+took_fills : (z : Sizes) (m : Memory) (v w : View) (n : Number) (k : List ℕ) (value : ℕ) → HasNone v.hand → n.pool ≡ Leaves → n.number < z.leaves → n.number < 2 ^ 32
+    → Took m v w (link_of_number n) → Fills z w.hand n k value 0
+took_fills z m v w n k value none pool inside small t = record {
   pool = pool;
   inside = inside;
   small = small;
   words = t.words;
-  long = long;
+  long = (subst (λ (d : Link). IsTaken m d t.words) (leaf_link n pool) t.copy).0;
   just = subst (λ (xs : List InHand). HasJust xs (leaf_in_hand n.number t.words)) (sym hand) (just_one (leaf_in_hand n.number t.words));
   written = λ i low. absurd (omega (arith, low));
 }
@@ -96,12 +94,12 @@ took_fills z v w n k value none pool inside small t long = record {
         ∙ (ap (λ (xs : List InHand). record { link = link_of_number n; words = t.words } ∷ xs) (no_members v.hand none)
         ∙ ap (λ (d : Link). record { link = d; words = t.words } ∷ []) (leaf_link n pool))
 
--- it was free, so there is such a leaf; and all is sound, so it has ten words
-pub took_leaf : (a b : Kept) (p : ℕ) (n : Number) (k : List ℕ) (value : ℕ) → p < length a.views → OnlyTurned a b p → IsSound b.sizes (memory_now b) (views_of b.views) → b.sizes.leaves < 2 ^ 32 → IsIdle (view_at a.views p)
-    → n.pool ≡ Leaves → (memory_now a).free (link_of_number n) ≡ true → Took (view_at a.views p) (view_at b.views p) (link_of_number n) → IsAway (view_at b.views p) × Fills b.sizes (view_at b.views p).hand n k value 0
-took_leaf a b p n k value low turned sound few idle pool free t = (
+-- it is that of a leaf, none of whose words is written
+pub took_leaf : (a b : Kept) (p : ℕ) (n : Number) (k : List ℕ) (value : ℕ) → OnlyTurned a b p → IsIdle (view_at a.views p) → n.pool ≡ Leaves → IsNumber a.sizes (link_of_number n) → FitsWord (link_of_number n)
+    → Took (memory_now b) (view_at a.views p) (view_at b.views p) (link_of_number n) → IsAway (view_at b.views p) × Fills b.sizes (view_at b.views p).hand n k value 0
+took_leaf a b p n k value turned idle pool there fits t = (
   still_away v w (ap (λ (y : View). y.pin) t.is) (ap (λ (y : View). y.held) t.is) idle.away,
-  took_fills b.sizes v w n k value idle.hand pool inside (omega (arith, inside, few)) t long,
+  took_fills b.sizes (memory_now b) v w n k value idle.hand pool inside (subst FitsWord (leaf_link n pool) fits) t,
 )
   where
     v : View
@@ -111,16 +109,7 @@ took_leaf a b p n k value low turned sound few idle pool free t = (
     w = view_at b.views p
 
     inside : n.number < b.sizes.leaves
-    inside = subst₂ (λ (z : Sizes) (d : Link). IsNumber z d) (sym turned.sizes) (leaf_link n pool) (free_is_number a.sizes a.words (link_of_number n) free)
-
-    taken : InHand
-    taken = record { link = link_of_number n; words = t.words }
-
-    has : Member taken w.hand
-    has = subst (Member taken) (sym (ap (λ (y : View). y.hand) t.is)) (inl refl)
-
-    long : length t.words ≡ 10
-    long = ((sound.numbers.accounts p w (at_view b.views p (subst (λ (m : ℕ). p < m) (sym turned.count) low))).leaves taken n.number has (leaf_link n pool)).0
+    inside = subst₂ (λ (z : Sizes) (d : Link). IsNumber z d) (sym turned.sizes) (leaf_link n pool) there
 
 -- the next word may be written
 pub may_fill : (z : Sizes) (v : View) (n : Number) (k : List ℕ) (value place : ℕ) → place < 10 → Fills z v.hand n k value place

@@ -285,21 +285,21 @@ few_numbers (a ∷ b ∷ c ∷ []) d e long first second are =
     at_most_one (Some n) bad = omega (arith, bad)
 
 -- a node's number that was free is one in hand
-pub took_node : (a b : Kept) (p : ℕ) (n : Number) → OnlyTurned a b p → b.sizes.n4 < 2 ^ 32 → n.pool ≡ N4 → (memory_now a).free (link_of_number n) ≡ true → Took (view_at a.views p) (view_at b.views p) (link_of_number n)
+pub took_node : (a b : Kept) (p : ℕ) (n : Number) → OnlyTurned a b p → n.pool ≡ N4 → IsNumber a.sizes (link_of_number n) → FitsWord (link_of_number n) → Took (memory_now b) (view_at a.views p) (view_at b.views p) (link_of_number n)
     → HasNode b.sizes (view_at b.views p) (record { layout = Node4; number = n.number })
-took_node a b p n turned few pool free t = record {
+took_node a b p n turned pool there fits t = record {
   hand = record { link = link_of_number n; words = t.words };
   has = subst (Member (record { link = link_of_number n; words = t.words })) (sym (ap (λ (y : View). y.hand) t.is)) (inl refl);
   link = is;
   number = inside;
-  fits = omega (arith, inside, few);
+  fits = subst FitsWord is fits;
 }
   where
     is : link_of_number n ≡ node (record { layout = Node4; number = n.number })
     is = ap (λ (q : Pool). link_in_pool q n.number) pool
 
     inside : n.number < b.sizes.n4
-    inside = subst₂ (λ (z : Sizes) (d : Link). IsNumber z d) (sym turned.sizes) is (free_is_number a.sizes a.words (link_of_number n) free)
+    inside = subst₂ (λ (z : Sizes) (d : Link). IsNumber z d) (sym turned.sizes) is there
 
 -- ---- both numbers are in hand
 

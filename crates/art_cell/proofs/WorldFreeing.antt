@@ -20,7 +20,7 @@ use Rattle.art_cell.specs.Views.{Memory, IsNumber, cell_named}
 use Rattle.art_cell.specs.WorldWords.{number_in_pool, first_free_word, free_place, bit_of, is_free, word_count, memory_of, Kept, memory_now, views_of, view_at}
 use Rattle.art_cell.proofs.StepNumbers.{take_law, give_law, free_law}
 use Rattle.art_cell.proofs.WorldFree.{frees_number, takes_number, free_is_number, free_found}
-use Rattle.art_cell.proofs.WorldMemory.{copy_of, is_taken}
+use Rattle.art_cell.proofs.WorldMemory.{copy_of, is_taken, taken_again}
 use Rattle.art_cell.proofs.WorldPlaces.{free_below}
 use Rattle.art_cell.proofs.WorldTurns.{IsKept, Next, turned}
 use Rattle.art_cell.proofs.WorldViews.{at_view}
@@ -121,12 +121,13 @@ module _ (z : Sizes) (ws : List ℕ) (vs : List View) (p : ℕ) (r : IsSound z (
 
   module _ (d : Link) (place found bit : ℕ) (word : IsBitWord z ws d place found bit) where
     -- a free number comes into the hand
-    pub turn_takes : is_free z ws d ≡ true → Next z vs p (slice_set ws place (found - bit)) (λ u w. Took u w d)
+    pub turn_takes : is_free z ws d ≡ true → Next z vs p (slice_set ws place (found - bit)) (λ u w. Took (memory_of z (slice_set ws place (found - bit))) u w d)
     turn_takes free =
         let words : List ℕ = copy_of z ws (cell_named d) in
         let us : List ℕ = slice_set ws place (found - bit) in
-        turned z ws vs p r inside long us (λ u w. Took u w d) (took v d words) record { words = words; is = refl }
-        (λ g t. take_law z (memory_of z ws) (views_of vs) p v at (memory_of z us) g d words r free (is_taken z ws d) (takes_bit z ws long d place found bit word free) t)
+        let sets = takes_bit z ws long d place found bit word free in
+        turned z ws vs p r inside long us (λ u w. Took (memory_of z us) u w d) (took v d words) record { words = words; copy = taken_again (memory_of z ws) (memory_of z us) d words sets.words (is_taken z ws d); is = refl }
+        (λ g t. take_law z (memory_of z ws) (views_of vs) p v at (memory_of z us) g d words r free (is_taken z ws d) sets t)
 
   module _ (us : List ℕ) (d : Link) (sets : SetsFree (memory_of z ws) d true (memory_of z us)) where
     -- a number in hand is free again

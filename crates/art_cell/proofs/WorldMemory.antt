@@ -11,8 +11,9 @@ use Rattle.art_cell.specs.declared.cells.Cell.TheVariants as cell
 use Rattle.art_cell.specs.declared.cells.Link.{Link}
 use Rattle.art_cell.specs.declared.cells.Link.TheVariants.{Leaf as leaf, Node as node}
 use Rattle.art_cell.specs.declared.views.Sizes.{Sizes}
+use Rattle.art_cell.specs.Heaps.{Cells}
 use Rattle.art_cell.specs.StepRows.{SetsVersion, SetsWord, IsCopy, IsTaken}
-use Rattle.art_cell.specs.Views.{size_of, words_in, IsNumber, cell_named}
+use Rattle.art_cell.specs.Views.{Memory, size_of, words_in, IsNumber, cell_named}
 use Rattle.art_cell.specs.Words.{Words, size}
 use Rattle.art_cell.specs.WorldWords.{pool_size, pool_of, number_in_pool, cells_end, epoch_place, pass_place, word_count, IsInside, is_inside, place_of, first_place}
 use Rattle.art_cell.specs.WorldWords.{version_in, word_in, free_place, bit_of, is_free, pass_word_in, memory_of}
@@ -204,3 +205,8 @@ copy_version z ws c plain = ap (λ (w : Words). w 0) (sym (is_copy z ws c).words
 pub is_taken : (z : Sizes) (ws : List ℕ) (d : Link) → IsTaken (memory_of z ws) d (copy_of z ws (cell_named d))
 is_taken z ws (leaf l) = let copy = is_copy z ws (cell.Leaf l) in (copy.long, copy.words)
 is_taken z ws (node n) = tt
+
+-- as long as no cell's words change
+pub taken_again : (m m' : Memory) (d : Link) (ws : List ℕ) → m'.words ≡ m.words → IsTaken m d ws → IsTaken m' d ws
+taken_again m m' (leaf l) ws same copy = (copy.0, ap (λ (s : Cells). s (cell.Leaf l)) same ∙ copy.1)
+taken_again m m' (node n) ws same copy = tt

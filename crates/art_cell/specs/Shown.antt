@@ -24,8 +24,8 @@ use Rattle.art_cell.specs.Children.{link_of, link_in_pool}
 use Rattle.art_cell.specs.Heaps.{Cells}
 use Rattle.art_cell.specs.Histories.{event, IsLegal, places}
 use Rattle.art_cell.specs.Knowledge.{IsShape, HoldsAll, Leads}
-use Rattle.art_cell.specs.StepRows.{note_of, passed, Without, failed, upgraded, claimed, Puts, with_word, writing, with_leaf_word, handing, all_retired, Drops, HandsOver, MayRead, MayReadLeaf, took, gave, freed}
-use Rattle.art_cell.specs.Views.{Member, size_of, words_in, last_counter}
+use Rattle.art_cell.specs.StepRows.{note_of, passed, Without, failed, upgraded, claimed, Puts, with_word, writing, with_leaf_word, handing, all_retired, Drops, HandsOver, MayRead, MayReadLeaf, IsTaken, took, gave, freed}
+use Rattle.art_cell.specs.Views.{Member, Memory, size_of, words_in, last_counter}
 
 -- ---- events
 
@@ -162,8 +162,10 @@ pub record Committed (v w : View) (what : What) (us ls : List Link) (h : Holding
 
 -- ---- numbers
 
-pub record Took (v w : View) (d : Link) : Type 0 where
+-- of a leaf with its words
+pub record Took (m : Memory) (v w : View) (d : Link) : Type 0 where
   pub words : List ℕ
+  pub copy : IsTaken m d words
   pub is : w ≡ took v d words
 
 pub record Gave (v w : View) (d : Link) : Type 0 where

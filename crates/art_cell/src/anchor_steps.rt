@@ -8,10 +8,9 @@ ghost use Rattle.art_cell.specs.Children.{child_word};
 ghost use Rattle.art_cell.specs.Leaves.{leaf_word};
 ghost use Rattle.art_cell.specs.NodeLives.{IsNoted, OnlyLearns};
 ghost use Rattle.art_cell.specs.Shown.{link_of_number};
-ghost use Rattle.art_cell.specs.Sound.{IsSound};
 ghost use Rattle.art_cell.specs.StepRows.{IsInLimbo};
 ghost use Rattle.art_cell.specs.Visits.{ChangesWord, Fills, HoldsUnchanged, HoldsWord, IsAway, IsIdle, Locks, NotesLeaf, Removes, StampsAnchor};
-ghost use Rattle.art_cell.specs.WorldWords.{IsSameAt, OnlyTurned, memory_now, view_at, views_of};
+ghost use Rattle.art_cell.specs.WorldWords.{IsSameAt, OnlyTurned, view_at};
 
 use super::*;
 use art_key::Key;
@@ -107,10 +106,9 @@ pub(crate) fn read_leaf<S: Steps>(steps: &mut S, stamp: &Stamp, leaf: u32, place
     steps.read(stamp, Cell::Leaf(leaf), place)
 }
 
-/// How many leaves a world has. What always holds of a world holds of it.
+/// How many leaves a world has.
 pub(crate) fn leaves_of(world: &World) -> u32
-    ensures leaves { result ≡ world.now.sizes.leaves }
-    ensures sound { IsSound world.now.sizes (memory_now world.now) (views_of world.now.views) }
+    ensures { result ≡ world.now.sizes.leaves }
 {
     world.sizes.leaves
 }
@@ -125,7 +123,6 @@ pub(crate) fn take_leaf(at: &mut At<'_>) -> Option<Number>
     ensures fills { (key value : ℕ) → IfSome result (λ n. Fills at.new.world.now.sizes (view_at at.new.world.now.views at.new.pass).hand n (key ∷ []) value 0) }
 {
     let number = at.world.first_free(at.pass, Pool::Leaves)?;
-    let _leaves = leaves_of(at.world);
     Some(number)
 }
 

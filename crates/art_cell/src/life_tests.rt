@@ -364,15 +364,7 @@ fn take_node(at: &mut At<'_>) -> Option<Number>
     ensures node { IfSome result (λ n. (n.pool ≡ n4_pool) × HasNode at.new.world.now.sizes (view_at at.new.world.now.views at.new.pass) (record { layout = node4; number = n.number })) }
 {
     let number = at.world.first_free(at.pass, Pool::N4)?;
-    let _nodes = nodes_of(at.world);
     Some(number)
-}
-
-/// How many Node4s a world has.
-fn nodes_of(world: &World) -> u32
-    ensures { result ≡ world.now.sizes.n4 }
-{
-    world.sizes.n4
 }
 
 /// Takes the number of a leaf into the hand, writes the second row to it, and tells it.

@@ -186,9 +186,9 @@ pub(crate) struct Takes {
 
 impl Change<Vec<u64>, Takes, LinkedList<View>> for Takes {
     ghost use Rattle.art_cell.specs.Shown.{Took};
-    ghost use Rattle.art_cell.specs.WorldWords.{Turns};
+    ghost use Rattle.art_cell.specs.WorldWords.{Turns, memory_of};
 
-    ghost then = { λ ws t old new. Turns t.sizes ws.items t.pass (λ v w. Took v w t.link) old new };
+    ghost then = { λ ws t old new. Turns t.sizes ws.items t.pass (λ v w. Took (memory_of t.sizes ws.items) v w t.link) old new };
 }
 
 /// A number went back from the hand.

@@ -6,6 +6,7 @@ ghost use Rattle.art_cell.specs.Children.{link_in_pool};
 ghost use Rattle.art_cell.specs.Shown.{Freed, Gave, Took, link_of_number};
 ghost use Rattle.art_cell.specs.StepRows.{MayFree, MayGive, SetsFree};
 ghost use Rattle.art_cell.specs.Views.{IsNumber};
+ghost use Rattle.art_cell.specs.WordChanges.{FitsWord};
 ghost use Rattle.art_cell.specs.WorldWords.{OnlyTurned, is_free, memory_now, memory_of, pool_size, view_at, views_of, word_count};
 
 use crate::made_steps::{Frees, Gives, Takes};
@@ -18,7 +19,9 @@ impl World {
         ensures only { OnlyTurned self.old self.new pass }
         ensures memory { IfSome result (λ n. SetsFree (memory_now self.old) (link_of_number n) false (memory_now self.new)) }
         ensures none { IfNone result ((self.new ≡ self.old) × ((k : ℕ) → (memory_now self.old).free (link_in_pool pool k) ≡ false)) }
-        ensures some { IfSome result (λ n. (n.pool ≡ pool) × ((memory_now self.old).free (link_of_number n) ≡ true) × ((k : ℕ) → k < n.number → (memory_now self.old).free (link_in_pool pool k) ≡ false) × Took (view_at self.old.views pass) (view_at self.new.views pass) (link_of_number n)) }
+        ensures some { IfSome result (λ n. (n.pool ≡ pool) × IsNumber self.old.sizes (link_of_number n) × FitsWord (link_of_number n) × ((memory_now self.old).free (link_of_number n) ≡ true)) }
+        ensures least { IfSome result (λ n. (k : ℕ) → k < n.number → (memory_now self.old).free (link_in_pool pool k) ≡ false) }
+        ensures row { IfSome result (λ n. Took (memory_now self.new) (view_at self.old.views pass) (view_at self.new.views pass) (link_of_number n)) }
     {
         let number = self.least_free(pool)?;
         let place = self.sizes.first_free_word(pool) + number as usize / 64;
