@@ -23,7 +23,8 @@ use Rattle.art_cell.specs.Views.{IsNumber, Member, words_in}
 use Rattle.art_cell.specs.Visits.{HasNone, HasJust, IsAway, IsIdle, Fills, leaf_in_hand}
 use Rattle.art_cell.specs.Words.{Words, byte_of, packed}
 use Rattle.art_cell.specs.WorldWords.{Kept, OnlyTurned, memory_now, view_at, views_of}
-use Rattle.art_cell.proofs.IdlePasses.{just_one, no_members, still_away}
+use Rattle.art_cell.proofs.Gathered.{just_one, no_members}
+use Rattle.art_cell.proofs.IdlePasses.{still_away}
 use Rattle.art_cell.proofs.WorldFree.{free_is_number}
 use Rattle.art_cell.proofs.WorldViews.{at_view}
 
