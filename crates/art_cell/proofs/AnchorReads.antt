@@ -5,7 +5,7 @@ use Rattle.art_cell.specs.declared.cells.Cell.{Cell}
 use Rattle.art_cell.specs.declared.cells.Cell.TheVariants as cell
 use Rattle.art_cell.specs.declared.cells.Link.TheVariants.{Leaf as leaf}
 use Rattle.art_cell.specs.declared.steps.Held.{Held}
-use Rattle.art_cell.specs.declared.views.Fact.TheVariants.{Starts, Word, LeafWord}
+use Rattle.art_cell.specs.declared.views.Fact.TheVariants.{Word, LeafWord}
 use Rattle.art_cell.specs.declared.views.Note.{Note}
 use Rattle.art_cell.specs.declared.views.Sizes.{Sizes}
 use Rattle.art_cell.specs.declared.views.Stamp.{Stamp}
@@ -13,14 +13,14 @@ use Rattle.art_cell.specs.declared.views.View.{View}
 use Rattle.art_cell.specs.Children.{child_word, link_of}
 use Rattle.art_cell.specs.Knowledge.{Names}
 use Rattle.art_cell.specs.Leaves.{leaf_word}
-use Rattle.art_cell.specs.NodeLives.{IsNoted, OnlyLearns}
+use Rattle.art_cell.specs.NodeLives.{IsNoted, OnlyLearns, StampsAnchor}
 use Rattle.art_cell.specs.Shown.{MayReadCell}
-use Rattle.art_cell.specs.StepRows.{MayReadLeaf, note_of, stamp_of}
+use Rattle.art_cell.specs.StepRows.{MayReadLeaf, stamp_of}
 use Rattle.art_cell.specs.Views.{Member, size_of}
-use Rattle.art_cell.specs.Visits.{IsAway, IsIdle, StampsAnchor, HoldsWord, Locks, NotesLeaf}
+use Rattle.art_cell.specs.Visits.{IsAway, IsIdle, HoldsWord, Locks, NotesLeaf}
 use Rattle.art_cell.proofs.ChildWords.{link_back, link_exact}
 use Rattle.art_cell.proofs.IdlePasses.{still_away, still_empty}
-use Rattle.art_cell.proofs.LifeSteps.{root_names}
+use Rattle.art_cell.proofs.LifeSteps.{root_names, stamp_is}
 
 -- ---- what a pass that only learns still knows
 
@@ -29,9 +29,6 @@ learns_away v w more away = still_away v w more.pin more.held away
 
 pub learns_idle : (v w : View) → OnlyLearns v w → IsIdle v → IsIdle w
 learns_idle v w more idle = record { away = learns_away v w more idle.away; hand = still_empty v w idle.hand more.hand }
-
-pub learns_stamp : (v w : View) (x : Stamp) → OnlyLearns v w → StampsAnchor v x → StampsAnchor w x
-learns_stamp v w x more s = record { cell = s.cell; stamp = more.stamps x s.stamp; path = more.notes (note_of x (Starts [])) s.path }
 
 -- ---- the anchor's child word
 
@@ -60,7 +57,7 @@ leaf_named z v x l word k value inside names noted =
 
 names_leaf : (z : Sizes) (v : View) (x : Stamp) (l : ℕ) (k : List ℕ) (value place : ℕ) → StampsAnchor v x → NotesLeaf z v x l k value place → Names z v x l
 names_leaf z v x l k value place s n = root_names z v x l (leaf l) refl record {
-  at = record { cell = s.cell; stamp = s.stamp; path = s.path };
+  at = s;
   word = child_word (leaf l);
   noted = n.names;
   names = link_back (leaf l) n.small;
@@ -104,10 +101,7 @@ notes_less z v x l k value place few le n = record { inside = n.inside; small = 
 pub locks_word : (v w : View) (x : Stamp) (h : Held) (a : ℕ) → IsNoted v x (Word 1 a) → Locks v w x h → HoldsWord w h x.version a
 locks_word v w x h a noted made = record { words = made.words; long = made.long; holds = made.holds; is = made.agrees 1 a noted }
 
-stamp_again : (x : Stamp) (c : Cell) → x.cell ≡ c → stamp_of c x.version ≡ x
-stamp_again x c e = ap (λ (d : Cell). stamp_of d x.version) (sym e)
-
 pub locks_notes : (z z' : Sizes) (v w : View) (x : Stamp) (h : Held) (l : ℕ) (k : List ℕ) (value place : ℕ) → z' ≡ z → StampsAnchor v x → Locks v w x h → NotesLeaf z v x l k value place → NotesLeaf z' w (stamp_of cell.Anchor x.version) l k value place
 locks_notes z z' v w x h l k value place same s made n =
-    subst (λ (y : Stamp). NotesLeaf z' w y l k value place) (sym (stamp_again x cell.Anchor s.cell))
+    subst (λ (y : Stamp). NotesLeaf z' w y l k value place) (sym (stamp_is x cell.Anchor s.cell))
     (notes_on z z' v w x l k value place same (λ y i. subst (Member y) (sym made.notes) i) n)

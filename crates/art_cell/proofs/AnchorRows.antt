@@ -21,7 +21,7 @@ use Rattle.art_cell.specs.Children.{child_word, link_of}
 use Rattle.art_cell.specs.CommitLaws.{HoldsJust, ClaimedAmong}
 use Rattle.art_cell.specs.Heaps.{Cells, heap_of}
 use Rattle.art_cell.specs.Leaves.{leaf_word}
-use Rattle.art_cell.specs.Shown.{Committed, Freed, IsHolding, Wrote, claimed_node, claimed_nodes, coming, link_of_number, links_of}
+use Rattle.art_cell.specs.Shown.{Committed, Freed, IsHolding, Wrote, claimed_nodes, coming, link_of_number, links_of}
 use Rattle.art_cell.specs.StepRows.{AllNew, Commits, IsInLimbo, Knows, MayBeFirst, MayCommit, MayFree, MayWrite, note_of, all_retired, retired, stamp_of}
 use Rattle.art_cell.specs.Tree.{Top}
 use Rattle.art_cell.specs.Views.{Member, Views}
@@ -30,32 +30,21 @@ use Rattle.art_cell.specs.Words.{Words}
 use Rattle.art_cell.proofs.ChangeCommits.{add_commits, drop_commits}
 use Rattle.art_cell.proofs.ChildWords.{link_back}
 use Rattle.art_cell.proofs.Frame.{opened_unlinked}
-use Rattle.art_cell.proofs.IdlePasses.{none_left, still_away, still_empty}
+use Rattle.art_cell.proofs.Gathered.{left_over, no_members, none_left}
+use Rattle.art_cell.proofs.IdlePasses.{still_away, still_empty}
 use Rattle.art_cell.proofs.LeavesInHand.{first_words, has_leaf, leaf_link}
-use Rattle.art_cell.proofs.NodeLives.{key_is_one}
+use Rattle.art_cell.proofs.NodeLives.{claimed_is, key_is_one}
 use Rattle.art_cell.proofs.Places.{same_link}
 
 -- ---- nothing is claimed
 
-claims_none : (c : Cell) (o : Option ℕ) (x : ℕ) (ds : List Link) → o ≡ Some x → claimed_node c o ds ≡ ds
-claims_none cell.Anchor o x ds e = refl
-claims_none (cell.Leaf l) o x ds e = refl
-claims_none (cell.Node n) (Some y) x ds e = refl
-claims_none (cell.Node n) None x ds e = cc
-
-stamped_each : (hs : List Holding) → ((h : Holding) → Member h hs → (x : ℕ) × (h.stamped ≡ Some x)) → claimed_nodes hs ≡ []
-stamped_each [] each = refl
-stamped_each (h ∷ hs) each =
-    let first = each h (inl refl) in
-    claims_none h.cell h.stamped first.0 (claimed_nodes hs) first.1 ∙ stamped_each hs (λ k i. each k (inr i))
-
 module _ (w : View) (h : Held) (x : ℕ) (old new : List ℕ) (holds : HoldsAnchor w h x old new) where
-  -- so nothing comes into the tree but what is in hand
-  pub none_coming : claimed_nodes w.held ≡ []
-  none_coming = stamped_each w.held (λ k i. (x, ap (λ (y : Holding). y.stamped) (holds.just.only k i)))
-
   pub not_claimed : (k : Holding) → Member k w.held → k.stamped ≡ None → ⊥
   not_claimed k i e = let was = ap (λ (y : Holding). y.stamped) (holds.just.only k i) in cc
+
+  -- so nothing comes into the tree but what is in hand
+  pub none_coming : claimed_nodes w.held ≡ []
+  none_coming = no_members (claimed_nodes w.held) (λ d i. let k = claimed_is w.held d i in not_claimed k.0 k.2 k.4)
 
   -- it may be the first cell that is released
   pub anchor_first : (us : List Link) → (k : Holding) × (k.cell ≡ h.cell) × MayBeFirst w us k false
@@ -222,24 +211,9 @@ one_link word l small e = ap (λ (o : Option Link). cons_option o []) (ap link_o
 
 -- the list without the number
 pub without_link : (d : Link) (es : List Retired) → (ks : List Retired) × ((e : Retired) → Member e ks → Member e es × (e.link ≢ d)) × ((e : Retired) → Member e es → e.link ≢ d → Member e ks)
-without_link d [] = ([], λ e i. absurd i, λ e i other. absurd i)
-without_link d (a ∷ es) =
-    let rest = without_link d es in
-    ⊎_elim
-    (λ (is : a.link ≡ d). (
-      rest.0,
-      (λ e i. let o = rest.1 e i in (inr o.0, o.1)),
-      (λ e i other. ⊎_elim (λ (same : e ≡ a). absurd (other (ap (λ (y : Retired). y.link) same ∙ is))) (λ (j : Member e es). rest.2 e j other) i),
-    ))
-    (λ (not : a.link ≢ d). (
-      a ∷ rest.0,
-      (λ e i. ⊎_elim
-          (λ (same : e ≡ a). (inl same, λ is. not (sym (ap (λ (y : Retired). y.link) same) ∙ is)))
-          (λ (j : Member e rest.0). let o = rest.1 e j in (inr o.0, o.1))
-          i),
-      (λ e i other. ⊎_elim (λ (same : e ≡ a). inl same) (λ (j : Member e es). inr (rest.2 e j other)) i),
-    ))
-    (same_link a.link d)
+without_link d es =
+    let rest = left_over (λ (e : Retired). e.link ≡ d) es (λ e. same_link e.link d) in
+    (rest.0, λ e i. (rest.1 e).0 i, λ e i other. (rest.1 e).1 (i, other))
 
 pub may_give_back : (f : Views) (v : View) (d : Link) (l : ℕ) → d ≡ leaf l → IsInLimbo v (leaf l) → (es : List Retired) × MayFree f v d es
 may_give_back f v d l is limbo =

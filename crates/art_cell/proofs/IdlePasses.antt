@@ -6,34 +6,20 @@ use Rattle.art_cell.specs.declared.cells.Cell.TheVariants as cell
 use Rattle.art_cell.specs.declared.steps.Held.{Held}
 use Rattle.art_cell.specs.declared.steps.UpgradeFault.{UpgradeFault}
 use Rattle.art_cell.specs.declared.steps.UpgradeFault.TheVariants as fault
-use Rattle.art_cell.specs.declared.views.Fact.TheVariants.{Starts}
 use Rattle.art_cell.specs.declared.views.Holding.{Holding}
 use Rattle.art_cell.specs.declared.views.InHand.{InHand}
 use Rattle.art_cell.specs.declared.views.Stamp.{Stamp}
 use Rattle.art_cell.specs.declared.views.Sizes.{Sizes}
 use Rattle.art_cell.specs.declared.views.View.{View}
-use Rattle.art_cell.specs.declared.views.What.{What}
 use Rattle.art_cell.specs.declared.visits.Adding.{Adding}
 use Rattle.art_cell.specs.declared.visits.Removing.{Removing}
 use Rattle.art_cell.specs.declared.visits.Visit.{Visit}
-use Rattle.art_cell.specs.Shown.{Failed, FailedUpgrade, IsHolding, Passed, Released, Upgraded}
-use Rattle.art_cell.specs.StepRows.{Drops, MayLock, MayRelease, begun, note_of}
+use Rattle.art_cell.specs.NodeLives.{StampsAnchor}
+use Rattle.art_cell.specs.Shown.{Failed, FailedUpgrade, IsHolding, Released, Upgraded}
+use Rattle.art_cell.specs.StepRows.{MayLock, MayRelease, begun}
 use Rattle.art_cell.specs.Views.{Member, size_of}
-use Rattle.art_cell.specs.Visits.{HasNone, HasJust, IsAway, IsIdle, StampsAnchor, anchor_held, HoldsUnchanged, Locks, Adds, Removes, Visits}
-use Rattle.art_cell.proofs.Turns.{member_back}
-
--- ---- lists with few members
-
-pub no_members : {A : Type 0} (xs : List A) → HasNone xs → xs ≡ []
-no_members [] none = refl
-no_members (x ∷ xs) none = absurd (none x (inl refl))
-
-pub just_one : {A : Type 0} (x : A) → HasJust (x ∷ []) x
-just_one x = record { has = inl refl; only = λ y i. ⊎_elim (λ (e : y ≡ x). e) (λ (h : ⊥). absurd h) i }
-
--- without that one cell nothing is held
-pub none_left : (hs ks : List Holding) (h : Holding) (c : Cell) → HasJust hs h → h.cell ≡ c → Drops hs c ks → HasNone ks
-none_left hs ks h c just is drops k i = let o = drops.was k i in o.1 (ap (λ (y : Holding). y.cell) (just.only k o.0) ∙ is)
+use Rattle.art_cell.specs.Visits.{HasNone, HasJust, IsAway, IsIdle, anchor_held, HoldsUnchanged, Locks, Adds, Removes, Visits}
+use Rattle.art_cell.proofs.Gathered.{just_one, no_members, none_left}
 
 -- ---- what is the same of two views
 
@@ -137,19 +123,6 @@ let_go_same w u h holds released =
     let k = holds.2 in
     let r = released (anchor_held holds.0 holds.1 holds.1) (k.just.has, sym k.cell) in
     (ap (λ (y : View). y.hand) r.is, ap (λ (y : View). y.steps) r.is)
-
--- ---- check
-
--- a stamp whose word is unchanged stays, with its path
-pub passed_stamp : (z : Sizes) (v w : View) (x : Stamp) (o : Option What) → StampsAnchor v x → Passed z v w x o → StampsAnchor w x
-passed_stamp z v w x o s p = record {
-  cell = s.cell;
-  stamp = subst (Member x) (sym (ap (λ (y : View). y.stamps) p.is)) s.stamp;
-  path = subst (Member (note_of x (Starts []))) (sym (ap (λ (y : View). y.notes) p.is)) (member_back (note_of x (Starts [])) p.paths v.notes s.path);
-}
-
-pub passed_away : (z : Sizes) (v w : View) (x : Stamp) (o : Option What) → IsAway v → Passed z v w x o → IsAway w
-passed_away z v w x o away p = still_away v w (ap (λ (y : View). y.pin) p.is) (ap (λ (y : View). y.held) p.is) away
 
 -- ---- what a visitor knows
 

@@ -23,7 +23,8 @@ use Rattle.art_cell.specs.Visits.{HasNone, HasJust, IsAway, IsIdle, Fills, leaf_
 use Rattle.art_cell.specs.WordChanges.{FitsWord}
 use Rattle.art_cell.specs.Words.{Words, byte_of, packed}
 use Rattle.art_cell.specs.WorldWords.{Kept, OnlyTurned, memory_now, view_at}
-use Rattle.art_cell.proofs.IdlePasses.{just_one, no_members, still_away}
+use Rattle.art_cell.proofs.Gathered.{just_one, no_members}
+use Rattle.art_cell.proofs.IdlePasses.{still_away}
 
 -- ---- what ten words mean
 

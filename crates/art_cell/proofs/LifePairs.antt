@@ -38,10 +38,10 @@ use Rattle.art_cell.specs.WorldWords.{Kept, OnlyTurned, memory_now, view_at, vie
 use Rattle.art_cell.proofs.AnchorRows.{without_link}
 use Rattle.art_cell.proofs.ChildWords.{link_back, link_exact}
 use Rattle.art_cell.proofs.LeafPair.{pair_child}
-use Rattle.art_cell.proofs.LifeSteps.{both_dropped, puts_one, stamp_is}
+use Rattle.art_cell.proofs.LifeSteps.{both_dropped, passed_learns, puts_one, stamp_is}
 use Rattle.art_cell.proofs.Meanings.{child_is, child_named}
 use Rattle.art_cell.proofs.WorldFree.{free_is_number}
-use Rattle.art_cell.proofs.Turns.{member_back, member_front}
+use Rattle.art_cell.proofs.Turns.{member_front}
 
 -- ---- the node is stamped, and its path is noted
 
@@ -50,9 +50,6 @@ begun_learns v w x n is clear e =
     let same : begun v (cell.Node n) x.version ≡ record v { steps = v.steps + 1; stamps = stamp_of (cell.Node n) x.version ∷ v.stamps; found = (begun v (cell.Node n) x.version).found } = rw (eq-eqb (x.version % 4) 0 clear) refl in
     subst (λ (u : View). OnlyLearns v u × Member x u.stamps) (sym (e ∙ same))
     (record { pin = refl; held = refl; committed = refl; hand = refl; limbo = refl; stamps = λ a i. inr i; notes = λ a i. i }, inl (sym (stamp_is x (cell.Node n) is)))
-
-pub passed_learns : (z : Sizes) (v w : View) (x : Stamp) (o : Option What) → Passed z v w x o → OnlyLearns v w
-passed_learns z v w x o p = subst (OnlyLearns v) (sym p.is) record { pin = refl; held = refl; committed = refl; hand = refl; limbo = refl; stamps = λ a i. i; notes = λ y i. member_back y p.paths v.notes i }
 
 -- what the anchor names has the empty path
 root_leads : (z : Sizes) (v : View) (x : Stamp) (n : Node) → NotesRoot v x (node n) → Leads z v x (cell.Node n) []
@@ -70,9 +67,6 @@ below_root z v w x d n o stamped is seen p = record {
 }
 
 -- ---- its words are read
-
-pub stamp_at_on : (v w : View) (x : Stamp) (c : Cell) (p : List ℕ) → OnlyLearns v w → IsStampAt v x c p → IsStampAt w x c p
-stamp_at_on v w x c p more at = record { cell = at.cell; stamp = more.stamps x at.stamp; path = more.notes (note_of x (Starts p)) at.path }
 
 pub may_read_node : (z : Sizes) (v : View) (x : Stamp) (n : Node) (i : ℕ) → n.layout ≡ Node4 → v.held ≡ [] → IsStampAt v x (cell.Node n) [] → 0 < i → i < 15 → MayReadCell z v x (cell.Node n) i
 may_read_node z v x n i layout free at low high = (

@@ -2,7 +2,7 @@
 use Rattle.std.proofs.Common.{◌≡◌, ◌≢◌, ◌⊎◌, ℕ, zero, suc, ◌+◌, ◌*◌, ◌^◌, ◌<◌, ◌≤◌, List, [], ◌∷◌, length, get_or, set, inl, inr, ⊎_elim, sym, refl, ap, ap₂, ◌∙◌, subst, subst₂, arith, get_or-set_other, get_or-set_same}
 use Rattle.std.proofs.lemmas.Bool.{cases_eq}
 use Rattle.std.proofs.lemmas.List.{get_or_past, length-set}
-use Rattle.std.specs.Prelude.{Some, false}
+use Rattle.std.specs.Prelude.{Option, Some, false}
 use Rattle.art_cell.specs.declared.cells.Cell.{Cell}
 use Rattle.art_cell.specs.declared.cells.Cell.TheVariants as cell
 use Rattle.art_cell.specs.declared.cells.Node.{Node}
@@ -22,15 +22,17 @@ use Rattle.art_cell.specs.Children.{child_word, link_of}
 use Rattle.art_cell.specs.CommitLaws.{HasLeaf, HasNode}
 use Rattle.art_cell.specs.Heaps.{heap_of}
 use Rattle.art_cell.specs.Knowledge.{NamesLeaf, Names}
-use Rattle.art_cell.specs.NodeLives.{IsNoted, OnlyLearns, IsStampAt, NotesRoot, NotesKey, key_of_one, HoldsTwo, stamped_holding, claimed_holding, HoldsLeafRoot, HasClaimed, IsWholePair, HasForked}
-use Rattle.art_cell.specs.Shown.{claimed_nodes, coming, Claimed, IsHolding, Upgraded, Wrote, Committed, Released}
+use Rattle.art_cell.specs.NodeLives.{IsNoted, OnlyLearns, IsStampAt, StampsAnchor, NotesRoot, NotesKey, key_of_one, HoldsTwo, stamped_holding, claimed_holding, HoldsLeafRoot, HasClaimed, IsWholePair, HasForked}
+use Rattle.art_cell.specs.Shown.{claimed_nodes, coming, Claimed, IsHolding, Passed, Upgraded, Wrote, Committed, Released}
 use Rattle.art_cell.specs.StepRows.{MayBeFirst, MayClaim, MayRelease, Puts, with_word, MayWrite, Drops, has_read, note_of, stamp_of, MayReadLeaf, IsNotHeld}
 use Rattle.art_cell.specs.Views.{Member, size_of, words_in}
 use Rattle.art_cell.specs.Visits.{HasNone}
 use Rattle.art_cell.specs.WordChanges.{FitsWord}
 use Rattle.art_cell.specs.Words.{size}
 use Rattle.art_cell.proofs.ChildWords.{link_back}
+use Rattle.art_cell.proofs.Gathered.{no_members, none_left, one_left}
 use Rattle.art_cell.proofs.NodeLives.{is_claimed}
+use Rattle.art_cell.proofs.Turns.{member_back}
 
 -- ---- what a pass learns
 
@@ -53,7 +55,14 @@ pub reading_learns : (v w : View) (x : Stamp) (y : Fact) → w ≡ has_read v x 
 reading_learns v w x y e =
     subst (λ (u : View). OnlyLearns v u × IsNoted u x y) (sym e) (record { pin = refl; held = refl; committed = refl; hand = refl; limbo = refl; stamps = λ a i. i; notes = λ a i. inr i }, inl refl)
 
+-- by a check, which keeps its stamps and notes
+pub passed_learns : (z : Sizes) (v w : View) (x : Stamp) (o : Option What) → Passed z v w x o → OnlyLearns v w
+passed_learns z v w x o p = subst (OnlyLearns v) (sym p.is) record { pin = refl; held = refl; committed = refl; hand = refl; limbo = refl; stamps = λ a i. i; notes = λ y i. member_back y p.paths v.notes i }
+
 -- what its notes say they go on to say
+pub stamp_at_on : (v w : View) (x : Stamp) (c : Cell) (p : List ℕ) → OnlyLearns v w → IsStampAt v x c p → IsStampAt w x c p
+stamp_at_on v w x c p more at = record { cell = at.cell; stamp = more.stamps x at.stamp; path = more.notes (note_of x (Starts p)) at.path }
+
 pub names_on : (z : Sizes) (v w : View) (x : Stamp) (l : ℕ) → OnlyLearns v w → Names z v x l → Names z w x l
 names_on z v w x l more names s shape holds = names s shape (λ y i e. holds y (more.notes y i) e)
 
@@ -74,12 +83,12 @@ root_names z v x l d is seen s shape holds =
     record { path = []; there = refl; byte = 0; names = ap link_of (sym (ap (λ (c : Cell). s c 1) seen.at.cell) ∙ word) ∙ (seen.names ∙ ap Some is) }
 
 -- a word that is the child word of a cell names it
-pub root_noted : (v : View) (x : Stamp) (word : ℕ) (d : Link) → IsStampAt v x cell.Anchor [] → IsNoted v x (Word 1 word) → word ≡ child_word d → FitsWord d → NotesRoot v x d
+pub root_noted : (v : View) (x : Stamp) (word : ℕ) (d : Link) → StampsAnchor v x → IsNoted v x (Word 1 word) → word ≡ child_word d → FitsWord d → NotesRoot v x d
 root_noted v x word d at noted is fits = record { at = at; word = word; noted = noted; names = ap link_of is ∙ link_back d fits }
 
 pub root_seen_on : (v w : View) (x : Stamp) (d : Link) → OnlyLearns v w → NotesRoot v x d → NotesRoot w x d
 root_seen_on v w x d more seen = record {
-  at = record { cell = seen.at.cell; stamp = more.stamps x seen.at.stamp; path = more.notes (note_of x (Starts [])) seen.at.path };
+  at = stamp_at_on v w x cell.Anchor [] more seen.at;
   word = seen.word;
   noted = more.notes (note_of x (Word 1 seen.word)) seen.noted;
   names = seen.names;
@@ -137,16 +146,9 @@ puts_one hs h k x ks same two puts = record {
   apart = λ e. two.apart (sym same ∙ e);
 }
 
-none_left : (hs : List Holding) → ((h : Holding) → Member h hs → ⊥) → hs ≡ []
-none_left [] none = refl
-none_left (h ∷ hs) none = absurd (none h (inl refl))
-
 -- and no more once both went
 pub both_dropped : (hs : List Holding) (h k : Holding) (c : Cell) (ks ls : List Holding) → HoldsTwo hs h k → Drops hs h.cell ks → k.cell ≡ c → Drops ks c ls → ls ≡ []
-both_dropped hs h k c ks ls two first is second = none_left ls (λ j i.
-    let late = second.was j i in
-    let soon = first.was j late.0 in
-    ⊎_elim (λ (e : j ≡ h). soon.1 (ap (λ (y : Holding). y.cell) e)) (λ (e : j ≡ k). late.1 (ap (λ (y : Holding). y.cell) e ∙ is)) (two.only j soon.0))
+both_dropped hs h k c ks ls two first is second = no_members ls (none_left ks ls k c (one_left hs ks h k two first) is second)
 
 -- ---- the node is claimed
 

@@ -166,11 +166,11 @@ same_coming z v what us ls ks s s' there back c = record {
 }
 
 -- the cell of a node that the pass claimed
-abbrev IsClaim : List Holding → Link → Type 0
+abbrev pub IsClaim : List Holding → Link → Type 0
 IsClaim hs d = (h : Holding) × (n : Node) × Member h hs × (h.cell ≡ cell.Node n) × (h.stamped ≡ None) × (d ≡ node n)
 
 -- the nodes that a pass claimed, by what it holds
-claimed_is : (hs : List Holding) (d : Link) → Member d (claimed_nodes hs) → IsClaim hs d
+pub claimed_is : (hs : List Holding) (d : Link) → Member d (claimed_nodes hs) → IsClaim hs d
 claimed_is [] d i = absurd i
 claimed_is (h ∷ hs) d i = by_cell (λ j. claimed_is hs d j) h.cell h.stamped refl refl i
   where

@@ -41,9 +41,12 @@ pub record IsStampAt (v : View) (x : Stamp) (c : Cell) (p : List ℕ) : Type 0 w
   pub stamp : Member x v.stamps
   pub path : IsNoted v x (Starts p)
 
+abbrev pub StampsAnchor : View → Stamp → Type 0
+StampsAnchor v x = IsStampAt v x cell.Anchor []
+
 -- under the stamp of the anchor it is noted what the anchor names
 pub record NotesRoot (v : View) (x : Stamp) (d : Link) : Type 0 where
-  pub at : IsStampAt v x cell.Anchor []
+  pub at : StampsAnchor v x
   pub word : ℕ
   pub noted : IsNoted v x (Word 1 word)
   pub names : link_of word ≡ Some d

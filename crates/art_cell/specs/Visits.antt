@@ -7,7 +7,7 @@ use Rattle.art_cell.specs.declared.cells.Link.TheVariants.{Leaf as leaf}
 use Rattle.art_cell.specs.declared.layouts.Number.{Number}
 use Rattle.art_cell.specs.declared.layouts.Pool.TheVariants.{Leaves}
 use Rattle.art_cell.specs.declared.steps.Held.{Held}
-use Rattle.art_cell.specs.declared.views.Fact.TheVariants.{Starts, Word, LeafWord}
+use Rattle.art_cell.specs.declared.views.Fact.TheVariants.{Word, LeafWord}
 use Rattle.art_cell.specs.declared.views.Holding.{Holding}
 use Rattle.art_cell.specs.declared.views.InHand.{InHand}
 use Rattle.art_cell.specs.declared.views.Sizes.{Sizes}
@@ -21,9 +21,9 @@ use Rattle.art_cell.specs.declared.visits.Visit.{Visit}
 use Rattle.art_cell.specs.declared.visits.Visit.TheVariants as visit
 use Rattle.art_cell.specs.Children.{child_word}
 use Rattle.art_cell.specs.Leaves.{leaf_word}
-use Rattle.art_cell.specs.NodeLives.{IsNoted}
+use Rattle.art_cell.specs.NodeLives.{IsNoted, StampsAnchor}
 use Rattle.art_cell.specs.Shown.{AgreesWithNotes}
-use Rattle.art_cell.specs.StepRows.{note_of, stamp_of}
+use Rattle.art_cell.specs.StepRows.{stamp_of}
 use Rattle.art_cell.specs.Views.{Member, words_in}
 
 -- ---- lists with few members
@@ -47,12 +47,6 @@ pub record IsAway (v : View) : Type 0 where
 pub record IsIdle (v : View) : Type 0 where
   pub away : IsAway v
   pub hand : HasNone v.hand
-
--- the stamp is one of the anchor, whose path is noted
-pub record StampsAnchor (v : View) (x : Stamp) : Type 0 where
-  pub cell : x.cell ≡ cell.Anchor
-  pub stamp : Member x v.stamps
-  pub path : Member (note_of x (Starts [])) v.notes
 
 -- the anchor, stamped with the version x, with its words before the commit and after
 abbrev pub anchor_held : ℕ → List ℕ → List ℕ → Holding

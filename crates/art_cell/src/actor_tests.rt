@@ -2,7 +2,8 @@
 ghost use Rattle.std.specs.Prelude.{◌≡◌, ◌≤◌, ◌+◌, ◌∷◌, [], false, true, refl, IfSome};
 ghost use Rattle.std.proofs.Common.{◌∙◌};
 ghost use Rattle.std.proofs.lemmas.Bool.{false≢true};
-ghost use Rattle.art_cell.specs.Visits.{Adds, Counts, IsIdle, Removes, StampsAnchor, Visits, counts_none, counts_one_more};
+ghost use Rattle.art_cell.specs.NodeLives.{StampsAnchor};
+ghost use Rattle.art_cell.specs.Visits.{Adds, Counts, IsIdle, Removes, Visits, counts_none, counts_one_more};
 ghost use Rattle.art_cell.specs.WorldWords.{IsSameAt, OnlyTurned, view_at};
 
 use super::*;

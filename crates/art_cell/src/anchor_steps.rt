@@ -6,10 +6,10 @@ ghost use Rattle.art_cell.specs.declared.views.Fact.TheVariants.{LeafWord as lea
 ghost use Rattle.art_cell.specs.declared.visits.Removing.TheVariants.{Written as written};
 ghost use Rattle.art_cell.specs.Children.{child_word};
 ghost use Rattle.art_cell.specs.Leaves.{leaf_word};
-ghost use Rattle.art_cell.specs.NodeLives.{IsNoted, OnlyLearns};
+ghost use Rattle.art_cell.specs.NodeLives.{IsNoted, OnlyLearns, StampsAnchor};
 ghost use Rattle.art_cell.specs.Shown.{link_of_number};
 ghost use Rattle.art_cell.specs.StepRows.{IsInLimbo};
-ghost use Rattle.art_cell.specs.Visits.{ChangesWord, Fills, HoldsUnchanged, HoldsWord, IsAway, IsIdle, Locks, NotesLeaf, Removes, StampsAnchor};
+ghost use Rattle.art_cell.specs.Visits.{ChangesWord, Fills, HoldsUnchanged, HoldsWord, IsAway, IsIdle, Locks, NotesLeaf, Removes};
 ghost use Rattle.art_cell.specs.WorldWords.{IsSameAt, OnlyTurned, view_at};
 
 use super::*;
@@ -173,12 +173,12 @@ pub(crate) fn write_child<S: Steps>(steps: &mut S, held: &mut Held, word: u64)
     steps.write(held, 1, word);
 }
 
-/// The key of the row.
-pub(crate) fn row_key() -> Key
-    ensures { result.items ≡ KEY ∷ [] }
+/// The key of one byte.
+pub(crate) fn one_byte(byte: u8) -> Key
+    ensures { result.items ≡ byte ∷ [] }
 {
     let mut key = Key::new();
-    key.push(KEY);
+    key.push(byte);
     key
 }
 
@@ -191,7 +191,7 @@ pub(crate) fn commit_insert<S: Steps>(steps: &mut S, held: Held, number: Number)
     ensures step { (S.view steps.new).steps ≤ (S.view steps.old).steps + 1 }
     ensures idle { IsIdle (S.view steps.new) }
 {
-    let deed = Deed::Done(Act::Insert(row_key(), VALUE), Answer::Inserted);
+    let deed = Deed::Done(Act::Insert(one_byte(KEY), VALUE), Answer::Inserted);
     let [first, second, third] = steps.commit(held, false, &deed, Some(number), &[]);
     let_number_go(first);
     let_number_go(second);
@@ -208,7 +208,7 @@ pub(crate) fn commit_remove<S: Steps>(steps: &mut S, held: Held, leaf: u32) -> N
     ensures number { link_of_number result ≡ leaf_link leaf }
     ensures limbo { IsInLimbo (S.view steps.new) (leaf_link leaf) }
 {
-    let deed = Deed::Done(Act::Remove(row_key()), Answer::Removed(VALUE));
+    let deed = Deed::Done(Act::Remove(one_byte(KEY)), Answer::Removed(VALUE));
     let word = word_of_leaf(leaf);
     let numbers = steps.commit(held, false, &deed, None, &[word]);
     one_number(numbers, leaf)

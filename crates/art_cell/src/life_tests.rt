@@ -10,7 +10,7 @@ ghost use Rattle.art_cell.specs.declared.views.InHand.{InHand as InHandOf};
 ghost use Rattle.art_cell.specs.Children.{child_word};
 ghost use Rattle.art_cell.specs.CommitLaws.{HasLeaf, HasNode};
 ghost use Rattle.art_cell.specs.Knowledge.{Names};
-ghost use Rattle.art_cell.specs.NodeLives.{HasClaimed, HoldsLeafRoot, HoldsPair, IsNoted, IsStampAt, NotesKey, NotesPair, NotesRoot, OnlyLearns};
+ghost use Rattle.art_cell.specs.NodeLives.{HasClaimed, HoldsLeafRoot, HoldsPair, IsNoted, IsStampAt, NotesKey, NotesPair, NotesRoot, OnlyLearns, StampsAnchor};
 ghost use Rattle.art_cell.specs.Shown.{link_of_number};
 ghost use Rattle.art_cell.specs.StepRows.{IsInLimbo, IsNotHeld};
 ghost use Rattle.art_cell.specs.Views.{Member};
@@ -21,8 +21,9 @@ ghost use Rattle.art_cell.specs.declared.layouts.Pool.TheVariants.{N4 as n4_pool
 
 use super::*;
 use crate::actor_tests::{Task, Visitor};
-use crate::anchor_steps::{KEY, VALUE, fill, let_number_go, one_number, take_leaf, word_of_leaf};
-use art_key::Key;
+use crate::anchor_steps::{
+    KEY, VALUE, fill, let_number_go, one_byte, one_number, take_leaf, word_of_leaf,
+};
 use std::test::*;
 
 const SIZES: Sizes = Sizes {
@@ -50,7 +51,7 @@ fn see_root<S: Steps>(steps: &mut S) -> Option<(Stamp, u64)>
     ensures sizes { S.sizes steps.new ≡ S.sizes steps.old }
     ensures only { S.only steps.old steps.new }
     ensures learns { IfSome result (λ _. OnlyLearns (S.view steps.old) (S.view steps.new)) }
-    ensures at { IfSome result (λ p. IsStampAt (S.view steps.new) p.0 anchor_cell []) }
+    ensures at { IfSome result (λ p. StampsAnchor (S.view steps.new) p.0) }
     ensures word { IfSome result (λ p. IsNoted (S.view steps.new) p.0 (word_fact 1 p.1)) }
 {
     let stamp = steps.begin(Cell::Anchor).ok()?;
@@ -126,15 +127,6 @@ fn node4_word(node: Node) -> u64
     ensures { result ≡ child_word (node_link node) }
 {
     8 * u64::from(node.number) + 2
-}
-
-/// The key of one byte.
-fn one_byte(byte: u8) -> Key
-    ensures { result.items ≡ byte ∷ [] }
-{
-    let mut key = Key::new();
-    key.push(byte);
-    key
 }
 
 /// Writes the claimed node above the two leaves, and commits it as the insert of the second key.

@@ -5,7 +5,8 @@ ghost use Rattle.art_cell.specs.Views.{last_counter};
 ghost use Rattle.art_cell.specs.WorldWords.{cells_end, epoch_place, first_cell, first_free_word, newcomers};
 ghost use Rattle.art_cell.specs.declared.layouts.Pool.TheVariants.{Leaves as leaf_pool, N4 as n4_pool};
 
-use crate::{Layout, Pool, Sizes, View, World};
+use crate::word_places::pool_of_layout;
+use crate::{Pool, Sizes, View, World};
 use art_ghosts::{Choice, Ghost};
 use std::alloc::{AllocError, Global};
 use std::collections::LinkedList;
@@ -63,19 +64,13 @@ fn first_bits(count: usize) -> u64
 fn node_word(sizes: Sizes, counter_start: u64, place: usize) -> u64
     requires counter { counter_start ≤ last_counter }
     requires from { first_cell sizes n4_pool ≤ place }
+    requires before { place < cells_end sizes }
     ensures { result ≡ opening_node_word sizes counter_start place }
 {
     let version = 4 * counter_start + 1;
-    let (pool, layout) = if place < sizes.first_cell(Pool::N16) {
-        (Pool::N4, Layout::Node4)
-    } else if place < sizes.first_cell(Pool::N48) {
-        (Pool::N16, Layout::Node16)
-    } else if place < sizes.first_cell(Pool::N256) {
-        (Pool::N48, Layout::Node48)
-    } else {
-        (Pool::N256, Layout::Node256)
-    };
-    version_or_zero(place - sizes.first_cell(pool), layout.size(), version)
+    let layout = sizes.layout_of_place(place);
+    let first = sizes.first_cell(pool_of_layout(layout));
+    version_or_zero(place - first, layout.size(), version)
 }
 
 /// A word of free numbers.
@@ -84,17 +79,7 @@ fn free_word(sizes: Sizes, place: usize) -> u64
     requires before { place < epoch_place sizes }
     ensures { result ≡ opening_free_word sizes place }
 {
-    let pool = if place < sizes.first_free_word(Pool::N4) {
-        Pool::Leaves
-    } else if place < sizes.first_free_word(Pool::N16) {
-        Pool::N4
-    } else if place < sizes.first_free_word(Pool::N48) {
-        Pool::N16
-    } else if place < sizes.first_free_word(Pool::N256) {
-        Pool::N48
-    } else {
-        Pool::N256
-    };
+    let pool = sizes.pool_of_free_place(place);
     let before = 64 * (place - sizes.first_free_word(pool));
     first_bits(sizes.pool_size(pool) as usize - before)
 }

@@ -1,9 +1,11 @@
 //! The forms of the words of a world in which no cell but the anchor is ever locked or changed.
+ghost use Rattle.std.specs.Prelude.{◌<◌, ◌≤◌};
+ghost use Rattle.art_cell.specs.declared.layouts.Pool.TheVariants.{Leaves as leaf_pool, N4 as n4_pool};
+ghost use Rattle.art_cell.specs.WorldWords.{cells_end, epoch_place, first_cell, first_free_word};
+
 use super::*;
 use crate::word_places::pool_of_layout;
-
-/// No counter that is this or more goes on by an upgrade.
-const LAST_COUNTER: u64 = (1 << 62) - 8;
+use crate::world_steps::LAST_COUNTER;
 
 /// A version word is clear, locked or obsolete, and within its limit.
 fn version_is_formed(word: u64, may_be_locked: bool) -> bool {
@@ -25,36 +27,23 @@ fn child_word_is_formed(sizes: Sizes, word: u64) -> bool {
 }
 
 /// The version word of a node is formed, and not locked. Of its other words nothing is said.
-fn node_word_is_formed(sizes: Sizes, place: usize, word: u64) -> bool {
-    let layout = if place < sizes.first_cell(Pool::N16) {
-        Layout::Node4
-    } else if place < sizes.first_cell(Pool::N48) {
-        Layout::Node16
-    } else if place < sizes.first_cell(Pool::N256) {
-        Layout::Node48
-    } else {
-        Layout::Node256
-    };
+fn node_word_is_formed(sizes: Sizes, place: usize, word: u64) -> bool
+    requires from { first_cell sizes n4_pool ≤ place }
+    requires before { place < cells_end sizes }
+{
+    let layout = sizes.layout_of_place(place);
     let first = sizes.first_cell(pool_of_layout(layout));
-    place.wrapping_sub(first) % layout.size() != 0 || version_is_formed(word, false)
+    (place - first) % layout.size() != 0 || version_is_formed(word, false)
 }
 
 /// No bit of a word of free numbers stands beyond its pool.
-fn free_word_is_formed(sizes: Sizes, place: usize, word: u64) -> bool {
-    let pool = if place < sizes.first_free_word(Pool::N4) {
-        Pool::Leaves
-    } else if place < sizes.first_free_word(Pool::N16) {
-        Pool::N4
-    } else if place < sizes.first_free_word(Pool::N48) {
-        Pool::N16
-    } else if place < sizes.first_free_word(Pool::N256) {
-        Pool::N48
-    } else {
-        Pool::N256
-    };
-    let index = place.wrapping_sub(sizes.first_free_word(pool));
-    let before = index.wrapping_mul(64);
-    let bits = (sizes.pool_size(pool) as usize).saturating_sub(before);
+fn free_word_is_formed(sizes: Sizes, place: usize, word: u64) -> bool
+    requires from { first_free_word sizes leaf_pool ≤ place }
+    requires before { place < epoch_place sizes }
+{
+    let pool = sizes.pool_of_free_place(place);
+    let before = 64 * (place - sizes.first_free_word(pool));
+    let bits = sizes.pool_size(pool) as usize - before;
     bits >= 64 || word >> bits == 0
 }
 

@@ -1,6 +1,8 @@
 //! Where the words of a world stand: the anchor's, the leaves', the nodes' layout by layout, the words of free numbers pool
 //! by pool, the epoch, and the words of the passes.
-ghost use Rattle.std.specs.Prelude.{◌≡◌};
+ghost use Rattle.std.specs.Prelude.{◌≡◌, ◌+◌, ◌*◌, ◌<◌, ◌≤◌};
+ghost use Rattle.art_cell.specs.declared.layouts.Pool.TheVariants.{Leaves as leaf_pool, N4 as n4_pool};
+ghost use Rattle.art_cell.specs.Words.{size};
 ghost use Rattle.art_cell.specs.WorldWords.{cells_end, epoch_place, first_cell, first_free_word, free_words, place_of, pool_of_layout, pool_size, word_count};
 
 use crate::{Cell, Layout, Pool, Sizes};
@@ -54,6 +56,24 @@ impl Sizes {
         self.first_cell(Pool::N256) + 266 * self.n256 as usize
     }
 
+    /// The layout of the node whose word stands at the place.
+    pub(crate) fn layout_of_place(self, place: usize) -> Layout
+        requires from { first_cell self n4_pool ≤ place }
+        requires before { place < cells_end self }
+        ensures from { first_cell self (pool_of_layout result) ≤ place }
+        ensures before { place < first_cell self (pool_of_layout result) + size result * pool_size self (pool_of_layout result) }
+    {
+        if place < self.first_cell(Pool::N16) {
+            Layout::Node4
+        } else if place < self.first_cell(Pool::N48) {
+            Layout::Node16
+        } else if place < self.first_cell(Pool::N256) {
+            Layout::Node48
+        } else {
+            Layout::Node256
+        }
+    }
+
     /// The place of a cell's first word.
     pub(crate) fn place_of(self, cell: Cell) -> usize
         ensures { result ≡ place_of self cell }
@@ -81,6 +101,26 @@ impl Sizes {
             Pool::N16 => n16,
             Pool::N48 => n48,
             Pool::N256 => n48 + free_words(self.n48),
+        }
+    }
+
+    /// The pool whose free numbers have a bit in the word at the place.
+    pub(crate) fn pool_of_free_place(self, place: usize) -> Pool
+        requires from { first_free_word self leaf_pool ≤ place }
+        requires before { place < epoch_place self }
+        ensures from { first_free_word self result ≤ place }
+        ensures before { place < first_free_word self result + free_words (pool_size self result) }
+    {
+        if place < self.first_free_word(Pool::N4) {
+            Pool::Leaves
+        } else if place < self.first_free_word(Pool::N16) {
+            Pool::N4
+        } else if place < self.first_free_word(Pool::N48) {
+            Pool::N16
+        } else if place < self.first_free_word(Pool::N256) {
+            Pool::N48
+        } else {
+            Pool::N256
         }
     }
 

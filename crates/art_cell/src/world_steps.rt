@@ -24,7 +24,7 @@ use crate::{
 use arrayvec::ArrayVec;
 
 /// No counter that is this or more goes on by an upgrade.
-const LAST_COUNTER: u64 = (1 << 62) - 8;
+pub(crate) const LAST_COUNTER: u64 = (1 << 62) - 8;
 
 impl World {
     pub(crate) fn begin(&mut self, pass: usize, cell: Cell) -> Result<Stamp, Locked>

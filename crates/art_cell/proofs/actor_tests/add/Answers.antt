@@ -1,12 +1,14 @@
 use Rattle.std.specs.Prelude.{[], ◌∷◌, ℕ}
 use Rattle.std.proofs.Common.{subst}
 use Rattle.art_cell.specs.declared.anchor_steps.TheConstants.{KEY, VALUE}
+use Rattle.art_cell.specs.declared.cells.Cell.TheVariants as cell
 use Rattle.art_cell.specs.declared.views.Fact.TheVariants.{Word}
 use Rattle.art_cell.specs.NodeLives.{IsNoted}
 use Rattle.art_cell.specs.Visits.{ChangesWord}
-use Rattle.art_cell.proofs.AnchorReads.{learns_away, learns_stamp, locks_word}
+use Rattle.art_cell.proofs.AnchorReads.{learns_away, locks_word}
 use Rattle.art_cell.proofs.IdlePasses.{at_adding}
 use Rattle.art_cell.proofs.LeavesInHand.{fills_on}
+use Rattle.art_cell.proofs.LifeSteps.{stamp_at_on}
 use Rattle.art_cell.proofs.actor_tests.add.Goals as goal
 
 pub returns-in-0-clause-visits : goal.returns-in-0-clause-visits
@@ -17,7 +19,7 @@ returns-in-0-clause-visits g c =
     let w = g.S.Steps.view c.read_anchor.new.steps in (
       learns_away v w e.learns k.0,
       fills_on _ _ v.hand w.hand c.in-Stamped.number (KEY ∷ []) VALUE 10 e.sizes e.learns.hand k.1,
-      learns_stamp v w c.in-Stamped.stamp e.learns k.2,
+      stamp_at_on v w c.in-Stamped.stamp cell.Anchor [] e.learns k.2,
       subst (λ (a : ℕ). IsNoted w c.in-Stamped.stamp (Word 1 a)) c.in-0.is e.noted,
     )
 

@@ -1,13 +1,15 @@
 use Rattle.std.specs.Prelude.{[], ◌∷◌, ◌≡◌}
 use Rattle.std.proofs.Common.{◌∙◌, arith, subst, sym}
 use Rattle.art_cell.specs.declared.anchor_steps.TheConstants.{KEY, VALUE}
+use Rattle.art_cell.specs.declared.cells.Cell.TheVariants as cell
 use Rattle.art_cell.specs.declared.cells.Link.TheVariants.{Leaf as leaf}
 use Rattle.art_cell.specs.Children.{child_word}
 use Rattle.art_cell.specs.Leaves.{leaf_word}
 use Rattle.art_cell.specs.Views.{Member}
 use Rattle.art_cell.specs.WorldWords.{view_at}
-use Rattle.art_cell.proofs.AnchorReads.{learns_idle, learns_stamp, locks_notes, locks_word, notes_less, notes_more, notes_on}
+use Rattle.art_cell.proofs.AnchorReads.{learns_idle, locks_notes, locks_word, notes_less, notes_more, notes_on}
 use Rattle.art_cell.proofs.IdlePasses.{at_removing, idle_then, still_empty}
+use Rattle.art_cell.proofs.LifeSteps.{stamp_at_on}
 use Rattle.art_cell.proofs.actor_tests.remove.Goals as goal
 
 pub returns-in-Some-clause-visits : goal.returns-in-Some-clause-visits
@@ -31,7 +33,7 @@ returns-in-true-clause-visits c =
     let w = view_at at.world.now.views at.pass in
     let same : c.read_leaf.result ≡ leaf_word (KEY ∷ []) VALUE c.in-Reading.place = c.in-true.is ∙ c.leaf_word.ensures in (
       learns_idle v w e.learns k.0,
-      learns_stamp v w c.in-Reading.stamp e.learns k.1,
+      stamp_at_on v w c.in-Reading.stamp cell.Anchor [] e.learns k.1,
       notes_more _ _ v w c.in-Reading.stamp c.in-Reading.leaf (KEY ∷ []) VALUE c.in-Reading.place c.read_leaf.result e.sizes e.learns e.noted same k.2,
     )
 

@@ -16,7 +16,7 @@ commit-requires-clause-may g c =
     let r = c.requires.changes in
     let z = g.S.Steps.sizes c.args.steps.now in
     let v = g.S.Steps.view c.args.steps.now in
-    subst (λ (k : List ℕ). MayCommit z v (Done (Insert k VALUE) Inserted) [] (coming v (Some (link_of_number c.args.number)))) (sym c.row_key.ensures)
+    subst (λ (k : List ℕ). MayCommit z v (Done (Insert k VALUE) Inserted) [] (coming v (Some (link_of_number c.args.number)))) (sym c.one_byte.ensures)
     (may_add z v c.args.held c.args.number r.0 KEY VALUE (omega arith) c.requires.fills r.1)
 
 pub returns-clause-step : goal.returns-clause-step

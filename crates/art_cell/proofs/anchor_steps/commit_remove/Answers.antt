@@ -17,7 +17,7 @@ commit-numbers-requires-clause-may g c =
     let r = c.requires.1 in
     let z = g.S.Steps.sizes c.args.steps.now in
     let v = g.S.Steps.view c.args.steps.now in
-    subst₂ (λ (k : List ℕ) (us : List Link). MayCommit z v (Done (Remove k) (Removed VALUE)) us (coming v None)) (sym c.row_key.ensures) (sym (one_link c.word_of_leaf-word.result c.args.leaf r.2.small c.word_of_leaf-word.ensures))
+    subst₂ (λ (k : List ℕ) (us : List Link). MayCommit z v (Done (Remove k) (Removed VALUE)) us (coming v None)) (sym c.one_byte.ensures) (sym (one_link c.word_of_leaf-word.result c.args.leaf r.2.small c.word_of_leaf-word.ensures))
     (may_remove z v c.args.held c.args.leaf r.0 KEY VALUE (omega arith) r.2 r.1)
 
 pub returns-clause-step : goal.returns-clause-step

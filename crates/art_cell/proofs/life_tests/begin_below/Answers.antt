@@ -1,5 +1,5 @@
-use Rattle.art_cell.proofs.LifePairs.{begun_learns, below_root, passed_learns}
-use Rattle.art_cell.proofs.LifeSteps.{learns_then, root_seen_on}
+use Rattle.art_cell.proofs.LifePairs.{begun_learns, below_root}
+use Rattle.art_cell.proofs.LifeSteps.{learns_then, passed_learns, root_seen_on}
 use Rattle.art_cell.proofs.life_tests.begin_below.Goals as goal
 
 pub returns-in-Ok-check-clause-learns : goal.returns-in-Ok-check-clause-learns

@@ -2,8 +2,8 @@ use Rattle.std.proofs.Common.{refl, subst, ◌∙◌, ℕ}
 use Rattle.art_cell.specs.declared.cells.Link.TheVariants.{Node as node}
 use Rattle.art_cell.specs.declared.views.Fact.TheVariants.{LeafWord}
 use Rattle.art_cell.specs.NodeLives.{IsNoted}
-use Rattle.art_cell.proofs.LifePairs.{pair_names, pair_on, stamp_at_on}
-use Rattle.art_cell.proofs.LifeSteps.{key_noted, learns_then, root_noted, root_seen_on}
+use Rattle.art_cell.proofs.LifePairs.{pair_names, pair_on}
+use Rattle.art_cell.proofs.LifeSteps.{key_noted, learns_then, root_noted, root_seen_on, stamp_at_on}
 use Rattle.art_cell.proofs.life_tests.lock_pair.Goals as goal
 
 pub leaf_words-words-requires-clause-stamped : goal.leaf_words-words-requires-clause-stamped

@@ -3,7 +3,7 @@ use Rattle.art_cell.specs.declared.cells.Link.TheVariants.{Leaf as leaf, Node as
 use Rattle.art_cell.specs.Views.{Member}
 use Rattle.art_cell.specs.WorldWords.{view_at, views_of}
 use Rattle.art_cell.proofs.AnchorRows.{freed_idle, may_give_back}
-use Rattle.art_cell.proofs.IdlePasses.{no_members}
+use Rattle.art_cell.proofs.Gathered.{no_members}
 use Rattle.art_cell.proofs.LifePairs.{idle_by, in_limbo_on, may_free_node, stays_in_limbo}
 use Rattle.art_cell.proofs.life_tests.shrink.Goals as goal
 

@@ -1,6 +1,6 @@
 use Rattle.std.proofs.Common.{arith, sym, ◌∙◌}
 use Rattle.art_cell.specs.WorldWords.{view_at}
-use Rattle.art_cell.proofs.IdlePasses.{no_members}
+use Rattle.art_cell.proofs.Gathered.{no_members}
 use Rattle.art_cell.proofs.LeavesInHand.{has_leaf}
 use Rattle.art_cell.proofs.LifePairs.{is_node4, just_both, leaf_beside}
 use Rattle.art_cell.proofs.life_tests.take_both.Goals as goal
