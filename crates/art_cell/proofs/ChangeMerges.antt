@@ -23,9 +23,8 @@ use Rattle.art_cell.specs.WordChanges.{FitsWord, WritesPlace, cell_of, KeepsChil
 use Rattle.art_cell.proofs.ChangeCommits.{Touches, Forms, same_words, only_written, commits_by}
 use Rattle.art_cell.proofs.ChangeRows.{remove_rows}
 use Rattle.art_cell.proofs.ChangeShapes.{held_fits, kept_formed, place_formed, anchor_formed}
-use Rattle.art_cell.proofs.Facts.{same_cell}
 use Rattle.art_cell.proofs.Meanings.{no_leaf}
-use Rattle.art_cell.proofs.Places.{at_place, same_link}
+use Rattle.art_cell.proofs.Places.{at_place, same_cell, same_link}
 use Rattle.art_cell.proofs.Renew.{deeper}
 use Rattle.art_cell.proofs.TreeLaws.{merge_law}
 use Rattle.art_cell.proofs.WordChanges.{merge_by_words}

@@ -27,9 +27,8 @@ use Rattle.art_cell.specs.Words.{child_of}
 use Rattle.art_cell.proofs.ChangeCommits.{IsInHand, IsHeld, Touches, Forms, in_hand, same_words, only_written, commits_by}
 use Rattle.art_cell.proofs.ChangeRows.{remove_rows, inserted_rows, leaf_has_key, leaf_unlinked, leaf_formed, node_unlinked}
 use Rattle.art_cell.proofs.ChangeShapes.{NameCells, at_byte_names, IsFormed, written_formed, place_formed, anchor_formed}
-use Rattle.art_cell.proofs.Facts.{same_cell}
 use Rattle.art_cell.proofs.Meanings.{Fits, no_leaf}
-use Rattle.art_cell.proofs.Places.{at_place, same_link}
+use Rattle.art_cell.proofs.Places.{at_place, same_cell, same_link}
 use Rattle.art_cell.proofs.TreeLaws.{grow_law, shrink_law, copy_law}
 use Rattle.art_cell.proofs.WordChanges.{grow_by_words, shrink_by_words, copy_by_words}
 

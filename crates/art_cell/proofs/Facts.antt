@@ -19,17 +19,6 @@ use Rattle.art_cell.specs.Views.{Memory}
 use Rattle.art_cell.specs.Words.{Words}
 use Rattle.art_cell.proofs.Places.{same_node}
 
-pub same_cell : (c d : Cell) → (c ≡ d) ⊎ (c ≢ d)
-same_cell cell.Anchor cell.Anchor = inl refl
-same_cell cell.Anchor (cell.Leaf l) = inr (λ e. cc)
-same_cell cell.Anchor (cell.Node n) = inr (λ e. cc)
-same_cell (cell.Leaf l) cell.Anchor = inr (λ e. cc)
-same_cell (cell.Leaf l) (cell.Leaf k) = ⊎_elim (λ (e : l ≡ k). inl (ap cell.Leaf e)) (λ (f : l ≢ k). inr (λ e. f (cc))) (cases_eq l k)
-same_cell (cell.Leaf l) (cell.Node n) = inr (λ e. cc)
-same_cell (cell.Node n) cell.Anchor = inr (λ e. cc)
-same_cell (cell.Node n) (cell.Leaf l) = inr (λ e. cc)
-same_cell (cell.Node n) (cell.Node m) = ⊎_elim (λ (e : n ≡ m). inl (ap cell.Node e)) (λ (f : n ≢ m). inr (λ e. f (cc))) (same_node n m)
-
 -- the child of a cell is told by its words
 pub same_child : (s s' : Cells) (c : Cell) (b : ℕ) → s' c ≡ s c → child_at (heap_of s') c b ≡ child_at (heap_of s) c b
 unfolding heap_of

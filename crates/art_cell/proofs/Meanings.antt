@@ -19,7 +19,7 @@ use Rattle.art_cell.specs.Tree.{Place, Top, Slot, held}
 use Rattle.art_cell.specs.WordChanges.{FitsWord, at_byte, WritesPlace, WritesNode, cell_of, WritesOnly, KeepsChildren, SameByWords}
 use Rattle.art_cell.specs.Words.{Words, prefix_len, packed, prefix_of, child_of}
 use Rattle.art_cell.proofs.ChildWords.{link_back}
-use Rattle.art_cell.proofs.Places.{same_node, same_link}
+use Rattle.art_cell.proofs.Places.{same_cell, same_link, same_node}
 
 -- ---- cells that mean the same
 
@@ -175,17 +175,6 @@ kept_rest cells after c P (Slot k e) kept rest = ⊎_elim
     (same_link c (node k))
 
 -- ---- the cell of a place
-
-same_cell : (c d : Cell) → (c ≡ d) ⊎ (c ≢ d)
-same_cell cell.Anchor cell.Anchor = inl refl
-same_cell cell.Anchor (cell.Leaf m) = inr (λ e. cc)
-same_cell cell.Anchor (cell.Node m) = inr (λ e. cc)
-same_cell (cell.Leaf l) cell.Anchor = inr (λ e. cc)
-same_cell (cell.Leaf l) (cell.Leaf m) = ⊎_elim (λ (e : l ≡ m). inl (ap cell.Leaf e)) (λ (f : l ≢ m). inr (λ e. f (cc))) (cases_eq l m)
-same_cell (cell.Leaf l) (cell.Node m) = inr (λ e. cc)
-same_cell (cell.Node n) cell.Anchor = inr (λ e. cc)
-same_cell (cell.Node n) (cell.Leaf m) = inr (λ e. cc)
-same_cell (cell.Node n) (cell.Node m) = ⊎_elim (λ (e : n ≡ m). inl (ap cell.Node e)) (λ (f : n ≢ m). inr (λ e. f (cc))) (same_node n m)
 
 -- no place is in a leaf
 pub no_leaf : (x : Place) (l : ℕ) → cell.Leaf l ≡ cell_of x → ⊥

@@ -2,6 +2,8 @@
 use Rattle.std.proofs.Common.{◌≡◌, ◌≢◌, ◌⊎◌, ℕ, List, Some, refl, sym, ap, ap₂, ◌∙◌, subst, inl, inr, ⊎_elim}
 use Rattle.std.proofs.lemmas.Bool.{cases_eq}
 use Rattle.art_cell.specs.declared.cells.Node.{Node}
+use Rattle.art_cell.specs.declared.cells.Cell.{Cell}
+use Rattle.art_cell.specs.declared.cells.Cell.TheVariants as cell
 use Rattle.art_cell.specs.declared.cells.Link.{Link}
 use Rattle.art_cell.specs.declared.cells.Link.TheVariants.{Leaf as leaf, Node as node}
 use Rattle.art_cell.specs.declared.layouts.Layout.{Layout}
@@ -56,6 +58,17 @@ same_link (leaf m) (leaf n) = ⊎_elim (λ (e : m ≡ n). inl (ap leaf e)) (λ (
 same_link (leaf m) (node n) = inr (λ e. cc)
 same_link (node m) (leaf n) = inr (λ e. cc)
 same_link (node m) (node n) = ⊎_elim (λ (e : m ≡ n). inl (ap node e)) (λ (f : m ≢ n). inr (λ e. f (cc))) (same_node m n)
+
+pub same_cell : (c d : Cell) → (c ≡ d) ⊎ (c ≢ d)
+same_cell cell.Anchor cell.Anchor = inl refl
+same_cell cell.Anchor (cell.Leaf l) = inr (λ e. cc)
+same_cell cell.Anchor (cell.Node n) = inr (λ e. cc)
+same_cell (cell.Leaf l) cell.Anchor = inr (λ e. cc)
+same_cell (cell.Leaf l) (cell.Leaf k) = ⊎_elim (λ (e : l ≡ k). inl (ap cell.Leaf e)) (λ (f : l ≢ k). inr (λ e. f (cc))) (cases_eq l k)
+same_cell (cell.Leaf l) (cell.Node n) = inr (λ e. cc)
+same_cell (cell.Node n) cell.Anchor = inr (λ e. cc)
+same_cell (cell.Node n) (cell.Leaf l) = inr (λ e. cc)
+same_cell (cell.Node n) (cell.Node m) = ⊎_elim (λ (e : n ≡ m). inl (ap cell.Node e)) (λ (f : n ≢ m). inr (λ e. f (cc))) (same_node n m)
 
 pub same_place : (x y : Place) → (x ≡ y) ⊎ (x ≢ y)
 same_place Top Top = inl refl

@@ -23,10 +23,10 @@ use Rattle.art_cell.specs.Sound.{IsOneHistory, ShowsReplay, StampsVouch, Keeps, 
 use Rattle.art_cell.specs.StepLaws.{CommitLaw}
 use Rattle.art_cell.specs.StepRows.{SetsVersion, IsNotHeld, Knows, AllNew, IsLinked, Commits, MayCommit, AreStanding, retired, all_retired, Drops, HandsOver, released_word, MayBeFirst, committed}
 use Rattle.art_cell.specs.Views.{Member, Memory, words_in, IsClear, IsLocked, IsObsolete, IsVersion, cell_named, Views, Turned}
-use Rattle.art_cell.proofs.Facts.{same_cell, SameLeafWords, holds_on}
+use Rattle.art_cell.proofs.Facts.{SameLeafWords, holds_on}
 use Rattle.art_cell.proofs.Histories.{replay_more, history_grows}
 use Rattle.art_cell.proofs.Kept.{formed_turn, holder_turn, apart_turn}
-use Rattle.art_cell.proofs.Places.{same_link}
+use Rattle.art_cell.proofs.Places.{same_cell, same_link}
 use Rattle.art_cell.proofs.StepLocks.{Raises, stamp_on, stayed, keeps_on, unlocked_not_held, no_leaf, released_raises, released_unlocked, released_clear, released_version}
 use Rattle.art_cell.proofs.Turns.{one_view, either_view, stranger_before, each_view, member_append, member_front, member_back}
 

@@ -18,7 +18,7 @@ use Rattle.art_cell.specs.Sound.{Keeps, HoldsEach, OneHolder, Holder, IsStampOf,
 use Rattle.art_cell.specs.StepLaws.{UpgradeLaw, ClaimLaw, UnclaimedLaw, ReleaseLaw}
 use Rattle.art_cell.specs.StepRows.{SetsVersion, IsNotHeld, MayLock, IsCopy, found_version, MayClaim, released_word, IsNodeAmong, IsInLimbo, MayRelease}
 use Rattle.art_cell.specs.Views.{Member, Memory, words_in, IsClear, IsLocked, IsObsolete, last_counter, IsVersion, cell_named, Views, Turned}
-use Rattle.art_cell.proofs.Facts.{same_cell}
+use Rattle.art_cell.proofs.Places.{same_cell}
 use Rattle.art_cell.proofs.Histories.{history_stays}
 use Rattle.art_cell.proofs.Kept.{numbers_turn, unstamped_turn, formed_turn, holder_turn, apart_turn}
 use Rattle.art_cell.proofs.Turns.{one_view, each_view}

@@ -13,7 +13,7 @@ use Rattle.art_cell.specs.Sound.{Tells, HoldsEach, Vouched, Whereabouts, InTree,
 use Rattle.art_cell.specs.StepLaws.{newcomer, Opens, OpenLaw}
 use Rattle.art_cell.specs.Tree.{At}
 use Rattle.art_cell.specs.Views.{Member, Memory, IsLocked, IsObsolete, last_counter, IsVersion, cell_named, Views}
-use Rattle.art_cell.proofs.Facts.{same_cell}
+use Rattle.art_cell.proofs.Places.{same_cell}
 use Rattle.art_cell.proofs.Frame.{opened_unlinked, opened_sound, opened_rows}
 
 -- ---- numbers: the free ones and no others

@@ -23,12 +23,12 @@ use Rattle.art_cell.specs.Tree.{At}
 use Rattle.art_cell.specs.Views.{Member, Memory, words_in, IsLocked, IsObsolete, Views, Turned}
 use Rattle.art_cell.specs.WordChanges.{SameByWords}
 use Rattle.art_cell.specs.Words.{Words}
-use Rattle.art_cell.proofs.Facts.{same_cell, SameLeafWords, holds_on}
+use Rattle.art_cell.proofs.Facts.{SameLeafWords, holds_on}
 use Rattle.art_cell.proofs.Frame.{frame_paths, frame_sound, frame_rows}
 use Rattle.art_cell.proofs.Histories.{history_stays}
 use Rattle.art_cell.proofs.Kept.{account_on, numbers_turn, holder_turn, apart_turn, holder_same, one_entry}
 use Rattle.art_cell.proofs.Meanings.{same_tree}
-use Rattle.art_cell.proofs.Places.{same_link}
+use Rattle.art_cell.proofs.Places.{same_cell, same_link}
 use Rattle.art_cell.proofs.StepNumbers.{keeps_new, keeps_on, holder_words, HoldingsFrom, vouch_turn, unstamped_same, formed_same}
 use Rattle.art_cell.proofs.Turns.{stranger_before, each_view}
 

@@ -15,7 +15,8 @@ use Rattle.art_cell.specs.Sound.{Keeps, Holder, OneHolder}
 use Rattle.art_cell.specs.StepRows.{SetsVersion, IsNotHeld, AllNew, Drops, released_word}
 use Rattle.art_cell.specs.Views.{Member, Memory, words_in, IsLocked, Views, Turned}
 use Rattle.art_cell.specs.WorldWords.{Kept, memory_now, views_of, view_at, Turns}
-use Rattle.art_cell.proofs.Facts.{same_cell, holds_all}
+use Rattle.art_cell.proofs.Places.{same_cell}
+use Rattle.art_cell.proofs.Facts.{holds_all}
 use Rattle.art_cell.proofs.Turns.{one_view}
 use Rattle.art_cell.proofs.WorldTurns.{IsKept}
 use Rattle.art_cell.proofs.WorldViews.{at_view, turned_view}

@@ -20,7 +20,7 @@ use Rattle.art_cell.specs.Sound.{IsOneHistory, HoldsEach, IsSound}
 use Rattle.art_cell.specs.StepRows.{SetsVersion, Drops, HandsOver, AreStanding, all_retired, released_word, MayRelease, MayBeFirst, MayCommit, writing, committed}
 use Rattle.art_cell.specs.Views.{Member, Memory, IsLocked, Views, Turned}
 use Rattle.art_cell.specs.WorldWords.{IsInside, place_of, word_count, memory_of, views_of, view_at}
-use Rattle.art_cell.proofs.Facts.{same_cell}
+use Rattle.art_cell.proofs.Places.{same_cell}
 use Rattle.art_cell.proofs.Gathered.{Gathered, gathered, left_over}
 use Rattle.art_cell.proofs.StepCommits.{either_member, commit_law}
 use Rattle.art_cell.proofs.StepLocks.{no_leaf, release_law}

@@ -28,10 +28,10 @@ use Rattle.art_cell.specs.Views.{Member, Memory, size_of, Views, Turned}
 use Rattle.art_cell.specs.Words.{Words}
 use Rattle.art_cell.specs.WorldWords.{word_count, IsInside, place_of, first_place, memory_of, views_of, view_at, Kept, memory_now, Turns}
 use Rattle.art_cell.proofs.Kept.{one_entry}
-use Rattle.art_cell.proofs.Facts.{same_cell, holds_all}
+use Rattle.art_cell.proofs.Facts.{holds_all}
 use Rattle.art_cell.proofs.Gathered.{Gathered, gathered, left_over, put}
 use Rattle.art_cell.proofs.Histories.{history_grows}
-use Rattle.art_cell.proofs.Places.{same_link, one_path}
+use Rattle.art_cell.proofs.Places.{one_path, same_cell, same_link}
 use Rattle.art_cell.proofs.StepLocks.{no_leaf, upgrade_law, unclaimed_law, claim_law}
 use Rattle.art_cell.proofs.StepNotes.{begin_law, read_law, read_leaf_law, pass_law, fail_law}
 use Rattle.art_cell.proofs.StepWrites.{write_law, write_leaf_law}
