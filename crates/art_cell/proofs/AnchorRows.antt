@@ -21,11 +21,12 @@ use Rattle.art_cell.specs.Children.{child_word, link_of}
 use Rattle.art_cell.specs.CommitLaws.{HoldsJust, ClaimedAmong}
 use Rattle.art_cell.specs.Heaps.{Cells, heap_of}
 use Rattle.art_cell.specs.Leaves.{leaf_word}
+use Rattle.art_cell.specs.NodeLives.{anchor_held}
 use Rattle.art_cell.specs.Shown.{Committed, Freed, IsHolding, Wrote, claimed_nodes, coming, link_of_number, links_of}
 use Rattle.art_cell.specs.StepRows.{AllNew, Commits, IsInLimbo, Knows, MayBeFirst, MayCommit, MayFree, MayWrite, note_of, all_retired, retired, stamp_of}
 use Rattle.art_cell.specs.Tree.{Top}
 use Rattle.art_cell.specs.Views.{Member, Views}
-use Rattle.art_cell.specs.Visits.{HasNone, IsAway, IsIdle, anchor_held, HoldsAnchor, HoldsWord, ChangesWord, Fills, NotesLeaf}
+use Rattle.art_cell.specs.Visits.{HasNone, IsAway, IsIdle, HoldsAnchor, HoldsWord, ChangesWord, Fills, NotesLeaf}
 use Rattle.art_cell.specs.Words.{Words}
 use Rattle.art_cell.proofs.ChangeCommits.{add_commits, drop_commits}
 use Rattle.art_cell.proofs.ChildWords.{link_back}

@@ -14,11 +14,11 @@ use Rattle.art_cell.specs.declared.views.View.{View}
 use Rattle.art_cell.specs.declared.visits.Adding.{Adding}
 use Rattle.art_cell.specs.declared.visits.Removing.{Removing}
 use Rattle.art_cell.specs.declared.visits.Visit.{Visit}
-use Rattle.art_cell.specs.NodeLives.{StampsAnchor}
+use Rattle.art_cell.specs.NodeLives.{StampsAnchor, anchor_held}
 use Rattle.art_cell.specs.Shown.{Failed, FailedUpgrade, IsHolding, Released, Upgraded}
 use Rattle.art_cell.specs.StepRows.{MayLock, MayRelease, begun}
 use Rattle.art_cell.specs.Views.{Member, size_of}
-use Rattle.art_cell.specs.Visits.{HasNone, HasJust, IsAway, IsIdle, anchor_held, HoldsUnchanged, Locks, Adds, Removes, Visits}
+use Rattle.art_cell.specs.Visits.{HasNone, HasJust, IsAway, IsIdle, HoldsUnchanged, Locks, Adds, Removes, Visits}
 use Rattle.art_cell.proofs.Gathered.{just_one, no_members, none_left}
 
 -- ---- what is the same of two views
