@@ -1,5 +1,5 @@
 -- A pass that holds nothing, or that has stamped the anchor, or that holds the anchor unchanged.
-use Rattle.std.proofs.Common.{◌≡◌, ℕ, ◌+◌, ◌%◌, true, false, cond, eqb, List, [], ◌∷◌, Bool, Option, Some, refl, sym, ap, ◌∙◌, subst, inl, inr, ⊎_elim}
+use Rattle.std.proofs.Common.{◌≡◌, ℕ, ◌+◌, ◌%◌, true, false, cond, eqb, List, [], ◌∷◌, Bool, Some, refl, sym, ap, ◌∙◌, subst, inr}
 use Rattle.std.specs.Prelude.{MatchResult, Result, Ok, Err}
 use Rattle.art_cell.specs.declared.cells.Cell.{Cell}
 use Rattle.art_cell.specs.declared.cells.Cell.TheVariants as cell
@@ -9,12 +9,11 @@ use Rattle.art_cell.specs.declared.steps.UpgradeFault.TheVariants as fault
 use Rattle.art_cell.specs.declared.views.Holding.{Holding}
 use Rattle.art_cell.specs.declared.views.InHand.{InHand}
 use Rattle.art_cell.specs.declared.views.Stamp.{Stamp}
-use Rattle.art_cell.specs.declared.views.Sizes.{Sizes}
 use Rattle.art_cell.specs.declared.views.View.{View}
 use Rattle.art_cell.specs.NodeLives.{StampsAnchor, anchor_held}
 use Rattle.art_cell.specs.Shown.{Failed, FailedUpgrade, IsHolding, Released, Upgraded}
 use Rattle.art_cell.specs.StepRows.{MayLock, MayRelease, begun}
-use Rattle.art_cell.specs.Views.{Member, size_of}
+use Rattle.art_cell.specs.Views.{size_of}
 use Rattle.art_cell.specs.Visits.{HasNone, HasJust, IsAway, IsIdle, HoldsUnchanged, Locks}
 use Rattle.art_cell.proofs.Gathered.{just_one, no_members, none_left}
 

@@ -1,5 +1,5 @@
 -- What a pass that visits the anchor again and again knows between two of its steps.
-use Rattle.std.specs.Prelude.{◌≡◌, ◌≢◌, ℕ, ◌+◌, ◌%◌, ◌^◌, ◌<◌, List, [], length, false}
+use Rattle.std.specs.Prelude.{◌≡◌, ◌≢◌, ℕ, ◌+◌, ◌%◌, ◌^◌, ◌<◌, List, length, false}
 use Rattle.std.proofs.Common.{add_assoc, ap, sym, ◌∙◌}
 use Rattle.std.proofs.Math.Nat.{add-zero, mod-add-mod}
 use Rattle.art_cell.specs.declared.cells.Cell.TheVariants as cell
