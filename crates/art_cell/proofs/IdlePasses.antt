@@ -1,5 +1,5 @@
 -- A pass that holds nothing, or that has stamped the anchor, or that holds the anchor unchanged.
-use Rattle.std.proofs.Common.{◌≡◌, ℕ, ◌+◌, ◌%◌, true, false, cond, eqb, List, [], ◌∷◌, Bool, Option, Some, refl, sym, ap, ◌∙◌, subst, inl, inr, ⊎_elim}
+use Rattle.std.proofs.Common.{◌≡◌, ℕ, ◌+◌, ◌%◌, true, false, cond, eqb, List, [], ◌∷◌, Bool, Some, refl, sym, ap, ◌∙◌, subst, inr}
 use Rattle.std.specs.Prelude.{MatchResult, Result, Ok, Err}
 use Rattle.art_cell.specs.declared.cells.Cell.{Cell}
 use Rattle.art_cell.specs.declared.cells.Cell.TheVariants as cell
@@ -9,16 +9,12 @@ use Rattle.art_cell.specs.declared.steps.UpgradeFault.TheVariants as fault
 use Rattle.art_cell.specs.declared.views.Holding.{Holding}
 use Rattle.art_cell.specs.declared.views.InHand.{InHand}
 use Rattle.art_cell.specs.declared.views.Stamp.{Stamp}
-use Rattle.art_cell.specs.declared.views.Sizes.{Sizes}
 use Rattle.art_cell.specs.declared.views.View.{View}
-use Rattle.art_cell.specs.declared.visits.Adding.{Adding}
-use Rattle.art_cell.specs.declared.visits.Removing.{Removing}
-use Rattle.art_cell.specs.declared.visits.Visit.{Visit}
-use Rattle.art_cell.specs.NodeLives.{StampsAnchor}
+use Rattle.art_cell.specs.NodeLives.{StampsAnchor, anchor_held}
 use Rattle.art_cell.specs.Shown.{Failed, FailedUpgrade, IsHolding, Released, Upgraded}
 use Rattle.art_cell.specs.StepRows.{MayLock, MayRelease, begun}
-use Rattle.art_cell.specs.Views.{Member, size_of}
-use Rattle.art_cell.specs.Visits.{HasNone, HasJust, IsAway, IsIdle, anchor_held, HoldsUnchanged, Locks, Adds, Removes, Visits}
+use Rattle.art_cell.specs.Views.{size_of}
+use Rattle.art_cell.specs.Visits.{HasNone, HasJust, IsAway, IsIdle, HoldsUnchanged, Locks}
 use Rattle.art_cell.proofs.Gathered.{just_one, no_members, none_left}
 
 -- ---- what is the same of two views
@@ -125,16 +121,6 @@ let_go_same w u h holds released =
     (ap (λ (y : View). y.hand) r.is, ap (λ (y : View). y.steps) r.is)
 
 -- ---- what a visitor knows
-
--- where its state is this one
-pub at_adding : (k : List ℕ) (value : ℕ) (z : Sizes) (v : View) (a b : Adding) → a ≡ b → Adds k value z v a → Adds k value z v b
-at_adding k value z v a b e known = subst (Adds k value z v) e known
-
-pub at_removing : (k : List ℕ) (value : ℕ) (z : Sizes) (v : View) (a b : Removing) → a ≡ b → Removes k value z v a → Removes k value z v b
-at_removing k value z v a b e known = subst (Removes k value z v) e known
-
-pub at_state : (k : List ℕ) (value : ℕ) (z : Sizes) (v : View) (a b : Visit) → a ≡ b → Visits k value z v a → Visits k value z v b
-at_state k value z v a b e known = subst (Visits k value z v) e known
 
 -- the hand stays empty
 pub still_empty : (v w : View) → HasNone v.hand → w.hand ≡ v.hand → HasNone w.hand

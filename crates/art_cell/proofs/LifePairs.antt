@@ -26,7 +26,7 @@ use Rattle.art_cell.specs.Children.{child_word, link_in_pool, link_of}
 use Rattle.art_cell.specs.CommitLaws.{HasLeaf, HasNode}
 use Rattle.art_cell.specs.Heaps.{heap_of}
 use Rattle.art_cell.specs.Knowledge.{CellAt, NamesLeaf, Leads, Names}
-use Rattle.art_cell.specs.NodeLives.{IsNoted, OnlyLearns, IsStampAt, NotesRoot, NotesKey, key_of_one, HoldsTwo, stamped_holding, IsPair, HoldsPair, NotesPair, HasMerged}
+use Rattle.art_cell.specs.NodeLives.{IsNoted, OnlyLearns, IsStampAt, NotesRoot, NotesKey, key_of_one, HoldsTwo, anchor_held, stamped_holding, IsPair, HoldsPair, NotesPair, HasMerged}
 use Rattle.art_cell.specs.Shown.{Freed, Took, link_of_number, links_of, IsHolding, MayReadCell, Passed, Upgraded, Wrote, Committed, Released}
 use Rattle.art_cell.specs.StepRows.{HasClaimedNone, MayFree, MayBeFirst, MayRelease, MayWrite, Drops, with_word, begun, note_of, stamp_of, IsInLimbo}
 use Rattle.art_cell.specs.Tree.{top}
@@ -158,7 +158,7 @@ locked_both v w u x d n a b value free seen at pair key noted first second = rec
 }
   where
     above : Holding
-    above = stamped_holding (stamp_of cell.Anchor x.version) second.words second.words
+    above = anchor_held x.version second.words second.words
 
     below : Holding
     below = stamped_holding (stamp_of (cell.Node n) d.version) first.words first.words
@@ -185,7 +185,7 @@ one_stamped v w x free u h i = ⊎_elim
 
 module _ (v w : View) (n : Node) (a b value : ℕ) (r : HoldsPair v n a b value) where
   abbrev pair_anchor : Holding
-  pair_anchor = stamped_holding (stamp_of cell.Anchor r.version) r.words r.words
+  pair_anchor = anchor_held r.version r.words r.words
 
   abbrev pair_node : Holding
   pair_node = stamped_holding (stamp_of (cell.Node n) r.second) r.body r.body
@@ -219,7 +219,7 @@ module _ (v w : View) (n : Node) (a b value : ℕ) (r : HoldsPair v n a b value)
 
 module _ (v w : View) (n : Node) (a b value : ℕ) (r : HasMerged v n a b value) where
   abbrev merged_anchor : Holding
-  merged_anchor = stamped_holding (stamp_of cell.Anchor r.version) r.old r.new
+  merged_anchor = anchor_held r.version r.old r.new
 
   abbrev merged_node : Holding
   merged_node = stamped_holding (stamp_of (cell.Node n) r.second) r.body r.body

@@ -22,7 +22,7 @@ use Rattle.art_cell.specs.Children.{child_word, link_of}
 use Rattle.art_cell.specs.CommitLaws.{HasLeaf, HasNode}
 use Rattle.art_cell.specs.Heaps.{heap_of}
 use Rattle.art_cell.specs.Knowledge.{NamesLeaf, Names}
-use Rattle.art_cell.specs.NodeLives.{IsNoted, OnlyLearns, IsStampAt, StampsAnchor, NotesRoot, NotesKey, key_of_one, HoldsTwo, stamped_holding, claimed_holding, HoldsLeafRoot, HasClaimed, IsWholePair, HasForked}
+use Rattle.art_cell.specs.NodeLives.{IsNoted, OnlyLearns, IsStampAt, StampsAnchor, NotesRoot, NotesKey, key_of_one, HoldsTwo, anchor_held, claimed_holding, HoldsLeafRoot, HasClaimed, IsWholePair, HasForked}
 use Rattle.art_cell.specs.Shown.{claimed_nodes, coming, Claimed, IsHolding, Passed, Upgraded, Wrote, Committed, Released}
 use Rattle.art_cell.specs.StepRows.{MayBeFirst, MayClaim, MayRelease, Puts, with_word, MayWrite, Drops, has_read, note_of, stamp_of, MayReadLeaf, IsNotHeld}
 use Rattle.art_cell.specs.Views.{Member, size_of, words_in}
@@ -156,7 +156,7 @@ pub may_claim_beside : (z : Sizes) (v : View) (m : Node) (a : ℕ) → HoldsLeaf
 may_claim_beside z v m a r has = record {
   hand = (has.hand, has.has, has.link);
   free = λ h i e. ⊎_elim
-      (λ (is : h ≡ stamped_holding (stamp_of cell.Anchor r.version) r.words r.words). let bad : cell.Anchor ≡ cell.Node m = sym (ap (λ (k : Holding). k.cell) is) ∙ e in cc)
+      (λ (is : h ≡ anchor_held r.version r.words r.words). let bad : cell.Anchor ≡ cell.Node m = sym (ap (λ (k : Holding). k.cell) is) ∙ e in cc)
       (λ (none : ⊥). none)
       (subst (Member h) r.held i);
   early = inl r.early;
@@ -185,7 +185,7 @@ claimed_beside z v w m a ws layout r has k = record {
 }
   where
     above : Holding
-    above = stamped_holding (stamp_of cell.Anchor r.version) r.words r.words
+    above = anchor_held r.version r.words r.words
 
     below : Holding
     below = claimed_holding m k.words k.words
@@ -201,7 +201,7 @@ module _ (z : Sizes) (v w : View) (m : Node) (a : ℕ) (ws : List ℕ) (n : ℕ)
   the_claimed = claimed_holding m r.unused r.body
 
   abbrev the_anchor : Holding
-  the_anchor = stamped_holding (stamp_of cell.Anchor r.version) r.words r.words
+  the_anchor = anchor_held r.version r.words r.words
 
   pub may_write_claimed : m.layout ≡ Node4 → n < 14 → (h : Holding) × (h.cell ≡ cell.Node m) × MayWrite v h (n + 1)
   may_write_claimed layout low = (
@@ -314,7 +314,7 @@ forked_by z y v w m a l value n first second x c same low high r layout is_first
 
 module _ (z : Sizes) (v w : View) (m : Node) (a l value : ℕ) (r : HasForked z v m a l value) where
   abbrev forked_anchor : Holding
-  forked_anchor = stamped_holding (stamp_of cell.Anchor r.version) r.old r.new
+  forked_anchor = anchor_held r.version r.old r.new
 
   abbrev forked_node : Holding
   forked_node = claimed_holding m r.unused r.body

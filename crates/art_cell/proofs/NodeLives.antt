@@ -21,7 +21,7 @@ use Rattle.art_cell.specs.Children.{link_of}
 use Rattle.art_cell.specs.CommitLaws.{IsItsNode, ForkCommits, MergeCommits}
 use Rattle.art_cell.specs.Heaps.{Cells, key_of, heap_of}
 use Rattle.art_cell.specs.Knowledge.{IsShape}
-use Rattle.art_cell.specs.NodeLives.{IsNoted, NotesKey, key_of_one, stamped_holding, claimed_holding, IsPair, HasForked, HasMerged}
+use Rattle.art_cell.specs.NodeLives.{IsNoted, NotesKey, key_of_one, anchor_held, stamped_holding, claimed_holding, IsPair, HasForked, HasMerged}
 use Rattle.art_cell.specs.Rows.{IsAbsent}
 use Rattle.art_cell.specs.Shown.{claimed_nodes, claimed_node, coming}
 use Rattle.art_cell.specs.StepRows.{Knows, AllNew, IsLinked, Commits, MayCommit, note_of, stamp_of}
@@ -54,7 +54,7 @@ noted_leaf v s x old new l b small knows has notes =
 
 module _ (z : Sizes) (v : View) (m : Node) (a l value : ℕ) (r : HasForked z v m a l value) (law : ForkCommits) where
   abbrev anchor : Holding
-  anchor = stamped_holding (stamp_of cell.Anchor r.version) r.old r.new
+  anchor = anchor_held r.version r.old r.new
 
   abbrev made : Holding
   made = claimed_holding m r.unused r.body
@@ -96,7 +96,7 @@ module _ (z : Sizes) (v : View) (m : Node) (a l value : ℕ) (r : HasForked z v 
 
 module _ (z : Sizes) (v : View) (n : Node) (a b value : ℕ) (r : HasMerged v n a b value) (law : MergeCommits) where
   abbrev above : Holding
-  above = stamped_holding (stamp_of cell.Anchor r.version) r.old r.new
+  above = anchor_held r.version r.old r.new
 
   abbrev below : Holding
   below = stamped_holding (stamp_of (cell.Node n) r.second) r.body r.body

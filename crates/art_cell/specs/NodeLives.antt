@@ -41,6 +41,7 @@ pub record IsStampAt (v : View) (x : Stamp) (c : Cell) (p : List ℕ) : Type 0 w
   pub stamp : Member x v.stamps
   pub path : IsNoted v x (Starts p)
 
+-- the anchor is stamped, and its path is noted
 abbrev pub StampsAnchor : View → Stamp → Type 0
 StampsAnchor v x = IsStampAt v x cell.Anchor []
 
@@ -73,6 +74,10 @@ pub record HoldsTwo (hs : List Holding) (h k : Holding) : Type 0 where
 abbrev pub stamped_holding : Stamp → List ℕ → List ℕ → Holding
 stamped_holding x old new = record { cell = x.cell; stamped = Some x.version; old = old; new = new }
 
+-- the anchor, held under its stamp of this version
+abbrev pub anchor_held : ℕ → List ℕ → List ℕ → Holding
+anchor_held x old new = stamped_holding (stamp_of cell.Anchor x) old new
+
 abbrev pub claimed_holding : Node → List ℕ → List ℕ → Holding
 claimed_holding n old new = record { cell = cell.Node n; stamped = None; old = old; new = new }
 
@@ -96,7 +101,7 @@ pub record IsWholePair (w : Words) (c d : Link) : Type 0 where
 pub record HoldsLeafRoot (v : View) (a : ℕ) : Type 0 where
   pub version : ℕ
   pub words : List ℕ
-  pub held : v.held ≡ stamped_holding (stamp_of cell.Anchor version) words words ∷ []
+  pub held : v.held ≡ anchor_held version words words ∷ []
   pub long : length words ≡ 2
   pub names : link_of (words_in words 1) ≡ Some (leaf a)
   pub key : NotesKey v (stamp_of cell.Anchor version) a 97
@@ -108,7 +113,7 @@ pub record HasClaimed (z : Sizes) (v : View) (m : Node) (a : ℕ) (ws : List ℕ
   pub words : List ℕ
   pub unused : List ℕ
   pub body : List ℕ
-  pub held : HoldsTwo v.held (stamped_holding (stamp_of cell.Anchor version) words words) (claimed_holding m unused body)
+  pub held : HoldsTwo v.held (anchor_held version words words) (claimed_holding m unused body)
   pub long : length words ≡ 2
   pub names : link_of (words_in words 1) ≡ Some (leaf a)
   pub key : NotesKey v (stamp_of cell.Anchor version) a 97
@@ -125,7 +130,7 @@ pub record HasForked (z : Sizes) (v : View) (m : Node) (a l value : ℕ) : Type 
   pub new : List ℕ
   pub unused : List ℕ
   pub body : List ℕ
-  pub held : HoldsTwo v.held (stamped_holding (stamp_of cell.Anchor version) old new) (claimed_holding m unused body)
+  pub held : HoldsTwo v.held (anchor_held version old new) (claimed_holding m unused body)
   pub layout : m.layout ≡ Node4
   pub was : link_of (words_in old 1) ≡ Some (leaf a)
   pub now : words_in new 1 ≡ child_word (node m)
@@ -151,7 +156,7 @@ pub record HasMerged (v : View) (n : Node) (a b value : ℕ) : Type 0 where
   pub old : List ℕ
   pub new : List ℕ
   pub body : List ℕ
-  pub held : HoldsTwo v.held (stamped_holding (stamp_of cell.Anchor version) old new) (stamped_holding (stamp_of (cell.Node n) second) body body)
+  pub held : HoldsTwo v.held (anchor_held version old new) (stamped_holding (stamp_of (cell.Node n) second) body body)
   pub layout : n.layout ≡ Node4
   pub was : link_of (words_in old 1) ≡ Some (node n)
   pub now : words_in new 1 ≡ child_word (leaf a)
@@ -166,7 +171,7 @@ pub record HoldsPair (v : View) (n : Node) (a b value : ℕ) : Type 0 where
   pub second : ℕ
   pub words : List ℕ
   pub body : List ℕ
-  pub held : HoldsTwo v.held (stamped_holding (stamp_of cell.Anchor version) words words) (stamped_holding (stamp_of (cell.Node n) second) body body)
+  pub held : HoldsTwo v.held (anchor_held version words words) (stamped_holding (stamp_of (cell.Node n) second) body body)
   pub long : length words ≡ 2
   pub names : link_of (words_in words 1) ≡ Some (node n)
   pub pair : NotesPair v (stamp_of (cell.Node n) second) a b

@@ -1,5 +1,5 @@
 -- What a pass that visits the anchor again and again knows between two of its steps.
-use Rattle.std.specs.Prelude.{◌≡◌, ◌≢◌, ℕ, ◌+◌, ◌%◌, ◌^◌, ◌<◌, List, [], length, false, Some}
+use Rattle.std.specs.Prelude.{◌≡◌, ◌≢◌, ℕ, ◌+◌, ◌%◌, ◌^◌, ◌<◌, List, length, false}
 use Rattle.std.proofs.Common.{add_assoc, ap, sym, ◌∙◌}
 use Rattle.std.proofs.Math.Nat.{add-zero, mod-add-mod}
 use Rattle.art_cell.specs.declared.cells.Cell.TheVariants as cell
@@ -8,7 +8,6 @@ use Rattle.art_cell.specs.declared.layouts.Number.{Number}
 use Rattle.art_cell.specs.declared.layouts.Pool.TheVariants.{Leaves}
 use Rattle.art_cell.specs.declared.steps.Held.{Held}
 use Rattle.art_cell.specs.declared.views.Fact.TheVariants.{Word, LeafWord}
-use Rattle.art_cell.specs.declared.views.Holding.{Holding}
 use Rattle.art_cell.specs.declared.views.InHand.{InHand}
 use Rattle.art_cell.specs.declared.views.Sizes.{Sizes}
 use Rattle.art_cell.specs.declared.views.Stamp.{Stamp}
@@ -21,7 +20,7 @@ use Rattle.art_cell.specs.declared.visits.Visit.{Visit}
 use Rattle.art_cell.specs.declared.visits.Visit.TheVariants as visit
 use Rattle.art_cell.specs.Children.{child_word}
 use Rattle.art_cell.specs.Leaves.{leaf_word}
-use Rattle.art_cell.specs.NodeLives.{IsNoted, StampsAnchor}
+use Rattle.art_cell.specs.NodeLives.{IsNoted, StampsAnchor, anchor_held}
 use Rattle.art_cell.specs.Shown.{AgreesWithNotes}
 use Rattle.art_cell.specs.StepRows.{stamp_of}
 use Rattle.art_cell.specs.Views.{Member, words_in}
@@ -47,10 +46,6 @@ pub record IsAway (v : View) : Type 0 where
 pub record IsIdle (v : View) : Type 0 where
   pub away : IsAway v
   pub hand : HasNone v.hand
-
--- the anchor, stamped with the version x, with its words before the commit and after
-abbrev pub anchor_held : ℕ → List ℕ → List ℕ → Holding
-anchor_held x old new = record { cell = cell.Anchor; stamped = Some x; old = old; new = new }
 
 -- the pass holds the anchor alone, and has not committed
 pub record HoldsAnchor (v : View) (h : Held) (x : ℕ) (old new : List ℕ) : Type 0 where

@@ -4,16 +4,15 @@ use Rattle.art_cell.specs.declared.anchor_steps.TheConstants.{KEY, VALUE}
 use Rattle.art_cell.specs.declared.cells.Cell.TheVariants as cell
 use Rattle.art_cell.specs.declared.views.Fact.TheVariants.{Word}
 use Rattle.art_cell.specs.NodeLives.{IsNoted}
-use Rattle.art_cell.specs.Visits.{ChangesWord}
+use Rattle.art_cell.specs.Visits.{Adds, ChangesWord}
 use Rattle.art_cell.proofs.AnchorReads.{learns_away, locks_word}
-use Rattle.art_cell.proofs.IdlePasses.{at_adding}
 use Rattle.art_cell.proofs.LeavesInHand.{fills_on}
 use Rattle.art_cell.proofs.LifeSteps.{stamp_at_on}
 use Rattle.art_cell.proofs.actor_tests.add.Goals as goal
 
 pub returns-in-0-clause-visits : goal.returns-in-0-clause-visits
 returns-in-0-clause-visits g c =
-    let k = at_adding _ _ _ _ _ _ c.in-Stamped.is c.requires in
+    let k = subst (Adds (KEY ∷ []) VALUE _ _) c.in-Stamped.is c.requires in
     let e = c.read_anchor.ensures in
     let v = g.S.Steps.view c.args.steps.now in
     let w = g.S.Steps.view c.read_anchor.new.steps in (
@@ -25,7 +24,7 @@ returns-in-0-clause-visits g c =
 
 pub returns-in_default-clause-visits : goal.returns-in_default-clause-visits
 returns-in_default-clause-visits g c =
-    let k = at_adding _ _ _ _ _ _ c.in-Stamped.is c.requires in
+    let k = subst (Adds (KEY ∷ []) VALUE _ _) c.in-Stamped.is c.requires in
     let e = c.read_anchor.ensures in
     let v = g.S.Steps.view c.args.steps.now in
     let w = g.S.Steps.view c.read_anchor.new.steps in
@@ -33,7 +32,7 @@ returns-in_default-clause-visits g c =
 
 pub returns-in-Ok-clause-visits : goal.returns-in-Ok-clause-visits
 returns-in-Ok-clause-visits g c =
-    let k = at_adding _ _ _ _ _ _ c.in-Seen.is c.requires in
+    let k = subst (Adds (KEY ∷ []) VALUE _ _) c.in-Seen.is c.requires in
     let e = c.in-Ok.ensures in
     let v = g.S.Steps.view c.args.steps.now in
     let w = g.S.Steps.view c.upgrade.new.steps in (
@@ -43,7 +42,7 @@ returns-in-Ok-clause-visits g c =
 
 pub returns-in-Locked-clause-visits : goal.returns-in-Locked-clause-visits
 returns-in-Locked-clause-visits g c =
-    let k = at_adding _ _ _ _ _ _ c.in-Locked.is c.requires in
+    let k = subst (Adds (KEY ∷ []) VALUE _ _) c.in-Locked.is c.requires in
     let e = c.write_child.ensures in
     let v = g.S.Steps.view c.args.steps.now in
     let w = g.S.Steps.view c.write_child.new.steps in (

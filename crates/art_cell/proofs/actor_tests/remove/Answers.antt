@@ -6,27 +6,28 @@ use Rattle.art_cell.specs.declared.cells.Link.TheVariants.{Leaf as leaf}
 use Rattle.art_cell.specs.Children.{child_word}
 use Rattle.art_cell.specs.Leaves.{leaf_word}
 use Rattle.art_cell.specs.Views.{Member}
+use Rattle.art_cell.specs.Visits.{Removes}
 use Rattle.art_cell.specs.WorldWords.{view_at}
 use Rattle.art_cell.proofs.AnchorReads.{learns_idle, locks_notes, locks_word, notes_less, notes_more, notes_on}
-use Rattle.art_cell.proofs.IdlePasses.{at_removing, idle_then, still_empty}
+use Rattle.art_cell.proofs.IdlePasses.{idle_then, still_empty}
 use Rattle.art_cell.proofs.LifeSteps.{stamp_at_on}
 use Rattle.art_cell.proofs.actor_tests.remove.Goals as goal
 
 pub returns-in-Some-clause-visits : goal.returns-in-Some-clause-visits
 returns-in-Some-clause-visits c =
-    let k = at_removing _ _ _ _ _ _ c.in-Idle.is c.requires in
+    let k = subst (Removes (KEY ∷ []) VALUE _ _) c.in-Idle.is c.requires in
     let e = c.in-Some.ensures in
     (idle_then (view_at c.args.at.now.world.now.views c.args.at.now.pass) _ k.hand e.hand e.away, e.stamp)
 
 pub returns-in-None-clause-visits : goal.returns-in-None-clause-visits
 returns-in-None-clause-visits c =
-    let k = at_removing _ _ _ _ _ _ c.in-Idle.is c.requires in
+    let k = subst (Removes (KEY ∷ []) VALUE _ _) c.in-Idle.is c.requires in
     let e = c.in-None.ensures in
     idle_then (view_at c.args.at.now.world.now.views c.args.at.now.pass) _ k.hand e.hand e.away
 
 pub returns-in-true-clause-visits : goal.returns-in-true-clause-visits
 returns-in-true-clause-visits c =
-    let k = at_removing _ _ _ _ _ _ c.in-Reading.is c.requires in
+    let k = subst (Removes (KEY ∷ []) VALUE _ _) c.in-Reading.is c.requires in
     let e = c.read_leaf.ensures in
     let v = view_at c.args.at.now.world.now.views c.args.at.now.pass in
     let at = c.read_leaf.new.steps in
@@ -39,12 +40,12 @@ returns-in-true-clause-visits c =
 
 pub returns-in-false-clause-visits : goal.returns-in-false-clause-visits
 returns-in-false-clause-visits c =
-    let k = at_removing _ _ _ _ _ _ c.in-Reading.is c.requires in
+    let k = subst (Removes (KEY ∷ []) VALUE _ _) c.in-Reading.is c.requires in
     learns_idle (view_at c.args.at.now.world.now.views c.args.at.now.pass) _ c.read_leaf.ensures.learns k.0
 
 pub returns-in-Ok-clause-visits : goal.returns-in-Ok-clause-visits
 returns-in-Ok-clause-visits c =
-    let k = at_removing _ _ _ _ _ _ c.in-Reading-2.is c.requires in
+    let k = subst (Removes (KEY ∷ []) VALUE _ _) c.in-Reading-2.is c.requires in
     let e = c.in-Ok.ensures in
     let v = view_at c.args.at.now.world.now.views c.args.at.now.pass in
     let at = c.upgrade.new.steps in
@@ -61,13 +62,13 @@ returns-in-Ok-clause-visits c =
 
 pub returns-in-Err-clause-visits : goal.returns-in-Err-clause-visits
 returns-in-Err-clause-visits c =
-    let k = at_removing _ _ _ _ _ _ c.in-Reading-2.is c.requires in
+    let k = subst (Removes (KEY ∷ []) VALUE _ _) c.in-Reading-2.is c.requires in
     let e = c.in-Err.ensures in
     idle_then (view_at c.args.at.now.world.now.views c.args.at.now.pass) _ k.0.hand e.hand e.locks
 
 pub returns-in-Locked-clause-visits : goal.returns-in-Locked-clause-visits
 returns-in-Locked-clause-visits c =
-    let k = at_removing _ _ _ _ _ _ c.in-Locked.is c.requires in
+    let k = subst (Removes (KEY ∷ []) VALUE _ _) c.in-Locked.is c.requires in
     let e = c.write_child.ensures in
     let v = view_at c.args.at.now.world.now.views c.args.at.now.pass in
     let at = c.write_child.new.steps in
