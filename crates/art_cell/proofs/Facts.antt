@@ -1,6 +1,5 @@
 -- What is known of cells, where most words stay.
-use Rattle.std.proofs.Common.{◌≡◌, ◌≢◌, ◌⊎◌, ℕ, List, [], inl, inr, sym, refl, ap, ◌∙◌, subst, ⊎_elim}
-use Rattle.std.proofs.lemmas.Bool.{cases_eq}
+use Rattle.std.proofs.Common.{◌≡◌, ℕ, List, [], sym, refl, ap, ◌∙◌, subst}
 use Rattle.std.specs.Prelude.{Some}
 use Rattle.art_cell.specs.declared.cells.Cell.{Cell}
 use Rattle.art_cell.specs.declared.cells.Cell.TheVariants as cell
@@ -17,7 +16,6 @@ use Rattle.art_cell.specs.Sound.{Vouched}
 use Rattle.art_cell.specs.Tree.{past, At, top, down}
 use Rattle.art_cell.specs.Views.{Memory}
 use Rattle.art_cell.specs.Words.{Words}
-use Rattle.art_cell.proofs.Places.{same_node}
 
 -- the child of a cell is told by its words
 pub same_child : (s s' : Cells) (c : Cell) (b : ℕ) → s' c ≡ s c → child_at (heap_of s') c b ≡ child_at (heap_of s) c b

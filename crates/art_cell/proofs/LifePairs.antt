@@ -40,7 +40,6 @@ use Rattle.art_cell.proofs.ChildWords.{link_back, link_exact}
 use Rattle.art_cell.proofs.LeafPair.{pair_child}
 use Rattle.art_cell.proofs.LifeSteps.{both_dropped, passed_learns, puts_one, stamp_is}
 use Rattle.art_cell.proofs.Meanings.{child_is, child_named}
-use Rattle.art_cell.proofs.WorldFree.{free_is_number}
 use Rattle.art_cell.proofs.Turns.{member_front}
 
 -- ---- the node is stamped, and its path is noted

@@ -1,6 +1,6 @@
 -- What words mean after a change.
-use Rattle.std.proofs.Common.{◌≡◌, ◌≢◌, ◌⊎◌, ℕ, ◌<◌, ◌≤◌, Bool, true, false, cond, ltb, List, [], length, Option, Some, None, refl, sym, ap, ◌∙◌, subst, inl, inr, ⊎_elim, arith, ne_eqb}
-use Rattle.std.proofs.lemmas.Bool.{cases_lt, cases_eq, lt-ltb, le-ltb}
+use Rattle.std.proofs.Common.{◌≡◌, ◌≢◌, ℕ, ◌<◌, ◌≤◌, Bool, true, false, cond, ltb, List, [], length, Option, Some, None, refl, sym, ap, ◌∙◌, subst, ⊎_elim, arith, ne_eqb}
+use Rattle.std.proofs.lemmas.Bool.{cases_lt, lt-ltb, le-ltb}
 use Rattle.std.proofs.lemmas.List.FromFn.{length-map-range_with_len}
 use Rattle.std.specs.Option.{option_and_then}
 use Rattle.art_cell.specs.declared.layouts.Layout.{Layout}
@@ -19,7 +19,7 @@ use Rattle.art_cell.specs.Tree.{Place, Top, Slot, held}
 use Rattle.art_cell.specs.WordChanges.{FitsWord, at_byte, WritesPlace, WritesNode, cell_of, WritesOnly, KeepsChildren, SameByWords}
 use Rattle.art_cell.specs.Words.{Words, prefix_len, packed, prefix_of, child_of}
 use Rattle.art_cell.proofs.ChildWords.{link_back}
-use Rattle.art_cell.proofs.Places.{same_cell, same_link, same_node}
+use Rattle.art_cell.proofs.Places.{same_cell, same_link}
 
 -- ---- cells that mean the same
 

@@ -45,7 +45,7 @@ returns-clause-at_once c =
     let first = c.requires.first in
     let word = c.released.ensures ∙ ap (λ (x : ℕ). released_word x c.args.obsolete) c.version-found.ensures in
     let unlocks =
-            subst (λ (k : Kept). IsKept k → place ≡ place_of k.sizes cell → SetsVersion (memory_now now) cell (released_word ((memory_now now).version cell) c.args.obsolete) (memory_of k.sizes (slice_set k.words place c.released.result))) (sym c.self.view_is)
-        (λ i at. release_sets now.sizes now.words now.views c.args.pass i.2 c.requires.pass i.0 cell first.0 c.args.obsolete c.released.result place first.1 first.2.held c.requires.inside word at)
-        c.self.invariant c.place_of-place.ensures in
+    subst (λ (k : Kept). IsKept k → place ≡ place_of k.sizes cell → SetsVersion (memory_now now) cell (released_word ((memory_now now).version cell) c.args.obsolete) (memory_of k.sizes (slice_set k.words place c.released.result))) (sym c.self.view_is)
+    (λ i at. release_sets now.sizes now.words now.views c.args.pass i.2 c.requires.pass i.0 cell first.0 c.args.obsolete c.released.result place first.1 first.2.held c.requires.inside word at)
+    c.self.invariant c.place_of-place.ensures in
     record { unlocks = unlocks; bodies = bodies c.args.obsolete c.spent-leaf.result first.0 c.self.view_is c.requires.pass first.1 first.2.held unlocks c.changed.ensures }

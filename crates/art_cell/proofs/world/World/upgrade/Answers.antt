@@ -25,7 +25,7 @@ returns-clause-at_once c =
     let x : Stamp = c.args.stamp in
     record {
       found = sym c.if-found-stamp.false ∙ c.version-found.ensures;
-      sets =     subst (λ (k : Kept). IsKept k → place ≡ place_of k.sizes x.cell → SetsVersion (memory_now now) x.cell (x.version + 2) (memory_of k.sizes (set k.words place (found + 2)))) (sym c.self.view_is)
+      sets = subst (λ (k : Kept). IsKept k → place ≡ place_of k.sizes x.cell → SetsVersion (memory_now now) x.cell (x.version + 2) (memory_of k.sizes (set k.words place (found + 2)))) (sym c.self.view_is)
           (λ i at. upgrade_sets now.sizes now.words now.views c.args.pass i.2 c.requires.pass i.0 x place found c.requires.inside at c.version-found.ensures c.if-found-stamp.false c.requires.stamp)
           c.self.invariant c.place_of-place.ensures;
     }
