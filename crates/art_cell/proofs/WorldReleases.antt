@@ -19,13 +19,13 @@ use Rattle.art_cell.specs.Shown.{IsHolding, Released, Committed, coming}
 use Rattle.art_cell.specs.Sound.{IsOneHistory, HoldsEach, IsSound}
 use Rattle.art_cell.specs.StepRows.{SetsVersion, Drops, HandsOver, AreStanding, all_retired, released_word, MayRelease, MayBeFirst, MayCommit, writing, committed}
 use Rattle.art_cell.specs.Views.{Member, Memory, IsLocked, Views, Turned}
-use Rattle.art_cell.specs.WorldWords.{IsInside, place_of, word_count, memory_of, views_of, view_at}
+use Rattle.art_cell.specs.WorldWords.{Kept, IsInside, place_of, word_count, memory_of, memory_now, views_of, view_at}
 use Rattle.art_cell.proofs.Places.{same_cell}
 use Rattle.art_cell.proofs.Gathered.{Gathered, gathered, left_over}
 use Rattle.art_cell.proofs.StepCommits.{either_member, commit_law}
 use Rattle.art_cell.proofs.StepLocks.{no_leaf, release_law}
 use Rattle.art_cell.proofs.WorldMemory.{puts_version}
-use Rattle.art_cell.proofs.WorldTurns.{Next, makes}
+use Rattle.art_cell.proofs.WorldTurns.{IsKept, Next, makes}
 use Rattle.art_cell.proofs.WorldViews.{at_view, turned_view}
 
 -- ---- what a pass keeps
@@ -106,13 +106,13 @@ module _ (z : Sizes) (ws : List ℕ) (vs : List View) (p : ℕ) (r : IsSound z (
   mine = r.holder.holds p v at
 
   -- it is locked, so that its version word is far below the greatest
-  pub released_fits : (c : Cell) (h : Holding) → h.cell ≡ c → Member h v.held → m.version c < 18446744073709551613
+  released_fits : (c : Cell) (h : Holding) → h.cell ≡ c → Member h v.held → m.version c < 18446744073709551613
   released_fits c h is i =
       let small = (r.formed.versions h.cell).locked (mine.keeps h i).locked in
       subst (λ (d : Cell). m.version d < 18446744073709551613) is (omega arith)
 
   -- and it is no leaf, so that it may be set
-  pub release_sets : (c : Cell) (h : Holding) (obsolete : Bool) (word place : ℕ) → h.cell ≡ c → Member h v.held → IsInside z c → word ≡ released_word (m.version c) obsolete → place ≡ place_of z c
+  release_sets : (c : Cell) (h : Holding) (obsolete : Bool) (word place : ℕ) → h.cell ≡ c → Member h v.held → IsInside z c → word ≡ released_word (m.version c) obsolete → place ≡ place_of z c
       → SetsVersion m c (released_word (m.version c) obsolete) (memory_of z (slice_set ws place word))
   release_sets c h obsolete word place of i there is at =
       let locked = subst (λ (d : Cell). IsLocked (m.version d)) of (mine.keeps h i).locked in
@@ -167,3 +167,19 @@ module _ (z : Sizes) (ws : List ℕ) (vs : List View) (p : ℕ) (r : IsSound z (
           is = refl;
         },
       )))
+
+-- ---- the calls that release a cell
+
+-- of the world as it is now, seen as k: the pass holds the cell, whose version word was found and goes on
+module _ {k now : Kept} (seen : k ≡ now) (kept : IsKept k) (p : ℕ) (inside : p < length now.views) (c : Cell) (h : Holding) (of : h.cell ≡ c) (held : Member h (view_at now.views p).held)
+    (found : ℕ) (found_is : found ≡ (memory_now now).version c) where
+  pub found_fits : found < 18446744073709551613
+  found_fits = rw found_is (let i = subst IsKept seen kept in released_fits now.sizes now.words now.views p i.2 inside i.0 c h of held)
+
+  pub found_sets : (obsolete : Bool) (place word : ℕ) → IsInside now.sizes c → word ≡ released_word found obsolete → place ≡ place_of k.sizes c
+      → SetsVersion (memory_now now) c (released_word ((memory_now now).version c) obsolete) (memory_of k.sizes (slice_set k.words place word))
+  found_sets obsolete place word there word_is at =
+      let is : word ≡ released_word ((memory_now now).version c) obsolete = word_is ∙ ap (λ (x : ℕ). released_word x obsolete) found_is in
+      subst (λ (j : Kept). IsKept j → place ≡ place_of j.sizes c → SetsVersion (memory_now now) c (released_word ((memory_now now).version c) obsolete) (memory_of j.sizes (slice_set j.words place word))) (sym seen)
+      (λ i at. release_sets now.sizes now.words now.views p i.2 inside i.0 c h obsolete word place of held there is at)
+      kept at
