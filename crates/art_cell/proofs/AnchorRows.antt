@@ -29,7 +29,6 @@ use Rattle.art_cell.specs.Visits.{HasNone, IsAway, IsIdle, HoldsAnchor, HoldsWor
 use Rattle.art_cell.specs.Words.{Words}
 use Rattle.art_cell.proofs.ChangeCommits.{add_commits, drop_commits}
 use Rattle.art_cell.proofs.ChildWords.{link_back}
-use Rattle.art_cell.proofs.Frame.{opened_unlinked}
 use Rattle.art_cell.proofs.Gathered.{left_over, no_members, none_left}
 use Rattle.art_cell.proofs.IdlePasses.{still_away, still_empty}
 use Rattle.art_cell.proofs.LeavesInHand.{first_words, has_leaf, leaf_link}
@@ -149,8 +148,7 @@ may_add z v h n x byte value small f c s s' shape knows turns =
     let empty = root_before z v h x 0 _ c s s' knows turns in
     subst (λ (ls : List Link). Commits z v (Done (Insert (byte ∷ []) value) Inserted) [] ls s s') (sym comes)
     (add_commits z v s s' Top [] n.number (byte ∷ []) value (record { shape = shape; knows = knows; new = turns }) (has_leaf z v n byte value small f)
-    (holds_just z v h x 0 _ c) (claimed_none z v h x 0 _ c) (word_after z v h x 0 _ c s s' knows turns) refl empty (byte ∷ [], refl)
-    (λ w row. opened_unlinked (heap_of s) (leaf row.number) empty row.path row.at))
+    (holds_just z v h x 0 _ c) (claimed_none z v h x 0 _ c) (word_after z v h x 0 _ c s s' knows turns) refl empty (byte ∷ [], refl))
   where
     comes : coming v (Some (link_of_number n)) ≡ leaf n.number ∷ []
     comes = ap₂ (λ (d : Link) (ls : List Link). d ∷ ls) (leaf_link n f.pool) (none_coming v h x c.old c.new c.holds)

@@ -19,13 +19,14 @@ use Rattle.art_cell.specs.CommitLaws.{Before, HasLeaf, HoldsJust, ClaimedAmong, 
 use Rattle.art_cell.specs.Heaps.{Cells, heap_of}
 use Rattle.art_cell.specs.Knowledge.{IsNodeCell, IsShape}
 use Rattle.art_cell.specs.Laws.{Does, EditTouched, EditPaths}
-use Rattle.art_cell.specs.Rows.{ByteMap, IsAbsent}
+use Rattle.art_cell.specs.Rows.{ByteMap}
 use Rattle.art_cell.specs.StepRows.{IsNotHeld, IsLinked, Commits}
 use Rattle.art_cell.specs.Tree.{Place, Slot, Heap, held, At, PlaceAt, Begins, HasTwo}
 use Rattle.art_cell.specs.Views.{Member, IsNumber}
 use Rattle.art_cell.specs.WordChanges.{WritesPlace, cell_of, WritesOnly}
 use Rattle.art_cell.proofs.ChangeRows.{RowsBy, remove_rows, inserted_rows, leaf_has_key, leaf_unlinked, leaf_formed}
 use Rattle.art_cell.proofs.ChangeShapes.{means_same, IsFormed, IsAnchorFormed, place_formed, anchor_formed}
+use Rattle.art_cell.proofs.Lookup.{absent_free}
 use Rattle.art_cell.proofs.Meanings.{Fits, no_leaf}
 use Rattle.art_cell.proofs.Places.{at_place, same_link}
 use Rattle.art_cell.proofs.StepCommits.{either_held}
@@ -141,7 +142,7 @@ module _ (z : Sizes) (v : View) (s s' : Cells) (x : Place) (r : List ℕ) (l : �
     new = new;
   }
 
-  module _ (k : List ℕ) (value : ℕ) (has : HasLeaf z v l k value) (put : WritesPlace s s' x (Some (leaf l))) (free : held h x ≡ None) (begins : Begins r k) (absent : IsAbsent h k) where
+  module _ (k : List ℕ) (value : ℕ) (has : HasLeaf z v l k value) (put : WritesPlace s s' x (Some (leaf l))) (free : held h x ≡ None) (begins : Begins r k) where
     new : IsUnlinked h (leaf l)
     new = leaf_unlinked z v s l k value b.knows has
 
@@ -152,7 +153,7 @@ module _ (z : Sizes) (v : View) (s s' : Cells) (x : Place) (r : List ℕ) (l : �
     edits = add_by_words s s' x l (record { put = put; rest = place_rest }) has.fits free new
 
     add_does : (f : ByteMap) → Does h h' (EditTouched l) (EditPaths h' x l r) f (insert f (h.key l) (h.value l))
-    add_does f = add_law h h' x l r f b.shape.tree at edits.0 free edits.1 new (subst (Begins r) (sym key) begins) (subst (IsAbsent h) (sym key) absent)
+    add_does f = add_law h h' x l r f b.shape.tree at edits.0 free edits.1 new (subst (Begins r) (sym key) begins)
 
     add_touches : Touches v [] (leaf l ∷ []) s (EditTouched l) (EditPaths h' x l r)
     add_touches = record {
@@ -171,7 +172,7 @@ module _ (z : Sizes) (v : View) (s s' : Cells) (x : Place) (r : List ℕ) (l : �
 
     added : ClaimedAmong v (λ n. ⊥) → Commits z v (Done (Insert k value) Inserted) [] (leaf l ∷ []) s s'
     added among = commits_by z v s s' Written b just (Done (Insert k value) Inserted) [] (leaf l ∷ []) (EditTouched l) (EditPaths h' x l r) (add_does empty).moves
-        (inserted_rows z v s l k value b.knows has h' absent (λ m rows. (add_does m).rows rows)) add_touches add_forms (λ n. ⊥) among (λ n i. absurd i)
+        (inserted_rows z v s l k value b.knows has h' (absent_free h x r k b.shape.tree at free begins) (λ m rows. (add_does m).rows rows)) add_touches add_forms (λ n. ⊥) among (λ n i. absurd i)
 
   module _ (put : WritesPlace s s' x None) (was : held h x ≡ Some (leaf l)) (two : (n : Node) (c : ℕ) → x ≡ Slot n c → HasTwo h' n) where
     drop_edits : Edits h h' x l × (held h' x ≡ None)
@@ -199,7 +200,7 @@ module _ (z : Sizes) (v : View) (s s' : Cells) (x : Place) (r : List ℕ) (l : �
         (remove_rows h h' l r linked_leaf (λ m rows. (drop_does m).rows rows)) drop_touches (place_forms None [] put tt (λ d i. absurd i)) (λ n. ⊥) among (λ n i. absurd i)
 
 pub add_commits : AddCommits
-add_commits z v s s' x r l k value b has just among put at free begins absent = added z v s s' x r l b just at k value has put free begins absent among
+add_commits z v s s' x r l k value b has just among put at free begins = added z v s s' x r l b just at k value has put free begins among
 
 pub drop_commits : DropCommits
 drop_commits z v s s' x r l b just among put at was two = dropped z v s s' x r l b just at put was two among

@@ -1,5 +1,5 @@
 -- A node that comes between a place and what it held is a commit.
-use Rattle.std.proofs.Common.{◌≡◌, ◌≢◌, ◌⊎◌, ℕ, ◌<◌, ◌≤◌, List, [], ◌∷◌, ◌++◌, length, Some, refl, sym, ap, ◌∙◌, subst, subst₂, inl, inr, ⊎_elim}
+use Rattle.std.proofs.Common.{◌≡◌, ◌≢◌, ◌⊎◌, ℕ, ◌<◌, ◌≤◌, List, [], ◌∷◌, ◌++◌, length, Some, refl, sym, ap, ◌∙◌, subst, inl, inr, ⊎_elim}
 use Rattle.std.specs.FinMap.{empty, insert}
 use Rattle.art_cell.specs.declared.cells.Node.{Node}
 use Rattle.art_cell.specs.declared.cells.Cell.{Cell}
@@ -16,7 +16,7 @@ use Rattle.art_cell.specs.CommitLaws.{Before, HasLeaf, HasNode, HoldsJust, Claim
 use Rattle.art_cell.specs.Heaps.{Cells, node_prefix, heap_of}
 use Rattle.art_cell.specs.Knowledge.{IsNodeCell}
 use Rattle.art_cell.specs.Laws.{Does, ForkTouched, ForkPaths}
-use Rattle.art_cell.specs.Rows.{ByteMap, IsAbsent}
+use Rattle.art_cell.specs.Rows.{ByteMap}
 use Rattle.art_cell.specs.StepRows.{Commits}
 use Rattle.art_cell.specs.Tree.{Place, Heap, held, past, At, PlaceAt, Begins}
 use Rattle.art_cell.specs.Views.{IsNumber}
@@ -24,6 +24,7 @@ use Rattle.art_cell.specs.WordChanges.{FitsWord, WritesPlace, WritesNode, two_ch
 use Rattle.art_cell.proofs.ChangeCommits.{Touches, Forms, in_hand, same_words, only_written, commits_by}
 use Rattle.art_cell.proofs.ChangeRows.{inserted_rows, leaf_has_key, leaf_unlinked, leaf_formed, node_unlinked}
 use Rattle.art_cell.proofs.ChangeShapes.{held_fits, two_children_name, IsFormed, written_formed, kept_formed, place_formed, anchor_formed}
+use Rattle.art_cell.proofs.Fork.{absent_forked}
 use Rattle.art_cell.proofs.Meanings.{no_leaf}
 use Rattle.art_cell.proofs.Places.{at_place, same_link}
 use Rattle.art_cell.proofs.TreeLaws.{fork_law}
@@ -34,7 +35,7 @@ module _ (z : Sizes) (v : View) (s s' : Cells) (x : Place) (r : List ℕ) (c : L
     (put : WritesPlace s s' x (Some (node m))) (made : WritesNode m.layout (s' (cell.Node m)) q (two_children a c b (leaf l)))
     (cut : KeepsChildren s s' c (λ n p. node_prefix (s (cell.Node n)) ≡ q ++ a ∷ p))
     (at : PlaceAt (heap_of s) x r) (was : held (heap_of s) x ≡ Some c) (a-low : a < 256) (b-low : b < 256) (apart : a ≢ b)
-    (begins_c : (i : ℕ) → c ≡ leaf i → Begins (r ++ q ++ a ∷ []) ((heap_of s).key i)) (begins : Begins (r ++ q ++ b ∷ []) k) (absent : IsAbsent (heap_of s) k) where
+    (begins_c : (i : ℕ) → c ≡ leaf i → Begins (r ++ q ++ a ∷ []) ((heap_of s).key i)) (begins : Begins (r ++ q ++ b ∷ []) k) where
   abbrev h : Heap
   h = heap_of s
 
@@ -65,12 +66,15 @@ module _ (z : Sizes) (v : View) (s s' : Cells) (x : Place) (r : List ℕ) (c : L
   forks : Forks h h' x c m l a b × (h'.prefix m ≡ q)
   forks = fork_by_words s s' x r c m l a b q (record { put = put; made = made; cut = cut; rest = only_written s s' Written same }) before.shape.tree.once at was fresh new a-low b-low apart fits hand.fits has.fits
 
+  above_c : (i : ℕ) → c ≡ leaf i → Begins (past h' m r a) (h.key i)
+  above_c i e = subst (λ p. Begins (r ++ p ++ a ∷ []) (h.key i)) (sym forks.1) (begins_c i e)
+
+  above_l : Begins (past h' m r b) k
+  above_l = subst (λ p. Begins (r ++ p ++ b ∷ []) k) (sym forks.1) begins
+
   fork_does : (f : ByteMap) → Does h h' (ForkTouched c m l) (ForkPaths h' c m l a b r) f (insert f (h.key l) (h.value l))
   fork_does f = fork_law h h' x c m l a b r f before.shape.tree at forks.0
-      (λ i e. subst (λ p. Begins (r ++ p ++ a ∷ []) (h.key i)) (sym forks.1) (begins_c i e))
-      (subst₂ (λ p j. Begins (r ++ p ++ b ∷ []) j) (sym forks.1) (sym key) begins)
-      (subst (λ j. length j ≤ 64) (sym key) has.short)
-      (subst (IsAbsent h) (sym key) absent)
+      above_c (subst (Begins (past h' m r b)) (sym key) above_l) (subst (λ j. length j ≤ 64) (sym key) has.short)
 
   fork_touches : Touches v [] (leaf l ∷ node m ∷ []) s (ForkTouched c m l) (ForkPaths h' c m l a b r)
   fork_touches = record {
@@ -114,7 +118,7 @@ module _ (z : Sizes) (v : View) (s s' : Cells) (x : Place) (r : List ℕ) (c : L
 
   forked : Commits z v (Done (Insert k value) Inserted) [] (leaf l ∷ node m ∷ []) s s'
   forked = commits_by z v s s' Written before just (Done (Insert k value) Inserted) [] (leaf l ∷ node m ∷ []) (ForkTouched c m l) (ForkPaths h' c m l a b r) (fork_does empty).moves
-      (inserted_rows z v s l k value before.knows has h' absent (λ f rows. (fork_does f).rows rows)) fork_touches fork_forms (λ i. i ≡ m) among (λ n e. inr (inl (ap node e)))
+      (inserted_rows z v s l k value before.knows has h' (absent_forked h h' x c m l a b r k before.shape.tree at forks.0 above_c above_l) (λ f rows. (fork_does f).rows rows)) fork_touches fork_forms (λ i. i ≡ m) among (λ n e. inr (inl (ap node e)))
 
 pub fork_commits : ForkCommits
 fork_commits = forked

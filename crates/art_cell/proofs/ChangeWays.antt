@@ -18,7 +18,7 @@ use Rattle.art_cell.specs.Heaps.{Cells, node_prefix, heap_of}
 use Rattle.art_cell.specs.Histories.{IsAnswered, becomes}
 use Rattle.art_cell.specs.Knowledge.{IsNodeCell}
 use Rattle.art_cell.specs.Laws.{Does, RenewTouched, RenewPaths, CopyTouched, CopyPaths}
-use Rattle.art_cell.specs.Rows.{ByteMap, HasRows, IsAbsent}
+use Rattle.art_cell.specs.Rows.{ByteMap, HasRows}
 use Rattle.art_cell.specs.StepRows.{IsLinked, Commits}
 use Rattle.art_cell.specs.Tree.{Place, Slot, Heap, held, past, At, down, PlaceAt, Begins, HasTwo}
 use Rattle.art_cell.specs.Views.{Member, IsNumber}
@@ -27,6 +27,7 @@ use Rattle.art_cell.specs.Words.{child_of}
 use Rattle.art_cell.proofs.ChangeCommits.{IsInHand, IsHeld, Touches, Forms, in_hand, same_words, only_written, commits_by}
 use Rattle.art_cell.proofs.ChangeRows.{remove_rows, inserted_rows, leaf_has_key, leaf_unlinked, leaf_formed, node_unlinked}
 use Rattle.art_cell.proofs.ChangeShapes.{NameCells, at_byte_names, IsFormed, written_formed, place_formed, anchor_formed}
+use Rattle.art_cell.proofs.Lookup.{absent_free}
 use Rattle.art_cell.proofs.Meanings.{Fits, no_leaf}
 use Rattle.art_cell.proofs.Places.{at_place, same_cell, same_link}
 use Rattle.art_cell.proofs.TreeLaws.{grow_law, shrink_law, copy_law}
@@ -149,7 +150,7 @@ module _ (z : Sizes) (v : View) (s s' : Cells) (x : Place) (r : List ℕ) (n m :
     -- ---- with a leaf more
 
     module _ (k : List ℕ) (value : ℕ) (has : HasLeaf z v l k value) (made : WritesNode m.layout (s' (cell.Node m)) (node_prefix (s (cell.Node n))) (at_byte (child_of n.layout (s (cell.Node n))) b (Some (leaf l))))
-        (low : b < 256) (free : held h (Slot n b) ≡ None) (begins : Begins (past h n r b) k) (absent : IsAbsent h k) where
+        (low : b < 256) (free : held h (Slot n b) ≡ None) (begins : Begins (past h n r b) k) where
       abbrev grown : ℕ → Option ℕ
       grown = at_byte (child_of n.layout (s (cell.Node n))) b (Some (leaf l))
 
@@ -164,7 +165,7 @@ module _ (z : Sizes) (v : View) (s s' : Cells) (x : Place) (r : List ℕ) (n m :
 
       grow_does : (f : ByteMap) → Does h h' T E f (insert f (h.key l) (h.value l))
       grow_does f = grow_law h h' x n m b l r f before.shape.tree at grows.0 grows.1 new_leaf
-          (subst (Begins (past h n r b)) (sym key) begins) (subst (IsAbsent h) (sym key) absent)
+          (subst (Begins (past h n r b)) (sym key) begins)
 
       grow_touches : Touches v (node n ∷ []) (leaf l ∷ node m ∷ []) s T E
       grow_touches = record {
@@ -194,7 +195,7 @@ module _ (z : Sizes) (v : View) (s s' : Cells) (x : Place) (r : List ℕ) (n m :
       grew among =
           let named = names b (Some (leaf l)) has.fits in
           commits_by z v s s' Written before just (Done (Insert k value) Inserted) (node n ∷ []) (leaf l ∷ node m ∷ []) T E (grow_does empty).moves
-          (inserted_rows z v s l k value before.knows has h' absent (λ f rows. (grow_does f).rows rows))
+          (inserted_rows z v s l k value before.knows has h' (absent_free h (Slot n b) (past h n r b) k before.shape.tree (r, at_n, refl) free begins) (λ f rows. (grow_does f).rows rows))
           grow_touches
           (way_forms grown made named (leaf l ∷ node m ∷ []) (λ d i. ⊎_elim
           (λ (e : d ≡ leaf l). subst (λ y. IsNumber z y × IsFormed s' y) (sym e) (has.number, leaf_formed z v s l k value before.knows has s' (same_leaf l)))
@@ -260,8 +261,8 @@ pub copy_commits : CopyCommits
 copy_commits z v s s' x r n m what before hand just among old put made at was stays = copied z v s s' x r n m before hand just old put at was what made stays among
 
 pub grow_commits : GrowCommits
-grow_commits z v s s' x r n m b l k value before has hand just among old put made at was low free begins absent =
-    grew z v s s' x r n m before hand just old put at was b l k value has made low free begins absent among
+grow_commits z v s s' x r n m b l k value before has hand just among old put made at was low free begins =
+    grew z v s s' x r n m before hand just old put at was b l k value has made low free begins among
 
 pub shrink_commits : ShrinkCommits
 shrink_commits z v s s' x r n m b l before hand just among old put made at was had two = shrank z v s s' x r n m before hand just old put at was b l made had two among

@@ -1,14 +1,14 @@
 -- The premises of each law can be met: one heap goes through them all, from no root by leaves and nodes to no root again.
 use Rattle.std.proofs.Common.{◌≡◌, ◌≢◌, ◌⊎◌, ℕ, zero, suc, ◌+◌, ◌<◌, ◌≤◌, max, Bool, true, false, cond, eqb, ne_eqb, List, [], ◌∷◌, Option, Some, None, refl, sym, ap, subst, ⊎_elim, arith, lit<, lit≤}
 use Rattle.std.proofs.lemmas.Bool.{cases_eq}
-use Rattle.std.specs.FinMap.{get, insert, remove, empty, gets}
+use Rattle.std.specs.FinMap.{insert, remove, empty}
 use Rattle.art_cell.specs.declared.cells.Node.{Node}
 use Rattle.art_cell.specs.declared.cells.Link.{Link}
 use Rattle.art_cell.specs.declared.cells.Link.TheVariants.{Leaf as leaf, Node as node}
 use Rattle.art_cell.specs.declared.layouts.Layout.{Layout}
 use Rattle.art_cell.specs.declared.layouts.Layout.TheVariants.{Node4, Node16, Node48, Node256}
 use Rattle.art_cell.specs.Tree.{Place, Top, Slot, Heap, held, At, top, down, PlaceAt, Begins, HasTwo}
-use Rattle.art_cell.specs.Rows.{ByteMap, HasRows, IsAbsent}
+use Rattle.art_cell.specs.Rows.{ByteMap, HasRows}
 use Rattle.art_cell.specs.Changes.{IsUnlinked, SameLeaves, NamedOnlyAt, Edits, GivesWay, Moves}
 use Rattle.art_cell.specs.Laws.{Does, EditTouched, EditPaths, ReplaceTouched, ReplacePaths, RenewTouched, RenewPaths, CopyTouched, CopyPaths, ForkTouched, ForkPaths, MergeTouched, MergePaths}
 use Rattle.art_cell.proofs.Frame.{opened_sound, opened_rows, opened_unlinked, only_held, only_unlinked}
@@ -270,10 +270,6 @@ linked_by s t i ds moves last was c r at = ⊎_elim (λ f. let g = by_latest ds 
 free : (i : ℕ) (s : Shape) (c : Link) → LinkedBy i s → i < step_of c → IsUnlinked (heap s) c
 free i s c by late r at = let f = by c r at in absurd (omega arith)
 
--- a key that the map has not has no row
-absent : (s : Shape) (m : ByteMap) (k : List ℕ) → HasRows (heap s) m → get m k ≡ None → IsAbsent (heap s) k
-absent s m k rows none v o = let e = (rows k v).0 o in cc
-
 -- ---- the steps
 
 -- leaf 0 comes to the empty anchor
@@ -281,10 +277,7 @@ pub leaf_came : Does (heap at_opening) (heap at_leaf_came) (EditTouched 0) (Edit
 leaf_came = add_law (heap at_opening) (heap at_leaf_came) Top 0 [] empty (opened_sound (heap at_opening) refl) refl
     (edits at_opening at_leaf_came Top 0 (λ d e. cc) (λ d e. cc) (root_alone at_opening at_leaf_came refl refl) refl
     (only_unlinked (heap at_opening) Top (leaf 0) (opened_unlinked (heap at_opening) (leaf 0) refl)))
-    refl refl (opened_unlinked (heap at_opening) (leaf 0) refl) (keys 0, refl) (absent at_opening empty (keys 0) (opened_rows (heap at_opening) refl) (simp gets))
-
-rows_leaf_came : HasRows (heap at_leaf_came) map_leaf_came
-rows_leaf_came = leaf_came.rows (opened_rows (heap at_opening) refl)
+    refl refl (opened_unlinked (heap at_opening) (leaf 0) refl) (keys 0, refl)
 
 linked_leaf_came : LinkedBy 1 at_leaf_came
 linked_leaf_came = linked_by at_opening at_leaf_came 0 (leaf 0 ∷ []) leaf_came.moves (lit≤ tt) (λ c r at. absurd (opened_unlinked (heap at_opening) c refl r at))
@@ -307,10 +300,7 @@ forked = fork_law (heap at_leaf_came) (heap at_forked) Top (leaf 0) first_node 1
       new = free 1 at_leaf_came (leaf 1) linked_leaf_came (lit< tt);
     })
     (λ k e. let f : 0 ≡ k = cc in subst (λ z. Begins (1 ∷ 2 ∷ []) (keys z)) f (3 ∷ [], refl))
-    ([], refl) (lit≤ tt) (absent at_leaf_came map_leaf_came (keys 1) rows_leaf_came (simp gets))
-
-rows_forked : HasRows (heap at_forked) map_forked
-rows_forked = forked.rows rows_leaf_came
+    ([], refl) (lit≤ tt)
 
 linked_forked : LinkedBy 2 at_forked
 linked_forked = linked_by at_leaf_came at_forked 1 (leaf 0 ∷ node first_node ∷ leaf 1 ∷ []) forked.moves (lit≤ tt) linked_leaf_came
@@ -320,10 +310,7 @@ pub added : Does (heap at_forked) (heap at_added) (EditTouched 2) (EditPaths (he
 added = add_law (heap at_forked) (heap at_added) (Slot first_node 7) 2 (1 ∷ 7 ∷ []) map_forked forked.moves.sound ([], top refl refl, refl)
     (edits at_forked at_added (Slot first_node 7) 2 (λ d e. cc) (λ d e. cc) (elsewhere at_forked at_added (Slot first_node 7) (λ f. refl) (λ f. absurd (f refl)) (λ f. refl)) refl
     (only_unlinked (heap at_forked) (Slot first_node 7) (leaf 2) (free 2 at_forked (leaf 2) linked_forked (lit< tt))))
-    refl refl (free 2 at_forked (leaf 2) linked_forked (lit< tt)) ([], refl) (absent at_forked map_forked (keys 2) rows_forked (simp gets))
-
-rows_added : HasRows (heap at_added) map_added
-rows_added = added.rows rows_forked
+    refl refl (free 2 at_forked (leaf 2) linked_forked (lit< tt)) ([], refl)
 
 linked_added : LinkedBy 3 at_added
 linked_added = linked_by at_forked at_added 2 (leaf 2 ∷ []) added.moves (lit≤ tt) linked_forked
@@ -338,7 +325,7 @@ grown = grow_law (heap at_added) (heap at_grown) Top first_node large_node 9 3 [
       same = at_nine;
       only = only_unlinked (heap at_added) (Slot first_node 9) (leaf 3) (free 3 at_added (leaf 3) linked_added (lit< tt));
     })
-    refl (free 3 at_added (leaf 3) linked_added (lit< tt)) ([], refl) (absent at_added map_added (keys 3) rows_added (simp gets))
+    refl (free 3 at_added (leaf 3) linked_added (lit< tt)) ([], refl)
 
 linked_grown : LinkedBy 4 at_grown
 linked_grown = linked_by at_added at_grown 3 (node first_node ∷ node large_node ∷ leaf 3 ∷ []) grown.moves (lit≤ tt) linked_added
@@ -381,9 +368,6 @@ replaced = replace_law (heap at_copied) (heap at_replaced) (Slot copy_node 7) 2 
       new = free 6 at_copied (leaf 4) linked_copied (lit< tt);
     }) refl
 
-rows_replaced : HasRows (heap at_replaced) map_replaced
-rows_replaced = replaced.rows (copied.rows (shrunk.rows (grown.rows rows_added)))
-
 linked_replaced : LinkedBy 7 at_replaced
 linked_replaced = linked_by at_copied at_replaced 6 (leaf 2 ∷ leaf 4 ∷ []) replaced.moves (lit≤ tt) linked_copied
 
@@ -405,7 +389,7 @@ raised = fork_law (heap at_replaced) (heap at_raised) Top (node copy_node) upper
       fresh = free 7 at_replaced (node upper_node) linked_replaced (lit< tt);
       new = free 7 at_replaced (leaf 5) linked_replaced (lit< tt);
     })
-    (λ k e. absurd (cc)) ([], refl) (lit≤ tt) (absent at_replaced map_replaced (keys 5) rows_replaced (simp gets))
+    (λ k e. absurd (cc)) ([], refl) (lit≤ tt)
 
 -- leaf 4 goes from the copy, which keeps two children
 pub dropped : Does (heap at_raised) (heap at_dropped) (EditTouched 4) (EditPaths (heap at_dropped) (Slot copy_node 7) 4 (1 ∷ 7 ∷ [])) map_raised map_dropped
@@ -458,4 +442,4 @@ emptied = drop_law (heap at_merged) (heap at_emptied) Top 1 [] map_merged merged
 
 -- no root again, and the map after all inserts and removals
 pub at_last : HasRows (heap at_emptied) map_emptied
-at_last = emptied.rows (merged.rows (lowered.rows (dropped.rows (raised.rows rows_replaced))))
+at_last = emptied.rows (merged.rows (lowered.rows (dropped.rows (raised.rows (replaced.rows (copied.rows (shrunk.rows (grown.rows (added.rows (forked.rows (leaf_came.rows (opened_rows (heap at_opening) refl))))))))))))

@@ -6,17 +6,39 @@ use Rattle.art_cell.specs.declared.cells.Node.{Node}
 use Rattle.art_cell.specs.declared.cells.Link.{Link}
 use Rattle.art_cell.specs.declared.cells.Link.TheVariants.{Leaf as leaf, Node as node}
 use Rattle.art_cell.specs.Tree.{Place, Slot, Heap, past, At, down, PlaceAt, Begins, Row, HasTwo, NamesOnce, IsTree}
-use Rattle.art_cell.specs.Rows.{ByteMap, HasRows}
+use Rattle.art_cell.specs.Rows.{ByteMap, HasRows, IsAbsent}
 use Rattle.art_cell.specs.Changes.{Forks, Moves}
 use Rattle.art_cell.proofs.Places.{at_place, same_link, one_path}
-use Rattle.art_cell.proofs.Paths.{length_past}
+use Rattle.art_cell.proofs.Lookup.{absent_other, absent_differs}
+use Rattle.art_cell.proofs.Paths.{length_past, next_byte, begins_more}
 use Rattle.art_cell.proofs.Patch.{Patch}
 use Rattle.art_cell.proofs.Sound.{patch_sound, row_back, row_on, row_new, rows_added, two_filled, patch_moves, stays_two}
 use Rattle.art_cell.proofs.Renew.{deeper, outside_slot, not_own, place_node, outside_by}
 
 -- a node's path and prefix, joined, stay where a front of the prefix goes to a node above
+join_front : (r q p : List ℕ) (a : ℕ) → r ++ (q ++ a ∷ p) ≡ (r ++ q ++ a ∷ []) ++ p
+join_front r q p a = sym (append_assoc r q (a ∷ p)) ∙ sym (append_assoc (r ++ q) (a ∷ []) p)
+
+-- and with a byte after them
 pub join_path : (r q p : List ℕ) (a e : ℕ) → r ++ (q ++ a ∷ p) ++ e ∷ [] ≡ (r ++ q ++ a ∷ []) ++ p ++ e ∷ []
-join_path r q p a e = ap (λ z. z ++ e ∷ []) (sym (append_assoc r q (a ∷ p)) ∙ sym (append_assoc (r ++ q) (a ∷ []) p))
+join_path r q p a e = ap (λ z. z ++ e ∷ []) (join_front r q p a)
+
+-- no row has a key that parts from what stands at the place
+pub absent_forked : (h h' : Heap) (x : Place) (c : Link) (m : Node) (l a b : ℕ) (r k : List ℕ) → IsTree h → PlaceAt h x r → Forks h h' x c m l a b →
+    ((i : ℕ) → c ≡ leaf i → Begins (past h' m r a) (h.key i)) → Begins (past h' m r b) k → IsAbsent h k
+absent_forked h h' x c m l a b r k s at w begins_c begins = by_link c refl
+  where
+    front : Begins r k
+    front = begins_more r (h'.prefix m) k (begins_more (r ++ h'.prefix m) (b ∷ []) k begins)
+
+    parts : Begins (past h' m r a) k → ⊥
+    parts f = w.apart (next_byte (r ++ h'.prefix m) k a b f begins)
+
+    by_link : (d : Link) → c ≡ d → IsAbsent h k
+    by_link (leaf i) e = absent_other h i r k s (at_place h x (leaf i) r at (w.was ∙ ap Some e)) front (λ same. parts (subst (Begins (past h' m r a)) same (begins_c i e)))
+    by_link (node n) e =
+        let longer : r ++ h.prefix n ≡ past h' m r a ++ h'.prefix n = ap (λ z. r ++ z) (w.short n e) ∙ join_front r (h'.prefix m) (h'.prefix n) a in
+        absent_differs h n r k s (at_place h x (node n) r at (w.was ∙ ap Some e)) front (λ f. parts (begins_more (past h' m r a) (h'.prefix n) k (subst (λ z. Begins z k) longer f)))
 
 pub two_apart : (h : Heap) (n : Node) (a b : ℕ) (c d : Link) → a ≢ b → h.child n a ≡ Some c → h.child n b ≡ Some d → HasTwo h n
 two_apart h n a b c d apart e f = ⊎_elim (λ (g : a ≡ b). absurd (apart g)) (⊎_elim (λ (g : a < b). (a, b, c, d, g, e, f)) (λ (g : b < a). (b, a, d, c, g, f, e))) (cases_order a b)

@@ -4,7 +4,8 @@ use Rattle.std.proofs.lemmas.Bool.{cases_lt}
 use Rattle.art_cell.specs.declared.cells.Node.{Node}
 use Rattle.art_cell.specs.declared.cells.Link.{Link}
 use Rattle.art_cell.specs.declared.cells.Link.TheVariants.{Leaf as leaf, Node as node}
-use Rattle.art_cell.specs.Tree.{Heap, past, At, Begins, Row, IsTree}
+use Rattle.art_cell.specs.Tree.{Place, Top, Slot, Heap, held, past, At, PlaceAt, Begins, Row, IsTree}
+use Rattle.art_cell.specs.Rows.{IsAbsent}
 use Rattle.art_cell.proofs.Paths.{Under, here, go, next_byte, begins_more, begins_trans, under_begins, from_root, length_past, on_the_way}
 
 -- a leaf has nothing below it
@@ -63,3 +64,8 @@ absent_entry h n p k b s at f free v w =
 
 pub absent_empty : (h : Heap) (k : List ℕ) → h.root ≡ None → (v : ℕ) → Row h k v → ⊥
 absent_empty h k empty v w = let f = from_root h (leaf w.number) w.path w.at in let is = f.is in cc
+
+-- a key's way leads to a place that holds nothing: no row has the key
+pub absent_free : (h : Heap) (x : Place) (r k : List ℕ) → IsTree h → PlaceAt h x r → held h x ≡ None → Begins r k → IsAbsent h k
+absent_free h Top r k s at free f = absent_empty h k free
+absent_free h (Slot n b) r k s at free f = absent_entry h n at.0 k b s at.1 (subst (λ z. Begins z k) at.2 f) free

@@ -1,5 +1,5 @@
 -- A node of two leaves is put into the tree, and taken out of it.
-use Rattle.std.proofs.Common.{◌≡◌, ◌≢◌, ◌⊎◌, ℕ, ◌<◌, List, [], ◌∷◌, map, get_or, inl, inr, ⊎_elim, sym, refl, ap, ◌∙◌, subst, subst₂, ne_eqb, arith}
+use Rattle.std.proofs.Common.{◌≡◌, ◌≢◌, ◌⊎◌, ℕ, ◌<◌, List, [], ◌∷◌, map, inl, inr, ⊎_elim, sym, refl, ap, ◌∙◌, subst, subst₂, ne_eqb, arith}
 use Rattle.std.specs.List.{range_with_len}
 use Rattle.std.specs.Prelude.{nat_lt, if◌then◌else◌, Option, Some, None}
 use Rattle.art_cell.specs.declared.cells.Node.{Node}
@@ -22,16 +22,14 @@ use Rattle.art_cell.specs.CommitLaws.{IsItsNode, ForkCommits, MergeCommits}
 use Rattle.art_cell.specs.Heaps.{Cells, key_of, heap_of}
 use Rattle.art_cell.specs.Knowledge.{IsShape}
 use Rattle.art_cell.specs.NodeLives.{IsNoted, NotesKey, key_of_one, anchor_held, stamped_holding, claimed_holding, IsPair, HasForked, HasMerged}
-use Rattle.art_cell.specs.Rows.{IsAbsent}
 use Rattle.art_cell.specs.Shown.{claimed_nodes, claimed_node, coming}
 use Rattle.art_cell.specs.StepRows.{Knows, AllNew, IsLinked, Commits, MayCommit, note_of, stamp_of}
-use Rattle.art_cell.specs.Tree.{Top, Slot, top, held}
+use Rattle.art_cell.specs.Tree.{Top, Slot, held}
 use Rattle.art_cell.specs.Views.{Member, words_in}
 use Rattle.art_cell.specs.WordChanges.{WritesNode, two_children}
 use Rattle.art_cell.specs.Words.{Words, byte_of, packed, child_of}
 use Rattle.art_cell.proofs.ChildWords.{link_exact}
 use Rattle.art_cell.proofs.LeafPair.{pair_child, pair_body}
-use Rattle.art_cell.proofs.Lookup.{absent_other}
 use Rattle.art_cell.proofs.Meanings.{child_is, child_named, no_child}
 
 -- ---- keys of one byte
@@ -68,9 +66,6 @@ module _ (z : Sizes) (v : View) (m : Node) (a l value : ℕ) (r : HasForked z v 
     unfolding heap_of
     key = noted_leaf v s (stamp_of cell.Anchor r.version) r.old r.new a 97 (omega arith) knows r.held.one r.key
 
-    absent : IsAbsent (heap_of s) (98 ∷ [])
-    absent = absent_other (heap_of s) a [] (98 ∷ []) shape.tree (top root refl) (98 ∷ [], refl) (λ e. let bad : 97 ≡ 98 = ap (λ (ks : List ℕ). get_or ks 0 0) (sym key ∙ e) in omega (arith, bad))
-
     pub forked : Commits z v (Done (Insert (98 ∷ []) value) Inserted) [] (leaf l ∷ node m ∷ []) s s'
     forked = law z v s s' Top [] (leaf a) m l 97 98 [] (98 ∷ []) value
         record { shape = shape; knows = knows; new = new }
@@ -85,7 +80,6 @@ module _ (z : Sizes) (v : View) (m : Node) (a l value : ℕ) (r : HasForked z v 
         refl root (omega arith) (omega arith) (λ e. omega (arith, e))
         (λ i e. let same : a ≡ i = cc in ([], sym key ∙ ap (λ (j : ℕ). (heap_of s).key j) same))
         ([], refl)
-        absent
       where
         each : (c : Cell) → (c ≡ cell.Node m) ⊎ ((c ≡ cell.Anchor) ⊎ IsItsNode (leaf a) c) → (h : Holding) × Member h v.held × (h.cell ≡ c)
         each c (inl e) = (made, r.held.two, sym e)

@@ -1,5 +1,5 @@
 -- A node gives way to a copy.
-use Rattle.std.proofs.Common.{◌≡◌, ◌⊎◌, ℕ, ◌+◌, ◌<◌, List, [], ◌∷◌, ◌++◌, length, Some, None, refl, sym, ap, ap₂, ◌∙◌, subst, subst₂, inl, inr, ⊎_elim, arith}
+use Rattle.std.proofs.Common.{◌≡◌, ◌⊎◌, ℕ, ◌+◌, ◌<◌, List, [], ◌∷◌, ◌++◌, length, Option, Some, None, refl, sym, ap, ap₂, ◌∙◌, subst, subst₂, inl, inr, ⊎_elim, arith}
 use Rattle.std.proofs.lemmas.Bool.{cases_eq}
 use Rattle.std.specs.FinMap.{insert, remove}
 use Rattle.art_cell.specs.declared.cells.Node.{Node}
@@ -10,6 +10,7 @@ use Rattle.art_cell.specs.Rows.{ByteMap}
 use Rattle.art_cell.specs.Changes.{IsUnlinked, GivesWay, Renews, Copies, Moves}
 use Rattle.art_cell.specs.Laws.{Does, RenewTouched, RenewPaths, CopyTouched, CopyPaths}
 use Rattle.art_cell.proofs.Places.{at_place, same_link, one_path}
+use Rattle.art_cell.proofs.Lookup.{absent_free}
 use Rattle.art_cell.proofs.Paths.{length_past}
 use Rattle.art_cell.proofs.Patch.{Outside, Patch}
 use Rattle.art_cell.proofs.Sound.{patch_sound, row_back, row_on, row_new, rows_added, rows_dropped, rows_kept, patch_moves, stays_two, row_of_leaf, moves_as}
@@ -193,10 +194,10 @@ module _ (h h' : Heap) (x : Place) (n m : Node) (b l : ℕ) (r₀ : List ℕ) (w
           let il : i ≡ l = cc (w.new (leaf i) e') in
           subst₂ (λ u v. Begins (past h n r₀ u) (h.key v)) (sym is) (sym il) (begins (subst (λ z. h'.child m b ≡ Some (leaf z)) il e'))
 
-  pub grow_does : (f : ByteMap) → h'.child m b ≡ Some (leaf l) → IsUnlinked h (leaf l) → Begins (past h n r₀ b) (h.key l) → ((v : ℕ) → Row h (h.key l) v → ⊥) → Does h h' (RenewTouched n m l) (RenewPaths h h' n m b l r₀) f (insert f (h.key l) (h.value l))
-  grow_does f added new begins absent = record {
+  pub grow_does : (f : ByteMap) → h'.child m b ≡ Some (leaf l) → IsUnlinked h (leaf l) → Begins (past h n r₀ b) (h.key l) → Does h h' (RenewTouched n m l) (RenewPaths h h' n m b l r₀) f (insert f (h.key l) (h.value l))
+  grow_does f added new begins = record {
     moves = renew_moves two (λ _. begins);
-    rows = λ rows. rows_added h h' f (h.key l) (h.value l) rows absent
+    rows = λ rows. rows_added h h' f (h.key l) (h.value l) rows (absent_free h (Slot n b) (past h n r₀ b) (h.key l) s (r₀, at_node, refl) free begins)
         (way_new h h' x n m (λ a. a ≡ b) (λ d. d ≡ leaf l) r₀ w.gives_way keeps at s l b refl added)
         (λ j u o. ⊎_elim (λ g. inl g) (λ g. let same : g.0 ≡ l = cc (g.3) in inr (g.1 ∙ ap h.key same, g.2 ∙ ap h.value same)) (way_back h h' x n m (λ a. a ≡ b) (λ d. d ≡ leaf l) r₀ w.gives_way keeps at s j u o))
         (λ j u o. way_on h h' x n m (λ a. a ≡ b) (λ d. d ≡ leaf l) r₀ w.gives_way keeps at s j u o (λ e. new o.path (subst (λ z. At h z o.path) e o.at)));
@@ -205,13 +206,19 @@ module _ (h h' : Heap) (x : Place) (n m : Node) (b l : ℕ) (r₀ : List ℕ) (w
       at_node : At h (node n) r₀
       at_node = at_place h x (node n) r₀ at w.gives_way.was
 
+      -- n has no child at the byte
+      nothing : (o : Option Link) → h.child n b ≡ o → h.child n b ≡ None
+      nothing None e = e
+      nothing (Some c) e = absurd (new (past h n r₀ b) (down b at_node (e ∙ ap Some (w.old c e)) refl))
+
+      free : h.child n b ≡ None
+      free = nothing (h.child n b) refl
+
       -- n's children are at other bytes
       filled : (a : ℕ) (c : Link) → h.child n a ≡ Some c → (d : Link) × (h'.child m a ≡ Some d)
       filled a c e = (
         c,
-        w.same a (λ is.
-            let e' : h.child n b ≡ Some c = subst (λ z. h.child n z ≡ Some c) is e in
-            new (past h n r₀ b) (down b at_node (e' ∙ ap Some (w.old c e')) refl)) ∙ e,
+        w.same a (λ is. let none : Some c ≡ None = sym e ∙ (ap (h.child n) is ∙ free) in absurd (cc)) ∙ e,
       )
 
       two : HasTwo h' m

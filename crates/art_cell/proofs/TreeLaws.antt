@@ -12,12 +12,12 @@ use Rattle.art_cell.specs.Looks.{LooksAtAnchor, LooksAtNode}
 use Rattle.art_cell.specs.Rows.{IsOneToOne}
 use Rattle.art_cell.proofs.Places.{at_place, one_path}
 use Rattle.art_cell.proofs.Paths.{one_cell_at, begins_more}
-use Rattle.art_cell.proofs.Lookup.{absent_empty, absent_other, absent_differs, absent_ends, absent_entry}
+use Rattle.art_cell.proofs.Lookup.{absent_empty, absent_other, absent_differs, absent_ends, absent_entry, absent_free}
 use Rattle.art_cell.proofs.Sound.{two_filled}
 use Rattle.art_cell.proofs.Edit.{edit_moves, hang_rows, cut_rows}
 use Rattle.art_cell.proofs.Replace.{replace_moves, replace_rows}
 use Rattle.art_cell.proofs.Renew.{grow_does, shrink_does, copy_does}
-use Rattle.art_cell.proofs.Fork.{fork_moves, fork_rows}
+use Rattle.art_cell.proofs.Fork.{absent_forked, fork_moves, fork_rows}
 use Rattle.art_cell.proofs.Merge.{merge_moves, merge_rows}
 use Rattle.art_cell.proofs.Frame.{frame_paths, frame_sound, frame_rows}
 use Rattle.art_cell.proofs.Looking.{starts_at_byte, starts_at_zero, seen_empty, seen_alone, seen_short, seen_none, seen_leaf, seen_before}
@@ -65,11 +65,11 @@ looks_at_node h n r lo s at front = record {
 }
 
 pub add_law : AddLaw
-add_law h h' x l r f s at w free hung new begins absent = record {
+add_law h h' x l r f s at w free hung new begins = record {
   moves = edit_moves h h' x l r w at s
       (λ n b is. two_filled h h' n (λ a d e. (d, w.rest (Slot n a) (λ same. let e' : held h x ≡ Some d = subst (λ z. held h z ≡ Some d) same e in cc) ∙ e)))
       begins;
-  rows = λ rows. hang_rows h h' x l r w at s f rows absent new hung;
+  rows = λ rows. hang_rows h h' x l r w at s f rows (absent_free h x r (h.key l) s at free begins) new hung;
 }
 
 pub drop_law : DropLaw
@@ -85,7 +85,7 @@ replace_law h h' x l i r f s at w same = record {
 }
 
 pub grow_law : GrowLaw
-grow_law h h' x n m b l r f s at w added new begins absent = grow_does h h' x n m b l r w at s f added new begins absent
+grow_law h h' x n m b l r f s at w added new begins = grow_does h h' x n m b l r w at s f added new begins
 
 pub shrink_law : ShrinkLaw
 shrink_law h h' x n m b l r f s at w was gone two = shrink_does h h' x n m b l r w at s f was gone two
@@ -94,9 +94,9 @@ pub copy_law : CopyLaw
 copy_law h h' x n m r f s at w = copy_does h h' x n m r w at s f
 
 pub fork_law : ForkLaw
-fork_law h h' x c m l a b r f s at w begins_c begins_l fits absent = record {
+fork_law h h' x c m l a b r f s at w begins_c begins_l fits = record {
   moves = fork_moves h h' x c m l a b r w at s.once s begins_c begins_l fits;
-  rows = λ rows. fork_rows h h' x c m l a b r w at s.once s f rows absent;
+  rows = λ rows. fork_rows h h' x c m l a b r w at s.once s f rows (absent_forked h h' x c m l a b r (h.key l) s at w begins_c begins_l);
 }
 
 pub merge_law : MergeLaw

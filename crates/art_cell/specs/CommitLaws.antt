@@ -18,7 +18,7 @@ use Rattle.art_cell.specs.Heaps.{Cells, node_prefix, heap_of}
 use Rattle.art_cell.specs.Histories.{IsAnswered, becomes}
 use Rattle.art_cell.specs.Knowledge.{IsShape}
 use Rattle.art_cell.specs.Leaves.{IsLeaf}
-use Rattle.art_cell.specs.Rows.{ByteMap, HasRows, IsAbsent}
+use Rattle.art_cell.specs.Rows.{ByteMap, HasRows}
 use Rattle.art_cell.specs.StepRows.{Knows, AllNew, Commits}
 use Rattle.art_cell.specs.Tree.{Place, Slot, held, past, PlaceAt, Begins, HasTwo}
 use Rattle.art_cell.specs.Views.{Member, IsNumber, words_in}
@@ -70,7 +70,7 @@ IsItsNode c d = (k : Node) × (c ≡ node k) × (d ≡ cell.Node k)
 abbrev pub AddCommits : Type 0
 AddCommits = (z : Sizes) (v : View) (s s' : Cells) (x : Place) (r : List ℕ) (l : ℕ) (k : List ℕ) (value : ℕ) → Before z v s s' →
     HasLeaf z v l k value → HoldsJust v (λ c. c ≡ cell_of x) → ClaimedAmong v (λ n. ⊥) →
-    WritesPlace s s' x (Some (leaf l)) → PlaceAt (heap_of s) x r → held (heap_of s) x ≡ None → Begins r k → IsAbsent (heap_of s) k →
+    WritesPlace s s' x (Some (leaf l)) → PlaceAt (heap_of s) x r → held (heap_of s) x ≡ None → Begins r k →
     Commits z v (Done (Insert k value) Inserted) [] (leaf l ∷ []) s s'
 
 -- a leaf goes from the anchor, or from a node that keeps two children
@@ -87,7 +87,7 @@ GrowCommits = (z : Sizes) (v : View) (s s' : Cells) (x : Place) (r : List ℕ) (
     HasLeaf z v l k value → HasNode z v m → HoldsJust v (λ c. (c ≡ cell.Node n) ⊎ ((c ≡ cell.Node m) ⊎ (c ≡ cell_of x))) → ClaimedAmong v (λ i. i ≡ m) →
     s' (cell.Node n) ≡ s (cell.Node n) → WritesPlace s s' x (Some (node m)) →
     WritesNode m.layout (s' (cell.Node m)) (node_prefix (s (cell.Node n))) (at_byte (child_of n.layout (s (cell.Node n))) b (Some (leaf l))) →
-    PlaceAt (heap_of s) x r → held (heap_of s) x ≡ Some (node n) → b < 256 → held (heap_of s) (Slot n b) ≡ None → Begins (past (heap_of s) n r b) k → IsAbsent (heap_of s) k →
+    PlaceAt (heap_of s) x r → held (heap_of s) x ≡ Some (node n) → b < 256 → held (heap_of s) (Slot n b) ≡ None → Begins (past (heap_of s) n r b) k →
     Commits z v (Done (Insert k value) Inserted) (node n ∷ []) (leaf l ∷ node m ∷ []) s s'
 
 -- node n at x gives way to m, which has its children but for one leaf, and two still
@@ -116,7 +116,7 @@ ForkCommits = (z : Sizes) (v : View) (s s' : Cells) (x : Place) (r : List ℕ) (
     WritesPlace s s' x (Some (node m)) → WritesNode m.layout (s' (cell.Node m)) q (two_children a c b (leaf l)) →
     KeepsChildren s s' c (λ n p. node_prefix (s (cell.Node n)) ≡ q ++ a ∷ p) →
     PlaceAt (heap_of s) x r → held (heap_of s) x ≡ Some c → a < 256 → b < 256 → a ≢ b →
-    ((i : ℕ) → c ≡ leaf i → Begins (r ++ q ++ a ∷ []) ((heap_of s).key i)) → Begins (r ++ q ++ b ∷ []) k → IsAbsent (heap_of s) k →
+    ((i : ℕ) → c ≡ leaf i → Begins (r ++ q ++ a ∷ []) ((heap_of s).key i)) → Begins (r ++ q ++ b ∷ []) k →
     Commits z v (Done (Insert k value) Inserted) [] (leaf l ∷ node m ∷ []) s s'
 
 -- node n at x, which has the cell c at a and the leaf l at b alone, gives way to c; a node c gains n's prefix and a

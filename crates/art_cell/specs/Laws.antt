@@ -8,7 +8,7 @@ use Rattle.art_cell.specs.declared.cells.Node.{Node}
 use Rattle.art_cell.specs.declared.cells.Link.{Link}
 use Rattle.art_cell.specs.declared.cells.Link.TheVariants.{Leaf as leaf, Node as node}
 use Rattle.art_cell.specs.Tree.{Place, Slot, Heap, held, past, At, PlaceAt, Begins, Row, HasTwo, IsTree}
-use Rattle.art_cell.specs.Rows.{ByteMap, HasRows, IsAbsent}
+use Rattle.art_cell.specs.Rows.{ByteMap, HasRows}
 use Rattle.art_cell.specs.Changes.{IsUnlinked, Edits, Replaces, Renews, Copies, Forks, Merges, Moves}
 
 -- a change of the heap h to h' does this: it is a tree, the touched cells are where E says and the others where they were,
@@ -60,7 +60,7 @@ MergePaths c r d s = (d ≡ c) × (s ≡ r)
 -- a leaf comes to a free place, or to the empty anchor
 abbrev pub AddLaw : Type 0
 AddLaw = (h h' : Heap) (x : Place) (l : ℕ) (r : List ℕ) (f : ByteMap) → IsTree h → PlaceAt h x r → Edits h h' x l →
-    held h x ≡ None → held h' x ≡ Some (leaf l) → IsUnlinked h (leaf l) → Begins r (h.key l) → IsAbsent h (h.key l) →
+    held h x ≡ None → held h' x ≡ Some (leaf l) → IsUnlinked h (leaf l) → Begins r (h.key l) →
     Does h h' (EditTouched l) (EditPaths h' x l r) f (insert f (h.key l) (h.value l))
 
 -- a leaf goes from the anchor, or from a node that keeps two children
@@ -78,7 +78,7 @@ ReplaceLaw = (h h' : Heap) (x : Place) (l i : ℕ) (r : List ℕ) (f : ByteMap) 
 -- a node gives way to a copy that has a leaf more
 abbrev pub GrowLaw : Type 0
 GrowLaw = (h h' : Heap) (x : Place) (n m : Node) (b l : ℕ) (r : List ℕ) (f : ByteMap) → IsTree h → PlaceAt h x r → Renews h h' x n m b l →
-    h'.child m b ≡ Some (leaf l) → IsUnlinked h (leaf l) → Begins (past h n r b) (h.key l) → IsAbsent h (h.key l) →
+    h'.child m b ≡ Some (leaf l) → IsUnlinked h (leaf l) → Begins (past h n r b) (h.key l) →
     Does h h' (RenewTouched n m l) (RenewPaths h h' n m b l r) f (insert f (h.key l) (h.value l))
 
 -- a node gives way to a copy that has a leaf less, and two children still
@@ -95,7 +95,7 @@ CopyLaw = (h h' : Heap) (x : Place) (n m : Node) (r : List ℕ) (f : ByteMap) �
 -- a node comes between a place and what it held, a leaf or a node
 abbrev pub ForkLaw : Type 0
 ForkLaw = (h h' : Heap) (x : Place) (c : Link) (m : Node) (l a b : ℕ) (r : List ℕ) (f : ByteMap) → IsTree h → PlaceAt h x r → Forks h h' x c m l a b →
-    ((k : ℕ) → c ≡ leaf k → Begins (past h' m r a) (h.key k)) → Begins (past h' m r b) (h.key l) → length (h.key l) ≤ 64 → IsAbsent h (h.key l) →
+    ((k : ℕ) → c ≡ leaf k → Begins (past h' m r a) (h.key k)) → Begins (past h' m r b) (h.key l) → length (h.key l) ≤ 64 →
     Does h h' (ForkTouched c m l) (ForkPaths h' c m l a b r) f (insert f (h.key l) (h.value l))
 
 -- a node that would come down to one child gives way to it
