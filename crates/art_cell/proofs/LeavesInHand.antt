@@ -14,6 +14,7 @@ use Rattle.art_cell.specs.declared.views.Sizes.{Sizes}
 use Rattle.art_cell.specs.declared.views.View.{View}
 use Rattle.art_cell.specs.Children.{link_in_pool}
 use Rattle.art_cell.specs.CommitLaws.{HasLeaf}
+use Rattle.art_cell.specs.FreeNumbers.{IsLeastFree}
 use Rattle.art_cell.specs.Leaves.{IsLeaf, leaf_word}
 use Rattle.art_cell.specs.Packed.{IsEight, byte_of-from_be_bytes}
 use Rattle.art_cell.specs.Shown.{IsInHand, Took, WroteLeaf, link_of_number}
@@ -22,7 +23,7 @@ use Rattle.art_cell.specs.Views.{IsNumber, Member, Memory, words_in}
 use Rattle.art_cell.specs.Visits.{HasNone, HasJust, IsAway, IsIdle, Fills, leaf_in_hand}
 use Rattle.art_cell.specs.WordChanges.{FitsWord}
 use Rattle.art_cell.specs.Words.{Words, byte_of, packed}
-use Rattle.art_cell.specs.WorldWords.{Kept, OnlyTurned, memory_now, view_at}
+use Rattle.art_cell.specs.WorldWords.{Kept}
 use Rattle.art_cell.proofs.Gathered.{just_one, no_members}
 use Rattle.art_cell.proofs.IdlePasses.{still_away}
 
@@ -96,21 +97,14 @@ took_fills z m v w n k value none pool inside small t = record {
         ∙ ap (λ (d : Link). record { link = d; words = t.words } ∷ []) (leaf_link n pool))
 
 -- it is that of a leaf, none of whose words is written
-pub took_leaf : (a b : Kept) (p : ℕ) (n : Number) (k : List ℕ) (value : ℕ) → OnlyTurned a b p → IsIdle (view_at a.views p) → n.pool ≡ Leaves → IsNumber a.sizes (link_of_number n) → FitsWord (link_of_number n)
-    → Took (memory_now b) (view_at a.views p) (view_at b.views p) (link_of_number n) → IsAway (view_at b.views p) × Fills b.sizes (view_at b.views p).hand n k value 0
-took_leaf a b p n k value turned idle pool there fits t = (
+pub took_leaf : (a : Kept) (z : Sizes) (m : Memory) (v w : View) (n : Number) (k : List ℕ) (value : ℕ) → z ≡ a.sizes → IsIdle v → IsLeastFree a Leaves n → Took m v w (link_of_number n) → IsAway w × Fills z w.hand n k value 0
+took_leaf a z m v w n k value same idle free t = (
   still_away v w (ap (λ (y : View). y.pin) t.is) (ap (λ (y : View). y.held) t.is) idle.away,
-  took_fills b.sizes (memory_now b) v w n k value idle.hand pool inside (subst FitsWord (leaf_link n pool) fits) t,
+  took_fills z m v w n k value idle.hand free.pool inside (subst FitsWord (leaf_link n free.pool) free.fits) t,
 )
   where
-    v : View
-    v = view_at a.views p
-
-    w : View
-    w = view_at b.views p
-
-    inside : n.number < b.sizes.leaves
-    inside = subst₂ (λ (z : Sizes) (d : Link). IsNumber z d) (sym turned.sizes) (leaf_link n pool) there
+    inside : n.number < z.leaves
+    inside = subst₂ (λ (z : Sizes) (d : Link). IsNumber z d) (sym same) (leaf_link n free.pool) free.there
 
 -- the next word may be written
 pub may_fill : (z : Sizes) (v : View) (n : Number) (k : List ℕ) (value place : ℕ) → place < 10 → Fills z v.hand n k value place

@@ -24,17 +24,18 @@ use Rattle.art_cell.specs.declared.views.View.{View}
 use Rattle.art_cell.specs.declared.views.What.{What}
 use Rattle.art_cell.specs.Children.{child_word, link_in_pool, link_of}
 use Rattle.art_cell.specs.CommitLaws.{HasLeaf, HasNode}
+use Rattle.art_cell.specs.FreeNumbers.{IsLeastFree}
 use Rattle.art_cell.specs.Heaps.{heap_of}
 use Rattle.art_cell.specs.Knowledge.{CellAt, NamesLeaf, Leads, Names}
 use Rattle.art_cell.specs.NodeLives.{IsNoted, OnlyLearns, IsStampAt, NotesRoot, NotesKey, key_of_one, HoldsTwo, anchor_held, stamped_holding, IsPair, HoldsPair, NotesPair, HasMerged}
 use Rattle.art_cell.specs.Shown.{Freed, Took, link_of_number, links_of, IsHolding, MayReadCell, Passed, Upgraded, Wrote, Committed, Released}
 use Rattle.art_cell.specs.StepRows.{HasClaimedNone, MayFree, MayBeFirst, MayRelease, MayWrite, Drops, with_word, begun, note_of, stamp_of, IsInLimbo}
 use Rattle.art_cell.specs.Tree.{top}
-use Rattle.art_cell.specs.Views.{IsClear, IsNumber, Member, size_of, words_in}
+use Rattle.art_cell.specs.Views.{IsClear, IsNumber, Member, Memory, size_of, words_in}
 use Rattle.art_cell.specs.Visits.{Fills, HasNone, IsIdle}
 use Rattle.art_cell.specs.WordChanges.{FitsWord, two_children}
 use Rattle.art_cell.specs.Words.{size, child_of}
-use Rattle.art_cell.specs.WorldWords.{Kept, OnlyTurned, memory_now, view_at, views_of}
+use Rattle.art_cell.specs.WorldWords.{Kept, view_at, views_of}
 use Rattle.art_cell.proofs.AnchorRows.{without_link}
 use Rattle.art_cell.proofs.ChildWords.{link_back, link_exact}
 use Rattle.art_cell.proofs.LeafPair.{pair_child}
@@ -278,21 +279,20 @@ few_numbers (a ∷ b ∷ c ∷ []) d e long first second are =
     at_most_one (Some n) bad = omega (arith, bad)
 
 -- a node's number that was free is one in hand
-pub took_node : (a b : Kept) (p : ℕ) (n : Number) → OnlyTurned a b p → n.pool ≡ N4 → IsNumber a.sizes (link_of_number n) → FitsWord (link_of_number n) → Took (memory_now b) (view_at a.views p) (view_at b.views p) (link_of_number n)
-    → HasNode b.sizes (view_at b.views p) (record { layout = Node4; number = n.number })
-took_node a b p n turned pool there fits t = record {
+pub took_node : (a : Kept) (z : Sizes) (m : Memory) (v w : View) (n : Number) → z ≡ a.sizes → IsLeastFree a N4 n → Took m v w (link_of_number n) → HasNode z w (record { layout = Node4; number = n.number })
+took_node a z m v w n same free t = record {
   hand = record { link = link_of_number n; words = t.words };
   has = subst (Member (record { link = link_of_number n; words = t.words })) (sym (ap (λ (y : View). y.hand) t.is)) (inl refl);
   link = is;
   number = inside;
-  fits = subst FitsWord is fits;
+  fits = subst FitsWord is free.fits;
 }
   where
     is : link_of_number n ≡ node (record { layout = Node4; number = n.number })
-    is = ap (λ (q : Pool). link_in_pool q n.number) pool
+    is = ap (λ (q : Pool). link_in_pool q n.number) free.pool
 
-    inside : n.number < b.sizes.n4
-    inside = subst₂ (λ (z : Sizes) (d : Link). IsNumber z d) (sym turned.sizes) is there
+    inside : n.number < z.n4
+    inside = subst₂ (λ (z : Sizes) (d : Link). IsNumber z d) (sym same) is free.there
 
 -- ---- both numbers are in hand
 

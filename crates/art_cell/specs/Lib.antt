@@ -7,6 +7,7 @@ pub mod Deeds
 pub mod Descents
 pub mod Empty
 pub mod Entries
+pub mod FreeNumbers
 pub mod Headers
 pub mod Heaps
 pub mod Histories
@@ -14,6 +15,7 @@ pub mod Instants
 pub mod Knowledge
 pub mod Laws
 pub mod Leaves
+pub mod Lent
 pub mod Looks
 pub mod NodeLives
 pub mod OpeningWords

@@ -177,10 +177,6 @@ only_same_turned a p = record { sizes = refl; count = refl; others = λ q h. ref
 pub only_turned_then : (a b c : Kept) (p q : ℕ) → q ≡ p → OnlyTurned a b p → OnlyTurned b c q → OnlyTurned a c p
 only_turned_then a b c p q same x y = record { sizes = y.sizes ∙ x.sizes; count = y.count ∙ x.count; others = λ r h. y.others r (λ e. h (e ∙ same)) ∙ x.others r h }
 
--- the same borrow, and the same pass
-abbrev pub IsSameAt : {N : Type 0} → N → N → ℕ → ℕ → Type 0
-IsSameAt {N} m n p q = (n ≡ m) × (q ≡ p)
-
 -- the view of the pass changes by the row, and all is sound then
 pub record Turns (z : Sizes) (ws : List ℕ) (p : ℕ) (Row : View → View → Type 0) (old new : List View) : Type 0 where
   pub view : View

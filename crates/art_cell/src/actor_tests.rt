@@ -2,9 +2,9 @@
 ghost use Rattle.std.specs.Prelude.{◌≡◌, ◌≤◌, ◌+◌, ◌∷◌, [], false, true, refl, IfSome};
 ghost use Rattle.std.proofs.Common.{◌∙◌};
 ghost use Rattle.std.proofs.lemmas.Bool.{false≢true};
+ghost use Rattle.art_cell.specs.Lent.{OnlyStepped, sizes_lent, view_lent};
 ghost use Rattle.art_cell.specs.NodeLives.{StampsAnchor};
 ghost use Rattle.art_cell.specs.Visits.{Adds, Counts, IsIdle, Removes, Visits, counts_none, counts_one_more};
-ghost use Rattle.art_cell.specs.WorldWords.{IsSameAt, OnlyTurned, view_at};
 
 use super::*;
 use crate::anchor_steps::{
@@ -113,10 +113,10 @@ fn add<S: Steps>(adding: Adding, steps: &mut S) -> Visit
 
 /// The next step of one that removes the leaf.
 fn remove(removing: Removing, at: &mut At<'_>) -> Visit
-    requires { Removes (KEY ∷ []) VALUE at.old.world.now.sizes (view_at at.old.world.now.views at.old.pass) removing }
-    ensures only { IsSameAt at.old.world.ghost_name at.new.world.ghost_name at.old.pass at.new.pass × OnlyTurned at.old.world.now at.new.world.now at.old.pass }
-    ensures step { (view_at at.new.world.now.views at.new.pass).steps ≤ (view_at at.old.world.now.views at.old.pass).steps + 1 }
-    ensures visits { Visits (KEY ∷ []) VALUE at.new.world.now.sizes (view_at at.new.world.now.views at.new.pass) result }
+    requires { Removes (KEY ∷ []) VALUE (sizes_lent at.old) (view_lent at.old) removing }
+    ensures only { OnlyStepped at.old at.new }
+    ensures step { (view_lent at.new).steps ≤ (view_lent at.old).steps + 1 }
+    ensures visits { Visits (KEY ∷ []) VALUE (sizes_lent at.new) (view_lent at.new) result }
 {
     let leaves = leaves_of(at.world);
     let next = match removing {
@@ -166,21 +166,21 @@ fn see_leaf<S: Steps>(steps: &mut S, stamp: Stamp, leaves: u32) -> Removing
 
 /// Commits that the row is removed, and gives the leaf's number back, which no stamp can name.
 fn take_out(at: &mut At<'_>, held: Held, leaf: u32)
-    requires { Removes (KEY ∷ []) VALUE at.old.world.now.sizes (view_at at.old.world.now.views at.old.pass) (Removing.Written held leaf) }
-    ensures only { IsSameAt at.old.world.ghost_name at.new.world.ghost_name at.old.pass at.new.pass × OnlyTurned at.old.world.now at.new.world.now at.old.pass }
-    ensures step { (view_at at.new.world.now.views at.new.pass).steps ≤ (view_at at.old.world.now.views at.old.pass).steps + 1 }
-    ensures idle { IsIdle (view_at at.new.world.now.views at.new.pass) }
+    requires { Removes (KEY ∷ []) VALUE (sizes_lent at.old) (view_lent at.old) (Removing.Written held leaf) }
+    ensures only { OnlyStepped at.old at.new }
+    ensures step { (view_lent at.new).steps ≤ (view_lent at.old).steps + 1 }
+    ensures idle { IsIdle (view_lent at.new) }
 {
     let number = commit_remove(at, held, leaf);
-    at.world.give_back(at.pass, number);
+    at.give_back(number);
 }
 
 /// The next step of a task, and what is kept then.
 fn go_on(task: Task, visit: Visit, at: &mut At<'_>) -> Visit
-    requires { Visits (KEY ∷ []) VALUE at.old.world.now.sizes (view_at at.old.world.now.views at.old.pass) visit }
-    ensures only { IsSameAt at.old.world.ghost_name at.new.world.ghost_name at.old.pass at.new.pass × OnlyTurned at.old.world.now at.new.world.now at.old.pass }
-    ensures step { (view_at at.new.world.now.views at.new.pass).steps ≤ (view_at at.old.world.now.views at.old.pass).steps + 1 }
-    ensures visits { Visits (KEY ∷ []) VALUE at.new.world.now.sizes (view_at at.new.world.now.views at.new.pass) result }
+    requires { Visits (KEY ∷ []) VALUE (sizes_lent at.old) (view_lent at.old) visit }
+    ensures only { OnlyStepped at.old at.new }
+    ensures step { (view_lent at.new).steps ≤ (view_lent at.old).steps + 1 }
+    ensures visits { Visits (KEY ∷ []) VALUE (sizes_lent at.new) (view_lent at.new) result }
 {
     match visit {
         Visit::Idle => match task {

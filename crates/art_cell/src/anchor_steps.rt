@@ -6,11 +6,11 @@ ghost use Rattle.art_cell.specs.declared.views.Fact.TheVariants.{LeafWord as lea
 ghost use Rattle.art_cell.specs.declared.visits.Removing.TheVariants.{Written as written};
 ghost use Rattle.art_cell.specs.Children.{child_word};
 ghost use Rattle.art_cell.specs.Leaves.{leaf_word};
+ghost use Rattle.art_cell.specs.Lent.{OnlyStepped, sizes_lent, view_lent};
 ghost use Rattle.art_cell.specs.NodeLives.{IsNoted, OnlyLearns, StampsAnchor};
 ghost use Rattle.art_cell.specs.Shown.{link_of_number};
 ghost use Rattle.art_cell.specs.StepRows.{IsInLimbo};
 ghost use Rattle.art_cell.specs.Visits.{ChangesWord, Fills, HoldsUnchanged, HoldsWord, IsAway, IsIdle, Locks, NotesLeaf, Removes};
-ghost use Rattle.art_cell.specs.WorldWords.{IsSameAt, OnlyTurned, view_at};
 
 use super::*;
 use art_key::Key;
@@ -115,14 +115,14 @@ pub(crate) fn leaves_of(world: &World) -> u32
 
 /// Takes a leaf's number into the hand, if one is free, which is no step.
 pub(crate) fn take_leaf(at: &mut At<'_>) -> Option<Number>
-    requires { IsIdle (view_at at.old.world.now.views at.old.pass) }
-    ensures only { IsSameAt at.old.world.ghost_name at.new.world.ghost_name at.old.pass at.new.pass × OnlyTurned at.old.world.now at.new.world.now at.old.pass }
-    ensures step { (view_at at.new.world.now.views at.new.pass).steps ≤ (view_at at.old.world.now.views at.old.pass).steps + 1 }
-    ensures idle { IfNone result (IsIdle (view_at at.new.world.now.views at.new.pass)) }
-    ensures away { IfSome result (λ _. IsAway (view_at at.new.world.now.views at.new.pass)) }
-    ensures fills { (key value : ℕ) → IfSome result (λ n. Fills at.new.world.now.sizes (view_at at.new.world.now.views at.new.pass).hand n (key ∷ []) value 0) }
+    requires { IsIdle (view_lent at.old) }
+    ensures only { OnlyStepped at.old at.new }
+    ensures step { (view_lent at.new).steps ≤ (view_lent at.old).steps + 1 }
+    ensures idle { IfNone result (IsIdle (view_lent at.new)) }
+    ensures away { IfSome result (λ _. IsAway (view_lent at.new)) }
+    ensures fills { (key value : ℕ) → IfSome result (λ n. Fills (sizes_lent at.new) (view_lent at.new).hand n (key ∷ []) value 0) }
 {
-    let number = at.world.first_free(at.pass, Pool::Leaves)?;
+    let number = at.first_free(Pool::Leaves)?;
     Some(number)
 }
 

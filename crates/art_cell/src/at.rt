@@ -1,32 +1,30 @@
-//! A world, lent to one pass.
-ghost use Rattle.std.specs.Prelude.{◌≡◌, ◌<◌, length, refl};
+//! The steps of the pass that a world is lent to.
+ghost use Rattle.std.specs.Prelude.{◌≡◌, ◌<◌, List, false, true, length, refl, IfNone, IfSome};
 ghost use Rattle.std.proofs.Common.{◌∙◌};
-ghost use Rattle.art_cell.specs.WorldWords.{AtOnce, IsSameAt, OnlyTurned, only_same_turned, only_turned_then, view_at};
+ghost use Rattle.art_cell.specs.declared.views.InHand.{InHand as InHandOf};
+ghost use Rattle.art_cell.specs.declared.views.Retired.{Retired as RetiredNumber};
+ghost use Rattle.art_cell.specs.FreeNumbers.{HasNoneFree, IsLeastFree};
+ghost use Rattle.art_cell.specs.Lent.{OnlyStepped, lent, pass_of, sizes_lent, view_lent};
+ghost use Rattle.art_cell.specs.Shown.{Freed, Gave, Took, link_of_number};
+ghost use Rattle.art_cell.specs.StepRows.{MayFree, MayGive, SetsFree};
+ghost use Rattle.art_cell.specs.WorldWords.{AtOnce, memory_now, only_same_turned, only_turned_then, views_of};
 
 use crate::{
-    Cell, Changed, Deed, Held, Locked, Number, Stamp, Steps, Unlinked, UpgradeFault, World,
+    At, Cell, Changed, Deed, Held, Locked, Number, Pool, Stamp, Steps, Unlinked, UpgradeFault,
 };
 
-/// A world, in which one pass makes its steps.
-#[derive(Drop)]
-pub struct At<'a> {
-    pub(crate) world: &'a mut World,
-    pub(crate) pass: usize,
-    ghost inside: { pass < length world.now.views },
-}
-
 impl Steps for At<'_> {
-    ghost view = { λ a. view_at a.world.now.views a.pass };
+    ghost view = { λ a. view_lent a };
 
-    ghost sizes = { λ a. a.world.now.sizes };
+    ghost sizes = { λ a. sizes_lent a };
 
-    ghost only = { λ a b. IsSameAt a.world.ghost_name b.world.ghost_name a.pass b.pass × OnlyTurned a.world.now b.world.now a.pass };
+    ghost only = { λ a b. OnlyStepped a b };
 
-    ghost at_once = { λ I a b. AtOnce I a.world.now b.world.now };
+    ghost at_once = { λ I a b. AtOnce I (lent a) (lent b) };
 
-    ghost only_same = { λ a. ((refl, refl), only_same_turned a.world.now a.pass) };
+    ghost only_same = { λ a. ((refl, refl), only_same_turned (lent a) (pass_of a)) };
 
-    ghost only_then = { λ a b c x y. ((y.0.0 ∙ x.0.0, y.0.1 ∙ x.0.1), only_turned_then a.world.now b.world.now c.world.now a.pass b.pass x.0.1 x.1 y.1) };
+    ghost only_then = { λ a b c x y. ((y.0.0 ∙ x.0.0, y.0.1 ∙ x.0.1), only_turned_then (lent a) (lent b) (lent c) (pass_of a) (pass_of b) x.0.1 x.1 y.1) };
 
     fn begin(&mut self, cell: Cell) -> Result<Stamp, Locked> {
         self.world.begin(self.pass, cell)
@@ -70,5 +68,39 @@ impl Steps for At<'_> {
 
     fn release(&mut self, held: Held, obsolete: bool) {
         self.world.release(self.pass, held, obsolete)
+    }
+}
+
+impl At<'_> {
+    /// The least free number of the pool, which comes into the hand of the pass. None where no number of the pool is free.
+    /// This is no step, and nor are the two calls that give numbers back.
+    pub fn first_free(&mut self, pool: Pool) -> Option<Number>
+        ensures only { OnlyStepped self.old self.new }
+        ensures memory { IfSome result (λ n. SetsFree (memory_now (lent self.old)) (link_of_number n) false (memory_now (lent self.new))) }
+        ensures none { IfNone result ((lent self.new ≡ lent self.old) × HasNoneFree (lent self.old) pool) }
+        ensures some { IfSome result (IsLeastFree (lent self.old) pool) }
+        ensures row { IfSome result (λ n. Took (memory_now (lent self.new)) (view_lent self.old) (view_lent self.new) (link_of_number n)) }
+    {
+        self.world.first_free(self.pass, pool)
+    }
+
+    /// A number in the hand of the pass, of a cell that it does not hold, is free again.
+    pub fn put_back(&mut self, number: Number)
+        requires { (xs : List InHandOf) × MayGive (view_lent self.old) (link_of_number number) xs }
+        ensures only { OnlyStepped self.old self.new }
+        ensures memory { SetsFree (memory_now (lent self.old)) (link_of_number number) true (memory_now (lent self.new)) }
+        ensures row { Gave (view_lent self.old) (view_lent self.new) (link_of_number number) }
+    {
+        self.world.put_back(self.pass, number);
+    }
+
+    /// A number that the pass unlinked, and that stands in nobody's stamp, is free again.
+    pub fn give_back(&mut self, number: Number)
+        requires { (es : List RetiredNumber) × MayFree (views_of (lent self.old).views) (view_lent self.old) (link_of_number number) es }
+        ensures only { OnlyStepped self.old self.new }
+        ensures memory { SetsFree (memory_now (lent self.old)) (link_of_number number) true (memory_now (lent self.new)) }
+        ensures row { Freed (view_lent self.old) (view_lent self.new) (link_of_number number) }
+    {
+        self.world.give_back(self.pass, number);
     }
 }

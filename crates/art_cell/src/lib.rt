@@ -39,7 +39,6 @@ mod world_releases;
 mod world_steps;
 mod writes;
 
-pub use at::At;
 pub use bodies::Body;
 pub use cells::{Cell, Link, Node};
 pub use commit_laws::changes_commit;
@@ -66,5 +65,5 @@ pub use views::{
     Answer, Asked, Bound, Checked, Event, Fact, Finding, Holding, InHand, Note, Noted, Pin,
     Retired, Sizes, Stamp, View, What, Word,
 };
-pub use world::World;
+pub use world::{At, World};
 pub use writes::{Write, Writes, changes};

@@ -4,20 +4,20 @@ ghost use Rattle.std.specs.Option.{option_map};
 ghost use Rattle.art_cell.specs.declared.cells.Cell.TheVariants.{Anchor as anchor_cell, Node as node_cell};
 ghost use Rattle.art_cell.specs.declared.cells.Link.TheVariants.{Leaf as leaf_link, Node as node_link};
 ghost use Rattle.art_cell.specs.declared.layouts.Layout.TheVariants.{Node4 as node4};
-ghost use Rattle.art_cell.specs.declared.layouts.Pool.TheVariants.{Leaves as leaves_pool};
+ghost use Rattle.art_cell.specs.declared.layouts.Pool.TheVariants.{Leaves as leaves_pool, N4 as n4_pool};
 ghost use Rattle.art_cell.specs.declared.views.Fact.TheVariants.{LeafWord, Word as word_fact};
 ghost use Rattle.art_cell.specs.declared.views.InHand.{InHand as InHandOf};
 ghost use Rattle.art_cell.specs.Children.{child_word};
 ghost use Rattle.art_cell.specs.CommitLaws.{HasLeaf, HasNode};
 ghost use Rattle.art_cell.specs.Knowledge.{Names};
+ghost use Rattle.art_cell.specs.Lent.{OnlyStepped, lent, sizes_lent, view_lent};
 ghost use Rattle.art_cell.specs.NodeLives.{HasClaimed, HoldsLeafRoot, HoldsPair, IsNoted, IsStampAt, NotesKey, NotesPair, NotesRoot, OnlyLearns, StampsAnchor};
 ghost use Rattle.art_cell.specs.Shown.{link_of_number};
 ghost use Rattle.art_cell.specs.StepRows.{IsInLimbo, IsNotHeld};
 ghost use Rattle.art_cell.specs.Views.{Member};
 ghost use Rattle.art_cell.specs.Visits.{Fills, HasNone, IsAway, IsIdle, Visits};
 ghost use Rattle.art_cell.specs.WordChanges.{FitsWord};
-ghost use Rattle.art_cell.specs.WorldWords.{IsInside, IsSameAt, OnlyTurned, view_at};
-ghost use Rattle.art_cell.specs.declared.layouts.Pool.TheVariants.{N4 as n4_pool};
+ghost use Rattle.art_cell.specs.WorldWords.{IsInside, view_at};
 
 use super::*;
 use crate::actor_tests::{Task, Visitor};
@@ -349,22 +349,22 @@ fn forget<S: Steps>(steps: &mut S, node: Node) -> bool
 
 /// Takes the number of a Node4 into the hand, if one is free, which is no step.
 fn take_node(at: &mut At<'_>) -> Option<Number>
-    ensures only { IsSameAt at.old.world.ghost_name at.new.world.ghost_name at.old.pass at.new.pass × OnlyTurned at.old.world.now at.new.world.now at.old.pass }
-    ensures held { (view_at at.new.world.now.views at.new.pass).held ≡ (view_at at.old.world.now.views at.old.pass).held }
-    ensures pin { (view_at at.new.world.now.views at.new.pass).pin ≡ (view_at at.old.world.now.views at.old.pass).pin }
-    ensures hand { IfSome result (λ n. (words : List ℕ) × ((view_at at.new.world.now.views at.new.pass).hand ≡ record { link = link_of_number n; words = words } ∷ (view_at at.old.world.now.views at.old.pass).hand)) }
-    ensures node { IfSome result (λ n. (n.pool ≡ n4_pool) × HasNode at.new.world.now.sizes (view_at at.new.world.now.views at.new.pass) (record { layout = node4; number = n.number })) }
+    ensures only { OnlyStepped at.old at.new }
+    ensures held { (view_lent at.new).held ≡ (view_lent at.old).held }
+    ensures pin { (view_lent at.new).pin ≡ (view_lent at.old).pin }
+    ensures hand { IfSome result (λ n. (words : List ℕ) × ((view_lent at.new).hand ≡ record { link = link_of_number n; words = words } ∷ (view_lent at.old).hand)) }
+    ensures node { IfSome result (λ n. (n.pool ≡ n4_pool) × HasNode (sizes_lent at.new) (view_lent at.new) (record { layout = node4; number = n.number })) }
 {
-    let number = at.world.first_free(at.pass, Pool::N4)?;
+    let number = at.first_free(Pool::N4)?;
     Some(number)
 }
 
 /// Takes the number of a leaf into the hand, writes the second row to it, and tells it.
 fn take_second(at: &mut At<'_>) -> Option<Number>
-    requires idle { IsIdle (view_at at.old.world.now.views at.old.pass) }
-    ensures only { IsSameAt at.old.world.ghost_name at.new.world.ghost_name at.old.pass at.new.pass × OnlyTurned at.old.world.now at.new.world.now at.old.pass }
-    ensures away { IfSome result (λ _. IsAway (view_at at.new.world.now.views at.new.pass)) }
-    ensures fills { IfSome result (λ n. Fills at.new.world.now.sizes (view_at at.new.world.now.views at.new.pass).hand n (98 ∷ []) 2 10) }
+    requires idle { IsIdle (view_lent at.old) }
+    ensures only { OnlyStepped at.old at.new }
+    ensures away { IfSome result (λ _. IsAway (view_lent at.new)) }
+    ensures fills { IfSome result (λ n. Fills (sizes_lent at.new) (view_lent at.new).hand n (98 ∷ []) 2 10) }
 {
     let mut number = take_leaf(at)?;
     fill_second(at, &mut number);
@@ -387,13 +387,13 @@ fn fill_second<S: Steps>(steps: &mut S, number: &mut Number)
 
 /// Takes a leaf with the second row and the node into the hand.
 fn take_both(at: &mut At<'_>, node: Node) -> Option<(Number, Number)>
-    requires idle { IsIdle (view_at at.old.world.now.views at.old.pass) }
+    requires idle { IsIdle (view_lent at.old) }
     requires layout { node.layout ≡ node4 }
-    ensures only { IsSameAt at.old.world.ghost_name at.new.world.ghost_name at.old.pass at.new.pass × OnlyTurned at.old.world.now at.new.world.now at.old.pass }
-    ensures away { IfSome result (λ _. ((view_at at.new.world.now.views at.new.pass).held ≡ []) × ((view_at at.new.world.now.views at.new.pass).pin ≢ 0)) }
-    ensures hand { IfSome result (λ p. (x : InHandOf) → Member x (view_at at.new.world.now.views at.new.pass).hand → (x.link ≡ leaf_link p.0.number) ⊎ (x.link ≡ node_link node)) }
-    ensures leaf { IfSome result (λ p. (p.0.pool ≡ leaves_pool) × HasLeaf at.new.world.now.sizes (view_at at.new.world.now.views at.new.pass) p.0.number (98 ∷ []) 2) }
-    ensures node { IfSome result (λ p. (link_of_number p.1 ≡ node_link node) × HasNode at.new.world.now.sizes (view_at at.new.world.now.views at.new.pass) node) }
+    ensures only { OnlyStepped at.old at.new }
+    ensures away { IfSome result (λ _. ((view_lent at.new).held ≡ []) × ((view_lent at.new).pin ≢ 0)) }
+    ensures hand { IfSome result (λ p. (x : InHandOf) → Member x (view_lent at.new).hand → (x.link ≡ leaf_link p.0.number) ⊎ (x.link ≡ node_link node)) }
+    ensures leaf { IfSome result (λ p. (p.0.pool ≡ leaves_pool) × HasLeaf (sizes_lent at.new) (view_lent at.new) p.0.number (98 ∷ []) 2) }
+    ensures node { IfSome result (λ p. (link_of_number p.1 ≡ node_link node) × HasNode (sizes_lent at.new) (view_lent at.new) node) }
 {
     let leaf = take_second(at)?;
     let Some(number) = take_node(at) else {
@@ -411,13 +411,13 @@ fn take_both(at: &mut At<'_>, node: Node) -> Option<(Number, Number)>
 /// Inserts the second row, for which the node comes above both leaves. Tells the second leaf, and the node's version word
 /// once the node is claimed and once it is released.
 fn grow(at: &mut At<'_>, node: Node, first: u32) -> Option<(u32, [u64; 2])>
-    requires idle { IsIdle (view_at at.old.world.now.views at.old.pass) }
-    requires inside { IsInside at.old.world.now.sizes (node_cell node) }
+    requires idle { IsIdle (view_lent at.old) }
+    requires inside { IsInside (sizes_lent at.old) (node_cell node) }
     requires layout { node.layout ≡ node4 }
-    requires number { first < at.old.world.now.sizes.leaves }
-    ensures only { IsSameAt at.old.world.ghost_name at.new.world.ghost_name at.old.pass at.new.pass × OnlyTurned at.old.world.now at.new.world.now at.old.pass }
-    ensures idle { IfSome result (λ _. IsIdle (view_at at.new.world.now.views at.new.pass)) }
-    ensures second { IfSome result (λ p. p.0 < at.new.world.now.sizes.leaves) }
+    requires number { first < (sizes_lent at.old).leaves }
+    ensures only { OnlyStepped at.old at.new }
+    ensures idle { IfSome result (λ _. IsIdle (view_lent at.new)) }
+    ensures second { IfSome result (λ p. p.0 < (sizes_lent at.new).leaves) }
 {
     let (leaf, number) = take_both(at, node)?;
     let second = leaf.number;
@@ -436,14 +436,14 @@ fn grow(at: &mut At<'_>, node: Node, first: u32) -> Option<(u32, [u64; 2])>
 /// Removes the second row, for which the node goes. Tells the node's version word once it is locked and once it is obsolete.
 /// The numbers of the node and of the leaf are free again.
 fn shrink(at: &mut At<'_>, node: Node, first: u32, second: u32) -> Option<[u64; 2]>
-    requires idle { IsIdle (view_at at.old.world.now.views at.old.pass) }
-    requires alone { length at.old.world.now.views ≡ 1 }
-    requires inside { IsInside at.old.world.now.sizes (node_cell node) }
+    requires idle { IsIdle (view_lent at.old) }
+    requires alone { length (lent at.old).views ≡ 1 }
+    requires inside { IsInside (sizes_lent at.old) (node_cell node) }
     requires fits { FitsWord (node_link node) }
     requires layout { node.layout ≡ node4 }
-    requires number { second < at.old.world.now.sizes.leaves }
-    ensures only { IsSameAt at.old.world.ghost_name at.new.world.ghost_name at.old.pass at.new.pass × OnlyTurned at.old.world.now at.new.world.now at.old.pass }
-    ensures idle { IfSome result (λ _. IsIdle (view_at at.new.world.now.views at.new.pass)) }
+    requires number { second < (sizes_lent at.old).leaves }
+    ensures only { OnlyStepped at.old at.new }
+    ensures idle { IfSome result (λ _. IsIdle (view_lent at.new)) }
 {
     let (anchor, below) = lock_pair(at, node, first, second)?;
     let locked = at.world.version(Cell::Node(node));
@@ -455,8 +455,8 @@ fn shrink(at: &mut At<'_>, node: Node, first: u32, second: u32) -> Option<[u64; 
         let_number_go(Some(leaf));
         return None;
     }
-    at.world.give_back(at.pass, number);
-    at.world.give_back(at.pass, leaf);
+    at.give_back(number);
+    at.give_back(leaf);
     Some([locked, obsolete])
 }
 

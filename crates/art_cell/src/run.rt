@@ -1,8 +1,9 @@
 //! A world, run by a list of turns.
 ghost use Rattle.std.specs.Prelude.{◌≡◌, ◌≢◌, ◌⊎◌, ◌+◌, ◌≤◌, ◌<◌, ℕ, length, Bool, true, false, None, Some, refl};
 ghost use Rattle.std.specs.List.{slice_get};
+ghost use Rattle.art_cell.specs.Lent.{OnlyStepped, lender, lent, pass_of, sizes_lent, view_lent};
 ghost use Rattle.art_cell.specs.Turns.{turns_of};
-ghost use Rattle.art_cell.specs.WorldWords.{IsSameAt, OnlyTurned, view_at};
+ghost use Rattle.art_cell.specs.WorldWords.{view_at};
 
 use crate::{At, World};
 
@@ -23,10 +24,10 @@ pub trait Actor {
     /// Makes one step, or none where it only gives up. Says whether it has ended.
     fn turn(&mut self, at: &mut At<'_>) -> bool
         requires going { has_ended self.old ≡ false }
-        requires fits { fits self.old at.old.world.now.sizes (view_at at.old.world.now.views at.old.pass) }
-        ensures only { IsSameAt at.old.world.ghost_name at.new.world.ghost_name at.old.pass at.new.pass × OnlyTurned at.old.world.now at.new.world.now at.old.pass }
-        ensures fits { fits self.new at.new.world.now.sizes (view_at at.new.world.now.views at.new.pass) }
-        ensures step { (view_at at.new.world.now.views at.new.pass).steps ≤ (view_at at.old.world.now.views at.old.pass).steps + 1 }
+        requires fits { fits self.old (sizes_lent at.old) (view_lent at.old) }
+        ensures only { OnlyStepped at.old at.new }
+        ensures fits { fits self.new (sizes_lent at.new) (view_lent at.new) }
+        ensures step { (view_lent at.new).steps ≤ (view_lent at.old).steps + 1 }
         ensures after { after 1 self.old self.new }
         ensures ended { result ≡ has_ended self.new };
 
@@ -87,11 +88,12 @@ impl World {
         actors[pass].turn(&mut at);
     }
 
-    /// The world, in which the pass makes its steps.
+    /// The world, in which the pass makes its steps: it is afterwards as they leave it.
     pub fn at(&mut self, pass: usize) -> At<'_>
         requires { pass < length self.old.views }
-        ensures pass { result.pass ≡ pass }
-        ensures world { result.world.now ≡ self.old }
+        ensures pass { pass_of result ≡ pass }
+        ensures world { lent result ≡ self.old }
+        ensures lender { lender result ≡ self.entry.ghost_name }
     {
         At { world: self, pass }
     }

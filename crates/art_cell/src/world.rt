@@ -20,6 +20,14 @@ pub struct World {
     pub(crate) views: Ghost<LinkedList<View>>,
 }
 
+/// A world, in which one pass makes its steps.
+#[derive(Drop)]
+pub struct At<'a> {
+    pub(crate) world: &'a mut World,
+    pub(crate) pass: usize,
+    ghost inside: { pass < length world.now.views },
+}
+
 impl Model for World {
     ghost use Rattle.std.specs.Prelude.{◌≡◌, length};
     ghost use Rattle.art_cell.specs.Sound.{IsSound};

@@ -3,6 +3,7 @@ ghost use Rattle.std.specs.Prelude.{◌≡◌, ◌<◌, ℕ, List, length, false
 ghost use Rattle.art_cell.specs.declared.views.InHand.{InHand as InHandOf};
 ghost use Rattle.art_cell.specs.declared.views.Retired.{Retired as RetiredNumber};
 ghost use Rattle.art_cell.specs.Children.{link_in_pool};
+ghost use Rattle.art_cell.specs.FreeNumbers.{HasNoneFree, IsLeastFree};
 ghost use Rattle.art_cell.specs.Shown.{Freed, Gave, Took, link_of_number};
 ghost use Rattle.art_cell.specs.StepRows.{MayFree, MayGive, SetsFree};
 ghost use Rattle.art_cell.specs.Views.{IsNumber};
@@ -14,13 +15,12 @@ use crate::{Number, Pool, Sizes, World};
 
 impl World {
     /// The least free number of the pool, which comes into the hand of the pass. None where no number of the pool is free.
-    pub fn first_free(&mut self, pass: usize, pool: Pool) -> Option<Number>
+    pub(crate) fn first_free(&mut self, pass: usize, pool: Pool) -> Option<Number>
         requires { pass < length self.old.views }
         ensures only { OnlyTurned self.old self.new pass }
         ensures memory { IfSome result (λ n. SetsFree (memory_now self.old) (link_of_number n) false (memory_now self.new)) }
-        ensures none { IfNone result ((self.new ≡ self.old) × ((k : ℕ) → (memory_now self.old).free (link_in_pool pool k) ≡ false)) }
-        ensures some { IfSome result (λ n. (n.pool ≡ pool) × IsNumber self.old.sizes (link_of_number n) × FitsWord (link_of_number n) × ((memory_now self.old).free (link_of_number n) ≡ true)) }
-        ensures least { IfSome result (λ n. (k : ℕ) → k < n.number → (memory_now self.old).free (link_in_pool pool k) ≡ false) }
+        ensures none { IfNone result ((self.new ≡ self.old) × HasNoneFree self.old pool) }
+        ensures some { IfSome result (IsLeastFree self.old pool) }
         ensures row { IfSome result (λ n. Took (memory_now self.new) (view_at self.old.views pass) (view_at self.new.views pass) (link_of_number n)) }
     {
         let number = self.least_free(pool)?;
@@ -40,7 +40,7 @@ impl World {
 
     /// The least number of the pool whose bit is set.
     fn least_free(&self, pool: Pool) -> Option<u32>
-        ensures none { IfNone result ((k : ℕ) → (memory_now self.now).free (link_in_pool pool k) ≡ false) }
+        ensures none { IfNone result (HasNoneFree self.now pool) }
         ensures some { IfSome result (λ n. (n < pool_size self.now.sizes pool) × ((memory_now self.now).free (link_in_pool pool n) ≡ true) × ((k : ℕ) → k < n → (memory_now self.now).free (link_in_pool pool k) ≡ false)) }
     {
         let first = self.sizes.first_free_word(pool);
@@ -54,7 +54,7 @@ impl World {
     }
 
     /// A number in the hand of the pass, of a cell that it does not hold, is free again.
-    pub fn put_back(&mut self, pass: usize, number: Number)
+    pub(crate) fn put_back(&mut self, pass: usize, number: Number)
         requires pass { pass < length self.old.views }
         requires may { (xs : List InHandOf) × MayGive (view_at self.old.views pass) (link_of_number number) xs }
         ensures only { OnlyTurned self.old self.new pass }
@@ -73,7 +73,7 @@ impl World {
     }
 
     /// A number that the pass unlinked, and that stands in nobody's stamp, is free again.
-    pub fn give_back(&mut self, pass: usize, number: Number)
+    pub(crate) fn give_back(&mut self, pass: usize, number: Number)
         requires pass { pass < length self.old.views }
         requires may { (es : List RetiredNumber) × MayFree (views_of self.old.views) (view_at self.old.views pass) (link_of_number number) es }
         ensures only { OnlyTurned self.old self.new pass }

@@ -1,8 +1,8 @@
 use Rattle.std.specs.Prelude.{[], ◌∷◌}
 use Rattle.std.proofs.Common.{subst}
 use Rattle.art_cell.specs.declared.anchor_steps.TheConstants.{KEY, VALUE}
+use Rattle.art_cell.specs.Lent.{view_lent}
 use Rattle.art_cell.specs.Visits.{Visits}
-use Rattle.art_cell.specs.WorldWords.{view_at}
 use Rattle.art_cell.proofs.IdlePasses.{idle_then}
 use Rattle.art_cell.proofs.actor_tests.go_on.Goals as goal
 
@@ -10,7 +10,7 @@ pub returns-in-Locked-clause-visits : goal.returns-in-Locked-clause-visits
 returns-in-Locked-clause-visits c =
     let k = subst (Visits (KEY ∷ []) VALUE _ _) c.in-Locked.is c.requires in
     let e = c.let_go.ensures in
-    idle_then (view_at c.args.at.now.world.now.views c.args.at.now.pass) _ k.0 e.hand e.away
+    idle_then (view_lent c.args.at.now) _ k.0 e.hand e.away
 
 pub returns-in-Some-clause-visits : goal.returns-in-Some-clause-visits
 returns-in-Some-clause-visits c = (c.in-Some.ensures.away, c.in-Some.ensures.fills KEY VALUE)

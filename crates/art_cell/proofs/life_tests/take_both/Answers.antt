@@ -1,5 +1,5 @@
 use Rattle.std.proofs.Common.{arith, sym, ◌∙◌}
-use Rattle.art_cell.specs.WorldWords.{view_at}
+use Rattle.art_cell.specs.Lent.{view_lent}
 use Rattle.art_cell.proofs.Gathered.{no_members}
 use Rattle.art_cell.proofs.LeavesInHand.{has_leaf}
 use Rattle.art_cell.proofs.LifePairs.{is_node4, just_both, leaf_beside}
@@ -13,9 +13,9 @@ returns-clause-away c =
 pub returns-clause-hand : goal.returns-clause-hand
 returns-clause-hand c =
     let hand = c.in-Some.ensures.hand in
-    just_both _ (view_at c.take_second.new.at.world.now.views c.take_second.new.at.pass) (view_at c.take_node.new.at.world.now.views c.take_node.new.at.pass) c.in_ok-leaf.leaf _ _ hand.0 _ _ 10 (is_node4 c.in-Some.number c.args.node c.in-Some.ensures.node.0 c.if-number-node.false c.requires.layout) c.in_ok-leaf.ensures.fills hand.1
+    just_both _ (view_lent c.take_second.new.at) (view_lent c.take_node.new.at) c.in_ok-leaf.leaf _ _ hand.0 _ _ 10 (is_node4 c.in-Some.number c.args.node c.in-Some.ensures.node.0 c.if-number-node.false c.requires.layout) c.in_ok-leaf.ensures.fills hand.1
 
 pub returns-clause-leaf : goal.returns-clause-leaf
 returns-clause-leaf c =
     let fills = c.in_ok-leaf.ensures.fills in
-    (fills.pool, leaf_beside _ _ (view_at c.take_second.new.at.world.now.views c.take_second.new.at.pass) (view_at c.take_node.new.at.world.now.views c.take_node.new.at.pass) _ _ _ _ c.in-Some.ensures.only.1.sizes c.in-Some.ensures.hand.1 (has_leaf _ (view_at c.take_second.new.at.world.now.views c.take_second.new.at.pass) c.in_ok-leaf.leaf 98 2 (omega arith) fills))
+    (fills.pool, leaf_beside _ _ (view_lent c.take_second.new.at) (view_lent c.take_node.new.at) _ _ _ _ c.in-Some.ensures.only.1.sizes c.in-Some.ensures.hand.1 (has_leaf _ (view_lent c.take_second.new.at) c.in_ok-leaf.leaf 98 2 (omega arith) fills))

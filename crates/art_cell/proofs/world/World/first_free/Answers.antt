@@ -1,5 +1,5 @@
 -- The bit of a free number is 1, so that it can be subtracted, and all is sound after that.
-use Rattle.std.proofs.Common.{◌≡◌, ℕ, ◌+◌, ◌/◌, ◌<◌, true, length, get_or, sym, subst}
+use Rattle.std.proofs.Common.{rules, ◌≡◌, ℕ, ◌+◌, ◌/◌, ◌<◌, true, length, get_or, refl, sym, subst}
 use Rattle.art_cell.specs.declared.layouts.Pool.{Pool}
 use Rattle.art_cell.specs.Children.{link_in_pool}
 use Rattle.art_cell.specs.WorldWords.{Kept, first_free_word, memory_now}
@@ -33,3 +33,8 @@ returns-clause-memory c =
     let free = c.in_ok-number.ensures.some.1 in
     let h = word_of_free c.args.pool c.in_ok-number.number c.first_free_word.result c.index_mut.result.now c.self.view_is c.self.invariant free c.first_free_word.ensures c.index_mut.ensures.value in
     seen_before c.self.view_is (takes_bit _ _ c.self.invariant.0 _ _ _ _ h.1 h.0)
+
+pub returns-clause-some : goal.returns-clause-some
+returns-clause-some c =
+    let found = c.in_ok-number.ensures.some in
+    record { pool = refl; there = search rules; fits = search rules; free = found.1; least = found.2 }
