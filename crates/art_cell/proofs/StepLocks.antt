@@ -326,7 +326,9 @@ module _ (z : Sizes) (m : Memory) (versions : Cell → ℕ) (f : Views) (p : ℕ
 
 -- a stamped cell whose word is the stamped one is locked and held
 pub upgrade_law : UpgradeLaw
-upgrade_law z m f p v is m' g x ws r may same copy sets t =
+upgrade_law z m f p v is m' g x ws r may copy instant t =
+    let same = sym instant.found in
+    let sets = instant.sets in
     let clear = ((r.vouch p v is).stamps x may.stamp).clear in
     let here = sets.here in
     let limit = may.limit in

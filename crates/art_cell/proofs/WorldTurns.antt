@@ -247,7 +247,7 @@ module _ (z : Sizes) (ws : List ℕ) (vs : List View) (p : ℕ) (r : IsSound z (
         agrees = λ i value j. ap (λ (w : Words). w i) (sym copy.words ∙ sym (r.holder.at_rest x.cell (λ locked. omega arith))) ∙ ((r.vouch p v at).notes (note_of x (Word i value)) j).same stays;
         is = refl;
       }
-      (λ g t. upgrade_law z m f p v at (memory_of z us) g x words r may stays copy (upgrade_sets x place found there is found_is same may.stamp) t)
+      (λ g t. upgrade_law z m f p v at (memory_of z us) g x words r may copy record { found = sym stays; sets = upgrade_sets x place found there is found_is same may.stamp } t)
 
   -- a node's number in hand is one whose word may go up
   pub claim_fits : (n : Node) (found : ℕ) → found ≡ m.version (cell.Node n) → MayClaim v n → found + 1 < 2 ^ 64

@@ -14,9 +14,10 @@ use Rattle.art_cell.specs.declared.views.Sizes.{Sizes}
 use Rattle.art_cell.specs.declared.views.Stamp.{Stamp}
 use Rattle.art_cell.specs.declared.views.View.{View}
 use Rattle.art_cell.specs.declared.views.What.{What}
+use Rattle.art_cell.specs.Instants.{LocksStamped, LocksClaimed, PutsWord, Unlocks}
 use Rattle.art_cell.specs.Knowledge.{HoldsAll}
 use Rattle.art_cell.specs.Sound.{IsSound}
-use Rattle.art_cell.specs.StepRows.{SetsVersion, SetsWord, SetsFree, begun, has_read, MayRead, MayReadLeaf, ArePaths, telling, passed, MayPass, Without, failed, forgetting, MayUpgrade, IsCopy, upgraded, MayClaim, claimed, Puts, MayWrite, with_word, writing, MayWriteLeaf, with_leaf_word, handing, MayCommit, AreStanding, all_retired, Drops, HandsOver, released_word, MayBeFirst, committed, MayRelease, took, IsTaken, MayGive, gave, MayFree, freed}
+use Rattle.art_cell.specs.StepRows.{SetsFree, begun, has_read, MayRead, MayReadLeaf, ArePaths, telling, passed, MayPass, Without, failed, forgetting, MayUpgrade, IsCopy, upgraded, MayClaim, claimed, Puts, MayWrite, with_word, writing, MayWriteLeaf, with_leaf_word, handing, MayCommit, AreStanding, all_retired, Drops, HandsOver, MayBeFirst, committed, MayRelease, took, IsTaken, MayGive, gave, MayFree, freed}
 use Rattle.art_cell.specs.Views.{Member, Memory, IsObsolete, IsNumber, last_counter, Views, Turned}
 
 -- the pass p, whose view is v, makes a step: before it all is sound
@@ -55,12 +56,12 @@ ForgetLaw = Step (λ z m f p v. (g : Views) (xs : List Stamp) (ys : List Note) �
 -- ---- steps that lock and release
 
 abbrev pub UpgradeLaw : Type 0
-UpgradeLaw = Step (λ z m f p v. (m' : Memory) (g : Views) (x : Stamp) (ws : List ℕ) → IsSound z m f → MayUpgrade v x → m.version x.cell ≡ x.version → IsCopy m x.cell ws
-    → SetsVersion m x.cell (x.version + 2) m' → Turned f p (upgraded v x ws) g → IsSound z m' g)
+UpgradeLaw = Step (λ z m f p v. (m' : Memory) (g : Views) (x : Stamp) (ws : List ℕ) → IsSound z m f → MayUpgrade v x → IsCopy m x.cell ws
+    → LocksStamped x m f m' g → Turned f p (upgraded v x ws) g → IsSound z m' g)
 
 abbrev pub ClaimLaw : Type 0
 ClaimLaw = Step (λ z m f p v. (m' : Memory) (g : Views) (n : Node) (ws : List ℕ) → IsSound z m f → MayClaim v n → IsCopy m (cell.Node n) ws
-    → SetsVersion m (cell.Node n) (m.version (cell.Node n) + 1) m' → Turned f p (claimed v n ws) g → IsSound z m' g)
+    → LocksClaimed n m f m' g → Turned f p (claimed v n ws) g → IsSound z m' g)
 
 -- a node's number in hand that the pass does not hold is obsolete
 abbrev pub UnclaimedLaw : Type 0
@@ -68,22 +69,22 @@ UnclaimedLaw = Step (λ z m f p v. (n : Node) → IsSound z m f → MayClaim v n
 
 abbrev pub ReleaseLaw : Type 0
 ReleaseLaw = Step (λ z m f p v. (m' : Memory) (g : Views) (h : Holding) (hs : List Holding) (obsolete : Bool) → IsSound z m f → MayRelease v h obsolete → Drops v.held h.cell hs
-    → SetsVersion m h.cell (released_word (m.version h.cell) obsolete) m' → Turned f p (writing v hs) g → IsSound z m' g)
+    → Unlocks h.cell obsolete m f m' g → Turned f p (writing v hs) g → IsSound z m' g)
 
 abbrev pub CommitLaw : Type 0
 CommitLaw = Step (λ z m f p v. (m' : Memory) (g : Views) (what : What) (us ls : List Link) (ks : List Pin) (h : Holding) (hs : List Holding) (xs : List InHand) (obsolete : Bool) → (r : IsSound z m f)
     → MayCommit z v what us ls → MayBeFirst v us h obsolete → Drops v.held h.cell hs → HandsOver v.hand ls xs → AreStanding f ks
-    → SetsVersion m h.cell (released_word (m.version h.cell) obsolete) m' → Turned f p (committed v r.log what hs xs (all_retired ks us ++ v.limbo)) g → IsSound z m' g)
+    → Unlocks h.cell obsolete m f m' g → Turned f p (committed v r.log what hs xs (all_retired ks us ++ v.limbo)) g → IsSound z m' g)
 
 -- ---- steps that write
 
 abbrev pub WriteLaw : Type 0
 WriteLaw = Step (λ z m f p v. (m' : Memory) (g : Views) (h : Holding) (hs : List Holding) (i x : ℕ) → IsSound z m f → MayWrite v h i → Puts v.held h (with_word h i x) hs
-    → SetsWord m h.cell i x m' → Turned f p (writing v hs) g → IsSound z m' g)
+    → PutsWord h.cell i x m f m' g → Turned f p (writing v hs) g → IsSound z m' g)
 
 abbrev pub WriteLeafLaw : Type 0
 WriteLeafLaw = Step (λ z m f p v. (m' : Memory) (g : Views) (y : InHand) (ys : List InHand) (l i x : ℕ) → IsSound z m f → MayWriteLeaf v y l i → Puts v.hand y (with_leaf_word y i x) ys
-    → SetsWord m (cell.Leaf l) i x m' → Turned f p (handing v ys) g → IsSound z m' g)
+    → PutsWord (cell.Leaf l) i x m f m' g → Turned f p (handing v ys) g → IsSound z m' g)
 
 -- ---- numbers
 
