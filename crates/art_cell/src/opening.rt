@@ -8,7 +8,8 @@ ghost use Rattle.art_cell.specs.declared.layouts.Pool.TheVariants.{Leaves as lea
 use crate::word_places::pool_of_layout;
 use crate::{Pool, Sizes, View, World};
 use art_ghosts::{Choice, Ghost};
-use std::alloc::{AllocError, Global};
+use art_model::NoMemory;
+use std::alloc::Global;
 use std::collections::LinkedList;
 use std::marker::{Brand, PhantomData};
 
@@ -105,7 +106,7 @@ fn opening_word(sizes: Sizes, counter_start: u64, place: usize) -> u64
 impl World {
     /// Words for these cells and passes. The anchor names no root, its counter and those of all nodes begin at
     /// `counter_start`, all numbers are free, and each pass knows nothing.
-    pub fn open(alloc: Global, sizes: &Sizes, counter_start: u64) -> Result<World, AllocError>
+    pub fn open(alloc: Global, sizes: &Sizes, counter_start: u64) -> Result<World, NoMemory>
         requires { counter_start ≤ last_counter }
         ensures { IfOk result (λ w. OpensAt sizes.now counter_start w) }
     {
