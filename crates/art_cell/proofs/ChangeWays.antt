@@ -147,6 +147,15 @@ module _ (z : Sizes) (v : View) (s s' : Cells) (x : Place) (r : List ℕ) (n m :
     renew_held : (i : Node) → IsLinked s (node i) → T (node i) → IsHeld v (cell.Node i)
     renew_held i o t = ⊎_elim (λ (e : node i ≡ node n). way_held i o (inl e)) (⊎_elim (λ (e : node i ≡ node m). way_held i o (inr e)) (λ (e : node i ≡ leaf l). absurd (cc))) t
 
+    n_gone : (d : Link) → d ≡ node n → T d × IsLinked s d × ((p : List ℕ) → E d p → ⊥)
+    n_gone d e = (
+      inl e,
+      (n_goes d e).0,
+      λ p f. ⊎_elim
+          (λ (g : (d ≡ node m) × (p ≡ r)). (n_goes d e).1 g.0)
+          (λ (g : (d ≡ leaf l) × (p ≡ past h n r b) × (h'.child m b ≡ Some (leaf l))). let is = g.0 in absurd (cc)) f,
+    )
+
     -- ---- with a leaf more
 
     module _ (k : List ℕ) (value : ℕ) (has : HasLeaf z v l k value) (made : WritesNode m.layout (s' (cell.Node m)) (node_prefix (s (cell.Node n))) (at_byte (child_of n.layout (s (cell.Node n))) b (Some (leaf l))))
@@ -170,13 +179,7 @@ module _ (z : Sizes) (v : View) (s s' : Cells) (x : Place) (r : List ℕ) (n m :
       grow_touches : Touches v (node n ∷ []) (leaf l ∷ node m ∷ []) s T E
       grow_touches = record {
         leaves = λ d i. ⊎_elim
-            (λ (e : d ≡ node n). (
-              inl e,
-              (n_goes d e).0,
-              λ p f. ⊎_elim
-                  (λ (g : (d ≡ node m) × (p ≡ r)). (n_goes d e).1 g.0)
-                  (λ (g : (d ≡ leaf l) × (p ≡ past h n r b) × (h'.child m b ≡ Some (leaf l))). let is = g.0 in absurd (cc)) f,
-            ))
+            (n_gone d)
             (λ (i : ⊥). absurd i) i;
         comes = λ d i. ⊎_elim
             (λ (e : d ≡ leaf l). ((past h n r b, inr (e, refl, grows.1)), in_hand v (leaf l) d e (has.hand, has.has, has.link)))
@@ -221,13 +224,7 @@ module _ (z : Sizes) (v : View) (s s' : Cells) (x : Place) (r : List ℕ) (n m :
       shrink_touches : Touches v (node n ∷ leaf l ∷ []) (node m ∷ []) s T E
       shrink_touches = record {
         leaves = λ d i. ⊎_elim
-            (λ (e : d ≡ node n). (
-              inl e,
-              (n_goes d e).0,
-              λ p f. ⊎_elim
-                  (λ (g : (d ≡ node m) × (p ≡ r)). (n_goes d e).1 g.0)
-                  (λ (g : (d ≡ leaf l) × (p ≡ past h n r b) × (h'.child m b ≡ Some (leaf l))). let is = g.0 in absurd (cc)) f,
-            ))
+            (n_gone d)
             (⊎_elim
             (λ (e : d ≡ leaf l). (
               inr (inr e),
