@@ -13,6 +13,7 @@ pub mod Histories
 pub mod Instants
 pub mod Knowledge
 pub mod Laws
+pub mod LeafWords
 pub mod Leaves
 pub mod Looks
 pub mod NodeLives
