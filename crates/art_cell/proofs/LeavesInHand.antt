@@ -1,9 +1,7 @@
 -- A leaf in hand, whose words are written one after another.
-use Rattle.std.proofs.Common.{◌≡◌, ℕ, zero, suc, ◌+◌, ◌*◌, ◌/◌, ◌%◌, ◌^◌, ◌<◌, ◌≤◌, List, [], ◌∷◌, length, get_or, map, set, refl, sym, ap, ◌∙◌, subst, subst₂, inl, inr, ⊎_elim, arith, get_or-set_other, get_or-set_same}
-use Rattle.std.proofs.lemmas.Bool.{cases_eq, cases_lt}
-use Rattle.std.proofs.lemmas.List.{get_or_past, length-set}
-use Rattle.std.proofs.lemmas.List.FromFn.{get_or-map-range_with_len, fill_by_all}
-use Rattle.std.specs.List.{range_with_len}
+use Rattle.std.proofs.Common.{◌≡◌, ℕ, zero, suc, ◌+◌, ◌*◌, ◌^◌, ◌<◌, List, [], ◌∷◌, get_or, set, refl, sym, ap, ◌∙◌, subst, subst₂, ⊎_elim, arith, get_or-set_other, get_or-set_same}
+use Rattle.std.proofs.lemmas.Bool.{cases_eq}
+use Rattle.std.proofs.lemmas.List.{length-set}
 use Rattle.art_cell.specs.declared.cells.Link.{Link}
 use Rattle.art_cell.specs.declared.cells.Link.TheVariants.{Leaf as leaf}
 use Rattle.art_cell.specs.declared.layouts.Number.{Number}
@@ -15,59 +13,18 @@ use Rattle.art_cell.specs.declared.views.View.{View}
 use Rattle.art_cell.specs.Children.{link_in_pool}
 use Rattle.art_cell.specs.CommitLaws.{HasLeaf}
 use Rattle.art_cell.specs.FreeNumbers.{IsLeastFree}
-use Rattle.art_cell.specs.Leaves.{IsLeaf, leaf_word}
-use Rattle.art_cell.specs.Packed.{IsEight, byte_of-from_be_bytes}
+use Rattle.art_cell.specs.Leaves.{leaf_word}
+use Rattle.art_cell.specs.LeafWords.{words_mean_leaf}
 use Rattle.art_cell.specs.Shown.{IsInHand, Took, WroteLeaf, link_of_number}
 use Rattle.art_cell.specs.StepRows.{IsTaken, MayWriteLeaf}
 use Rattle.art_cell.specs.Views.{IsNumber, Member, Memory, words_in}
 use Rattle.art_cell.specs.Visits.{HasNone, HasJust, IsAway, IsIdle, Fills, leaf_in_hand}
 use Rattle.art_cell.specs.WordChanges.{FitsWord}
-use Rattle.art_cell.specs.Words.{Words, byte_of, packed}
 use Rattle.art_cell.specs.WorldWords.{Kept}
 use Rattle.art_cell.proofs.Gathered.{just_one, no_members}
 use Rattle.art_cell.proofs.IdlePasses.{still_away}
 
--- ---- what ten words mean
-
-module _ (w : Words) (key : List ℕ) (value : ℕ) (words : (i : ℕ) → i < 10 → w i ≡ leaf_word key value i) (bytes : (i : ℕ) → get_or key i 0 < 256) where
-  eight_bytes : (from : ℕ) → IsEight (map (λ i. get_or key (from + i) 0) (range_with_len 0 8))
-  eight_bytes from = record { eight = refl; small = small }
-    where
-      small : (i : ℕ) → get_or (map (λ i. get_or key (from + i) 0) (range_with_len 0 8)) i 0 < 256
-      small i =
-          elim (cases_lt i 8) [
-            | inl low ↦ rw (get_or-map-range_with_len (λ j. get_or key (from + j) 0) 0 8 i i 0 low (omega arith)) (bytes (from + i))
-            | inr past ↦ rw (get_or_past (map (λ j. get_or key (from + j) 0) (range_with_len 0 8)) i 0 past) (omega arith)
-          ]
-
-  -- byte i of the words is byte i of the key, and 0 after its last
-  byte_is : (i : ℕ) → i < 64 → packed w 2 i ≡ get_or key i 0
-  unfolding packed
-  byte_is i low =
-      let from = 8 * (i / 8) in
-      let at = i % 8 in
-      let small : at < 8 = omega arith in
-      ap (λ (word : ℕ). byte_of word at) (words (2 + i / 8) (omega arith) ∙ ap (leaf_word key value) (two_more (i / 8)))
-      ∙ byte_of-from_be_bytes (map (λ j. get_or key (from + j) 0) (range_with_len 0 8)) at (eight_bytes from) small
-      ∙ get_or-map-range_with_len (λ j. get_or key (from + j) 0) 0 8 at at 0 small (omega arith)
-      ∙ ap (λ (j : ℕ). get_or key j 0) (omega arith)
-    where
-      two_more : (n : ℕ) → 2 + n ≡ suc (suc n)
-      two_more n = omega arith
-
-  -- they are those of the leaf
-  pub words_mean_leaf : length key ≤ 64 → IsLeaf w key value
-  words_mean_leaf few = record {
-    value = words 0 (omega arith);
-    len = len;
-    key =
-        ap (λ (n : ℕ). map (packed w 2) (range_with_len 0 n)) len
-        ∙ sym (fill_by_all (packed w 2) key (length key) 0 refl (λ i low. sym (byte_is i (omega (arith, low, few)))));
-    unused = λ i past low. byte_is i low ∙ get_or_past key i 0 past;
-  }
-    where
-      len : w 1 ≡ length key
-      len = words 1 (omega arith)
+-- ---- the key of one byte
 
 one_byte : (b : ℕ) → b < 256 → (i : ℕ) → get_or (b ∷ []) i 0 < 256
 one_byte b small zero = small

@@ -99,10 +99,10 @@ module _ (z : Sizes) (ws : List ℕ) (vs : List View) (p : ℕ) (r : IsSound z (
   at = at_view vs p inside
 
   -- a number that is somewhere else than among the free ones is one that there is, and not free
-  abbrev IsTaken : Link → Type 0
-  IsTaken d = IsNumber z d × (is_free z ws d ≡ false)
+  abbrev IsInUse : Link → Type 0
+  IsInUse d = IsNumber z d × (is_free z ws d ≡ false)
 
-  elsewhere : (d : Link) (k : Whereabouts) → r.at d ≡ k → k ≢ Nowhere → k ≢ IsFree → IsTaken d
+  elsewhere : (d : Link) (k : Whereabouts) → r.at d ≡ k → k ≢ Nowhere → k ≢ IsFree → IsInUse d
   elsewhere d k is some other = (
     (r.numbers.numbers d).0 (λ e. some (sym is ∙ e)),
     ⊎_elim
@@ -112,11 +112,11 @@ module _ (z : Sizes) (ws : List ℕ) (vs : List View) (p : ℕ) (r : IsSound z (
   )
 
   -- so is one in hand
-  pub in_hand : (d : Link) (xs : List InHand) → MayGive v d xs → IsTaken d
+  pub in_hand : (d : Link) (xs : List InHand) → MayGive v d xs → IsInUse d
   in_hand d xs may = let x = may.hand in elsewhere d (InHandOf p) (ap r.at (sym x.2) ∙ (r.numbers.accounts p v at).hand x.0 x.1) (λ e. cc) (λ e. cc)
 
   -- and one in limbo
-  pub in_limbo : (d : Link) (es : List Retired) → MayFree (views_of vs) v d es → IsTaken d
+  pub in_limbo : (d : Link) (es : List Retired) → MayFree (views_of vs) v d es → IsInUse d
   in_limbo d es may = let x = may.limbo in elsewhere d (InLimboOf p) (ap r.at (sym x.2) ∙ (r.numbers.accounts p v at).limbo x.0 x.1) (λ e. cc) (λ e. cc)
 
   module _ (d : Link) (place found bit : ℕ) (word : IsBitWord z ws d place found bit) where

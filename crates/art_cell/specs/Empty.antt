@@ -1,5 +1,5 @@
 -- A node with a prefix and no child.
-use Rattle.std.proofs.Common.{◌≡◌, ℕ, zero, suc, ◌+◌, ◌*◌, ◌/◌, ◌%◌, ◌^◌, ◌<◌, ◌≤◌, length, None, refl, sym, ap, ◌∙◌, inl, inr, arith}
+use Rattle.std.proofs.Common.{◌≡◌, ℕ, zero, suc, ◌+◌, ◌*◌, ◌/◌, ◌%◌, ◌^◌, ◌<◌, ◌≤◌, List, length, get_or, set, replicate, get_or-set_other, None, refl, sym, ap, ap₂, ◌∙◌, inl, inr, arith}
 use Rattle.std.proofs.Math.Nat.{pow-le-pow_right, div-eq_of_lt}
 use Rattle.std.proofs.lemmas.Bool.{cases_lt}
 use Rattle.art_cell.specs.declared.layouts.Layout.{Layout}
@@ -7,7 +7,7 @@ use Rattle.art_cell.specs.declared.layouts.Layout.TheVariants.{Node4, Node16, No
 use Rattle.art_cell.specs.Words.{Words, count_of, prefix_len, is_used, byte_of, packed, prefix_of, key_byte, child_of, sorted_child}
 use Rattle.art_cell.specs.Bodies.{HasPrefix, IsSorted, used_count, IsIndexed, HasForm, IsBody}
 use Rattle.art_cell.specs.Headers.{SamePrefix, prefix_kept, same_prefix_of}
-use Rattle.art_cell.specs.Entries.{same_listed}
+use Rattle.art_cell.specs.Entries.{listed_none}
 
 -- the prefix of a node, and 0 in all other words after the version
 pub record IsEmpty (w after : Words) : Type 0 where
@@ -16,12 +16,12 @@ pub record IsEmpty (w after : Words) : Type 0 where
   pub others : (place : ℕ) → 10 ≤ place → after place ≡ 0
   pub version : after 0 ≡ 0
 
+zero_byte : (i : ℕ) → byte_of 0 i ≡ 0
+zero_byte i = omega arith
+
 no_key : (w after : Words) → IsEmpty w after → (i : ℕ) → key_byte after i ≡ 0
 unfolding packed
-no_key w after empty i = ap (λ (word : ℕ). byte_of word (i % 8)) (empty.others (10 + i / 8) (omega arith)) ∙ none (i % 8)
-  where
-    none : (j : ℕ) → byte_of 0 j ≡ 0
-    none j = omega arith
+no_key w after empty i = ap (λ (word : ℕ). byte_of word (i % 8)) (empty.others (10 + i / 8) (omega arith)) ∙ zero_byte (i % 8)
 
 same_prefix : (w after : Words) → IsEmpty w after → SamePrefix w after
 same_prefix w after empty = record {
@@ -91,7 +91,7 @@ empty_body k w after has words empty = record {
   words = fits;
   prefix = prefix_kept w after (same_prefix w after empty) has;
   form = form_empty k w after empty;
-  counted = no_count w after empty ∙ sym (ap length (same_listed (λ _. None) (child_of k after) 0 256 (λ b low high. no_child k w after b empty)));
+  counted = no_count w after empty ∙ sym (ap length (listed_none (child_of k after) 0 256 (λ b low high. no_child k w after b empty)));
 }
   where
     fits : (p : ℕ) → after p < 2 ^ 64
@@ -105,3 +105,74 @@ empty_body k w after has words empty = record {
 
 pub empty_prefix : (w after : Words) → HasPrefix w → IsEmpty w after → prefix_of after ≡ prefix_of w
 empty_prefix w after has empty = same_prefix_of w after (same_prefix w after empty) has
+
+-- ---- nodes whose prefix is in one word
+
+-- a node with a prefix of eight bytes at most, and 0 in all words after it
+pub short_prefix_body : (k : Layout) (w : Words) (len : ℕ) → len ≤ 8 → w 0 ≡ 0 → w 1 ≡ 512 * len → w 2 < 2 ^ 64 → ((i : ℕ) → len ≤ i → i < 8 → byte_of (w 2) i ≡ 0) → ((p : ℕ) → 3 ≤ p → w p ≡ 0) → IsBody k w
+unfolding packed
+short_prefix_body k w len few version header fits first zeros =
+    empty_body k w w (record { short = omega (arith, same, few); unused = unused }) words record {
+      header = omega (arith, header, same);
+      prefix = λ place low high. refl;
+      others = λ place low. zeros place (omega arith);
+      version = version;
+    }
+  where
+    same : prefix_len w ≡ len
+    same = omega (arith, header, few)
+
+    words : (p : ℕ) → w p < 2 ^ 64
+    words zero = omega (arith, version)
+    words (suc zero) = omega (arith, header, few)
+    words (suc (suc zero)) = fits
+    words (suc (suc (suc p))) = omega (arith, zeros (suc (suc (suc p))) (omega arith))
+
+    unused : (i : ℕ) → prefix_len w ≤ i → i < 64 → packed w 2 i ≡ 0
+    unused i past high =
+        elim (cases_lt i 8) [
+          | inl here ↦
+              let at : 2 + i / 8 ≡ 2 = omega arith in
+              let place : i % 8 ≡ i = omega arith in
+              ap₂ (λ (p j : ℕ). byte_of (w p) j) at place ∙ first i (omega (arith, past, same)) here
+          | inr after ↦ ap (λ (word : ℕ). byte_of word (i % 8)) (zeros (2 + i / 8) (omega arith)) ∙ zero_byte (i % 8)
+        ]
+
+-- words that are all 0 are a node with no prefix and no child
+pub zero_body : (k : Layout) (w : Words) → ((p : ℕ) → w p ≡ 0) → IsBody k w
+zero_body k w zeros =
+    short_prefix_body k w 0 (omega arith) (zeros 0) (zeros 1) (omega (arith, zeros 2)) (λ i low high. ap (λ (word : ℕ). byte_of word i) (zeros 2) ∙ zero_byte i) (λ p low. zeros p)
+
+pub no_words : (n p : ℕ) → get_or {A = ℕ} (replicate n 0) p 0 ≡ 0
+no_words zero p = refl
+no_words (suc n) zero = refl
+no_words (suc n) (suc p) = no_words n p
+
+-- the words of a node with such a prefix and no child
+abbrev pub short_prefix_words : ℕ → ℕ → List ℕ
+short_prefix_words len first = set (set (replicate 266 0) 1 (512 * len)) 2 first
+
+-- they are a body
+pub short_prefix_words_body : (k : Layout) (len first : ℕ) → len ≤ 8 → first < 2 ^ 64 → ((i : ℕ) → len ≤ i → i < 8 → byte_of first i ≡ 0) → IsBody k (λ p. get_or (short_prefix_words len first) p 0)
+short_prefix_words_body k len first few fits bytes = short_prefix_body k (λ p. get_or (short_prefix_words len first) p 0) len few refl refl fits bytes after
+  where
+    after : (p : ℕ) → 3 ≤ p → get_or (short_prefix_words len first) p 0 ≡ 0
+    after p low =
+        get_or-set_other (set (replicate 266 0) 1 (512 * len)) 2 p first 0 (λ e. omega arith)
+        ∙ get_or-set_other (replicate 266 0) 1 p (512 * len) 0 (λ e. omega arith)
+        ∙ no_words 266 p
+
+-- and so are those of a prefix of one byte
+pub one_byte_body : (k : Layout) (byte : ℕ) → byte < 256 → IsBody k (λ p. get_or (short_prefix_words 1 (byte * 72057594037927936)) p 0)
+one_byte_body k byte small = short_prefix_words_body k 1 (byte * 72057594037927936) (omega arith) (omega arith) no_more
+  where
+    no_more : (i : ℕ) → 1 ≤ i → i < 8 → byte_of (byte * 72057594037927936) i ≡ 0
+    no_more zero low high = absurd (omega arith)
+    no_more (suc zero) low high = omega arith
+    no_more (suc (suc zero)) low high = omega arith
+    no_more (suc (suc (suc zero))) low high = omega arith
+    no_more (suc (suc (suc (suc zero)))) low high = omega arith
+    no_more (suc (suc (suc (suc (suc zero))))) low high = omega arith
+    no_more (suc (suc (suc (suc (suc (suc zero)))))) low high = omega arith
+    no_more (suc (suc (suc (suc (suc (suc (suc zero))))))) low high = omega arith
+    no_more (suc (suc (suc (suc (suc (suc (suc (suc i)))))))) low high = absurd (omega arith)

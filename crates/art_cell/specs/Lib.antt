@@ -14,6 +14,7 @@ pub mod Histories
 pub mod Instants
 pub mod Knowledge
 pub mod Laws
+pub mod LeafWords
 pub mod Leaves
 pub mod Lent
 pub mod Looks

@@ -1,13 +1,11 @@
 -- What the words of a leaf mean, as they are written and as they are read.
-use Rattle.std.proofs.Common.{◌≡◌, ℕ, Bool, true, false, cond, ltb, ltb-false, le-ltb, zero, suc, ◌+◌, ◌*◌, ◌/◌, ◌%◌, ◌<◌, ◌≤◌, List, ◌∷◌, length, get_or, map, Option, Some, None, refl, sym, ap, ap₂, ◌∙◌, inl, inr, arith, eq-eqb, ne_eqb}
+use Rattle.std.proofs.Common.{◌≡◌, ℕ, Bool, true, false, cond, ltb, ltb-false, le-ltb, zero, suc, ◌+◌, ◌/◌, ◌%◌, ◌<◌, ◌≤◌, List, ◌∷◌, length, get_or, map, Option, Some, None, refl, sym, ap, ap₂, ◌∙◌, inl, inr, arith, eq-eqb, ne_eqb}
 use Rattle.std.proofs.lemmas.Bool.{cases_lt}
-use Rattle.std.proofs.lemmas.List.{get_or_past}
-use Rattle.std.proofs.lemmas.List.FromFn.{get_or-map-range_with_len, fill_by_all}
 use Rattle.std.specs.List.{range_with_len}
 use Rattle.std.specs.Option.{IfSome, option_map, option_and_then}
 use Rattle.arrayvec.specs.ArrayVec.{ArrayVec}
 use Rattle.art_cell.specs.Words.{Words, byte_of, packed, prefix_of}
-use Rattle.art_cell.specs.Packed.{IsEight, byte_of-from_be_bytes}
+use Rattle.art_cell.specs.LeafWords.{words_mean_leaf}
 use Rattle.art_cell.specs.Reads.{word_read, Agrees, written}
 use Rattle.art_cell.specs.Leaves.{IsLeaf, leaf_word, leaf_writes, key_byte_read, key_read, key_of_length, leaf_read, MeansLeaf}
 
@@ -27,46 +25,8 @@ written_range w f a (suc n) p low high =
 leaf_written : (w : Words) (key : List ℕ) (value p : ℕ) → p < 10 → written w (leaf_writes key value) p ≡ leaf_word key value p
 leaf_written w key value p low = written_range w (leaf_word key value) 0 10 p (omega arith) low
 
-eight_bytes : (key : List ℕ) (from : ℕ) → ((i : ℕ) → get_or key i 0 < 256) → IsEight (map (λ i. get_or key (from + i) 0) (range_with_len 0 8))
-eight_bytes key from bytes = record { eight = refl; small = small }
-  where
-    small : (i : ℕ) → get_or (map (λ i. get_or key (from + i) 0) (range_with_len 0 8)) i 0 < 256
-    small i =
-        elim (cases_lt i 8) [
-          | inl low ↦ rw (get_or-map-range_with_len (λ j. get_or key (from + j) 0) 0 8 i i 0 low (omega arith)) (bytes (from + i))
-          | inr past ↦ rw (get_or_past (map (λ j. get_or key (from + j) 0) (range_with_len 0 8)) i 0 past) (omega arith)
-        ]
-
--- byte i of the words is byte i of the key, and 0 after its last
-packed_leaf : (w : Words) (key : List ℕ) (value i : ℕ) → ((i : ℕ) → get_or key i 0 < 256) → i < 64 → packed (written w (leaf_writes key value)) 2 i ≡ get_or key i 0
-unfolding packed
-packed_leaf w key value i bytes low =
-    let from = 8 * (i / 8) in
-    let at = i % 8 in
-    let small : at < 8 = omega arith in
-    ap (λ (word : ℕ). byte_of word at) (leaf_written w key value (2 + i / 8) (omega arith) ∙ ap (leaf_word key value) (two_more (i / 8)))
-    ∙ byte_of-from_be_bytes (map (λ j. get_or key (from + j) 0) (range_with_len 0 8)) at (eight_bytes key from bytes) small
-    ∙ get_or-map-range_with_len (λ j. get_or key (from + j) 0) 0 8 at at 0 small (omega arith)
-    ∙ ap (λ (j : ℕ). get_or key j 0) (omega arith)
-  where
-    two_more : (n : ℕ) → 2 + n ≡ suc (suc n)
-    two_more n = omega arith
-
 pub leaf_is_written : (w : Words) (key : List ℕ) (value : ℕ) → ((i : ℕ) → get_or key i 0 < 256) → length key ≤ 64 → IsLeaf (written w (leaf_writes key value)) key value
-leaf_is_written w key value bytes few = record {
-  value = leaf_written w key value 0 (omega arith);
-  len = len;
-  key =
-      ap (λ (n : ℕ). map (packed after 2) (range_with_len 0 n)) len
-      ∙ sym (fill_by_all (packed after 2) key (length key) 0 refl (λ i low. sym (packed_leaf w key value i bytes (omega arith))));
-  unused = λ i past low. packed_leaf w key value i bytes low ∙ get_or_past key i 0 past;
-}
-  where
-    after : Words
-    after = written w (leaf_writes key value)
-
-    len : after 1 ≡ length key
-    len = leaf_written w key value 1 (omega arith)
+leaf_is_written w key value bytes few = words_mean_leaf (written w (leaf_writes key value)) key value (λ i low. leaf_written w key value i low) bytes few
 
 -- ---- read
 

@@ -3,4 +3,3 @@ pub mod KeyBytes
 pub mod LeafWords
 pub mod Lookups
 pub mod Searches
-pub mod ZeroWords

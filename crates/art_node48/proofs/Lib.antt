@@ -1,4 +1,3 @@
-pub mod Empty
 pub mod Index
 pub mod Steps
 pub mod Writes

@@ -1,7 +1,7 @@
-use Rattle.std.proofs.Common.{refl}
-use Rattle.art_sorted.specs.declared.layouts.Sorted.TheVariants.{Sixteen}
-use Rattle.art_sorted.specs.Empty.{one_byte_body}
+use Rattle.std.proofs.Common.{refl, arith}
+use Rattle.art_cell.specs.declared.layouts.Layout.TheVariants.{Node16}
+use Rattle.art_cell.specs.Empty.{one_byte_body}
 use Rattle.art_node16.proofs.tests.empty.Goals as goal
 
 pub returns : goal.returns
-returns c = record { layout = refl; meaning = one_byte_body Sixteen }
+returns c = record { layout = refl; meaning = one_byte_body Node16 1 (omega arith) }

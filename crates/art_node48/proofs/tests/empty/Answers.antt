@@ -1,6 +1,7 @@
 use Rattle.std.proofs.Common.{refl}
-use Rattle.art_node48.proofs.Empty.{empty_body, no_words}
+use Rattle.art_cell.specs.declared.layouts.Layout.TheVariants.{Node48}
+use Rattle.art_cell.specs.Empty.{zero_body, no_words}
 use Rattle.art_node48.proofs.tests.empty.Goals as goal
 
 pub returns : goal.returns
-returns c = record { layout = refl; meaning = empty_body _ (no_words 266) }
+returns c = record { layout = refl; meaning = zero_body Node48 _ (no_words 266) }
