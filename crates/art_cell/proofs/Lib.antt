@@ -47,6 +47,7 @@ pub mod StepNumbers
 pub mod StepOpens
 pub mod StepWrites
 pub mod TreeLaws
+pub mod TakenTurns
 pub mod Turns
 pub mod WordChanges
 pub mod WorldFree

@@ -492,8 +492,10 @@ fn the_words_of_a_node_in_two_lives(rt: HostRuntime) -> Result<(), Fail> {
     let mut at = world.at(0);
     let (second, words) = grow(&mut at, node, first).expect(&rt, "the node comes");
     assert_eq!(rt; words, [2, 4]);
+    let mut at = world.at(0);
     let words = shrink(&mut at, node, first, second).expect(&rt, "the node goes");
     assert_eq!(rt; words, [6, 9]);
+    let mut at = world.at(0);
     let (_, words) = grow(&mut at, node, first).expect(&rt, "the node comes again");
     assert_eq!(rt; words, [10, 12]);
     Ok(())

@@ -2,8 +2,9 @@
 ghost use Rattle.std.specs.Prelude.{◌≡◌, ◌≢◌, ◌⊎◌, ◌+◌, ◌≤◌, ◌<◌, ℕ, length, Bool, true, false, None, Some, refl};
 ghost use Rattle.std.specs.List.{slice_get};
 ghost use Rattle.art_cell.specs.Lent.{OnlyStepped, lender, lent, pass_of, sizes_lent, view_lent};
-ghost use Rattle.art_cell.specs.Turns.{turns_of};
-ghost use Rattle.art_cell.specs.WorldWords.{view_at};
+ghost use Rattle.art_cell.specs.Sound.{IsSound};
+ghost use Rattle.art_cell.specs.Turns.{IsRun, IsTurn, turns_of};
+ghost use Rattle.art_cell.specs.WorldWords.{OnlyTurned, memory_now, view_at, views_of};
 
 use crate::{At, World};
 
@@ -48,6 +49,7 @@ impl World {
     pub fn run<T: Actor>(&mut self, actors: &mut [T], turns: &[u32])
         requires passes { length actors.old ≤ length self.old.views }
         requires fits { (p : ℕ) (a : _) → slice_get actors.old p ≡ Some a → T.fits a self.old.sizes (view_at self.old.views p) }
+        ensures run { IsRun T.has_ended T.after turns.now self.old actors.old self.new actors.new }
         ensures sizes { self.new.sizes ≡ self.old.sizes }
         ensures passes { length self.new.views ≡ length self.old.views }
         ensures actors { length actors.new ≡ length actors.old }
@@ -66,26 +68,33 @@ impl World {
     fn take_turn<T: Actor>(&mut self, actors: &mut [T], pass: usize)
         requires passes { length actors.old ≤ length self.old.views }
         requires fits { (p : ℕ) (a : _) → slice_get actors.old p ≡ Some a → T.fits a self.old.sizes (view_at self.old.views p) }
-        ensures sizes { self.new.sizes ≡ self.old.sizes }
-        ensures passes { length self.new.views ≡ length self.old.views }
-        ensures actors { length actors.new ≡ length actors.old }
+        ensures is_turn { IsTurn T.has_ended T.after pass self.old actors.old self.new actors.new }
         ensures fits { (p : ℕ) (a : _) → slice_get actors.new p ≡ Some a → T.fits a self.new.sizes (view_at self.new.views p) }
-        ensures others { (q : ℕ) → length actors.old ≤ q → view_at self.new.views q ≡ view_at self.old.views q }
-        ensures same { (p : ℕ) → p ≢ pass → slice_get actors.new p ≡ slice_get actors.old p }
-        ensures step { (view_at self.new.views pass).steps ≤ (view_at self.old.views pass).steps + 1 }
-        ensures views { (q : ℕ) → q ≢ pass → view_at self.new.views q ≡ view_at self.old.views q }
-        ensures nobody { slice_get actors.old pass ≡ None → (self.new ≡ self.old) × (actors.new ≡ actors.old) }
-        ensures ended { (a : _) → slice_get actors.old pass ≡ Some a → T.has_ended a ≡ true → (self.new ≡ self.old) × (actors.new ≡ actors.old) }
-        ensures turn { (a b : _) → slice_get actors.old pass ≡ Some a → slice_get actors.new pass ≡ Some b → T.after 1 a b ⊎ ((T.has_ended a ≡ true) × (b ≡ a)) }
     {
         if pass >= actors.len() {
             return;
         }
-        if actors[pass].ended() {
+        let actor = &mut actors[pass];
+        if actor.ended() {
             return;
         }
+        self.lend_to(actor, pass);
+    }
+
+    /// The turn of one actor.
+    fn lend_to<T: Actor>(&mut self, actor: &mut T, pass: usize)
+        requires pass { pass < length self.old.views }
+        requires going { T.has_ended actor.old ≡ false }
+        requires fits { T.fits actor.old self.old.sizes (view_at self.old.views pass) }
+        ensures only { OnlyTurned self.old self.new pass }
+        ensures step { (view_at self.new.views pass).steps ≤ (view_at self.old.views pass).steps + 1 }
+        ensures sound { IsSound self.new.sizes (memory_now self.new) (views_of self.new.views) }
+        ensures fits { T.fits actor.new self.new.sizes (view_at self.new.views pass) }
+        ensures after { T.after 1 actor.old actor.new }
+    {
         let mut at = At { world: self, pass };
-        actors[pass].turn(&mut at);
+        actor.turn(&mut at);
+        let _ = &self.sizes;
     }
 
     /// The world, in which the pass makes its steps: it is afterwards as they leave it.

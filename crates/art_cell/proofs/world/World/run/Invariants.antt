@@ -1,11 +1,12 @@
 use Rattle.std.proofs.Common.{◌≡◌, ◌≤◌, ◌+◌, ℕ, false, length, take, Some}
 use Rattle.std.specs.List.{slice_get}
-use Rattle.art_cell.specs.Turns.{turns_of}
+use Rattle.art_cell.specs.Turns.{IsRun, turns_of}
 use Rattle.art_cell.specs.WorldWords.{view_at}
 use Rattle.art_cell.proofs.world.World.run.Given as goal
 
 abbrev pub invariant-loop-turn : goal.invariant-loop-turn
 invariant-loop-turn g l = record {
+  run : IsRun g.T.Actor.has_ended g.T.Actor.after (take l.turn-index l.turns) l.initial.self l.initial.actors l.self l.actors;
   sizes : l.self.sizes ≡ l.initial.self.sizes;
   passes : length l.self.views ≡ length l.initial.self.views;
   actors : length l.actors ≡ length l.initial.actors;
