@@ -84,9 +84,11 @@ pub record Vouches (m : Memory) (s : Cells) (y : Note) : Type 0 where
   pub stamp : IsStampOf m y.stamp
   pub same : m.version y.stamp.cell ≡ y.stamp.version → Holds s y.stamp.cell y.fact
 
--- of one view: and of a cell that it holds, what was noted under its stamp holds until the commit
+-- of one view: each of its notes goes with its stamp, which it has too; and of a cell that it holds, what was noted under its
+-- stamp holds until the commit
 pub record Vouched (m : Memory) (s : Cells) (v : View) : Type 0 where
   pub stamps : (x : Stamp) → Member x v.stamps → IsStampOf m x
+  pub noted : (y : Note) → Member y v.notes → Member y.stamp v.stamps
   pub notes : (y : Note) → Member y v.notes → Vouches m s y
   pub kept : v.committed ≡ false → (h : Holding) (y : Note) → Member h v.held → Member y v.notes → y.stamp.cell ≡ h.cell → h.stamped ≡ Some y.stamp.version → Holds s h.cell y.fact
 
