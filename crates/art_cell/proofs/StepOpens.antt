@@ -101,7 +101,7 @@ module _ (z : Sizes) (m : Memory) (f : Views) (o : Opens z m f) where
     at = λ d. place (m.free d);
     history = record {
       legal = tt;
-      tells = each_newcomer (λ p v. Tells [] p v) (λ p inside. record { pass = refl; starts = ([], refl); own = refl });
+      tells = each_newcomer (λ p v. Tells [] p v) (λ p inside. record { pass = refl; starts = ([], refl); own = refl; all = refl });
       strangers = λ p is. refl;
     };
     shows = record {

@@ -23,13 +23,14 @@ use Rattle.art_cell.specs.Views.{Member, Memory, size_of, words_in, IsClear, IsL
 
 -- ---- one history
 
--- what the view of the pass p says of the history
+-- what the view of the pass p says of the history: what it has seen stands at its front, with all events of its own
 pub record Tells (log : List Event) (p : ℕ) (v : View) : Type 0 where
   pub pass : v.pass ≡ p
   pub starts : StartsWith log v.seen
   pub own : places p log ≡ v.own
+  pub all : places p v.seen ≡ v.own
 
--- it is legal, begins with what each pass has seen, and has the events of the passes and no others
+-- it is legal, begins with what each pass has seen, and has the events of the passes and no others; each pass has seen its own
 pub record IsOneHistory (log : List Event) (f : Views) : Type 0 where
   pub legal : IsLegal log
   pub tells : (p : ℕ) (v : View) → f p ≡ Some v → Tells log p v
