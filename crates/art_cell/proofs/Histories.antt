@@ -6,7 +6,7 @@ use Rattle.art_cell.specs.declared.views.Event.{Event}
 use Rattle.art_cell.specs.declared.views.View.{View}
 use Rattle.art_cell.specs.declared.views.What.{What}
 use Rattle.art_cell.specs.Rows.{ByteMap}
-use Rattle.art_cell.specs.Histories.{event, IsAnswered, becomes, run, replay, IsLegalFrom, places_from}
+use Rattle.art_cell.specs.Histories.{event, IsAnswered, becomes, run, replay, IsLegalFrom, places_from, places}
 use Rattle.art_cell.specs.Sound.{Tells, IsOneHistory}
 use Rattle.art_cell.specs.Views.{Views, Turned}
 use Rattle.art_cell.proofs.Turns.{either_view, stranger_before}
@@ -46,7 +46,7 @@ module _ (f g : Views) (p : ℕ) (v w : View) (t : Turned f p w g) (at : f p ≡
     legal = r.legal;
     tells = λ q u e. ⊎_elim
         (λ (a : (q ≡ p) × (u ≡ w)). let k = r.tells p v at in
-        subst (λ (x : ℕ × View). Tells log x.0 x.1) (λ i. (sym a.0 i, sym a.1 i)) record { pass = pass ∙ k.pass; starts = (k.starts.0, k.starts.1 ∙ ap (λ l. l ++ k.starts.0) (sym seen)); own = k.own ∙ sym own })
+        subst (λ (x : ℕ × View). Tells log x.0 x.1) (λ i. (sym a.0 i, sym a.1 i)) record { pass = pass ∙ k.pass; starts = (k.starts.0, k.starts.1 ∙ ap (λ l. l ++ k.starts.0) (sym seen)); own = k.own ∙ sym own; all = ap (places p) seen ∙ (k.all ∙ sym own) })
         (λ (a : (q ≢ p) × (f q ≡ Some u)). r.tells q u a.1) (either_view f g p w t q u e);
     strangers = λ q e. r.strangers q (stranger_before f g p w t q e).1;
   }
@@ -57,13 +57,14 @@ module _ (f g : Views) (p : ℕ) (v w : View) (t : Turned f p w g) (at : f p ≡
       let e : Event = event v.pass what in
       let grown : List Event = log ++ e ∷ [] in
       let mine : v.pass ≡ p = (r.tells p v at).pass in
+      let now : places p grown ≡ w.own = (rw zero-add at (places_own p 0 log e mine)) ∙ (ap (λ (l : List ℕ). l ++ length log ∷ []) (r.tells p v at).own ∙ sym own) in
       record {
         legal = legal_more empty log e r.legal found;
         tells = λ q u is. ⊎_elim
             (λ (a : (q ≡ p) × (u ≡ w)). subst (λ (x : ℕ × View). Tells grown x.0 x.1) (λ i. (sym a.0 i, sym a.1 i))
-            record { pass = pass ∙ mine; starts = ([], sym (append-nil grown) ∙ ap (λ l. l ++ []) (sym seen)); own = (rw zero-add at (places_own p 0 log e mine)) ∙ (ap (λ (l : List ℕ). l ++ length log ∷ []) (r.tells p v at).own ∙ sym own) })
+            record { pass = pass ∙ mine; starts = ([], sym (append-nil grown) ∙ ap (λ l. l ++ []) (sym seen)); own = now; all = ap (places p) seen ∙ now })
             (λ (a : (q ≢ p) × (f q ≡ Some u)). let k = r.tells q u a.1 in
-            record { pass = k.pass; starts = (k.starts.0 ++ e ∷ [], ap (λ (l : List Event). l ++ e ∷ []) k.starts.1 ∙ append_assoc u.seen k.starts.0 (e ∷ [])); own = places_else q 0 log e (λ h. a.0 (sym h ∙ mine)) ∙ k.own })
+            record { pass = k.pass; starts = (k.starts.0 ++ e ∷ [], ap (λ (l : List Event). l ++ e ∷ []) k.starts.1 ∙ append_assoc u.seen k.starts.0 (e ∷ [])); own = places_else q 0 log e (λ h. a.0 (sym h ∙ mine)) ∙ k.own; all = k.all })
             (either_view f g p w t q u is);
         strangers = λ q is. let k = stranger_before f g p w t q is in places_else q 0 log e (λ h. k.0 (sym h ∙ mine)) ∙ r.strangers q k.1;
       }

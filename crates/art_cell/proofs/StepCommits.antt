@@ -249,9 +249,10 @@ module _ (z : Sizes) (m : Memory) (f : Views) (p : ℕ) (v : View) (is-v : f p �
 
   vouch : StampsVouch m' g s'
   vouch = each_view f g p w t (λ q u. Vouched m' s' u)
-      (record { stamps = λ x i. stamp_on m m' h₀.cell raises x (vouched.stamps x i); notes = λ y i. note_on y (vouched.notes y i); kept = λ e. absurd (cc) })
+      (record { stamps = λ x i. stamp_on m m' h₀.cell raises x (vouched.stamps x i); noted = vouched.noted; notes = λ y i. note_on y (vouched.notes y i); kept = λ e. absurd (cc) })
       (λ q u other is. let k = r.vouch q u is in record {
         stamps = λ x i. stamp_on m m' h₀.cell raises x (k.stamps x i);
+        noted = k.noted;
         notes = λ y i. note_on y (k.notes y i);
         kept = λ e h y i j a st.
             let lock = ((r.holder.holds q u is).keeps h i).locked in

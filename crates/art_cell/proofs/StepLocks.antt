@@ -69,6 +69,7 @@ module _ (m m' : Memory) (c : Cell) (k : Raises m m' c) where
   pub vouched_on : (s : Cells) (u : View) → Vouched m s u → Vouched m' s u
   vouched_on s u o = record {
     stamps = λ x i. stamp_on x (o.stamps x i);
+    noted = o.noted;
     notes = λ y i. let n = o.notes y i in record { stamp = stamp_on y.stamp n.stamp; same = λ e. n.same (stayed y.stamp n.stamp e).1 };
     kept = o.kept;
   }
@@ -222,6 +223,7 @@ module _ (z : Sizes) (m : Memory) (versions : Cell → ℕ) (f : Views) (p : ℕ
     vouched_now : Vouched n r.logical w
     vouched_now = let o = vouched_on m n c k.raises r.logical v (r.vouch p v is) in record {
       stamps = o.stamps;
+      noted = o.noted;
       notes = o.notes;
       kept = λ e h y i j same. ⊎_elim
           (λ (a : (h.cell ≢ c) × Member h v.held). o.kept (flagged h a.1 ∙ e) h y a.1 j same)

@@ -59,11 +59,15 @@ module _ (z : Sizes) (m : Memory) (f g : Views) (p : ℕ) (v : View) (at : f p �
   abbrev NotesCome : List Note → Type 0
   NotesCome ys = (y : Note) → Member y ys → Member y v.notes ⊎ IsFresh y
 
+  -- each note has its stamp among these
+  abbrev NotesGo : List Stamp → List Note → Type 0
+  NotesGo xs ys = (y : Note) → Member y ys → Member y.stamp xs
+
   -- stamps and notes change, and perhaps the history
   notes : {seen : List Event} {own : List ℕ} {steps failures : ℕ} {xs : List Stamp} {ys : List Note} {checked : Checked} {found : List Finding}
       → Turned f p (noting v seen own steps failures xs ys checked found) g
-      → (log : List Event) → IsOneHistory log g → HasRows (heap_of s) (replay log) → StampsCome xs → NotesCome ys → IsSound z m g
-  notes {seen} {own} {steps} {failures} {xs} {ys} {checked} {found} t log history rows stamps come =
+      → (log : List Event) → IsOneHistory log g → HasRows (heap_of s) (replay log) → StampsCome xs → NotesCome ys → NotesGo xs ys → IsSound z m g
+  notes {seen} {own} {steps} {failures} {xs} {ys} {checked} {found} t log history rows stamps come go =
       let w : View = noting v seen own steps failures xs ys checked found in
       let k = r.numbers.accounts p v at in
       record {
@@ -76,6 +80,7 @@ module _ (z : Sizes) (m : Memory) (f g : Views) (p : ℕ) (v : View) (at : f p �
         vouch = each_view f g p w t (λ q u. Vouched m s u)
             record {
               stamps = λ x i. ⊎_elim (λ (j : Member x v.stamps). mine.stamps x j) (λ (j : IsMade x). j.1) (stamps x i);
+              noted = go;
               notes = λ y i. ⊎_elim (λ (j : Member y v.notes). mine.notes y j) (λ (j : IsFresh y). j.0) (come y i);
               kept = λ early h y i j is stamped. ⊎_elim (λ (k : Member y v.notes). mine.kept early h y i k is stamped) (λ (k : IsFresh y). k.1 h i is stamped) (come y j);
             }
@@ -89,9 +94,9 @@ module _ (z : Sizes) (m : Memory) (f g : Views) (p : ℕ) (v : View) (at : f p �
 
   -- the pass tells nothing
   quiet : {steps failures : ℕ} {xs : List Stamp} {ys : List Note} {checked : Checked} {found : List Finding}
-      → Turned f p (noting v v.seen v.own steps failures xs ys checked found) g → StampsCome xs → NotesCome ys → IsSound z m g
-  quiet {steps} {failures} {xs} {ys} {checked} {found} t stamps come =
-      notes t r.log (history_stays f g p v (noting v v.seen v.own steps failures xs ys checked found) t at r.log r.history refl refl refl) r.shows.rows stamps come
+      → Turned f p (noting v v.seen v.own steps failures xs ys checked found) g → StampsCome xs → NotesCome ys → NotesGo xs ys → IsSound z m g
+  quiet {steps} {failures} {xs} {ys} {checked} {found} t stamps come go =
+      notes t r.log (history_stays f g p v (noting v v.seen v.own steps failures xs ys checked found) t at r.log r.history refl refl refl) r.shows.rows stamps come go
 
   -- what holds now may be noted
   holds_now : (y : Note) → IsStampOf m y.stamp → Holds s y.stamp.cell y.fact → IsFresh y
@@ -103,10 +108,22 @@ module _ (z : Sizes) (m : Memory) (f g : Views) (p : ℕ) (v : View) (at : f p �
   more_notes : (ys : List Note) → ((y : Note) → Member y ys → IsFresh y) → NotesCome (ys ++ v.notes)
   more_notes ys new y i = ⊎_elim (λ (j : Member y ys). inr (new y j)) (λ (j : Member y v.notes). inl j) (member_append y ys v.notes i)
 
+  -- the notes that there were go with their stamps, where all of these stay, and so do those that come
+  all_go : (xs : List Stamp) (ys : List Note) → ((x : Stamp) → Member x v.stamps → Member x xs) → NotesGo xs ys → NotesGo xs (ys ++ v.notes)
+  all_go xs ys stay new y i = ⊎_elim (λ (j : Member y ys). new y j) (λ (j : Member y v.notes). stay y.stamp (mine.noted y j)) (member_append y ys v.notes i)
+
+  one_goes : (xs : List Stamp) (y : Note) → Member y.stamp xs → NotesGo xs (y ∷ [])
+  one_goes xs y has = each_member (λ (a : Note). Member a.stamp xs) y [] has (λ a i. absurd i)
+
   first_fresh : (c : Cell) → IsStampOf m (stamp_of c (m.version c)) → (y : Note) → Member y (first_notes c (m.version c)) → IsFresh y
   first_fresh cell.Anchor stamp = let y : Note = note_of (stamp_of cell.Anchor (m.version cell.Anchor)) (Starts []) in one_fresh y (holds_now y stamp refl)
   first_fresh (cell.Leaf l) stamp = λ y i. absurd i
   first_fresh (cell.Node n) stamp = λ y i. absurd i
+
+  first_go : (c : Cell) (x : ℕ) → NotesGo (stamp_of c x ∷ v.stamps) (first_notes c x)
+  first_go cell.Anchor x = one_goes (stamp_of cell.Anchor x ∷ v.stamps) (note_of (stamp_of cell.Anchor x) (Starts [])) (inl refl)
+  first_go (cell.Leaf l) x = λ y i. absurd i
+  first_go (cell.Node n) x = λ y i. absurd i
 
   -- a clear version word gives a stamp of a cell of the tree
   made : (c : Cell) → v.pin ≢ 0 → IsClear (m.version c) → IsMade (stamp_of c (m.version c))
@@ -120,14 +137,16 @@ module _ (z : Sizes) (m : Memory) (f g : Views) (p : ℕ) (v : View) (at : f p �
       let new : IsMade x = made c pinned clear in
       quiet (rw (eq-eqb (m.version c % 4) 0 clear) at t)
       (each_member (λ a. Member a v.stamps ⊎ IsMade a) x v.stamps (inr new) (λ a i. inl i))
-      (more_notes (first_notes c (m.version c)) (first_fresh c new.1)))
-      (λ (other : m.version c % 4 ≢ 0). quiet (rw (ne_eqb (m.version c % 4) 0 other) at t) (λ x i. absurd i) (λ y i. absurd i))
+      (more_notes (first_notes c (m.version c)) (first_fresh c new.1))
+      (all_go (x ∷ v.stamps) (first_notes c (m.version c)) (λ a i. inr i) (first_go c (m.version c))))
+      (λ (other : m.version c % 4 ≢ 0). quiet (rw (ne_eqb (m.version c % 4) 0 other) at t) (λ x i. absurd i) (λ y i. absurd i) (λ y i. absurd i))
       (cases_eq (m.version c % 4) 0)
 
   -- a fact of a cell that is not held is noted, where an unchanged version word says that it holds
   reads : (x : Stamp) (y : Fact) → Member x v.stamps → IsNotHeld v.held x.cell → (m.version x.cell ≡ x.version → Holds s x.cell y) → Turned f p (has_read v x y) g → IsSound z m g
   reads x y has free same t = quiet t (λ a i. inl i)
       (more_notes (note_of x y ∷ []) (one_fresh (note_of x y) (record { stamp = mine.stamps x has; same = same }, λ h i is stamped. absurd (free h i (sym is)))))
+      (all_go v.stamps (note_of x y ∷ []) (λ a i. i) (one_goes v.stamps (note_of x y) has))
 
   -- what was noted under an unchanged stamp holds
   holds : (x : Stamp) → m.version x.cell ≡ x.version → HoldsAll v x s
@@ -141,14 +160,17 @@ module _ (z : Sizes) (m : Memory) (f g : Views) (p : ℕ) (v : View) (at : f p �
   paths : (ys : List Note) → ArePaths s v ys → NotesCome (ys ++ v.notes)
   paths ys are = more_notes ys (λ y i. let k = are y i in holds_now y (mine.stamps y.stamp k.0) (subst (Holds s y.stamp.cell) (sym k.1.1) k.1.2))
 
+  paths_go : (ys : List Note) → ArePaths s v ys → NotesGo v.stamps (ys ++ v.notes)
+  paths_go ys are = all_go v.stamps ys (λ a i. i) (λ y i. (are y i).0)
+
   passes : (x : Stamp) (ys : List Note) (o : Option What) → m.version x.cell ≡ x.version → ArePaths s v ys → MayTell z v x o → Turned f p (telling (passed v x ys) r.log o) g → IsSound z m g
-  passes x ys None same are tells t = quiet t (λ a i. inl i) (paths ys are)
+  passes x ys None same are tells t = quiet t (λ a i. inl i) (paths ys are) (paths_go ys are)
   passes x ys (Some what) same are tells t =
       let k = tells s (replay r.log) r.shows.shape r.shows.rows (holds x same) in
       notes t (r.log ++ event v.pass what ∷ [])
       (history_grows f g p v (telling (passed v x ys) r.log (Some what)) t at r.log r.history refl what k.0 refl refl)
       (subst (HasRows (heap_of s)) (sym (replay_more r.log (event v.pass what) ∙ k.1)) r.shows.rows)
-      (λ a i. inl i) (paths ys are)
+      (λ a i. inl i) (paths ys are) (paths_go ys are)
 
 -- the version word of a cell is found
 pub begin_law : BeginLaw
@@ -175,7 +197,8 @@ pass_law z m f p v at g x ys o r same may paths t = passes z m f g p v at r x ys
 -- a check or an upgrade finds a changed version word
 pub fail_law : FailLaw
 fail_law z m f p v at g x xs ys r without t = quiet z m f g p v at r t (λ a i. inl ((without.stamps a).0 i).0) (λ y i. inl ((without.notes y).0 i).0)
+    (λ y i. let k = (without.notes y).0 i in (without.stamps y.stamp).1 ((r.vouch p v at).noted y k.0, k.1))
 
 -- stamps and notes are let go
 pub forget_law : ForgetLaw
-forget_law z m f p v at g xs ys r stamps notes t = quiet z m f g p v at r t (λ a i. inl (stamps a i)) (λ y i. inl (notes y i))
+forget_law z m f p v at g xs ys r stamps notes go t = quiet z m f g p v at r t (λ a i. inl (stamps a i)) (λ y i. inl (notes y i)) go

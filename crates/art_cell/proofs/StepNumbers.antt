@@ -61,6 +61,7 @@ HoldingsFrom v w = (h : Holding) → Member h w.held → (k : Holding) × Member
 vouched_on : (m m' : Memory) (s : Cells) (v : View) → m'.version ≡ m.version → Vouched m s v → Vouched m' s v
 vouched_on m m' s v version k = record {
   stamps = λ x i. stamp_on x (k.stamps x i);
+  noted = k.noted;
   notes = λ y i. let o = k.notes y i in record { stamp = stamp_on y.stamp o.stamp; same = λ e. o.same (ap (λ (a : Cell → ℕ). a y.stamp.cell) (sym version) ∙ e) };
   kept = k.kept;
 }
@@ -74,6 +75,7 @@ pub vouch_turn : (m m' : Memory) (f g : Views) (p : ℕ) (v w : View) (s : Cells
 vouch_turn m m' f g p v w s t is version stamps notes committed held k = each_view f g p w t (λ q u. Vouched m' s u)
     (let o = vouched_on m m' s v version (k p v is) in record {
       stamps = λ x i. o.stamps x (subst (Member x) stamps i);
+      noted = λ y i. subst (Member y.stamp) (sym stamps) (o.noted y (subst (Member y) notes i));
       notes = λ y i. o.notes y (subst (Member y) notes i);
       kept = λ e h y i j at stamp. let old = held h i in
           subst (λ (c : Cell). Holds s c y.fact) old.2 (o.kept (sym committed ∙ e) old.0 y old.1 (subst (Member y) notes j) (at ∙ sym old.2) (old.3 ∙ stamp));

@@ -101,7 +101,7 @@ module _ (z : Sizes) (m : Memory) (f : Views) (o : Opens z m f) where
     at = λ d. place (m.free d);
     history = record {
       legal = tt;
-      tells = each_newcomer (λ p v. Tells [] p v) (λ p inside. record { pass = refl; starts = ([], refl); own = refl });
+      tells = each_newcomer (λ p v. Tells [] p v) (λ p inside. record { pass = refl; starts = ([], refl); own = refl; all = refl });
       strangers = λ p is. refl;
     };
     shows = record {
@@ -120,7 +120,7 @@ module _ (z : Sizes) (m : Memory) (f : Views) (o : Opens z m f) where
       holds = each_newcomer (λ p v. HoldsEach m m.words v) (λ p inside. record { keeps = λ h i. absurd i; single = λ h k i. absurd i });
       apart = λ p q v u other is is-u h k i. absurd (each_newcomer (λ p v. Member h v.held → ⊥) (λ p inside i. i) p v is i);
     };
-    vouch = each_newcomer (λ p v. Vouched m m.words v) (λ p inside. record { stamps = λ x i. absurd i; notes = λ y i. absurd i; kept = λ e h y i. absurd i });
+    vouch = each_newcomer (λ p v. Vouched m m.words v) (λ p inside. record { stamps = λ x i. absurd i; noted = λ y i. absurd i; notes = λ y i. absurd i; kept = λ e h y i. absurd i });
     numbers = record {
       tree = λ d. (λ e. absurd (place_else (m.free d) InTree (λ i. cc) (λ i. cc) e), λ linked. absurd (no_path d linked.0 linked.1));
       free = λ d. place_free (m.free d);

@@ -245,6 +245,7 @@ module _ (z : Sizes) (m : Memory) (f : Views) (p : ℕ) (v : View) (is : f p ≡
   vouch : StampsVouch m f after
   vouch q u e = let k = r.vouch q u e in record {
     stamps = k.stamps;
+    noted = k.noted;
     notes = λ y j. let o = k.notes y j in record {
       stamp = o.stamp;
       same = λ version. facts_stay y.stamp.cell y.fact (λ obsolete. let clear = o.stamp.clear in absurd (omega arith)) (o.same version);

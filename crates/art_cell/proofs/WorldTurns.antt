@@ -114,7 +114,7 @@ makes f g p v w log what at t history pass found seen own =
       seen = seen ∙ ap (λ (l : List Event). l ++ event v.pass what ∷ []) mine.starts.1;
       own = own ∙ ap (λ (l : List Event). v.own ++ length l ∷ []) mine.starts.1;
       legal = subst IsLegal (sym seen) grown.legal;
-      all = ap (λ (q : ℕ). places q w.seen) mine.pass ∙ (ap (places p) seen ∙ (grown.tells p w t.here).own);
+      all = ap (λ (q : ℕ). places q w.seen) mine.pass ∙ (grown.tells p w t.here).all;
     }
 
 -- where an event is made or none, the history that the pass has seen and the places of its own events may change, and no more

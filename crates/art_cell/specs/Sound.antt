@@ -23,13 +23,14 @@ use Rattle.art_cell.specs.Views.{Member, Memory, size_of, words_in, IsClear, IsL
 
 -- ---- one history
 
--- what the view of the pass p says of the history
+-- what the view of the pass p says of the history: what it has seen stands at its front, with all events of its own
 pub record Tells (log : List Event) (p : ℕ) (v : View) : Type 0 where
   pub pass : v.pass ≡ p
   pub starts : StartsWith log v.seen
   pub own : places p log ≡ v.own
+  pub all : places p v.seen ≡ v.own
 
--- it is legal, begins with what each pass has seen, and has the events of the passes and no others
+-- it is legal, begins with what each pass has seen, and has the events of the passes and no others; each pass has seen its own
 pub record IsOneHistory (log : List Event) (f : Views) : Type 0 where
   pub legal : IsLegal log
   pub tells : (p : ℕ) (v : View) → f p ≡ Some v → Tells log p v
@@ -84,9 +85,11 @@ pub record Vouches (m : Memory) (s : Cells) (y : Note) : Type 0 where
   pub stamp : IsStampOf m y.stamp
   pub same : m.version y.stamp.cell ≡ y.stamp.version → Holds s y.stamp.cell y.fact
 
--- of one view: and of a cell that it holds, what was noted under its stamp holds until the commit
+-- of one view: each of its notes goes with its stamp, which it has too; and of a cell that it holds, what was noted under its
+-- stamp holds until the commit
 pub record Vouched (m : Memory) (s : Cells) (v : View) : Type 0 where
   pub stamps : (x : Stamp) → Member x v.stamps → IsStampOf m x
+  pub noted : (y : Note) → Member y v.notes → Member y.stamp v.stamps
   pub notes : (y : Note) → Member y v.notes → Vouches m s y
   pub kept : v.committed ≡ false → (h : Holding) (y : Note) → Member h v.held → Member y v.notes → y.stamp.cell ≡ h.cell → h.stamped ≡ Some y.stamp.version → Holds s h.cell y.fact
 

@@ -48,10 +48,10 @@ VouchLaw = Step (λ z m f p v. (x : Stamp) → (r : IsSound z m f) → m.version
 abbrev pub FailLaw : Type 0
 FailLaw = Step (λ z m f p v. (g : Views) (x : Stamp) (xs : List Stamp) (ys : List Note) → IsSound z m f → Without v x xs ys → Turned f p (failed v x (m.version x.cell) xs ys) g → IsSound z m g)
 
--- stamps and notes may always be let go
+-- stamps and notes may always be let go, a stamp with all its notes
 abbrev pub ForgetLaw : Type 0
 ForgetLaw = Step (λ z m f p v. (g : Views) (xs : List Stamp) (ys : List Note) → IsSound z m f → ((x : Stamp) → Member x xs → Member x v.stamps) → ((y : Note) → Member y ys → Member y v.notes)
-    → Turned f p (forgetting v xs ys) g → IsSound z m g)
+    → ((y : Note) → Member y ys → Member y.stamp xs) → Turned f p (forgetting v xs ys) g → IsSound z m g)
 
 -- ---- steps that lock and release
 

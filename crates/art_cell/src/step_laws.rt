@@ -26,7 +26,7 @@ pub fn checking_is_sound()
     ensures failed { FailLaw }
 {}
 
-/// Stamps and notes are let go.
+/// Stamps and notes are let go, a stamp with all its notes.
 pub fn forgetting_is_sound()
     ensures { ForgetLaw }
 {}
