@@ -19,9 +19,9 @@ use Rattle.art_cell.specs.StepRows.{SetsFree, MayFree, MayGive, freed, gave, too
 use Rattle.art_cell.specs.Views.{Memory, IsNumber, cell_named}
 use Rattle.art_cell.specs.WorldWords.{number_in_pool, first_free_word, free_place, bit_of, is_free, word_count, memory_of, Kept, memory_now, views_of, view_at}
 use Rattle.art_cell.proofs.StepNumbers.{take_law, give_law, free_law}
-use Rattle.art_cell.proofs.WorldFree.{frees_number, takes_number, free_is_number, free_found}
+use Rattle.art_cell.proofs.WorldFree.{frees_number, takes_number, free_has_bit, free_found}
 use Rattle.art_cell.proofs.WorldMemory.{copy_of, is_taken, taken_again}
-use Rattle.art_cell.proofs.WorldPlaces.{free_below}
+use Rattle.art_cell.proofs.WorldPlaces.{HasBit, has_bit, free_below}
 use Rattle.art_cell.proofs.WorldTurns.{IsKept, Next, turned}
 use Rattle.art_cell.proofs.WorldViews.{at_view}
 
@@ -42,7 +42,7 @@ pub record IsBitWord (z : Sizes) (ws : List ℕ) (d : Link) (place found bit : �
 -- it is one of the world's words
 pub bit_below : (z : Sizes) (ws : List ℕ) (pool : Pool) (n first : ℕ) → IsNumber z (link_in_pool pool n) → length ws ≡ word_count z → first ≡ first_free_word z pool → first + n / 64 < length ws
 bit_below z ws pool n first inside long is =
-    let at = free_below z (link_in_pool pool n) inside in
+    let at = free_below z (link_in_pool pool n) (has_bit z (link_in_pool pool n) inside) in
     let same = place_in_pool z pool n in
     omega arith
 
@@ -64,12 +64,12 @@ word_with_bit z ws pool n first found inside long is read =
     }
 
 module _ (z : Sizes) (ws : List ℕ) (long : length ws ≡ word_count z) (d : Link) (place found bit : ℕ) (word : IsBitWord z ws d place found bit) where
-  bit_is : (b : Bool) → IsNumber z d → is_free z ws d ≡ b → (bit_of found (number_in_pool d % 64) == 1) ≡ b
-  bit_is b inside is = rw word.read (sym (free_found z ws d inside) ∙ is)
+  bit_is : (b : Bool) → HasBit z d → is_free z ws d ≡ b → (bit_of found (number_in_pool d % 64) == 1) ≡ b
+  bit_is b has is = rw word.read (sym (free_found z ws d has) ∙ is)
 
   -- the bit of a free number can be subtracted
   pub bit_within : is_free z ws d ≡ true → bit ≤ found
-  bit_within free = rw word.power (bit_at_least found (number_in_pool d % 64) (eqb-true _ 1 (bit_is true (free_is_number z ws d free) free)))
+  bit_within free = rw word.power (bit_at_least found (number_in_pool d % 64) (eqb-true _ 1 (bit_is true (free_has_bit z ws d free) free)))
 
   -- and that takes the number
   pub takes_bit : is_free z ws d ≡ true → SetsFree (memory_of z ws) d false (memory_of z (slice_set ws place (found - bit)))
@@ -78,12 +78,12 @@ module _ (z : Sizes) (ws : List ℕ) (long : length ws ≡ word_count z) (d : Li
   -- the bit of a number that is not free can be added
   pub bit_room : IsNumber z d → is_free z ws d ≡ false → found < 2 ^ 64 → found + bit < 2 ^ 64
   bit_room inside taken low =
-      let other = eqb-false _ 1 (bit_is false inside taken) in
+      let other = eqb-false _ 1 (bit_is false (has_bit z d inside) taken) in
       rw word.power (bit_more_below found (number_in_pool d % 64) (omega arith) (omega arith) low)
 
   -- and that frees the number
   pub frees_bit : IsNumber z d → is_free z ws d ≡ false → SetsFree (memory_of z ws) d true (memory_of z (slice_set ws place (found + bit)))
-  frees_bit inside taken = rw (word.stands, word.read, word.power) (frees_number z ws d inside taken long)
+  frees_bit inside taken = rw (word.stands, word.read, word.power) (frees_number z ws d (has_bit z d inside) taken long)
 
 -- what changes is seen so of the world before
 pub seen_before : {k now : Kept} {d : Link} {b : Bool} {m' : Memory} → k ≡ now → SetsFree (memory_now k) d b m' → SetsFree (memory_now now) d b m'

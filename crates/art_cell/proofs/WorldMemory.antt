@@ -1,5 +1,5 @@
 -- What a world's words mean where one of them changes: the words of cells and of version words.
-use Rattle.std.proofs.Common.{◌≡◌, ◌≢◌, ℕ, ◌+◌, ◌%◌, ◌<◌, ◌≤◌, ◌==◌, Bool, true, false, if◌then◌else◌, List, length, map, get_or, set, nat_lt, sym, refl, ap, ap₂, ◌∙◌, subst, ⊎_elim}
+use Rattle.std.proofs.Common.{◌≡◌, ◌≢◌, ℕ, ◌+◌, ◌*◌, ◌%◌, ◌<◌, ◌≤◌, ◌==◌, Bool, true, false, if◌then◌else◌, List, length, map, get_or, set, nat_lt, sym, refl, ap, ap₂, ◌∙◌, subst, ⊎_elim}
 use Rattle.std.proofs.Common.{arith, get_or-set_same, get_or-set_other, lt-ltb, le-ltb, ltb-true, ltb-false}
 use Rattle.std.specs.List.{range_with_len}
 use Rattle.std.proofs.lemmas.Bool.{cases_lt, cond-true, cond-false, cond_both}
@@ -13,11 +13,11 @@ use Rattle.art_cell.specs.declared.cells.Link.TheVariants.{Leaf as leaf, Node as
 use Rattle.art_cell.specs.declared.views.Sizes.{Sizes}
 use Rattle.art_cell.specs.Heaps.{Cells}
 use Rattle.art_cell.specs.StepRows.{SetsVersion, SetsWord, IsCopy, IsTaken}
-use Rattle.art_cell.specs.Views.{Memory, size_of, words_in, IsNumber, cell_named}
+use Rattle.art_cell.specs.Views.{Memory, size_of, words_in, cell_named}
 use Rattle.art_cell.specs.Words.{Words, size}
-use Rattle.art_cell.specs.WorldWords.{pool_size, pool_of, number_in_pool, cells_end, epoch_place, pass_place, word_count, IsInside, is_inside, place_of, first_place}
+use Rattle.art_cell.specs.WorldWords.{pool_size, pool_of, number_in_pool, cells_end, free_words, epoch_place, pass_place, word_count, IsInside, is_inside, place_of, first_place}
 use Rattle.art_cell.specs.WorldWords.{version_in, word_in, free_place, bit_of, is_free, pass_word_in, memory_of}
-use Rattle.art_cell.proofs.WorldPlaces.{is_number, is_inside_true, is_inside_of, cell_below, free_below, places_apart}
+use Rattle.art_cell.proofs.WorldPlaces.{HasBit, is_inside_true, is_inside_of, cell_below, free_below, places_apart}
 
 -- ---- choices
 
@@ -47,9 +47,9 @@ module _ (z : Sizes) (ws us : List ℕ) where
   same_word c i h = then_same (is_inside z c) _ _ 0 (λ e. else_same (nat_lt i (first_place c)) _ _ 0 (λ late.
       then_same (nat_lt i (size_of c)) _ _ 0 (λ low. h (is_inside_of z c e) (ltb-false i (first_place c) late) (ltb-true i (size_of c) low))))
 
-  -- a number that there is has a bit, and no other is free
-  pub same_free : (d : Link) → (IsNumber z d → bit_of (get_or us (free_place z d) 0) (number_in_pool d % 64) ≡ bit_of (get_or ws (free_place z d) 0) (number_in_pool d % 64)) → is_free z us d ≡ is_free z ws d
-  same_free d h = then_same (nat_lt (number_in_pool d) (pool_size z (pool_of d))) _ _ false (λ e. ap (λ (bit : ℕ). bit == 1) (h ((is_number z d).1 (ltb-true _ _ e))))
+  -- a number whose bit stands in the words is free by that bit, and no other is free
+  pub same_free : (d : Link) → (HasBit z d → bit_of (get_or us (free_place z d) 0) (number_in_pool d % 64) ≡ bit_of (get_or ws (free_place z d) 0) (number_in_pool d % 64)) → is_free z us d ≡ is_free z ws d
+  same_free d h = then_same (nat_lt (number_in_pool d) (64 * free_words (pool_size z (pool_of d)))) _ _ false (λ e. ap (λ (bit : ℕ). bit == 1) (h (ltb-true _ _ e)))
 
   -- each pass that there is has a word
   pub same_pass_word : (p : ℕ) → (p < z.passes → get_or us (pass_place z p) 0 ≡ get_or ws (pass_place z p) 0) → pass_word_in z us p ≡ pass_word_in z ws p

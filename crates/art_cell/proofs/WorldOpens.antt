@@ -1,10 +1,10 @@
 -- The words of a world that just opened: what stands at the places of cells, of free numbers, of the epoch and of the passes,
 -- and what all of them mean.
-use Rattle.std.proofs.Common.{◌≡◌, ◌≢◌, ℕ, ◌+◌, ◌-◌, ◌*◌, ◌/◌, ◌%◌, ◌<◌, ◌≤◌, ◌==◌, if◌then◌else◌, true, false, List, get_or, nat_lt, sym, refl, ap, ap₂, ◌∙◌, subst, ⊎_elim, arith, lt-ltb}
-use Rattle.std.proofs.lemmas.Bool.{cases_Bool, cond-true, cond-false, cond_both}
+use Rattle.std.proofs.Common.{◌≡◌, ◌≢◌, ℕ, ◌+◌, ◌-◌, ◌*◌, ◌/◌, ◌%◌, ◌<◌, ◌≤◌, ◌==◌, if◌then◌else◌, true, false, List, get_or, nat_lt, sym, refl, ap, ap₂, ◌∙◌, subst, ⊎_elim, arith, lt-ltb, ltb-false}
+use Rattle.std.proofs.lemmas.Bool.{cases_Bool, cases_lt, eqb-true, cond-true, cond-false, cond_both}
 use Rattle.std.proofs.lemmas.Bool.Decides.{nat_tests}
 use Rattle.std.proofs.lemmas.List.FromFn.{get_or-map-range_with_len}
-use Rattle.std.proofs.lemmas.Nat.Bits.{bit_at_ones}
+use Rattle.std.proofs.lemmas.Nat.Bits.{bit_at_ones, bit_at_ones_above}
 use Rattle.std.proofs.Math.Nat.{mul-mod_right}
 use Rattle.art_cell.specs.declared.layouts.Layout.{Layout}
 use Rattle.art_cell.specs.declared.layouts.Layout.TheVariants.{Node4, Node16, Node48, Node256}
@@ -22,9 +22,9 @@ use Rattle.art_cell.specs.StepLaws.{Opens}
 use Rattle.art_cell.specs.Views.{IsNumber, last_counter}
 use Rattle.art_cell.specs.WorldWords.{pool_size, pool_of_layout, pool_of, number_in_pool, words_each, first_cell, free_words, first_free_word, epoch_place, pass_place, word_count, newcomers}
 use Rattle.art_cell.specs.WorldWords.{is_inside, place_of, version_in, free_place, bit_of, is_free, memory_of, views_of}
-use Rattle.art_cell.proofs.WorldFree.{free_is_number, free_found}
+use Rattle.art_cell.proofs.WorldFree.{free_has_bit, free_found}
 use Rattle.art_cell.proofs.WorldMemory.{version_found, word_found, version_below}
-use Rattle.art_cell.proofs.WorldPlaces.{is_number, is_inside_of, free_below}
+use Rattle.art_cell.proofs.WorldPlaces.{HasBit, is_number, has_bit, is_inside_of, free_below}
 use Rattle.art_cell.proofs.WorldViews.{newcomer_at}
 
 -- each place has its word
@@ -51,6 +51,10 @@ node_word_at z k number Node256 low = grind (arith, nat_tests)
 -- a word with its first n bits set has each of them, as far as its 64 go
 bit_at_first : (n i : ℕ) → i < n → i < 64 → bit_of (first_bits n) i ≡ 1
 bit_at_first n i low few = cond_both (nat_lt n 64) _ _ (λ (word : ℕ). bit_of word i ≡ 1) (λ _. bit_at_ones n i low) (λ _. bit_at_ones 64 i few)
+
+-- and no other
+no_bit_after : (n i : ℕ) → n ≤ i → i < 64 → bit_of (first_bits n) i ≡ 0
+no_bit_after n i high few = cond_both (nat_lt n 64) _ _ (λ (word : ℕ). bit_of word i ≡ 0) (λ _. bit_at_ones_above n i high) (λ e. let many = ltb-false n 64 e in absurd (omega arith))
 
 -- the numbers of a pool have their words from its first word on
 free_word_at : (z : Sizes) (k i : ℕ) (p : Pool) → i < free_words (pool_size z p) → opening_word z k (first_free_word z p + i) ≡ first_bits (pool_size z p - 64 * i)
@@ -97,15 +101,34 @@ module _ (z : Sizes) (k : ℕ) where
       (λ (e : is_inside z (cell.Node n) ≡ false). (0, omega arith, cond-false _ _ 1 e))
       (cases_Bool (is_inside z (cell.Node n)))
 
+  -- how many numbers the pool has from the first of the number's word on
+  abbrev rest : Link → ℕ
+  rest d = pool_size z (pool_of d) - 64 * (number_in_pool d / 64)
+
+  -- so many bits of the word are set
+  word_of : (d : Link) → HasBit z d → get_or opened (free_place z d) 0 ≡ first_bits (rest d)
+  word_of d has =
+      let below = free_below z d has in
+      opening_at z k (free_place z d) (omega arith) ∙ free_word_at z k (number_in_pool d / 64) (pool_of d) (omega arith)
+
   all_free : (d : Link) → IsNumber z d → is_free z opened d ≡ true
   all_free d inside =
       let i : ℕ = number_in_pool d in
-      let rest : ℕ = pool_size z (pool_of d) - 64 * (number_in_pool d / 64) in
       let few = (is_number z d).0 inside in
-      let below = free_below z d inside in
-      let word = opening_at z k (free_place z d) (omega arith) ∙ free_word_at z k (i / 64) (pool_of d) (omega arith) in
-      let bit = ap (λ (w : ℕ). bit_of w (i % 64)) word ∙ bit_at_first rest (i % 64) (omega arith) (omega arith) in
-      free_found z opened d inside ∙ ap (λ (b : ℕ). b == 1) bit
+      let has = has_bit z d inside in
+      let bit = ap (λ (w : ℕ). bit_of w (i % 64)) (word_of d has) ∙ bit_at_first (rest d) (i % 64) (omega arith) (omega arith) in
+      free_found z opened d has ∙ ap (λ (b : ℕ). b == 1) bit
+
+  -- no bit above the pool's numbers is set
+  no_other_free : (d : Link) → is_free z opened d ≡ true → IsNumber z d
+  no_other_free d free =
+      let i : ℕ = number_in_pool d in
+      let has = free_has_bit z opened d free in
+      let set = eqb-true _ 1 (sym (free_found z opened d has) ∙ free) in
+      ⊎_elim
+      (λ (few : i < pool_size z (pool_of d)). (is_number z d).1 few)
+      (λ (high : pool_size z (pool_of d) ≤ i). let clear = ap (λ (w : ℕ). bit_of w (i % 64)) (word_of d has) ∙ no_bit_after (rest d) (i % 64) (omega arith) (omega arith) in absurd (omega arith))
+      (cases_lt i (pool_size z (pool_of d)))
 
   -- so all is as at opening
   pub opens : k ≤ last_counter → Opens z (memory_of z opened) (views_of (newcomers 0 z.passes))
@@ -113,7 +136,7 @@ module _ (z : Sizes) (k : ℕ) where
     root = no_root;
     anchor = (k, low, anchor_version);
     cells = obsolete low;
-    free = λ d. (free_is_number z opened d, all_free d);
+    free = λ d. (no_other_free d, all_free d);
     epoch = found_late (epoch_place z) (omega arith) (omega arith);
     pass_word = λ p few. cond-true _ _ 0 (lt-ltb p z.passes few) ∙ found_late (pass_place z p) (omega arith) (omega arith);
     views = newcomer_at z.passes;

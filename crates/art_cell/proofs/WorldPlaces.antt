@@ -24,6 +24,13 @@ pub is_number : (z : Sizes) (d : Link) → IsNumber z d ↔ (number_in_pool d < 
 is_number z (leaf l) = (λ h. h, λ h. h)
 is_number z (node n) = let e = nodes_again z n.layout in (λ h. omega (arith, e), λ h. omega (arith, e))
 
+-- the words of its pool have a bit for the number, whether there is such a number or not
+abbrev pub HasBit : Sizes → Link → Type 0
+HasBit z d = number_in_pool d < 64 * free_words (pool_size z (pool_of d))
+
+pub has_bit : (z : Sizes) (d : Link) → IsNumber z d → HasBit z d
+has_bit z d inside = let few = (is_number z d).0 inside in omega arith
+
 -- the test of a cell is true of each that there is
 pub is_inside_true : (z : Sizes) (c : Cell) → IsInside z c → is_inside z c ≡ true
 is_inside_true z cell.Anchor h = refl
@@ -172,14 +179,14 @@ bit_words z = 0 ∷ free_words z.leaves ∷ free_words z.n4 ∷ free_words z.n16
 abbrev BitStandsIn : Sizes → ℕ → ℕ → ℕ → Type 0
 BitStandsIn z place r k = (place ≡ cells_end z + start (bit_words z) r + k) × (k < get_or (bit_words z) r 0)
 
-node_bit_stands : (z : Sizes) (k : Layout) (m : ℕ) → m < nodes_of z k → BitStandsIn z (first_free_word z (pool_of_layout k) + m / 64) (region_of k) (m / 64)
+node_bit_stands : (z : Sizes) (k : Layout) (m : ℕ) → m < 64 * free_words (pool_size z (pool_of_layout k)) → BitStandsIn z (first_free_word z (pool_of_layout k) + m / 64) (region_of k) (m / 64)
 unfolding start bit_words region_of
 node_bit_stands z Node4 m low = omega arith
 node_bit_stands z Node16 m low = omega arith
 node_bit_stands z Node48 m low = omega arith
 node_bit_stands z Node256 m low = omega arith
 
-bit_stands : (z : Sizes) (d : Link) → IsNumber z d → BitStandsIn z (free_place z d) (region (cell_named d)) (number_in_pool d / 64)
+bit_stands : (z : Sizes) (d : Link) → HasBit z d → BitStandsIn z (free_place z d) (region (cell_named d)) (number_in_pool d / 64)
 unfolding start bit_words region
 bit_stands z (leaf l) low = omega arith
 bit_stands z (node n) low = node_bit_stands z n.layout n.number low
@@ -189,7 +196,7 @@ unfolding start bit_words
 bits_stop z = omega arith
 
 -- the word with a number's bit lies after all cells, and before the epoch
-pub free_below : (z : Sizes) (d : Link) → IsNumber z d → (cells_end z ≤ free_place z d) × (free_place z d < epoch_place z)
+pub free_below : (z : Sizes) (d : Link) → HasBit z d → (cells_end z ≤ free_place z d) × (free_place z d < epoch_place z)
 free_below z d low =
     let at = bit_stands z d low in
     let up = starts_rise (bit_words z) (region (cell_named d)) 6 (region_below (cell_named d)) in
@@ -211,7 +218,7 @@ number_again (leaf l) = refl
 number_again (node n) = refl
 
 -- two numbers share no bit
-pub bits_apart : (z : Sizes) (c d : Link) → IsNumber z c → IsNumber z d → free_place z c ≡ free_place z d → number_in_pool c % 64 ≡ number_in_pool d % 64 → c ≡ d
+pub bits_apart : (z : Sizes) (c d : Link) → HasBit z c → HasBit z d → free_place z c ≡ free_place z d → number_in_pool c % 64 ≡ number_in_pool d % 64 → c ≡ d
 bits_apart z c d inside within same bit =
     let at = bit_stands z c inside in
     let to = bit_stands z d within in

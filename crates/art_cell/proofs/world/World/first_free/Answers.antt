@@ -2,7 +2,7 @@
 use Rattle.std.proofs.Common.{rules, ◌≡◌, ℕ, ◌+◌, ◌/◌, ◌<◌, true, length, get_or, refl, sym, subst}
 use Rattle.art_cell.specs.declared.layouts.Pool.{Pool}
 use Rattle.art_cell.specs.Children.{link_in_pool}
-use Rattle.art_cell.specs.WorldWords.{Kept, first_free_word, memory_now}
+use Rattle.art_cell.specs.WorldWords.{Kept, first_free_word, memory_now, views_of}
 use Rattle.art_cell.proofs.WorldFree.{free_is_number}
 use Rattle.art_cell.proofs.WorldFreeing.{WordWithBit, bit_within, takes_bit, seen_before, word_with_bit, turn_takes}
 use Rattle.art_cell.proofs.WorldTurns.{IsKept}
@@ -13,7 +13,7 @@ word_of_free : {k now : Kept} (pool : Pool) (n first found : ℕ) → k ≡ now 
     → first ≡ first_free_word k.sizes pool → found ≡ get_or k.words (first + n / 64) found → ((memory_now k).free (link_in_pool pool n) ≡ true) × WordWithBit k.sizes k.words pool n first found
 word_of_free {k} pool n first found is kept free at read =
     let here = subst (λ (k : Kept). (memory_now k).free (link_in_pool pool n) ≡ true) (sym is) free in
-    (here, word_with_bit k.sizes k.words pool n first found (free_is_number k.sizes k.words (link_in_pool pool n) here) kept.0 at read)
+    (here, word_with_bit k.sizes k.words pool n first found (free_is_number k.sizes (memory_now k) (views_of k.views) (link_in_pool pool n) kept.2 here) kept.0 at read)
 
 pub overflow_sub-index_mut : goal.overflow_sub-index_mut
 overflow_sub-index_mut c =
