@@ -316,11 +316,13 @@ pub record MayGive (v : View) (d : Link) (xs : List InHand) : Type 0 where
 abbrev pub gave : View → List InHand → View
 gave v xs = record v { hand = xs }
 
--- a number in limbo that is not held, and in no stamp, goes back
-pub record MayFree (f : Views) (v : View) (d : Link) (es : List Retired) : Type 0 where
+-- a number in limbo that is not held goes back; a node's only where the pass has no stamp of it and its place is marked for
+-- every other pass
+pub record MayFree (z : Sizes) (v : View) (d : Link) (es : List Retired) : Type 0 where
   pub limbo : IsInLimbo v d
   pub free : (n : Node) → d ≡ node n → IsNotHeld v.held (cell.Node n)
-  pub unstamped : (q : ℕ) (u : View) (n : Node) → f q ≡ Some u → d ≡ node n → IsStamped u n → ⊥
+  pub unstamped : (n : Node) → d ≡ node n → IsStamped v n → ⊥
+  pub marked : (n : Node) (e : Retired) (q : ℕ) → d ≡ node n → Member e v.limbo → e.link ≡ d → q < z.passes → q ≢ v.pass → Member q e.marked
   pub was : (e : Retired) → Member e es → Member e v.limbo × (e.link ≢ d)
   pub stays : (e : Retired) → Member e v.limbo → e.link ≢ d → Member e es
 
