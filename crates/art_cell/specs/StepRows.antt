@@ -246,6 +246,10 @@ pub record AreStanding (f : Views) (ks : List Pin) : Type 0 where
   pub all : (q : ℕ) (u : View) → f q ≡ Some u → u.pin ≢ 0 → Member (record { pass = q; count = u.pins }) ks
   pub only : (q k : ℕ) → Member (record { pass = q; count = k }) ks → (u : View) × (f q ≡ Some u) × (u.pin ≢ 0) × (k ≡ u.pins)
 
+-- each place that comes into the limbo holds the pins that stand
+abbrev pub RetiresPinned : Views → View → View → Type 0
+RetiresPinned f v w = (e : Retired) → Member e w.limbo → Member e v.limbo ⊎ AreStanding f e.pins
+
 -- a number that was just unlinked, with the pins that stand
 abbrev pub retired : List Pin → Link → Retired
 retired ks d = record { link = d; label = None; marked = []; pins = ks }
