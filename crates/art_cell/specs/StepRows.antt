@@ -223,15 +223,22 @@ pub record AllNew (hs : List Holding) (s s' : Cells) : Type 0 where
 abbrev pub IsLinked : Cells → Link → Type 0
 IsLinked s d = (r : List ℕ) × At (heap_of s) d r
 
+-- no number twice
+abbrev pub IsOnce : List Link → Type 0
+IsOnce [] = ⊤
+IsOnce (d ∷ ds) = (Member d ds → ⊥) × IsOnce ds
+
 -- the tree s becomes s': the rows are those after the command, whose answer is the map's; each linked node that is not held
--- keeps its path; the numbers of us are unlinked and those of ls linked, and no others; nodes of us are held, and the numbers
--- of ls are in hand, among them each that was claimed
+-- keeps its path; the numbers of us are unlinked and those of ls linked, and no others; each of us is named once, since it comes
+-- back to the pass as often as it is named; nodes of us are held, and the numbers of ls are in hand, among them each that was
+-- claimed
 pub record Commits (z : Sizes) (v : View) (what : What) (us ls : List Link) (s s' : Cells) : Type 0 where
   pub shape : IsShape z s'
   pub rows : (m : ByteMap) → HasRows (heap_of s) m → IsAnswered m what × HasRows (heap_of s') (becomes m what)
   pub others : (n : Node) (p : List ℕ) → IsNotHeld v.held (cell.Node n) → At (heap_of s) (node n) p → At (heap_of s') (node n) p
   pub leaves : (d : Link) → Member d us → IsLinked s d × (IsLinked s' d → ⊥)
   pub comes : (d : Link) → Member d ls → IsLinked s' d × ((x : InHand) × Member x v.hand × (x.link ≡ d))
+  pub once : IsOnce us
   pub stays : (d : Link) → IsLinked s d → Member d us ⊎ IsLinked s' d
   pub linked : (d : Link) → IsLinked s' d → Member d ls ⊎ IsLinked s d
   pub held : (n : Node) → Member (node n) us → (h : Holding) × Member h v.held × (h.cell ≡ cell.Node n)
