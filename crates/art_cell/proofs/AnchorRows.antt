@@ -24,7 +24,7 @@ use Rattle.art_cell.specs.NodeLives.{anchor_held}
 use Rattle.art_cell.specs.Shown.{Committed, Freed, IsHolding, Wrote, claimed_nodes, coming, link_of_number, links_of}
 use Rattle.art_cell.specs.StepRows.{AllNew, Commits, IsInLimbo, Knows, MayBeFirst, MayCommit, MayFree, MayWrite, note_of, all_retired, retired, stamp_of}
 use Rattle.art_cell.specs.Tree.{Top}
-use Rattle.art_cell.specs.Views.{Member, Views}
+use Rattle.art_cell.specs.Views.{Member}
 use Rattle.art_cell.specs.Visits.{HasNone, IsAway, IsIdle, HoldsAnchor, HoldsWord, ChangesWord, Fills, NotesLeaf}
 use Rattle.art_cell.specs.Words.{Words}
 use Rattle.art_cell.proofs.ChangeCommits.{add_commits, drop_commits}
@@ -213,14 +213,15 @@ without_link d es =
     let rest = left_over (λ (e : Retired). e.link ≡ d) es (λ e. same_link e.link d) in
     (rest.0, λ e i. (rest.1 e).0 i, λ e i other. (rest.1 e).1 (i, other))
 
-pub may_give_back : (f : Views) (v : View) (d : Link) (l : ℕ) → d ≡ leaf l → IsInLimbo v (leaf l) → (es : List Retired) × MayFree f v d es
-may_give_back f v d l is limbo =
+pub may_give_back : (z : Sizes) (v : View) (d : Link) (l : ℕ) → d ≡ leaf l → IsInLimbo v (leaf l) → (es : List Retired) × MayFree z v d es
+may_give_back z v d l is limbo =
     let rest = without_link (leaf l) v.limbo in (
       rest.0,
-      subst (λ (c : Link). MayFree f v c rest.0) (sym is) (record {
+      subst (λ (c : Link). MayFree z v c rest.0) (sym is) (record {
         limbo = limbo;
         free = λ n e. absurd (cc);
-        unstamped = λ q u n at e. absurd (cc);
+        unstamped = λ n e. absurd (cc);
+        marked = λ n e q is. absurd (cc);
         was = rest.1;
         stays = rest.2;
       }),

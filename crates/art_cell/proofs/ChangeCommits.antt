@@ -20,7 +20,7 @@ use Rattle.art_cell.specs.Heaps.{Cells, heap_of}
 use Rattle.art_cell.specs.Knowledge.{IsNodeCell, IsShape}
 use Rattle.art_cell.specs.Laws.{Does, EditTouched, EditPaths}
 use Rattle.art_cell.specs.Rows.{ByteMap}
-use Rattle.art_cell.specs.StepRows.{IsNotHeld, IsLinked, Commits}
+use Rattle.art_cell.specs.StepRows.{IsNotHeld, IsLinked, IsOnce, Commits}
 use Rattle.art_cell.specs.Tree.{Place, Slot, Heap, held, At, PlaceAt, Begins, HasTwo}
 use Rattle.art_cell.specs.Views.{Member, IsNumber}
 use Rattle.art_cell.specs.WordChanges.{WritesPlace, cell_of, WritesOnly}
@@ -63,6 +63,13 @@ pub record Forms (z : Sizes) (ls : List Link) (s s' : Cells) (P : Cell → Type 
 pub only_written : (s s' : Cells) (written : Cell → Type 0) → ((c : Cell) → (written c → ⊥) → s' c ≡ s c) → WritesOnly s s' written
 only_written s s' written same c other = means_same c (s c) (s' c) (same c other)
 
+-- one number is named once, and so are a node's and a leaf's
+pub once_one : (d : Link) → IsOnce (d ∷ [])
+once_one d = (λ i. absurd i, tt)
+
+pub once_two : (n : Node) (l : ℕ) → IsOnce (node n ∷ leaf l ∷ [])
+once_two n l = (⊎_elim (λ (e : node n ≡ leaf l). cc) (λ (i : ⊥). i), once_one (leaf l))
+
 -- what is in hand
 pub in_hand : (v : View) (c d : Link) → d ≡ c → IsInHand v c → IsInHand v d
 in_hand v c d e i = subst (IsInHand v) (sym e) i
@@ -99,14 +106,15 @@ module _ (z : Sizes) (v : View) (s s' : Cells) (P : Cell → Type 0) (b : Before
     }
 
     -- such a change is a commit
-    pub commits_by : Commits z v what us ls s s'
-    commits_by = record {
+    pub commits_by : IsOnce us → Commits z v what us ls s s'
+    commits_by once = record {
       shape = shape_after;
       rows = rows;
       others = λ n p free at. moves.others (node n) p (λ t. let a = touches.held n (p, at) t in free a.0 a.1 a.2) at;
       leaves = λ d i. let a = touches.leaves d i in
           (a.1, λ o. ⊎_elim (λ (e : T d × E d o.0). a.2 o.0 e.1) (λ (e : (T d → ⊥) × At (heap_of s) d o.0). e.0 a.0) (moves.linked d o.0 o.1));
       comes = λ d i. let a = touches.comes d i in ((a.0.0, moves.touched d a.0.0 a.0.1), a.1);
+      once = once;
       stays = λ d o. ⊎_elim
           (λ (t : T d → ⊥). inr (o.0, moves.others d o.0 t o.1))
           (⊎_elim (λ (i : Member d us). inl i) (λ (e : (r : List ℕ) × E d r). inr (e.0, moves.touched d e.0 e.1)))
@@ -172,7 +180,7 @@ module _ (z : Sizes) (v : View) (s s' : Cells) (x : Place) (r : List ℕ) (l : �
 
     added : ClaimedAmong v (λ n. ⊥) → Commits z v (Done (Insert k value) Inserted) [] (leaf l ∷ []) s s'
     added among = commits_by z v s s' Written b just (Done (Insert k value) Inserted) [] (leaf l ∷ []) (EditTouched l) (EditPaths h' x l r) (add_does empty).moves
-        (inserted_rows z v s l k value b.knows has h' (absent_free h x r k b.shape.tree at free begins) (λ m rows. (add_does m).rows rows)) add_touches add_forms (λ n. ⊥) among (λ n i. absurd i)
+        (inserted_rows z v s l k value b.knows has h' (absent_free h x r k b.shape.tree at free begins) (λ m rows. (add_does m).rows rows)) add_touches add_forms (λ n. ⊥) among (λ n i. absurd i) tt
 
   module _ (put : WritesPlace s s' x None) (was : held h x ≡ Some (leaf l)) (two : (n : Node) (c : ℕ) → x ≡ Slot n c → HasTwo h' n) where
     drop_edits : Edits h h' x l × (held h' x ≡ None)
@@ -197,7 +205,7 @@ module _ (z : Sizes) (v : View) (s s' : Cells) (x : Place) (r : List ℕ) (l : �
 
     dropped : ClaimedAmong v (λ n. ⊥) → Commits z v (Done (Remove (h.key l)) (Removed (h.value l))) (leaf l ∷ []) [] s s'
     dropped among = commits_by z v s s' Written b just (Done (Remove (h.key l)) (Removed (h.value l))) (leaf l ∷ []) [] (EditTouched l) (EditPaths h' x l r) (drop_does empty).moves
-        (remove_rows h h' l r linked_leaf (λ m rows. (drop_does m).rows rows)) drop_touches (place_forms None [] put tt (λ d i. absurd i)) (λ n. ⊥) among (λ n i. absurd i)
+        (remove_rows h h' l r linked_leaf (λ m rows. (drop_does m).rows rows)) drop_touches (place_forms None [] put tt (λ d i. absurd i)) (λ n. ⊥) among (λ n i. absurd i) (once_one (leaf l))
 
 pub add_commits : AddCommits
 add_commits z v s s' x r l k value b has just among put at free begins = added z v s s' x r l b just at k value has put free begins among

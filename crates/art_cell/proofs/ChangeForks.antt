@@ -118,7 +118,7 @@ module _ (z : Sizes) (v : View) (s s' : Cells) (x : Place) (r : List ℕ) (c : L
 
   forked : Commits z v (Done (Insert k value) Inserted) [] (leaf l ∷ node m ∷ []) s s'
   forked = commits_by z v s s' Written before just (Done (Insert k value) Inserted) [] (leaf l ∷ node m ∷ []) (ForkTouched c m l) (ForkPaths h' c m l a b r) (fork_does empty).moves
-      (inserted_rows z v s l k value before.knows has h' (absent_forked h h' x c m l a b r k before.shape.tree at forks.0 above_c above_l) (λ f rows. (fork_does f).rows rows)) fork_touches fork_forms (λ i. i ≡ m) among (λ n e. inr (inl (ap node e)))
+      (inserted_rows z v s l k value before.knows has h' (absent_forked h h' x c m l a b r k before.shape.tree at forks.0 above_c above_l) (λ f rows. (fork_does f).rows rows)) fork_touches fork_forms (λ i. i ≡ m) among (λ n e. inr (inl (ap node e))) tt
 
 pub fork_commits : ForkCommits
 fork_commits = forked

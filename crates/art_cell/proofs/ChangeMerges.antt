@@ -20,7 +20,7 @@ use Rattle.art_cell.specs.Rows.{ByteMap}
 use Rattle.art_cell.specs.StepRows.{Commits}
 use Rattle.art_cell.specs.Tree.{Place, Slot, Heap, held, past, At, down, PlaceAt}
 use Rattle.art_cell.specs.WordChanges.{FitsWord, WritesPlace, cell_of, KeepsChildren}
-use Rattle.art_cell.proofs.ChangeCommits.{Touches, Forms, same_words, only_written, commits_by}
+use Rattle.art_cell.proofs.ChangeCommits.{Touches, Forms, same_words, only_written, once_two, commits_by}
 use Rattle.art_cell.proofs.ChangeRows.{remove_rows}
 use Rattle.art_cell.proofs.ChangeShapes.{held_fits, kept_formed, place_formed, anchor_formed}
 use Rattle.art_cell.proofs.Meanings.{no_leaf}
@@ -111,7 +111,7 @@ module _ (z : Sizes) (v : View) (s s' : Cells) (x : Place) (r : List ℕ) (c : L
 
   merged : Commits z v (Done (Remove (h.key l)) (Removed (h.value l))) (node n ∷ leaf l ∷ []) [] s s'
   merged = commits_by z v s s' Written before just (Done (Remove (h.key l)) (Removed (h.value l))) (node n ∷ leaf l ∷ []) [] (MergeTouched c n l) (MergePaths c r) (merge_does empty).moves
-      (remove_rows h h' l (past h n r b) at_l (λ f rows. (merge_does f).rows rows)) merge_touches merge_forms (λ i. ⊥) among (λ i e. absurd e)
+      (remove_rows h h' l (past h n r b) at_l (λ f rows. (merge_does f).rows rows)) merge_touches merge_forms (λ i. ⊥) among (λ i e. absurd e) (once_two n l)
 
 pub merge_commits : MergeCommits
 merge_commits = merged

@@ -24,7 +24,7 @@ use Rattle.art_cell.specs.Tree.{Place, Slot, Heap, held, past, At, down, PlaceAt
 use Rattle.art_cell.specs.Views.{Member, IsNumber}
 use Rattle.art_cell.specs.WordChanges.{at_byte, WritesPlace, WritesNode, cell_of, WayByWords, WayPremises}
 use Rattle.art_cell.specs.Words.{child_of}
-use Rattle.art_cell.proofs.ChangeCommits.{IsInHand, IsHeld, Touches, Forms, in_hand, same_words, only_written, commits_by}
+use Rattle.art_cell.proofs.ChangeCommits.{IsInHand, IsHeld, Touches, Forms, in_hand, same_words, only_written, once_one, once_two, commits_by}
 use Rattle.art_cell.proofs.ChangeRows.{remove_rows, inserted_rows, leaf_has_key, leaf_unlinked, leaf_formed, node_unlinked}
 use Rattle.art_cell.proofs.ChangeShapes.{NameCells, at_byte_names, IsFormed, written_formed, place_formed, anchor_formed}
 use Rattle.art_cell.proofs.Lookup.{absent_free}
@@ -135,7 +135,7 @@ module _ (z : Sizes) (v : View) (s s' : Cells) (x : Place) (r : List ℕ) (n m :
         (λ f rows. let o = stays f rows in (o.0, subst (HasRows h') (sym o.1) ((copy_does f).rows rows)))
         copy_touches
         (way_forms (child_of n.layout (s (cell.Node n))) made named (node m ∷ []) (λ d i. ⊎_elim (m_new (child_of n.layout (s (cell.Node n))) made named d) (λ (i : ⊥). absurd i) i))
-        (λ i. i ≡ m) among (λ i e. inl (ap node e))
+        (λ i. i ≡ m) among (λ i e. inl (ap node e)) (once_one (node n))
 
   module _ (b l : ℕ) where
     abbrev T : Link → Type 0
@@ -203,7 +203,7 @@ module _ (z : Sizes) (v : View) (s s' : Cells) (x : Place) (r : List ℕ) (n m :
           (way_forms grown made named (leaf l ∷ node m ∷ []) (λ d i. ⊎_elim
           (λ (e : d ≡ leaf l). subst (λ y. IsNumber z y × IsFormed s' y) (sym e) (has.number, leaf_formed z v s l k value before.knows has s' (same_leaf l)))
           (⊎_elim (m_new grown made named d) (λ (i : ⊥). absurd i)) i))
-          (λ i. i ≡ m) among (λ i e. inr (inl (ap node e)))
+          (λ i. i ≡ m) among (λ i e. inr (inl (ap node e))) (once_one (node n))
 
     -- ---- with a leaf less
 
@@ -252,7 +252,7 @@ module _ (z : Sizes) (v : View) (s s' : Cells) (x : Place) (r : List ℕ) (n m :
           (remove_rows h h' l (past h n r b) at_l (λ f rows. (shrink_does f).rows rows))
           shrink_touches
           (way_forms shrunk made named (node m ∷ []) (λ d i. ⊎_elim (m_new shrunk made named d) (λ (i : ⊥). absurd i) i))
-          (λ i. i ≡ m) among (λ i e. inl (ap node e))
+          (λ i. i ≡ m) among (λ i e. inl (ap node e)) (once_two n l)
 
 pub copy_commits : CopyCommits
 copy_commits z v s s' x r n m what before hand just among old put made at was stays = copied z v s s' x r n m before hand just old put at was what made stays among

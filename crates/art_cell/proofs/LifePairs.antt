@@ -1,6 +1,5 @@
 -- The node of two leaves is found below the anchor, locked with it, and taken out of the tree.
-use Rattle.std.proofs.Common.{◌≡◌, ◌≢◌, ◌⊎◌, ℕ, zero, suc, ◌+◌, ◌*◌, ◌%◌, ◌^◌, ◌<◌, List, [], ◌∷◌, length, get_or, set, inl, inr, ⊎_elim, sym, refl, ap, ap₂, ◌∙◌, subst, subst₂, arith, eq-eqb, get_or-set_same}
-use Rattle.std.proofs.lemmas.Option.{same_Some}
+use Rattle.std.proofs.Common.{◌≡◌, ◌≢◌, ◌⊎◌, ℕ, ◌+◌, ◌*◌, ◌%◌, ◌^◌, ◌<◌, List, [], ◌∷◌, length, get_or, set, inl, inr, ⊎_elim, sym, refl, ap, ap₂, ◌∙◌, subst, subst₂, arith, eq-eqb, get_or-set_same}
 use Rattle.std.specs.List.{cons_option}
 use Rattle.std.specs.Option.{option_map}
 use Rattle.std.specs.Prelude.{filter_map, Option, Some, None, true, false}
@@ -35,7 +34,7 @@ use Rattle.art_cell.specs.Views.{IsClear, IsNumber, Member, Memory, size_of, wor
 use Rattle.art_cell.specs.Visits.{Fills, HasNone, IsIdle}
 use Rattle.art_cell.specs.WordChanges.{FitsWord, two_children}
 use Rattle.art_cell.specs.Words.{size, child_of}
-use Rattle.art_cell.specs.WorldWords.{Kept, view_at, views_of}
+use Rattle.art_cell.specs.WorldWords.{Kept}
 use Rattle.art_cell.proofs.AnchorRows.{without_link}
 use Rattle.art_cell.proofs.ChildWords.{link_back, link_exact}
 use Rattle.art_cell.proofs.LeafPair.{pair_child}
@@ -320,23 +319,16 @@ just_both z v w n d e words k value place is fills are x i = ⊎_elim
 
 -- ---- numbers in limbo go back
 
--- of one pass alone there is one view
-one_view_alone : (vs : List View) (p q : ℕ) (u : View) → length vs ≡ 1 → p < length vs → views_of vs q ≡ Some u → u ≡ view_at vs p
-one_view_alone [] p q u one low at = absurd (omega (arith, one))
-one_view_alone (a ∷ b ∷ vs) p q u one low at = absurd (omega (arith, one))
-one_view_alone (a ∷ []) (suc p) q u one low at = absurd (omega (arith, low))
-one_view_alone (a ∷ []) zero zero u one low at = sym (same_Some a u at)
-one_view_alone (a ∷ []) zero (suc q) u one low at = absurd (cc)
-
-pub may_free_node : (vs : List View) (p : ℕ) (d : Link) (n : Node) → length vs ≡ 1 → p < length vs → (view_at vs p).stamps ≡ [] → (view_at vs p).held ≡ [] → d ≡ node n → IsInLimbo (view_at vs p) (node n)
-    → (es : List Retired) × MayFree (views_of vs) (view_at vs p) d es
-may_free_node vs p d n one low none free is limbo =
-    let rest = without_link (node n) (view_at vs p).limbo in (
+-- a node that the pass has in no stamp and does not hold goes back where there is no other pass
+pub may_free_node : (z : Sizes) (v : View) (d : Link) (n : Node) → ((q : ℕ) → q < z.passes → q ≡ v.pass) → v.stamps ≡ [] → v.held ≡ [] → d ≡ node n → IsInLimbo v (node n) → (es : List Retired) × MayFree z v d es
+may_free_node z v d n alone none free is limbo =
+    let rest = without_link (node n) v.limbo in (
       rest.0,
-      subst (λ (c : Link). MayFree (views_of vs) (view_at vs p) c rest.0) (sym is) (record {
+      subst (λ (c : Link). MayFree z v c rest.0) (sym is) (record {
         limbo = limbo;
         free = λ m e h i. absurd (subst (Member h) free i);
-        unstamped = λ q u m at e stamped. subst (Member stamped.0) (ap (λ (v : View). v.stamps) (one_view_alone vs p q u one low at) ∙ none) stamped.1;
+        unstamped = λ m e stamped. subst (Member stamped.0) none stamped.1;
+        marked = λ m e q at i link low other. absurd (other (alone q low));
         was = rest.1;
         stays = rest.2;
       }),

@@ -153,6 +153,7 @@ same_coming z v what us ls ks s s' there back c = record {
   others = c.others;
   leaves = c.leaves;
   comes = λ d i. c.comes d (back d i);
+  once = c.once;
   stays = c.stays;
   linked = λ d i. ⊎_elim (λ (k : Member d ls). inl (there d k)) (λ (k : IsLinked s d). inr k) (c.linked d i);
   held = c.held;

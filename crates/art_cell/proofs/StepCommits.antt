@@ -98,7 +98,7 @@ whence p us ls at d =
     one a = ⊎_elim (λ (i : Member d us). InLimboOf p) (λ (i : Member d us → ⊥). two (either_member d ls)) a
 
 -- the retired are of what was unlinked
-retired_of : (ks : List Pin) (us : List Link) (e : Retired) → Member e (all_retired ks us) → Member e.link us × (e.marked ≡ []) × (e.label ≡ None) × (e.pins ≡ ks)
+pub retired_of : (ks : List Pin) (us : List Link) (e : Retired) → Member e (all_retired ks us) → Member e.link us × (e.marked ≡ []) × (e.label ≡ None) × (e.pins ≡ ks)
 retired_of ks [] e i = absurd i
 retired_of ks (d ∷ us) e i = ⊎_elim
     (λ (is : e ≡ retired ks d). (inl (ap (λ (y : Retired). y.link) is), ap (λ (y : Retired). y.marked) is, ap (λ (y : Retired). y.label) is, ap (λ (y : Retired). y.pins) is))

@@ -1,5 +1,6 @@
 -- Steps that move one number: a free one is taken, and one in hand or in limbo goes back.
 use Rattle.std.proofs.Common.{◌≡◌, ◌≢◌, ◌⊎◌, ◌↔◌, ℕ, ◌<◌, ◌≤◌, Bool, true, false, List, ◌∷◌, length, inl, inr, sym, refl, ap, ◌∙◌, subst, ⊎_elim}
+use Rattle.std.proofs.lemmas.Bool.{cases_eq}
 use Rattle.std.specs.Prelude.{if◌then◌else◌, Option, Some, None, ⊤}
 use Rattle.art_cell.specs.declared.cells.Node.{Node}
 use Rattle.art_cell.specs.declared.cells.Cell.{Cell}
@@ -22,7 +23,7 @@ use Rattle.art_cell.specs.Views.{Member, Memory, words_in, IsClear, IsLocked, Is
 use Rattle.art_cell.proofs.Histories.{history_stays}
 use Rattle.art_cell.proofs.Kept.{account_on, unstamped_turn, holder_same, formed_turn}
 use Rattle.art_cell.proofs.Places.{same_link}
-use Rattle.art_cell.proofs.Turns.{stranger_before, each_view}
+use Rattle.art_cell.proofs.Turns.{one_view, stranger_before, each_view}
 
 -- ---- what other words of the memory do not touch
 
@@ -312,16 +313,26 @@ give_law z m f p v is m' g d xs r may sets t =
       held = λ h n i cell. held_stays r.at d IsFree p v.committed h n (λ e. may.free n (sym e) h i cell) (mine.held h n i cell);
     }
 
--- a number in limbo that is not held, and in no stamp, goes back
+-- a number in limbo that is not held, that the pass has in no stamp, and whose place is marked for every other pass, goes back
 pub free_law : FreeLaw
 free_law z m f p v is m' g d es r may sets t =
-    number_moves z m m' f g p v is r d (InLimboOf p) IsFree true v.hand es was refl tt (λ e. refl, λ e. refl) sets t account may.unstamped (λ e i. (may.was e i).0)
+    number_moves z m m' f g p v is r d (InLimboOf p) IsFree true v.hand es was refl tt (λ e. refl, λ e. refl) sets t account unstamped (λ e i. (may.was e i).0)
   where
     mine : Accounts m r.at p v
     mine = r.numbers.accounts p v is
 
     was : r.at d ≡ InLimboOf p
     was = ap r.at (sym may.limbo.2) ∙ mine.limbo may.limbo.0 may.limbo.1
+
+    -- another pass that had it in a stamp would stand under a pin that the place holds, for which it is not marked
+    unstamped : (q : ℕ) (u : View) (n : Node) → f q ≡ Some u → d ≡ node n → IsStamped u n → ⊥
+    unstamped q u n is-u e stamped = ⊎_elim
+        (λ (same : q ≡ p). may.unstamped n e (subst (λ (w : View). IsStamped w n) (one_view f q p u v same is-u is) stamped))
+        (λ (other : q ≢ p).
+        let k = r.unstamped.awaits q p u v may.limbo.0 is-u is may.limbo.1 in
+        let marked = may.marked n may.limbo.0 q e may.limbo.1 may.limbo.2 (r.unstamped.pinned q u is-u).inside (λ own. other (own ∙ (r.history.tells p v is).pass)) in
+        k.marked marked (k.stamped n (may.limbo.2 ∙ e) stamped))
+        (cases_eq q p)
 
     account : Accounts m (put r.at d IsFree) p (freed v es)
     account = record {

@@ -116,7 +116,7 @@ module _ (z : Sizes) (ws : List ℕ) (vs : List View) (p : ℕ) (r : IsSound z (
   in_hand d xs may = let x = may.hand in elsewhere d (InHandOf p) (ap r.at (sym x.2) ∙ (r.numbers.accounts p v at).hand x.0 x.1) (λ e. cc) (λ e. cc)
 
   -- and one in limbo
-  pub in_limbo : (d : Link) (es : List Retired) → MayFree (views_of vs) v d es → IsInUse d
+  pub in_limbo : (d : Link) (es : List Retired) → MayFree z v d es → IsInUse d
   in_limbo d es may = let x = may.limbo in elsewhere d (InLimboOf p) (ap r.at (sym x.2) ∙ (r.numbers.accounts p v at).limbo x.0 x.1) (λ e. cc) (λ e. cc)
 
   module _ (d : Link) (place found bit : ℕ) (word : IsBitWord z ws d place found bit) where
@@ -136,7 +136,7 @@ module _ (z : Sizes) (ws : List ℕ) (vs : List View) (p : ℕ) (r : IsSound z (
         (λ g t. give_law z (memory_of z ws) (views_of vs) p v at (memory_of z us) g d xs r may sets t)
 
     -- a number in limbo is free again
-    pub turn_frees : (es : List Retired) → MayFree (views_of vs) v d es → Next z vs p us (λ u w. Freed u w d)
+    pub turn_frees : (es : List Retired) → MayFree z v d es → Next z vs p us (λ u w. Freed u w d)
     turn_frees es may = turned z ws vs p r inside long us (λ u w. Freed u w d) (freed v es) record { limbo = es; was = may.was; stays = may.stays; is = refl }
         (λ g t. free_law z (memory_of z ws) (views_of vs) p v at (memory_of z us) g d es r may sets t)
 
@@ -160,7 +160,7 @@ module _ {k now : Kept} (seen : k ≡ now) (kept : IsKept k) (p : ℕ) (inside :
       record { number = taken.0; taken = taken.1; turn = λ us sets. turn_gives now.sizes now.words now.views p i.2 inside i.0 us d sets may.0 may.1 })
 
   -- and one in limbo
-  pub freeing : (es : List Retired) × MayFree (views_of now.views) (view_at now.views p) d es → Freeing k p d Freed
+  pub freeing : (es : List Retired) × MayFree now.sizes (view_at now.views p) d es → Freeing k p d Freed
   freeing may = seen_so Freed (λ i.
       let taken = in_limbo now.sizes now.words now.views p i.2 inside i.0 d may.0 may.1 in
       record { number = taken.0; taken = taken.1; turn = λ us sets. turn_frees now.sizes now.words now.views p i.2 inside i.0 us d sets may.0 may.1 })

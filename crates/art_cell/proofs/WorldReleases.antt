@@ -17,13 +17,14 @@ use Rattle.art_cell.specs.Histories.{event, IsAnswered, becomes, run, replay, Is
 use Rattle.art_cell.specs.Rows.{ByteMap}
 use Rattle.art_cell.specs.Shown.{IsHolding, Released, Committed, coming}
 use Rattle.art_cell.specs.Sound.{IsOneHistory, HoldsEach, IsSound}
-use Rattle.art_cell.specs.StepRows.{SetsVersion, Drops, HandsOver, AreStanding, all_retired, released_word, MayRelease, MayBeFirst, MayCommit, writing, committed}
+use Rattle.art_cell.specs.StepRows.{SetsVersion, Drops, HandsOver, AreStanding, RetiresPinned, all_retired, released_word, MayRelease, MayBeFirst, MayCommit, writing, committed}
 use Rattle.art_cell.specs.Views.{Member, Memory, IsLocked, Views, Turned}
 use Rattle.art_cell.specs.WorldWords.{Kept, IsInside, place_of, word_count, memory_of, memory_now, views_of, view_at}
 use Rattle.art_cell.proofs.Places.{same_cell}
 use Rattle.art_cell.proofs.Gathered.{Gathered, gathered, left_over}
-use Rattle.art_cell.proofs.StepCommits.{either_member, commit_law}
+use Rattle.art_cell.proofs.StepCommits.{either_member, retired_of, commit_law}
 use Rattle.art_cell.proofs.StepLocks.{no_leaf, release_law}
+use Rattle.art_cell.proofs.Turns.{member_append}
 use Rattle.art_cell.proofs.WorldMemory.{puts_version}
 use Rattle.art_cell.proofs.WorldTurns.{IsKept, Next, makes}
 use Rattle.art_cell.proofs.WorldViews.{at_view, turned_view}
@@ -144,7 +145,7 @@ module _ (z : Sizes) (ws : List ℕ) (vs : List View) (p : ℕ) (r : IsSound z (
 
   -- what a first release makes of the view, with the leaf that comes into the tree
   abbrev pub Commit : What → List Link → Option Link → View → View → Holding → Type 0
-  Commit what us leaf u w h = Committed u w what us (coming u leaf) h
+  Commit what us leaf u w h = Committed u w what us (coming u leaf) h × RetiresPinned f u w
 
   -- the first release of a change
   pub turn_commits : (c : Cell) (h : Holding) (what : What) (us : List Link) (leaf : Option Link) (obsolete : Bool) (word : ℕ) → h.cell ≡ c → MayBeFirst v us h obsolete
@@ -157,15 +158,21 @@ module _ (z : Sizes) (ws : List ℕ) (vs : List View) (p : ℕ) (r : IsSound z (
       subst (λ (d : Cell). AfterRelease d obsolete word (Commit what us leaf)) of (released h obsolete word w (Commit what us leaf) first.held (λ m' g sets t.
       let sound = commit_law z m f p v at m' g what us (coming v leaf) pins.0 h rest.0 hand.0 obsolete r may first rest.1 hand.1 pins.1 sets t in (
         sound,
-        λ k same. record {
-          held = rest.0;
-          drops = subst (λ (d : Cell). Drops v.held d rest.0) (sym same) rest.1;
-          hand = hand.0;
-          hands = hand.1;
-          pins = pins.0;
-          made = makes f g p v w r.log what at t r.history refl (answered sound.log r.log g p w (event v.pass what) sound.history t.here refl) refl refl;
-          is = refl;
-        },
+        λ k same. (
+          record {
+            held = rest.0;
+            drops = subst (λ (d : Cell). Drops v.held d rest.0) (sym same) rest.1;
+            hand = hand.0;
+            hands = hand.1;
+            pins = pins.0;
+            made = makes f g p v w r.log what at t r.history refl (answered sound.log r.log g p w (event v.pass what) sound.history t.here refl) refl refl;
+            is = refl;
+          },
+          λ e i. ⊎_elim
+              (λ (j : Member e (all_retired pins.0 us)). inr (subst (AreStanding f) (sym (retired_of pins.0 us e j).3) pins.1))
+              (λ (j : Member e v.limbo). inl j)
+              (member_append e (all_retired pins.0 us) v.limbo i),
+        ),
       )))
 
 -- ---- the calls that release a cell

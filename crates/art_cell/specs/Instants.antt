@@ -1,5 +1,5 @@
 -- What a step does to the words that all passes share, at the one instant at which it is made.
-use Rattle.std.specs.Prelude.{◌≡◌, ℕ, ◌+◌, Bool}
+use Rattle.std.specs.Prelude.{◌≡◌, ℕ, ◌+◌, Bool, Some}
 use Rattle.art_cell.specs.declared.cells.Node.{Node}
 use Rattle.art_cell.specs.declared.cells.Cell.{Cell}
 use Rattle.art_cell.specs.declared.cells.Cell.TheVariants as cell
@@ -11,7 +11,7 @@ use Rattle.art_cell.specs.declared.views.View.{View}
 use Rattle.art_cell.specs.Heaps.{Cells}
 use Rattle.art_cell.specs.Knowledge.{IsShape, HoldsAll}
 use Rattle.art_cell.specs.Sound.{OneHolder}
-use Rattle.art_cell.specs.StepRows.{AllNew, SetsVersion, SetsWord, released_word}
+use Rattle.art_cell.specs.StepRows.{AllNew, RetiresPinned, SetsVersion, SetsWord, released_word}
 use Rattle.art_cell.specs.Views.{Memory, Views}
 
 -- the words and the views just before the instant, and those just after it
@@ -60,7 +60,9 @@ PutsWord c place x m f n g = SetsWord m c place x n
 abbrev pub Unlocks : Cell → Bool → Instant
 Unlocks c obsolete m f n g = SetsVersion m c (released_word (m.version c) obsolete) n
 
--- the same, and the logical words of all cells that the view holds become the new ones, and no others change
+-- the same; the logical words of all cells that the view holds become the new ones, and no others change; and each place that
+-- comes into the limbo of its pass holds the pins that stand just before the instant
 pub record UnlocksFirst (v : View) (c : Cell) (obsolete : Bool) (m : Memory) (f : Views) (n : Memory) (g : Views) : Type 0 where
   pub unlocks : Unlocks c obsolete m f n g
   pub bodies : (s t : Cells) → OneHolder m f s → OneHolder n g t → AllNew v.held s t
+  pub pins : (w : View) → g v.pass ≡ Some w → RetiresPinned f v w

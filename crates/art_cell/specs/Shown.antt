@@ -149,8 +149,8 @@ pub record Released (v w : View) (h : Holding) : Type 0 where
   pub drops : Drops v.held h.cell held
   pub is : w ≡ writing v held
 
--- a commit: the event, the numbers that come into the tree leave the hand, and those that leave it go to limbo with the pins
--- that stand
+-- a commit: the event, the numbers that come into the tree leave the hand, and those that leave it go to limbo, each
+-- with the same pins: those that stand (`UnlocksFirst`)
 pub record Committed (v w : View) (what : What) (us ls : List Link) (h : Holding) : Type 0 where
   pub held : List Holding
   pub drops : Drops v.held h.cell held

@@ -96,7 +96,7 @@ abbrev pub GiveLaw : Type 0
 GiveLaw = Step (λ z m f p v. (m' : Memory) (g : Views) (d : Link) (xs : List InHand) → IsSound z m f → MayGive v d xs → SetsFree m d true m' → Turned f p (gave v xs) g → IsSound z m' g)
 
 abbrev pub FreeLaw : Type 0
-FreeLaw = Step (λ z m f p v. (m' : Memory) (g : Views) (d : Link) (es : List Retired) → IsSound z m f → MayFree f v d es → SetsFree m d true m' → Turned f p (freed v es) g → IsSound z m' g)
+FreeLaw = Step (λ z m f p v. (m' : Memory) (g : Views) (d : Link) (es : List Retired) → IsSound z m f → MayFree z v d es → SetsFree m d true m' → Turned f p (freed v es) g → IsSound z m' g)
 
 -- ---- opening
 

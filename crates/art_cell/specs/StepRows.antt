@@ -223,15 +223,22 @@ pub record AllNew (hs : List Holding) (s s' : Cells) : Type 0 where
 abbrev pub IsLinked : Cells → Link → Type 0
 IsLinked s d = (r : List ℕ) × At (heap_of s) d r
 
+-- no number twice
+abbrev pub IsOnce : List Link → Type 0
+IsOnce [] = ⊤
+IsOnce (d ∷ ds) = (Member d ds → ⊥) × IsOnce ds
+
 -- the tree s becomes s': the rows are those after the command, whose answer is the map's; each linked node that is not held
--- keeps its path; the numbers of us are unlinked and those of ls linked, and no others; nodes of us are held, and the numbers
--- of ls are in hand, among them each that was claimed
+-- keeps its path; the numbers of us are unlinked and those of ls linked, and no others; each of us is named once, since it comes
+-- back to the pass as often as it is named; nodes of us are held, and the numbers of ls are in hand, among them each that was
+-- claimed
 pub record Commits (z : Sizes) (v : View) (what : What) (us ls : List Link) (s s' : Cells) : Type 0 where
   pub shape : IsShape z s'
   pub rows : (m : ByteMap) → HasRows (heap_of s) m → IsAnswered m what × HasRows (heap_of s') (becomes m what)
   pub others : (n : Node) (p : List ℕ) → IsNotHeld v.held (cell.Node n) → At (heap_of s) (node n) p → At (heap_of s') (node n) p
   pub leaves : (d : Link) → Member d us → IsLinked s d × (IsLinked s' d → ⊥)
   pub comes : (d : Link) → Member d ls → IsLinked s' d × ((x : InHand) × Member x v.hand × (x.link ≡ d))
+  pub once : IsOnce us
   pub stays : (d : Link) → IsLinked s d → Member d us ⊎ IsLinked s' d
   pub linked : (d : Link) → IsLinked s' d → Member d ls ⊎ IsLinked s d
   pub held : (n : Node) → Member (node n) us → (h : Holding) × Member h v.held × (h.cell ≡ cell.Node n)
@@ -245,6 +252,10 @@ MayCommit z v what us ls = (s s' : Cells) → IsShape z s → Knows v s → AllN
 pub record AreStanding (f : Views) (ks : List Pin) : Type 0 where
   pub all : (q : ℕ) (u : View) → f q ≡ Some u → u.pin ≢ 0 → Member (record { pass = q; count = u.pins }) ks
   pub only : (q k : ℕ) → Member (record { pass = q; count = k }) ks → (u : View) × (f q ≡ Some u) × (u.pin ≢ 0) × (k ≡ u.pins)
+
+-- each place that comes into the limbo holds the pins that stand
+abbrev pub RetiresPinned : Views → View → View → Type 0
+RetiresPinned f v w = (e : Retired) → Member e w.limbo → Member e v.limbo ⊎ AreStanding f e.pins
 
 -- a number that was just unlinked, with the pins that stand
 abbrev pub retired : List Pin → Link → Retired
@@ -316,11 +327,13 @@ pub record MayGive (v : View) (d : Link) (xs : List InHand) : Type 0 where
 abbrev pub gave : View → List InHand → View
 gave v xs = record v { hand = xs }
 
--- a number in limbo that is not held, and in no stamp, goes back
-pub record MayFree (f : Views) (v : View) (d : Link) (es : List Retired) : Type 0 where
+-- a number in limbo that is not held goes back; a node's only where the pass has no stamp of it and its place is marked for
+-- every other pass
+pub record MayFree (z : Sizes) (v : View) (d : Link) (es : List Retired) : Type 0 where
   pub limbo : IsInLimbo v d
   pub free : (n : Node) → d ≡ node n → IsNotHeld v.held (cell.Node n)
-  pub unstamped : (q : ℕ) (u : View) (n : Node) → f q ≡ Some u → d ≡ node n → IsStamped u n → ⊥
+  pub unstamped : (n : Node) → d ≡ node n → IsStamped v n → ⊥
+  pub marked : (n : Node) (e : Retired) (q : ℕ) → d ≡ node n → Member e v.limbo → e.link ≡ d → q < z.passes → q ≢ v.pass → Member q e.marked
   pub was : (e : Retired) → Member e es → Member e v.limbo × (e.link ≢ d)
   pub stays : (e : Retired) → Member e v.limbo → e.link ≢ d → Member e es
 

@@ -7,7 +7,7 @@ ghost use Rattle.art_cell.specs.FreeNumbers.{HasNoneFree, IsLeastFree};
 ghost use Rattle.art_cell.specs.Lent.{OnlyStepped, lent, pass_of, sizes_lent, view_lent};
 ghost use Rattle.art_cell.specs.Shown.{Freed, Gave, Took, link_of_number};
 ghost use Rattle.art_cell.specs.StepRows.{MayFree, MayGive, SetsFree};
-ghost use Rattle.art_cell.specs.WorldWords.{AtOnce, memory_now, only_same_turned, only_turned_then, views_of};
+ghost use Rattle.art_cell.specs.WorldWords.{AtOnce, memory_now, only_same_turned, only_turned_then};
 
 use crate::{
     At, Cell, Changed, Deed, Held, Locked, Number, Pool, Stamp, Steps, Unlinked, UpgradeFault,
@@ -94,9 +94,9 @@ impl At<'_> {
         self.world.put_back(self.pass, number);
     }
 
-    /// A number that the pass unlinked, and that stands in nobody's stamp, is free again.
+    /// A number that the pass unlinked is free again. A node's must stand in no stamp of the pass, and be marked for every other.
     pub fn give_back(&mut self, number: Number)
-        requires { (es : List RetiredNumber) × MayFree (views_of (lent self.old).views) (view_lent self.old) (link_of_number number) es }
+        requires { (es : List RetiredNumber) × MayFree (sizes_lent self.old) (view_lent self.old) (link_of_number number) es }
         ensures only { OnlyStepped self.old self.new }
         ensures memory { SetsFree (memory_now (lent self.old)) (link_of_number number) true (memory_now (lent self.new)) }
         ensures row { Freed (view_lent self.old) (view_lent self.new) (link_of_number number) }

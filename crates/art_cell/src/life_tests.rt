@@ -433,6 +433,15 @@ fn grow(at: &mut At<'_>, node: Node, first: u32) -> Option<(u32, [u64; 2])>
     Some((second, [locked, clear]))
 }
 
+/// Where there is one view, there is no other pass than that of the view.
+fn no_other_pass(at: &At<'_>)
+    requires { length (lent at.now).views ≡ 1 }
+    ensures { (q : ℕ) → q < (sizes_lent at.now).passes → q ≡ (view_lent at.now).pass }
+{
+    let world = &*at.world;
+    let _sizes = &world.sizes;
+}
+
 /// Removes the second row, for which the node goes. Tells the node's version word once it is locked and once it is obsolete.
 /// The numbers of the node and of the leaf are free again.
 fn shrink(at: &mut At<'_>, node: Node, first: u32, second: u32) -> Option<[u64; 2]>
@@ -455,6 +464,7 @@ fn shrink(at: &mut At<'_>, node: Node, first: u32, second: u32) -> Option<[u64; 
         let_number_go(Some(leaf));
         return None;
     }
+    no_other_pass(at);
     at.give_back(number);
     at.give_back(leaf);
     Some([locked, obsolete])

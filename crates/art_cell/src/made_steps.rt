@@ -155,9 +155,10 @@ impl<'a> Change<Vec<u64>, Commits<'a>, LinkedList<View>> for Commits<'a> {
     ghost use Rattle.art_cell.specs.declared.views.Holding.{Holding};
     ghost use Rattle.art_cell.specs.Deeds.{what_of};
     ghost use Rattle.art_cell.specs.Shown.{Committed, IsHolding, coming, links_of};
-    ghost use Rattle.art_cell.specs.WorldWords.{Turns};
+    ghost use Rattle.art_cell.specs.StepRows.{RetiresPinned};
+    ghost use Rattle.art_cell.specs.WorldWords.{Turns, views_of};
 
-    ghost then = { λ ws t old new. Turns t.sizes ws.items t.pass (λ v w. (h : Holding) → IsHolding v t.cell h → Committed v w (what_of t.deed.now) (links_of t.unlinked.now) (coming v t.leaf) h) old new };
+    ghost then = { λ ws t old new. Turns t.sizes ws.items t.pass (λ v w. (h : Holding) → IsHolding v t.cell h → Committed v w (what_of t.deed.now) (links_of t.unlinked.now) (coming v t.leaf) h × RetiresPinned (views_of old) v w) old new };
 }
 
 /// A cell was released.

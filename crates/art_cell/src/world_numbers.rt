@@ -72,10 +72,10 @@ impl World {
             .changed::<Vec<u64>, Gives, Gives>(&self.words, &turn);
     }
 
-    /// A number that the pass unlinked, and that stands in nobody's stamp, is free again.
+    /// A number that the pass unlinked is free again. A node's must stand in no stamp of the pass, and be marked for every other.
     pub(crate) fn give_back(&mut self, pass: usize, number: Number)
         requires pass { pass < length self.old.views }
-        requires may { (es : List RetiredNumber) × MayFree (views_of self.old.views) (view_at self.old.views pass) (link_of_number number) es }
+        requires may { (es : List RetiredNumber) × MayFree self.old.sizes (view_at self.old.views pass) (link_of_number number) es }
         ensures only { OnlyTurned self.old self.new pass }
         ensures memory { SetsFree (memory_now self.old) (link_of_number number) true (memory_now self.new) }
         ensures row { Freed (view_at self.old.views pass) (view_at self.new.views pass) (link_of_number number) }

@@ -1,5 +1,4 @@
-use Rattle.art_cell.specs.Lent.{lent, view_lent}
-use Rattle.art_cell.specs.WorldWords.{views_of}
+use Rattle.art_cell.specs.Lent.{sizes_lent, view_lent}
 use Rattle.art_cell.proofs.AnchorRows.{may_give_back, freed_idle}
 use Rattle.art_cell.proofs.actor_tests.take_out.Goals as goal
 
@@ -7,7 +6,7 @@ pub give_back-requires : goal.give_back-requires
 give_back-requires c =
     let e = c.commit_remove-number.ensures in
     let at = c.commit_remove-number.new.steps in
-    may_give_back (views_of (lent at).views) (view_lent at) _ c.args.leaf e.number e.limbo
+    may_give_back (sizes_lent at) (view_lent at) _ c.args.leaf e.number e.limbo
 
 pub returns-clause-idle : goal.returns-clause-idle
 returns-clause-idle c =

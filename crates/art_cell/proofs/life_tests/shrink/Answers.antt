@@ -1,8 +1,7 @@
 use Rattle.std.proofs.Common.{◌≡◌, refl, subst, ◌∙◌}
 use Rattle.art_cell.specs.declared.cells.Link.TheVariants.{Leaf as leaf, Node as node}
-use Rattle.art_cell.specs.Lent.{lent, pass_of, view_lent}
+use Rattle.art_cell.specs.Lent.{sizes_lent, view_lent}
 use Rattle.art_cell.specs.Views.{Member}
-use Rattle.art_cell.specs.WorldWords.{views_of}
 use Rattle.art_cell.proofs.AnchorRows.{freed_idle, may_give_back}
 use Rattle.art_cell.proofs.Gathered.{no_members}
 use Rattle.art_cell.proofs.LifePairs.{idle_by, in_limbo_on, may_free_node, stays_in_limbo}
@@ -14,18 +13,20 @@ lock_pair-requires-clause-free c = no_members _ c.requires.idle.away.held
 pub merge-unlinked-requires-clause-hand : goal.merge-unlinked-requires-clause-hand
 merge-unlinked-requires-clause-hand c x i = c.requires.idle.hand x (subst (Member x) c.in_ok-anchor.ensures.hand i)
 
+pub no_other_pass-requires : goal.no_other_pass-requires
+no_other_pass-requires c = c.if-not-forget.ensures.only.1.count ∙ (c.merge-unlinked.ensures.only.1.count ∙ (c.in_ok-anchor.ensures.only.1.count ∙ c.requires.alone))
+
 pub give_back-requires : goal.give_back-requires
 give_back-requires c =
     let at = c.forget.new.steps in
     let limbo = in_limbo_on (view_lent c.merge-unlinked.new.steps) (view_lent at) _ c.if-not-forget.ensures.limbo c.merge-unlinked.ensures.limbo.0 in
-    may_free_node (lent at).views (pass_of at) _ c.args.node (c.if-not-forget.ensures.only.1.count ∙ (c.merge-unlinked.ensures.only.1.count ∙ (c.in_ok-anchor.ensures.only.1.count ∙ c.requires.alone))) at.inside
-    (c.if-not-forget.ensures.stamps refl) (c.if-not-forget.ensures.held ∙ c.merge-unlinked.ensures.idle.0) c.two_numbers.ensures.node limbo
+    may_free_node (sizes_lent at) (view_lent at) _ c.args.node c.no_other_pass.ensures (c.if-not-forget.ensures.stamps refl) (c.if-not-forget.ensures.held ∙ c.merge-unlinked.ensures.idle.0) c.two_numbers.ensures.node limbo
 
 pub give_back-requires-2 : goal.give_back-requires-2
 give_back-requires-2 c =
     let at = c.forget.new.steps in
     let limbo = in_limbo_on (view_lent c.merge-unlinked.new.steps) (view_lent at) _ c.if-not-forget.ensures.limbo c.merge-unlinked.ensures.limbo.1 in
-    may_give_back (views_of (lent c.give_back.new.self).views) (view_lent c.give_back.new.self) _ c.args.second c.two_numbers.ensures.leaf
+    may_give_back (sizes_lent c.give_back.new.self) (view_lent c.give_back.new.self) _ c.args.second c.two_numbers.ensures.leaf
     (stays_in_limbo (view_lent at) _ _ (leaf c.args.second) (λ e. let bad : leaf c.args.second ≡ node c.args.node = e ∙ c.two_numbers.ensures.node in cc) limbo c.give_back.ensures.row)
 
 pub returns-clause-idle : goal.returns-clause-idle
