@@ -34,13 +34,15 @@ use Rattle.art_cell.specs.Views.{IsClear, IsNumber, Member, Memory, size_of, wor
 use Rattle.art_cell.specs.Visits.{Fills, HasNone, IsIdle}
 use Rattle.art_cell.specs.WordChanges.{FitsWord, two_children}
 use Rattle.art_cell.specs.Words.{size, child_of}
-use Rattle.art_cell.specs.WorldWords.{Kept}
+use Rattle.art_cell.specs.WorldWords.{Kept, view_at}
 use Rattle.art_cell.proofs.AnchorRows.{without_link}
 use Rattle.art_cell.proofs.ChildWords.{link_back, link_exact}
 use Rattle.art_cell.proofs.LeafPair.{pair_child}
 use Rattle.art_cell.proofs.LifeSteps.{both_dropped, passed_learns, puts_one, stamp_is}
 use Rattle.art_cell.proofs.Meanings.{child_is, child_named}
 use Rattle.art_cell.proofs.Turns.{member_front}
+use Rattle.art_cell.proofs.WorldTurns.{IsKept}
+use Rattle.art_cell.proofs.WorldViews.{at_view}
 
 -- ---- the node is stamped, and its path is noted
 
@@ -318,6 +320,13 @@ just_both z v w n d e words k value place is fills are x i = ⊎_elim
     (subst (Member x) are i)
 
 -- ---- numbers in limbo go back
+
+-- where there is one view, each pass is that of the view
+pub no_other_pass : (k : Kept) (p : ℕ) → IsKept k → p < length k.views → length k.views ≡ 1 → (q : ℕ) → q < k.sizes.passes → q ≡ (view_at k.views p).pass
+no_other_pass k p kept inside one q low =
+    let mine : (view_at k.views p).pass ≡ p = (kept.2.history.tells p (view_at k.views p) (at_view k.views p inside)).pass in
+    let passes = kept.1 in
+    omega (arith, mine, passes, inside, one, low)
 
 -- a node that the pass has in no stamp and does not hold goes back where there is no other pass
 pub may_free_node : (z : Sizes) (v : View) (d : Link) (n : Node) → ((q : ℕ) → q < z.passes → q ≡ v.pass) → v.stamps ≡ [] → v.held ≡ [] → d ≡ node n → IsInLimbo v (node n) → (es : List Retired) × MayFree z v d es

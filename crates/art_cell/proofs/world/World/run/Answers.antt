@@ -1,4 +1,4 @@
-use Rattle.std.proofs.Common.{◌≡◌, ◌≤◌, ◌+◌, ℕ, List, ap, sym, ◌∙◌, subst}
+use Rattle.std.proofs.Common.{◌≤◌, ◌+◌, ℕ, List, ap, sym, ◌∙◌, subst}
 use Rattle.art_cell.specs.declared.views.View.{View}
 use Rattle.art_cell.specs.WorldWords.{view_at}
 use Rattle.art_cell.proofs.RunTurns.{idle_turn, steps_counted, turn_taken}

@@ -1,5 +1,4 @@
-use Rattle.std.proofs.Common.{◌≡◌, ◌<◌, ◌∙◌, ℕ, List, arith, get_or, inl, inr, length, refl, sym}
-use Rattle.std.specs.Prelude.{Some}
+use Rattle.std.proofs.Common.{◌<◌, ◌∙◌, arith, inl, inr, length, refl, sym}
 use Rattle.std.proofs.lemmas.List.{set-get_or}
 use Rattle.std.proofs.lemmas.Option.{slice_get-get_or}
 use Rattle.art_cell.proofs.TakenTurns.{fits_on}
