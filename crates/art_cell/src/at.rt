@@ -1,7 +1,7 @@
 //! The steps of the pass that a world is lent to.
 ghost use Rattle.std.specs.Prelude.{◌≡◌, ◌<◌, List, false, true, length, refl, IfNone, IfSome};
 ghost use Rattle.std.proofs.Common.{◌∙◌};
-ghost use Rattle.art_cell.specs.declared.views.InHand.{InHand as InHandOf};
+ghost use Rattle.art_cell.specs.declared.views.InHand.{InHand as NumberInHand};
 ghost use Rattle.art_cell.specs.declared.views.Retired.{Retired as RetiredNumber};
 ghost use Rattle.art_cell.specs.FreeNumbers.{HasNoneFree, IsLeastFree};
 ghost use Rattle.art_cell.specs.Lent.{OnlyStepped, lent, pass_of, sizes_lent, view_lent};
@@ -86,7 +86,7 @@ impl At<'_> {
 
     /// A number in the hand of the pass, of a cell that it does not hold, is free again.
     pub fn put_back(&mut self, number: Number)
-        requires { (xs : List InHandOf) × MayGive (view_lent self.old) (link_of_number number) xs }
+        requires { (xs : List NumberInHand) × MayGive (view_lent self.old) (link_of_number number) xs }
         ensures only { OnlyStepped self.old self.new }
         ensures memory { SetsFree (memory_now (lent self.old)) (link_of_number number) true (memory_now (lent self.new)) }
         ensures row { Gave (view_lent self.old) (view_lent self.new) (link_of_number number) }

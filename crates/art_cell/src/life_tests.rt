@@ -6,7 +6,7 @@ ghost use Rattle.art_cell.specs.declared.cells.Link.TheVariants.{Leaf as leaf_li
 ghost use Rattle.art_cell.specs.declared.layouts.Layout.TheVariants.{Node4 as node4};
 ghost use Rattle.art_cell.specs.declared.layouts.Pool.TheVariants.{Leaves as leaves_pool, N4 as n4_pool};
 ghost use Rattle.art_cell.specs.declared.views.Fact.TheVariants.{LeafWord, Word as word_fact};
-ghost use Rattle.art_cell.specs.declared.views.InHand.{InHand as InHandOf};
+ghost use Rattle.art_cell.specs.declared.views.InHand.{InHand as NumberInHand};
 ghost use Rattle.art_cell.specs.Children.{child_word};
 ghost use Rattle.art_cell.specs.CommitLaws.{HasLeaf, HasNode};
 ghost use Rattle.art_cell.specs.Knowledge.{Names};
@@ -145,7 +145,7 @@ fn fork<S: Steps>(
     requires pool { leaf.pool ≡ leaves_pool }
     requires claimed { (ws : List ℕ) → HasClaimed (S.sizes steps.old) (S.view steps.old) node first ws 0 }
     requires leaf { HasLeaf (S.sizes steps.old) (S.view steps.old) leaf.number (98 ∷ []) 2 }
-    requires hand { (x : InHandOf) → Member x (S.view steps.old).hand → (x.link ≡ leaf_link leaf.number) ⊎ (x.link ≡ node_link node) }
+    requires hand { (x : NumberInHand) → Member x (S.view steps.old).hand → (x.link ≡ leaf_link leaf.number) ⊎ (x.link ≡ node_link node) }
     ensures sizes { S.sizes steps.new ≡ S.sizes steps.old }
     ensures only { S.only steps.old steps.new }
     ensures idle { ((S.view steps.new).held ≡ []) × ((S.view steps.new).pin ≡ (S.view steps.old).pin) }
@@ -391,7 +391,7 @@ fn take_both(at: &mut At<'_>, node: Node) -> Option<(Number, Number)>
     requires layout { node.layout ≡ node4 }
     ensures only { OnlyStepped at.old at.new }
     ensures away { IfSome result (λ _. ((view_lent at.new).held ≡ []) × ((view_lent at.new).pin ≢ 0)) }
-    ensures hand { IfSome result (λ p. (x : InHandOf) → Member x (view_lent at.new).hand → (x.link ≡ leaf_link p.0.number) ⊎ (x.link ≡ node_link node)) }
+    ensures hand { IfSome result (λ p. (x : NumberInHand) → Member x (view_lent at.new).hand → (x.link ≡ leaf_link p.0.number) ⊎ (x.link ≡ node_link node)) }
     ensures leaf { IfSome result (λ p. (p.0.pool ≡ leaves_pool) × HasLeaf (sizes_lent at.new) (view_lent at.new) p.0.number (98 ∷ []) 2) }
     ensures node { IfSome result (λ p. (link_of_number p.1 ≡ node_link node) × HasNode (sizes_lent at.new) (view_lent at.new) node) }
 {

@@ -7,7 +7,7 @@ ghost use Rattle.art_cell.specs.declared.cells.Link.TheVariants.{Leaf as leaf, N
 ghost use Rattle.art_cell.specs.declared.cells.Node.{Node as NodeOf};
 ghost use Rattle.art_cell.specs.declared.views.Fact.TheVariants.{Starts};
 ghost use Rattle.art_cell.specs.declared.views.Holding.{Holding as HoldingOf};
-ghost use Rattle.art_cell.specs.declared.views.InHand.{InHand as InHandOf};
+ghost use Rattle.art_cell.specs.declared.views.InHand.{InHand as NumberInHand};
 ghost use Rattle.art_cell.specs.Children.{child_word};
 ghost use Rattle.art_cell.specs.Deeds.{what_of};
 ghost use Rattle.art_cell.specs.Instants.{FindsUnchanged, FindsVersion, FindsWord, LocksClaimed, LocksNothing, LocksStamped, PutsWord, Unlocks, UnlocksFirst};
@@ -132,12 +132,12 @@ pub trait Steps {
 
     /// Writes a word of a leaf whose number is in hand.
     fn write_leaf(&mut self, number: &mut Number, place: usize, value: u64)
-        requires inside { (l : ℕ) × (y : InHandOf) × (link_of_number number.old ≡ leaf l) × (l < (sizes self.old).leaves) × MayWriteLeaf (view self.old) y l place }
+        requires inside { (l : ℕ) × (y : NumberInHand) × (link_of_number number.old ≡ leaf l) × (l < (sizes self.old).leaves) × MayWriteLeaf (view self.old) y l place }
         ensures sizes { sizes self.new ≡ sizes self.old }
         ensures only { only self.old self.new }
         ensures at_once { (l : ℕ) → link_of_number number.old ≡ leaf l → at_once (PutsWord (leaf_cell l) place value) self.old self.new }
         ensures same { number.new ≡ number.old }
-        ensures row { (y : InHandOf) → IsInHand (view self.old) (link_of_number number.old) y → WroteLeaf (view self.old) (view self.new) y place value };
+        ensures row { (y : NumberInHand) → IsInHand (view self.old) (link_of_number number.old) y → WroteLeaf (view self.old) (view self.new) y place value };
 
     /// The first release of a change: at this step all held cells have their new words, and the deed is done. It is given
     /// the leaf that comes into the tree, if one does, and the child words of what leaves it; their numbers come back.

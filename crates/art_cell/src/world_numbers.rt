@@ -1,6 +1,6 @@
 //! Numbers of a world that are free: until steps take them and give them back, these calls do.
 ghost use Rattle.std.specs.Prelude.{◌≡◌, ◌<◌, ℕ, List, length, false, true, IfNone, IfSome};
-ghost use Rattle.art_cell.specs.declared.views.InHand.{InHand as InHandOf};
+ghost use Rattle.art_cell.specs.declared.views.InHand.{InHand as NumberInHand};
 ghost use Rattle.art_cell.specs.declared.views.Retired.{Retired as RetiredNumber};
 ghost use Rattle.art_cell.specs.Children.{link_in_pool};
 ghost use Rattle.art_cell.specs.FreeNumbers.{HasNoneFree, IsLeastFree};
@@ -56,7 +56,7 @@ impl World {
     /// A number in the hand of the pass, of a cell that it does not hold, is free again.
     pub(crate) fn put_back(&mut self, pass: usize, number: Number)
         requires pass { pass < length self.old.views }
-        requires may { (xs : List InHandOf) × MayGive (view_at self.old.views pass) (link_of_number number) xs }
+        requires may { (xs : List NumberInHand) × MayGive (view_at self.old.views pass) (link_of_number number) xs }
         ensures only { OnlyTurned self.old self.new pass }
         ensures memory { SetsFree (memory_now self.old) (link_of_number number) true (memory_now self.new) }
         ensures row { Gave (view_at self.old.views pass) (view_at self.new.views pass) (link_of_number number) }

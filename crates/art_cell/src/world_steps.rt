@@ -6,7 +6,7 @@ ghost use Rattle.art_cell.specs.declared.cells.Link.TheVariants.{Leaf as leaf, N
 ghost use Rattle.art_cell.specs.declared.cells.Node.{Node as NodeOf};
 ghost use Rattle.art_cell.specs.declared.views.Fact.TheVariants.{Starts};
 ghost use Rattle.art_cell.specs.declared.views.Holding.{Holding as HoldingOf};
-ghost use Rattle.art_cell.specs.declared.views.InHand.{InHand as InHandOf};
+ghost use Rattle.art_cell.specs.declared.views.InHand.{InHand as NumberInHand};
 ghost use Rattle.art_cell.specs.Children.{child_word};
 ghost use Rattle.art_cell.specs.Deeds.{what_of};
 ghost use Rattle.art_cell.specs.Instants.{FindsUnchanged, FindsVersion, FindsWord, LocksClaimed, LocksNothing, LocksStamped, PutsWord};
@@ -216,11 +216,11 @@ impl World {
 
     pub(crate) fn write_leaf(&mut self, pass: usize, number: &mut Number, place: usize, value: u64)
         requires pass { pass < length self.old.views }
-        requires inside { (l : ℕ) × (y : InHandOf) × (link_of_number number.old ≡ leaf l) × (l < self.old.sizes.leaves) × MayWriteLeaf (view_at self.old.views pass) y l place }
+        requires inside { (l : ℕ) × (y : NumberInHand) × (link_of_number number.old ≡ leaf l) × (l < self.old.sizes.leaves) × MayWriteLeaf (view_at self.old.views pass) y l place }
         ensures only { OnlyTurned self.old self.new pass }
         ensures at_once { (l : ℕ) → link_of_number number.old ≡ leaf l → AtOnce (PutsWord (leaf_cell l) place value) self.old self.new }
         ensures same { number.new ≡ number.old }
-        ensures row { (y : InHandOf) → IsInHand (view_at self.old.views pass) (link_of_number number.old) y → WroteLeaf (view_at self.old.views pass) (view_at self.new.views pass) y place value }
+        ensures row { (y : NumberInHand) → IsInHand (view_at self.old.views pass) (link_of_number number.old) y → WroteLeaf (view_at self.old.views pass) (view_at self.new.views pass) y place value }
     {
         let link = number.link();
         let Link::Leaf(leaf) = link else {
