@@ -91,7 +91,7 @@ impl World {
         ensures row { MatchResult result (λ _. Passed self.old.sizes (view_at self.old.views pass) (view_at self.new.views pass) stamp.now (option_map (λ d. what_of d.now) deed.entry)) (λ c. (c.cell ≡ stamp.now.cell) × (c.seen ≡ stamp.now.version) × (c.found ≢ c.seen) × Failed (view_at self.old.views pass) (view_at self.new.views pass) stamp.now c.found) }
     {
         let found = self.version(stamp.cell);
-        if found != stamp.version {
+        if stamp.version != found {
             return Err(self.fail(pass, *stamp, found));
         }
         let turn = Passes {

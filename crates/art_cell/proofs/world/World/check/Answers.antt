@@ -15,9 +15,9 @@ changed-requires c =
     let now : Kept = c.args.self.now in
     let what : Option What = option_map (λ d. what_of d.now) c.args.deed in
     subst (λ (k : Kept). IsKept k → Next k.sizes k.views c.args.pass k.words (λ v w. Passed k.sizes v w c.args.stamp.now what)) (sym c.self.view_is)
-    (λ i. turn_passes now.sizes now.words now.views c.args.pass i.2 c.requires.pass i.0 c.args.stamp.now what (sym c.version-found.ensures ∙ c.if-found-stamp.false) c.requires.may)
+    (λ i. turn_passes now.sizes now.words now.views c.args.pass i.2 c.requires.pass i.0 c.args.stamp.now what (sym c.version-found.ensures ∙ sym c.if-stamp-found.false) c.requires.may)
     c.self.invariant
 
 pub returns-clause-at_once : goal.returns-clause-at_once
 returns-clause-at_once c =
-    stands c.args.self.now c.args.pass c.args.stamp.now _ _ (subst IsKept c.self.view_is c.self.invariant) c.requires.pass (sym c.if-found-stamp.false ∙ c.version-found.ensures) (ap memory_now c.self.view_is)
+    stands c.args.self.now c.args.pass c.args.stamp.now _ _ (subst IsKept c.self.view_is c.self.invariant) c.requires.pass (c.if-stamp-found.false ∙ c.version-found.ensures) (ap memory_now c.self.view_is)
