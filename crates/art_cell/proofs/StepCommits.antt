@@ -536,4 +536,5 @@ module _ (z : Sizes) (m : Memory) (f : Views) (p : â„•) (v : View) (is-v : f p â
 
 -- at the first release all held words become the new ones
 pub commit_law : CommitLaw
-commit_law z m f p v is-v m' g what us ls ks h hs xs b r may first drops hands standing sets t = commits z m f p v is-v m' g what us ls ks h hs xs b r may first drops hands standing sets t
+commit_law z p v m f m' g is r row =
+    commits z m f p v is m' g row.what row.unlinked row.linked row.pins row.holding row.held row.hand row.obsolete r row.may row.first row.drops row.hands row.standing row.unlocks row.view

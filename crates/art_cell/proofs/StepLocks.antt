@@ -328,24 +328,26 @@ module _ (z : Sizes) (m : Memory) (versions : Cell → ℕ) (f : Views) (p : ℕ
 
 -- a stamped cell whose word is the stamped one is locked and held
 pub upgrade_law : UpgradeLaw
-upgrade_law z m f p v is m' g x ws r may copy instant t =
-    let same = sym instant.found in
-    let sets = instant.sets in
+upgrade_law z p v m f m' g is r row =
+    let x = row.stamp in
+    let may = row.may in
+    let same = sym row.locks.found in
+    let sets = row.locks.sets in
     let clear = ((r.vouch p v is).stamps x may.stamp).clear in
     let here = sets.here in
     let limit = may.limit in
     set_version_sound z m m' x.cell (x.version + 2) g sets
-    (locks z m m'.version f p v r is x.cell (Some x.version) ws (found_version v x.cell x.version) record {
+    (locks z m m'.version f p v r is x.cell (Some x.version) row.copy (found_version v x.cell x.version) record {
       raises = record { above = omega arith; there = sets.there };
       unlocked = λ l. omega arith;
       locked = omega arith;
       small = omega arith;
       leaf = no_leaf z m f x.cell r.formed (λ obsolete. omega arith);
-      copy = copy;
+      copy = row.copied;
       early = may.early;
       stamped = λ y e. let i : x.version ≡ y = cc in (same ∙ i, here ∙ ap (λ (a : ℕ). a + 2) i, subst (λ (a : ℕ). a < 4 * last_counter) i limit);
       place = λ d e. inl (r.unstamped.clear (node d) (let i : m.version (cell.Node d) ≡ x.version = sym (ap m.version e) ∙ same in omega arith));
-    } g t)
+    } g row.view)
 
 -- the node that may be claimed is in the hand
 claimed_in_hand : (m : Memory) (at : Link → Whereabouts) (p : ℕ) (v : View) (n : Node) → Accounts m at p v → MayClaim v n → at (node n) ≡ InHandOf p
@@ -353,7 +355,7 @@ claimed_in_hand m at p v n k may = ap at (sym may.hand.2) ∙ k.hand may.hand.0 
 
 -- a node's number in hand that the pass does not hold is obsolete: it is not in the tree, and in no other hand
 pub unclaimed_law : UnclaimedLaw
-unclaimed_law z m f p v is n r may =
+unclaimed_law z p v m f n is r may =
     let c : Cell = cell.Node n in
     let at : r.at (node n) ≡ InHandOf p = claimed_in_hand m r.at p v n (r.numbers.accounts p v is) may in
     ⊎_elim
@@ -369,22 +371,25 @@ unclaimed_law z m f p v is n r may =
 
 -- a node's number in hand is locked and held
 pub claim_law : ClaimLaw
-claim_law z m f p v is m' g n ws r may copy sets t =
-    let obsolete = unclaimed_law z m f p v is n r may in
+claim_law z p v m f m' g is r row =
+    let n = row.node in
+    let may = row.may in
+    let sets = row.locks in
+    let obsolete = unclaimed_law z p v m f n is r may in
     let small = (r.formed.versions (cell.Node n)).obsolete obsolete in
     let here = sets.here in
     set_version_sound z m m' (cell.Node n) (m.version (cell.Node n) + 1) g sets
-    (locks z m m'.version f p v r is (cell.Node n) None ws v.found record {
+    (locks z m m'.version f p v r is (cell.Node n) None row.copy v.found record {
       raises = record { above = omega arith; there = sets.there };
       unlocked = λ l. omega arith;
       locked = omega arith;
       small = omega arith;
       leaf = λ l e. cc;
-      copy = copy;
+      copy = row.copied;
       early = may.early;
       stamped = λ y e. absurd (cc);
       place = λ d e. subst (λ (a : Node). r.at (node a) ≡ InHandOf p) (cc) (claimed_in_hand m r.at p v n (r.numbers.accounts p v is) may);
-    } g t)
+    } g row.view)
 
 -- ---- a cell is released
 
@@ -436,7 +441,12 @@ module _ (z : Sizes) (m : Memory) (f : Views) (p : ℕ) (v : View) (is : f p ≡
 
 -- after the commit, or of a change that is given up, a cell is no longer held
 pub release_law : ReleaseLaw
-release_law z m f p v is m' g h hs obsolete r may drops sets t =
+release_law z p v m f m' g is r row =
+    let h = row.holding in
+    let hs = row.held in
+    let obsolete = row.obsolete in
+    let may = row.may in
+    let sets = row.unlocks in
     let c : Cell = h.cell in
     let x : ℕ = m.version c in
     let mine = r.holder.holds p v is in
@@ -450,8 +460,8 @@ release_law z m f p v is m' g h hs obsolete r may drops sets t =
       rest = λ unlocked. logical_new z m f p v is r h obsolete may;
       holder = λ locked. absurd (released_unlocked x obsolete held.locked (subst IsLocked sets.here locked));
       flag = inl refl;
-      each = λ k i. let j = drops.was k i in inl (j.1, j.0);
-      single = λ k j i i'. mine.single k j (drops.was k i).0 (drops.was j i').0;
-      stays = drops.stays;
+      each = λ k i. let j = row.drops.was k i in inl (j.1, j.0);
+      single = λ k j i i'. mine.single k j (row.drops.was k i).0 (row.drops.was j i').0;
+      stays = row.drops.stays;
       others = λ q u other e k i same. r.holder.apart p q v u (λ a. other (sym a)) is e h k may.0 i (sym same);
-    } g t)
+    } g row.view)

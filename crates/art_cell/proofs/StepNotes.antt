@@ -172,33 +172,48 @@ module _ (z : Sizes) (m : Memory) (f g : Views) (p : ℕ) (v : View) (at : f p �
       (subst (HasRows (heap_of s)) (sym (replay_more r.log (event v.pass what) ∙ k.1)) r.shows.rows)
       (λ a i. inl i) (paths ys are) (paths_go ys are)
 
+-- where no word changes
+unchanged : (z : Sizes) (m n : Memory) (g : Views) → n ≡ m → IsSound z m g → IsSound z n g
+unchanged z m n g same sound = subst (λ (k : Memory). IsSound z k g) (sym same) sound
+
 -- the version word of a cell is found
 pub begin_law : BeginLaw
-begin_law z m f p v at g c r pinned t = begins z m f g p v at r c pinned t
+begin_law z p v m f n g at r row = unchanged z m n g row.words (begins z m f g p v at r row.cell row.pinned row.view)
 
 -- a word of a stamped cell is read
 pub read_law : ReadLaw
-read_law z m f p v at g x i r may t = reads z m f g p v at r x (Word i (m.words x.cell i)) may.stamp may.free
-    (λ same. let k = ((r.vouch p v at).stamps x may.stamp).clear in word_of z m f g p v at r x.cell i (λ locked. omega arith)) t
+read_law z p v m f n g at r row =
+    let x = row.stamp in
+    unchanged z m n g row.words
+    (reads z m f g p v at r x (Word row.place (m.words x.cell row.place)) row.may.stamp row.may.free
+    (λ same. let k = ((r.vouch p v at).stamps x row.may.stamp).clear in word_of z m f g p v at r x.cell row.place (λ locked. omega arith)) row.view)
 
 -- a word of a leaf that a stamped cell names is read
 pub read_leaf_law : ReadLeafLaw
-read_leaf_law z m f p v at g x l i r may t = reads z m f g p v at r x (LeafWord l i (m.words (cell.Leaf l) i)) may.stamp may.free
-    (λ same. (may.names r.logical r.shows.shape (holds z m f g p v at r x same), word_of z m f g p v at r (cell.Leaf l) i (λ locked. let o = r.formed.leaves l in omega arith))) t
+read_leaf_law z p v m f n g at r row =
+    let x = row.stamp in
+    let l = row.number in
+    let i = row.place in
+    unchanged z m n g row.words
+    (reads z m f g p v at r x (LeafWord l i (m.words (cell.Leaf l) i)) row.may.stamp row.may.free
+    (λ same. (row.may.names r.logical r.shows.shape (holds z m f g p v at r x same), word_of z m f g p v at r (cell.Leaf l) i (λ locked. let o = r.formed.leaves l in omega arith))) row.view)
 
 -- an unchanged version word vouches for what was noted under its stamp
 pub vouch_law : VouchLaw
-vouch_law z m f p v at x r same = holds z m f f p v at r x same
+vouch_law z p v m f x at r same = holds z m f f p v at r x same
 
 -- a check finds an unchanged version word, and may make an event
 pub pass_law : PassLaw
-pass_law z m f p v at g x ys o r same may paths t = passes z m f g p v at r x ys o same paths may.tells t
+pass_law z p v m f n g at r row = unchanged z m n g row.words (passes z m f g p v at r row.stamp row.paths row.event row.found row.led row.may.tells row.view)
 
 -- a check or an upgrade finds a changed version word
 pub fail_law : FailLaw
-fail_law z m f p v at g x xs ys r without t = quiet z m f g p v at r t (λ a i. inl ((without.stamps a).0 i).0) (λ y i. inl ((without.notes y).0 i).0)
-    (λ y i. let k = (without.notes y).0 i in (without.stamps y.stamp).1 ((r.vouch p v at).noted y k.0, k.1))
+fail_law z p v m f n g at r row =
+    let without = row.without in
+    unchanged z m n g row.words
+    (quiet z m f g p v at r row.view (λ a i. inl ((without.stamps a).0 i).0) (λ y i. inl ((without.notes y).0 i).0)
+    (λ y i. let k = (without.notes y).0 i in (without.stamps y.stamp).1 ((r.vouch p v at).noted y k.0, k.1)))
 
 -- stamps and notes are let go
 pub forget_law : ForgetLaw
-forget_law z m f p v at g xs ys r stamps notes go t = quiet z m f g p v at r t (λ a i. inl (stamps a i)) (λ y i. inl (notes y i)) go
+forget_law z p v m f n g at r row = unchanged z m n g row.words (quiet z m f g p v at r row.view (λ a i. inl (row.had a i)) (λ y i. inl (row.noted y i)) row.stamped)

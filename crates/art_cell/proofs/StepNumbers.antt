@@ -254,95 +254,95 @@ module _ (z : Sizes) (m m' : Memory) (f g : Views) (p : ℕ) (v : View) (is-v : 
 
 -- a free number is taken
 pub take_law : TakeLaw
-take_law z m f p v is m' g d ws r free taken sets t =
-    number_moves z m m' f g p v is r d IsFree (InHandOf p) false (x ∷ v.hand) v.limbo was tt refl (λ e. cc, λ e. cc) sets t account (no_stamp z m f r d IsFree was (λ e. cc) (λ q e. cc)) (λ e i. i)
+take_law z p v m f m' g is r row =
+    number_moves z m m' f g p v is r row.link IsFree (InHandOf p) false (x ∷ v.hand) v.limbo was tt refl (λ e. cc, λ e. cc) row.sets row.view account (no_stamp z m f r row.link IsFree was (λ e. cc) (λ q e. cc)) (λ e i. i)
   where
     x : InHand
-    x = record { link = d; words = ws }
+    x = record { link = row.link; words = row.copy }
 
-    was : r.at d ≡ IsFree
-    was = (r.numbers.free d).1 free
+    was : r.at row.link ≡ IsFree
+    was = (r.numbers.free row.link).1 row.free
 
     mine : Accounts m r.at p v
     mine = r.numbers.accounts p v is
 
-    after : (k : Whereabouts) → IsFree ≢ k → (e : Link) → r.at e ≡ k → put r.at d (InHandOf p) e ≡ k
-    after k = put_after r.at d IsFree (InHandOf p) k was
+    after : (k : Whereabouts) → IsFree ≢ k → (e : Link) → r.at e ≡ k → put r.at row.link (InHandOf p) e ≡ k
+    after k = put_after r.at row.link IsFree (InHandOf p) k was
 
-    account : Accounts m (put r.at d (InHandOf p)) p (took v d ws)
+    account : Accounts m (put r.at row.link (InHandOf p)) p (took v row.link row.copy)
     account = record {
       hand = λ y i. ⊎_elim
-          (λ (e : y ≡ x). put_here r.at d (InHandOf p) y.link (ap (λ (y : InHand). y.link) e))
+          (λ (e : y ≡ x). put_here r.at row.link (InHandOf p) y.link (ap (λ (y : InHand). y.link) e))
           (λ (j : Member y v.hand). after (InHandOf p) (λ e. cc) y.link (mine.hand y j))
           i;
       in_hand = λ e i. ⊎_elim
-          (λ (same : e ≡ d). (x, inl refl, sym same))
-          (λ (other : e ≢ d). let k = mine.in_hand e (sym (put_else r.at d (InHandOf p) e other) ∙ i) in (k.0, inr k.1, k.2))
-          (same_link e d);
+          (λ (same : e ≡ row.link). (x, inl refl, sym same))
+          (λ (other : e ≢ row.link). let k = mine.in_hand e (sym (put_else r.at row.link (InHandOf p) e other) ∙ i) in (k.0, inr k.1, k.2))
+          (same_link e row.link);
       leaves = λ y l i link. ⊎_elim
           (λ (e : y ≡ x). subst (λ (ws : List ℕ). (length ws ≡ 10) × (m.words (cell.Leaf l) ≡ words_in ws)) (sym (ap (λ (y : InHand). y.words) e))
-          (subst (λ (d : Link). IsTaken m d ws) (sym (ap (λ (y : InHand). y.link) e) ∙ link) taken))
+          (subst (λ (c : Link). IsTaken m c row.copy) (sym (ap (λ (y : InHand). y.link) e) ∙ link) row.copied))
           (λ (j : Member y v.hand). mine.leaves y l j link)
           i;
       limbo = λ e i. after (InLimboOf p) (λ e. cc) e.link (mine.limbo e i);
-      in_limbo = λ e i. mine.in_limbo e (put_before r.at d (InHandOf p) (InLimboOf p) (λ e. cc) e i).1;
-      held = λ h n i cell. let o = mine.held h n i cell in held_stays r.at d (InHandOf p) p v.committed h n (λ e. held_not_free p v.committed h.stamped (r.at (node n)) o (ap r.at e ∙ was)) o;
+      in_limbo = λ e i. mine.in_limbo e (put_before r.at row.link (InHandOf p) (InLimboOf p) (λ e. cc) e i).1;
+      held = λ h n i cell. let o = mine.held h n i cell in held_stays r.at row.link (InHandOf p) p v.committed h n (λ e. held_not_free p v.committed h.stamped (r.at (node n)) o (ap r.at e ∙ was)) o;
     }
 
 -- a number in hand that is not held goes back
 pub give_law : GiveLaw
-give_law z m f p v is m' g d xs r may sets t =
-    number_moves z m m' f g p v is r d (InHandOf p) IsFree true xs v.limbo was refl tt (λ e. refl, λ e. refl) sets t account (no_stamp z m f r d (InHandOf p) was (λ e. cc) (λ q e. cc)) (λ e i. i)
+give_law z p v m f m' g is r row =
+    number_moves z m m' f g p v is r row.link (InHandOf p) IsFree true row.hand v.limbo was refl tt (λ e. refl, λ e. refl) row.sets row.view account (no_stamp z m f r row.link (InHandOf p) was (λ e. cc) (λ q e. cc)) (λ e i. i)
   where
     mine : Accounts m r.at p v
     mine = r.numbers.accounts p v is
 
-    was : r.at d ≡ InHandOf p
-    was = ap r.at (sym may.hand.2) ∙ mine.hand may.hand.0 may.hand.1
+    was : r.at row.link ≡ InHandOf p
+    was = ap r.at (sym row.may.hand.2) ∙ mine.hand row.may.hand.0 row.may.hand.1
 
-    account : Accounts m (put r.at d IsFree) p (gave v xs)
+    account : Accounts m (put r.at row.link IsFree) p (gave v row.hand)
     account = record {
-      hand = λ y i. let k = may.rest.was y i in put_else r.at d IsFree y.link (λ e. k.1 (inl e)) ∙ mine.hand y k.0;
+      hand = λ y i. let k = row.may.rest.was y i in put_else r.at row.link IsFree y.link (λ e. k.1 (inl e)) ∙ mine.hand y k.0;
       in_hand = λ e i.
-          let o = put_before r.at d IsFree (InHandOf p) (λ e. cc) e i in
+          let o = put_before r.at row.link IsFree (InHandOf p) (λ e. cc) e i in
           let k = mine.in_hand e o.1 in
-          (k.0, may.rest.stays k.0 k.1 (⊎_elim (λ (same : k.0.link ≡ d). o.0 (sym k.2 ∙ same)) (λ none. none)), k.2);
-      leaves = λ y l i. mine.leaves y l (may.rest.was y i).0;
-      limbo = λ e i. put_after r.at d (InHandOf p) IsFree (InLimboOf p) was (λ e. cc) e.link (mine.limbo e i);
-      in_limbo = λ e i. mine.in_limbo e (put_before r.at d IsFree (InLimboOf p) (λ e. cc) e i).1;
-      held = λ h n i cell. held_stays r.at d IsFree p v.committed h n (λ e. may.free n (sym e) h i cell) (mine.held h n i cell);
+          (k.0, row.may.rest.stays k.0 k.1 (⊎_elim (λ (same : k.0.link ≡ row.link). o.0 (sym k.2 ∙ same)) (λ none. none)), k.2);
+      leaves = λ y l i. mine.leaves y l (row.may.rest.was y i).0;
+      limbo = λ e i. put_after r.at row.link (InHandOf p) IsFree (InLimboOf p) was (λ e. cc) e.link (mine.limbo e i);
+      in_limbo = λ e i. mine.in_limbo e (put_before r.at row.link IsFree (InLimboOf p) (λ e. cc) e i).1;
+      held = λ h n i cell. held_stays r.at row.link IsFree p v.committed h n (λ e. row.may.free n (sym e) h i cell) (mine.held h n i cell);
     }
 
 -- a number in limbo that is not held, that the pass has in no stamp, and whose place is marked for every other pass, goes back
 pub free_law : FreeLaw
-free_law z m f p v is m' g d es r may sets t =
-    number_moves z m m' f g p v is r d (InLimboOf p) IsFree true v.hand es was refl tt (λ e. refl, λ e. refl) sets t account unstamped (λ e i. (may.was e i).0)
+free_law z p v m f m' g is r row =
+    number_moves z m m' f g p v is r row.link (InLimboOf p) IsFree true v.hand row.limbo was refl tt (λ e. refl, λ e. refl) row.sets row.view account unstamped (λ e i. (row.may.was e i).0)
   where
     mine : Accounts m r.at p v
     mine = r.numbers.accounts p v is
 
-    was : r.at d ≡ InLimboOf p
-    was = ap r.at (sym may.limbo.2) ∙ mine.limbo may.limbo.0 may.limbo.1
+    was : r.at row.link ≡ InLimboOf p
+    was = ap r.at (sym row.may.limbo.2) ∙ mine.limbo row.may.limbo.0 row.may.limbo.1
 
     -- another pass that had it in a stamp would stand under a pin that the place holds, for which it is not marked
-    unstamped : (q : ℕ) (u : View) (n : Node) → f q ≡ Some u → d ≡ node n → IsStamped u n → ⊥
+    unstamped : (q : ℕ) (u : View) (n : Node) → f q ≡ Some u → row.link ≡ node n → IsStamped u n → ⊥
     unstamped q u n is-u e stamped = ⊎_elim
-        (λ (same : q ≡ p). may.unstamped n e (subst (λ (w : View). IsStamped w n) (one_view f q p u v same is-u is) stamped))
+        (λ (same : q ≡ p). row.may.unstamped n e (subst (λ (w : View). IsStamped w n) (one_view f q p u v same is-u is) stamped))
         (λ (other : q ≢ p).
-        let k = r.unstamped.awaits q p u v may.limbo.0 is-u is may.limbo.1 in
-        let marked = may.marked n may.limbo.0 q e may.limbo.1 may.limbo.2 (r.unstamped.pinned q u is-u).inside (λ own. other (own ∙ (r.history.tells p v is).pass)) in
-        k.marked marked (k.stamped n (may.limbo.2 ∙ e) stamped))
+        let k = r.unstamped.awaits q p u v row.may.limbo.0 is-u is row.may.limbo.1 in
+        let marked = row.may.marked n row.may.limbo.0 q e row.may.limbo.1 row.may.limbo.2 (r.unstamped.pinned q u is-u).inside (λ own. other (own ∙ (r.history.tells p v is).pass)) in
+        k.marked marked (k.stamped n (row.may.limbo.2 ∙ e) stamped))
         (cases_eq q p)
 
-    account : Accounts m (put r.at d IsFree) p (freed v es)
+    account : Accounts m (put r.at row.link IsFree) p (freed v row.limbo)
     account = record {
-      hand = λ y i. put_after r.at d (InLimboOf p) IsFree (InHandOf p) was (λ e. cc) y.link (mine.hand y i);
-      in_hand = λ e i. mine.in_hand e (put_before r.at d IsFree (InHandOf p) (λ e. cc) e i).1;
+      hand = λ y i. put_after r.at row.link (InLimboOf p) IsFree (InHandOf p) was (λ e. cc) y.link (mine.hand y i);
+      in_hand = λ e i. mine.in_hand e (put_before r.at row.link IsFree (InHandOf p) (λ e. cc) e i).1;
       leaves = mine.leaves;
-      limbo = λ e i. let k = may.was e i in put_else r.at d IsFree e.link k.1 ∙ mine.limbo e k.0;
+      limbo = λ e i. let k = row.may.was e i in put_else r.at row.link IsFree e.link k.1 ∙ mine.limbo e k.0;
       in_limbo = λ e i.
-          let o = put_before r.at d IsFree (InLimboOf p) (λ e. cc) e i in
+          let o = put_before r.at row.link IsFree (InLimboOf p) (λ e. cc) e i in
           let k = mine.in_limbo e o.1 in
-          (k.0, may.stays k.0 k.1 (λ same. o.0 (sym k.2 ∙ same)), k.2);
-      held = λ h n i cell. held_stays r.at d IsFree p v.committed h n (λ e. may.free n (sym e) h i cell) (mine.held h n i cell);
+          (k.0, row.may.stays k.0 k.1 (λ same. o.0 (sym k.2 ∙ same)), k.2);
+      held = λ h n i cell. held_stays r.at row.link IsFree p v.committed h n (λ e. row.may.free n (sym e) h i cell) (mine.held h n i cell);
     }

@@ -149,7 +149,7 @@ module _ (z : Sizes) (m : Memory) (f : Views) (p : ℕ) (v : View) (is : f p ≡
 
 -- a word of a cell that is held is written before the commit
 pub write_law : WriteLaw
-write_law = writes
+write_law z p v m f m' g is r row = writes z m f p v is m' g row.holding row.held row.place row.value r row.may row.puts row.word row.view
 
 -- ---- a word of a leaf in hand
 
@@ -319,4 +319,4 @@ module _ (z : Sizes) (m : Memory) (f : Views) (p : ℕ) (v : View) (is : f p ≡
 
 -- a word of a leaf in hand is written
 pub write_leaf_law : WriteLeafLaw
-write_leaf_law = leaf_writes
+write_leaf_law z p v m f m' g is r row = leaf_writes z m f p v is m' g row.leaf row.hand row.number row.place row.value r row.may row.puts row.word row.view

@@ -127,18 +127,18 @@ module _ (z : Sizes) (ws : List ℕ) (vs : List View) (p : ℕ) (r : IsSound z (
         let us : List ℕ = slice_set ws place (found - bit) in
         let sets = takes_bit z ws long d place found bit word free in
         turned z ws vs p r inside long us (λ u w. Took (memory_of z us) u w d) (took v d words) record { words = words; copy = taken_again (memory_of z ws) (memory_of z us) d words sets.words (is_taken z ws d); is = refl }
-        (λ g t. take_law z (memory_of z ws) (views_of vs) p v at (memory_of z us) g d words r free (is_taken z ws d) sets t)
+        (λ g t. take_law z p v (memory_of z ws) (views_of vs) (memory_of z us) g at r record { link = d; copy = words; free = free; copied = is_taken z ws d; sets = sets; view = t })
 
   module _ (us : List ℕ) (d : Link) (sets : SetsFree (memory_of z ws) d true (memory_of z us)) where
     -- a number in hand is free again
     pub turn_gives : (xs : List InHand) → MayGive v d xs → Next z vs p us (λ u w. Gave u w d)
     turn_gives xs may = turned z ws vs p r inside long us (λ u w. Gave u w d) (gave v xs) record { hand = xs; rest = may.rest; is = refl }
-        (λ g t. give_law z (memory_of z ws) (views_of vs) p v at (memory_of z us) g d xs r may sets t)
+        (λ g t. give_law z p v (memory_of z ws) (views_of vs) (memory_of z us) g at r record { link = d; hand = xs; may = may; sets = sets; view = t })
 
     -- a number in limbo is free again
     pub turn_frees : (es : List Retired) → MayFree z v d es → Next z vs p us (λ u w. Freed u w d)
     turn_frees es may = turned z ws vs p r inside long us (λ u w. Freed u w d) (freed v es) record { limbo = es; was = may.was; stays = may.stays; is = refl }
-        (λ g t. free_law z (memory_of z ws) (views_of vs) p v at (memory_of z us) g d es r may sets t)
+        (λ g t. free_law z p v (memory_of z ws) (views_of vs) (memory_of z us) g at r record { link = d; limbo = es; may = may; sets = sets; view = t })
 
 -- ---- the calls that free a number
 

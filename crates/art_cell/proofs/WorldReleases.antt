@@ -139,7 +139,7 @@ module _ (z : Sizes) (ws : List ℕ) (vs : List View) (p : ℕ) (r : IsSound z (
   turn_releases c h obsolete word of may =
       let rest = dropped v.held h.cell in
       subst (λ (d : Cell). AfterRelease d obsolete word Released) of (released h obsolete word (writing v rest.0) Released may.0 (λ m' g sets t. (
-        release_law z m f p v at m' g h rest.0 obsolete r may rest.1 sets t,
+        release_law z p v m f m' g at r record { holding = h; held = rest.0; obsolete = obsolete; may = may; drops = rest.1; unlocks = sets; view = t },
         λ k same. record { held = rest.0; drops = subst (λ (d : Cell). Drops v.held d rest.0) (sym same) rest.1; is = refl },
       )))
 
@@ -156,7 +156,23 @@ module _ (z : Sizes) (ws : List ℕ) (vs : List View) (p : ℕ) (r : IsSound z (
       let pins = standing vs (λ q u is. (r.history.tells q u is).pass) in
       let w : View = committed v r.log what rest.0 hand.0 (all_retired pins.0 us ++ v.limbo) in
       subst (λ (d : Cell). AfterRelease d obsolete word (Commit what us leaf)) of (released h obsolete word w (Commit what us leaf) first.held (λ m' g sets t.
-      let sound = commit_law z m f p v at m' g what us (coming v leaf) pins.0 h rest.0 hand.0 obsolete r may first rest.1 hand.1 pins.1 sets t in (
+      let sound = commit_law z p v m f m' g at r record {
+        what = what;
+        unlinked = us;
+        linked = coming v leaf;
+        pins = pins.0;
+        holding = h;
+        held = rest.0;
+        hand = hand.0;
+        obsolete = obsolete;
+        may = may;
+        first = first;
+        drops = rest.1;
+        hands = hand.1;
+        standing = pins.1;
+        unlocks = sets;
+        view = t;
+      } in (
         sound,
         λ k same. (
           record {

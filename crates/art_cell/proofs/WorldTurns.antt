@@ -169,29 +169,29 @@ module _ (z : Sizes) (ws : List ℕ) (vs : List View) (p : ℕ) (r : IsSound z (
 
   -- the version word of a cell is found
   pub turn_begins : (c : Cell) (found : ℕ) → v.pin ≢ 0 → found ≡ m.version c → Next z vs p ws (λ v w. w ≡ begun v c found)
-  turn_begins c found pinned is = turned ws (λ v w. w ≡ begun v c found) (begun v c (m.version c)) (ap (begun v c) (sym is)) (λ g t. begin_law z m f p v at g c r pinned t)
+  turn_begins c found pinned is = turned ws (λ v w. w ≡ begun v c found) (begun v c (m.version c)) (ap (begun v c) (sym is)) (λ g t. begin_law z p v m f m g at r record { cell = c; pinned = pinned; words = refl; view = t })
 
   -- a word of the stamp's own cell is read
   reads_word : (x : Stamp) (c : Cell) (i found : ℕ) → x.cell ≡ c → MayRead v x i → found ≡ m.words c i → Next z vs p ws (λ v w. w ≡ has_read v x (Word i found))
   reads_word x c i found of may is = turned ws (λ v w. w ≡ has_read v x (Word i found)) (has_read v x (Word i (m.words x.cell i)))
       (ap (λ (word : ℕ). has_read v x (Word i word)) (ap (λ (c : Cell). m.words c i) of ∙ sym is))
-      (λ g t. read_law z m f p v at g x i r may t)
+      (λ g t. read_law z p v m f m g at r record { stamp = x; place = i; may = may; words = refl; view = t })
 
   -- a word of a stamped cell is read, or of a leaf that it names
   pub turn_reads : (x : Stamp) (c : Cell) (i found : ℕ) → MayReadCell z v x c i → found ≡ m.words c i → Next z vs p ws (λ v w. w ≡ has_read v x (fact_read c i found))
   turn_reads x cell.Anchor i found may is = reads_word x cell.Anchor i found may.0 may.1 is
   turn_reads x (cell.Leaf l) i found may is = turned ws (λ v w. w ≡ has_read v x (LeafWord l i found)) (has_read v x (LeafWord l i (m.words (cell.Leaf l) i)))
       (ap (λ (word : ℕ). has_read v x (LeafWord l i word)) (sym is))
-      (λ g t. read_leaf_law z m f p v at g x l i r may t)
+      (λ g t. read_leaf_law z p v m f m g at r record { stamp = x; number = l; place = i; may = may; words = refl; view = t })
   turn_reads x (cell.Node n) i found may is = reads_word x (cell.Node n) i found may.0 may.1 is
 
   -- a changed version word is found
-  pub turn_fails : (x : Stamp) (found : ℕ) → found ≡ m.version x.cell → Next z vs p ws (λ v w. Failed v w x found)
-  turn_fails x found is =
+  pub turn_fails : (x : Stamp) (found : ℕ) → found ≡ m.version x.cell → Member x v.stamps → found ≢ x.version → Next z vs p ws (λ v w. Failed v w x found)
+  turn_fails x found is has other =
       let k = without v x in
       turned ws (λ v w. Failed v w x found) (failed v x (m.version x.cell) k.0 k.1)
       record { stamps = k.0; notes = k.1; without = k.2; is = ap (λ (word : ℕ). failed v x word k.0 k.1) (sym is) }
-      (λ g t. fail_law z m f p v at g x k.0 k.1 r k.2 t)
+      (λ g t. fail_law z p v m f m g at r record { stamp = x; stamps = k.0; notes = k.1; has = has; changed = λ e. other (is ∙ e); without = k.2; words = refl; view = t })
 
   -- what was seen and made, at an unchanged version word
   told : (g : Views) (x : Stamp) (ys : List Note) (o : Option What) → MayTell z v x o → HoldsAll v x r.logical → Turned f p (telling (passed v x ys) r.log o) g → Told v (telling (passed v x ys) r.log o) o
@@ -214,7 +214,7 @@ module _ (z : Sizes) (ws : List ℕ) (vs : List View) (p : ℕ) (r : IsSound z (
         vouched = (r.logical, r.shows.shape, holds);
         told = told (views_of (slice_set vs p w)) x k.list o may.tells holds (turned_view vs p w inside);
       }
-      (λ g t. pass_law z m f p v at g x k.list o r same may paths t)
+      (λ g t. pass_law z p v m f m g at r record { stamp = x; paths = k.list; event = o; may = may; found = same; led = paths; words = refl; view = t })
 
   -- ---- steps that change a word
 
@@ -247,12 +247,12 @@ module _ (z : Sizes) (ws : List ℕ) (vs : List View) (p : ℕ) (r : IsSound z (
         agrees = λ i value j. ap (λ (w : Words). w i) (sym copy.words ∙ sym (r.holder.at_rest x.cell (λ locked. omega arith))) ∙ ((r.vouch p v at).notes (note_of x (Word i value)) j).same stays;
         is = refl;
       }
-      (λ g t. upgrade_law z m f p v at (memory_of z us) g x words r may copy record { found = sym stays; sets = upgrade_sets x place found there is found_is same may.stamp } t)
+      (λ g t. upgrade_law z p v m f (memory_of z us) g at r record { stamp = x; copy = words; may = may; copied = copy; locks = record { found = sym stays; sets = upgrade_sets x place found there is found_is same may.stamp }; view = t })
 
   -- a node's number in hand is one whose word may go up
   pub claim_fits : (n : Node) (found : ℕ) → found ≡ m.version (cell.Node n) → MayClaim v n → found + 1 < 2 ^ 64
   claim_fits n found is may =
-      let obsolete = unclaimed_law z m f p v at n r may in
+      let obsolete = unclaimed_law z p v m f n at r may in
       let small = (r.formed.versions (cell.Node n)).obsolete obsolete in
       omega arith
 
@@ -271,7 +271,7 @@ module _ (z : Sizes) (ws : List ℕ) (vs : List View) (p : ℕ) (r : IsSound z (
       let us : List ℕ = set ws place (found + 1) in
       turned us (λ v w. Claimed v w n) (claimed v n words)
       record { words = words; long = copy.long; version = copy_version z ws c (λ l e. cc); is = refl }
-      (λ g t. claim_law z m f p v at (memory_of z us) g n words r may copy (claim_sets n place found there is found_is) t)
+      (λ g t. claim_law z p v m f (memory_of z us) g at r record { node = n; copy = words; may = may; copied = copy; locks = claim_sets n place found there is found_is; view = t })
 
   pub write_sets : (c : Cell) (h : Holding) (i x first : ℕ) → IsInside z c → first ≡ place_of z c → h.cell ≡ c → MayWrite v h i → SetsWord m c i x (memory_of z (set ws (first + i) x))
   write_sets c h i x first there is of may =
@@ -290,7 +290,7 @@ module _ (z : Sizes) (ws : List ℕ) (vs : List View) (p : ℕ) (r : IsSound z (
       let sets : SetsWord m h.cell i x (memory_of z us) = subst (λ (d : Cell). SetsWord m d i x (memory_of z us)) (sym of) (write_sets c h i x first there is of may) in
       turned us Row (writing v held.0)
       (λ k a. subst (λ (j : Holding). Wrote v (writing v held.0) j i x) (single h k may.held a.0 (of ∙ sym a.1)) record { held = held.0; puts = held.1; is = refl })
-      (λ g t. write_law z m f p v at (memory_of z us) g h held.0 i x r may held.1 sets t)
+      (λ g t. write_law z p v m f (memory_of z us) g at r record { holding = h; held = held.0; place = i; value = x; may = may; puts = held.1; word = sets; view = t })
 
   -- a word of a leaf in hand is written
   pub turn_writes_leaf : (y : InHand) (l i x first : ℕ) → l < z.leaves → first ≡ place_of z (cell.Leaf l) → MayWriteLeaf v y l i
@@ -303,4 +303,14 @@ module _ (z : Sizes) (ws : List ℕ) (vs : List View) (p : ℕ) (r : IsSound z (
       let us : List ℕ = set ws (first + i) x in
       turned us Row (handing v hand.0)
       (λ a o. subst (λ (b : InHand). WroteLeaf v (handing v hand.0) b i x) (one y a k may.hand o.0 may.leaf o.1) record { hand = hand.0; puts = hand.1; is = refl })
-      (λ g t. write_leaf_law z m f p v at (memory_of z us) g y hand.0 l i x r may hand.1 (puts_word z ws (cell.Leaf l) i x first there (omega arith) may.place long is) t)
+      (λ g t. write_leaf_law z p v m f (memory_of z us) g at r record {
+        leaf = y;
+        hand = hand.0;
+        number = l;
+        place = i;
+        value = x;
+        may = may;
+        puts = hand.1;
+        word = puts_word z ws (cell.Leaf l) i x first there (omega arith) may.place long is;
+        view = t;
+      })

@@ -18,6 +18,21 @@ use Rattle.art_cell.specs.Views.{Memory, Views}
 abbrev pub Instant : Type 1
 Instant = Memory → Views → Memory → Views → Type 0
 
+-- at one of these instants it was so
+pub record AtSome (instants so : Instant) : Type 0 where
+  pub words : Memory
+  pub views : Views
+  pub words_after : Memory
+  pub views_after : Views
+  pub instant : instants words views words_after views_after
+  pub was : so words views words_after views_after
+
+-- the view of a pass was v just before it and w just after it
+pub record Shows (v w : View) (m : Memory) (f : Views) (n : Memory) (g : Views) : Type 0 where
+  pub pass : ℕ
+  pub before : f pass ≡ Some v
+  pub after : g pass ≡ Some w
+
 -- the version word of the cell is x, and no word changes
 pub record FindsVersion (c : Cell) (x : ℕ) (m : Memory) (f : Views) (n : Memory) (g : Views) : Type 0 where
   pub found : x ≡ m.version c

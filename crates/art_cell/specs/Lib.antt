@@ -26,6 +26,7 @@ pub mod Reads
 pub mod Rows
 pub mod Shown
 pub mod Sound
+pub mod StepKinds
 pub mod StepLaws
 pub mod StepRows
 pub mod Tree

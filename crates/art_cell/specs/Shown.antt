@@ -6,6 +6,7 @@ use Rattle.art_cell.specs.declared.cells.Cell.TheVariants as cell
 use Rattle.art_cell.specs.declared.cells.Link.{Link}
 use Rattle.art_cell.specs.declared.cells.Link.TheVariants.{Node as node}
 use Rattle.art_cell.specs.declared.layouts.Number.{Number}
+use Rattle.art_cell.specs.declared.steps.Held.{Held}
 use Rattle.art_cell.specs.declared.steps.UpgradeFault.{UpgradeFault}
 use Rattle.art_cell.specs.declared.steps.UpgradeFault.TheVariants as fault
 use Rattle.art_cell.specs.declared.views.Event.{Event}
@@ -103,6 +104,9 @@ FailedUpgrade v w x (fault.Exhausted c) = (c ≡ x.cell) × (4 * last_counter �
 
 abbrev pub IsHolding : View → Cell → Holding → Type 0
 IsHolding v c h = Member h v.held × (h.cell ≡ c)
+
+abbrev pub cell_held : Held → Cell
+cell_held h = h.cell
 
 abbrev pub link_of_number : Number → Link
 link_of_number n = link_in_pool n.pool n.number

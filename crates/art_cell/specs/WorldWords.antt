@@ -13,7 +13,7 @@ use Rattle.art_cell.specs.declared.cells.Link.{Link}
 use Rattle.art_cell.specs.declared.cells.Link.TheVariants.{Leaf as leaf, Node as node}
 use Rattle.art_cell.specs.declared.views.Sizes.{Sizes}
 use Rattle.art_cell.specs.declared.views.View.{View}
-use Rattle.art_cell.specs.Instants.{Instant}
+use Rattle.art_cell.specs.Instants.{AtSome, Instant}
 use Rattle.art_cell.specs.Sound.{IsSound}
 use Rattle.art_cell.specs.StepLaws.{newcomer}
 use Rattle.art_cell.specs.Views.{Memory, Views, size_of, IsNumber}
@@ -166,6 +166,24 @@ memory_now k = memory_of k.sizes k.words
 -- this happened to the words of the world
 abbrev pub AtOnce : Instant → Kept → Kept → Type 0
 AtOnce I a b = I (memory_now a) (views_of a.views) (memory_now b) (views_of b.views)
+
+-- the instant between these two
+pub record IsAround (a b : Kept) (m : Memory) (f : Views) (n : Memory) (g : Views) : Type 0 where
+  pub words : m ≡ memory_now a
+  pub views : f ≡ views_of a.views
+  pub words_after : n ≡ memory_now b
+  pub views_after : g ≡ views_of b.views
+
+-- what happened to the words of the world was so at that instant
+pub at_some : (I : Instant) (a b : Kept) → AtOnce I a b → AtSome (IsAround a b) I
+at_some I a b so = record {
+  words = memory_now a;
+  views = views_of a.views;
+  words_after = memory_now b;
+  views_after = views_of b.views;
+  instant = record { words = refl; views = refl; words_after = refl; views_after = refl };
+  was = so;
+}
 
 -- no view but that of the pass changes
 pub record OnlyTurned (a b : Kept) (p : ℕ) : Type 0 where

@@ -4,10 +4,10 @@ ghost use Rattle.std.proofs.Common.{◌∙◌};
 ghost use Rattle.art_cell.specs.declared.views.InHand.{InHand as NumberInHand};
 ghost use Rattle.art_cell.specs.declared.views.Retired.{Retired as RetiredNumber};
 ghost use Rattle.art_cell.specs.FreeNumbers.{HasNoneFree, IsLeastFree};
-ghost use Rattle.art_cell.specs.Lent.{OnlyStepped, lent, pass_of, sizes_lent, view_lent};
+ghost use Rattle.art_cell.specs.Lent.{OnlyStepped, lent, pass_of, shows, sizes_lent, view_lent};
 ghost use Rattle.art_cell.specs.Shown.{Freed, Gave, Took, link_of_number};
 ghost use Rattle.art_cell.specs.StepRows.{MayFree, MayGive, SetsFree};
-ghost use Rattle.art_cell.specs.WorldWords.{AtOnce, memory_now, only_same_turned, only_turned_then};
+ghost use Rattle.art_cell.specs.WorldWords.{IsAround, memory_now, only_same_turned, only_turned_then};
 
 use crate::{
     At, Cell, Changed, Deed, Held, Locked, Number, Pool, Stamp, Steps, Unlinked, UpgradeFault,
@@ -20,7 +20,9 @@ impl Steps for At<'_> {
 
     ghost only = { λ a b. OnlyStepped a b };
 
-    ghost at_once = { λ I a b. AtOnce I (lent a) (lent b) };
+    ghost instants = { λ a b. IsAround (lent a) (lent b) };
+
+    ghost shows = { λ a b m f n g only around. shows a b m f n g only around };
 
     ghost only_same = { λ a. ((refl, refl), only_same_turned (lent a) (pass_of a)) };
 

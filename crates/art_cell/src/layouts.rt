@@ -58,13 +58,26 @@ pub enum Pool {
 /// A number that a pass has in hand, of a leaf or a node. It has to be claimed, linked or given back.
 #[derive(Debug, PartialEq, Eq)]
 pub struct Number {
-    pub pool: Pool,
-    pub number: u32,
+    pub(crate) pool: Pool,
+    pub(crate) number: u32,
 }
 
 impl Number {
-    ghost use Rattle.art_cell.specs.Children.{link_in_pool};
     ghost use Rattle.art_cell.specs.Shown.{link_of_number};
+    ghost use Rattle.art_cell.specs.WorldWords.{number_in_pool, pool_of};
+
+    pub fn pool(&self) -> Pool
+        ensures { result ≡ pool_of (link_of_number self.now) }
+    {
+        self.pool
+    }
+
+    /// Which of its pool's numbers it is.
+    pub fn number(&self) -> u32
+        ensures { result ≡ number_in_pool (link_of_number self.now) }
+    {
+        self.number
+    }
 
     /// The number of a leaf or of a node.
     pub(crate) fn of(link: Link) -> Number
@@ -84,7 +97,7 @@ impl Number {
 
     /// The leaf or the node that the number names.
     pub fn link(&self) -> Link
-        ensures { result ≡ link_in_pool self.now.pool self.now.number }
+        ensures { result ≡ link_of_number self.now }
     {
         let number = self.number;
         let layout = match self.pool {

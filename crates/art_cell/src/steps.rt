@@ -10,8 +10,8 @@ ghost use Rattle.art_cell.specs.declared.views.Holding.{Holding as HoldingOf};
 ghost use Rattle.art_cell.specs.declared.views.InHand.{InHand as NumberInHand};
 ghost use Rattle.art_cell.specs.Children.{child_word};
 ghost use Rattle.art_cell.specs.Deeds.{what_of};
-ghost use Rattle.art_cell.specs.Instants.{FindsUnchanged, FindsVersion, FindsWord, LocksClaimed, LocksNothing, LocksStamped, PutsWord, Unlocks, UnlocksFirst};
-ghost use Rattle.art_cell.specs.Shown.{Claimed, Committed, FailedUpgrade, Failed, IsHolding, IsInHand, MayReadCell, Passed, Released, Upgraded, Wrote, WroteLeaf, coming, fact_read, link_of_number, links_of};
+ghost use Rattle.art_cell.specs.Instants.{AtSome, FindsUnchanged, FindsVersion, FindsWord, LocksClaimed, LocksNothing, LocksStamped, PutsWord, Unlocks, UnlocksFirst};
+ghost use Rattle.art_cell.specs.Shown.{Claimed, Committed, FailedUpgrade, Failed, IsHolding, IsInHand, MayReadCell, Passed, Released, Upgraded, Wrote, WroteLeaf, cell_held, coming, fact_read, link_of_number, links_of};
 ghost use Rattle.art_cell.specs.StepRows.{HasClaimedNone, MayBeFirst, MayClaim, MayCommit, MayLock, MayPass, MayRelease, MayWrite, MayWriteLeaf, begun, has_read, note_of};
 ghost use Rattle.art_cell.specs.Views.{IsClear, Member};
 ghost use Rattle.art_cell.specs.WorldWords.{IsInside};
@@ -21,7 +21,15 @@ use crate::{Cell, Deed, Number, Stamp};
 /// A cell that is held. It has to be committed or released.
 #[derive(Debug)]
 pub struct Held {
-    pub cell: Cell,
+    pub(crate) cell: Cell,
+}
+
+impl Held {
+    pub fn cell(&self) -> Cell
+        ensures { result ≡ cell_held self.now }
+    {
+        self.cell
+    }
 }
 
 /// A version word that was not clear: the cell is locked or obsolete.
@@ -58,7 +66,8 @@ pub type Unlinked = [Option<Number>; 3];
 pub trait Steps {
     ghost use Rattle.art_cell.specs.declared.views.Sizes.{Sizes};
     ghost use Rattle.art_cell.specs.declared.views.View.{View};
-    ghost use Rattle.art_cell.specs.Instants.{Instant};
+    ghost use Rattle.art_cell.specs.Instants.{Instant, Shows};
+    ghost use Rattle.art_cell.specs.Views.{Memory, Views};
 
     /// What the pass knows.
     ghost view: { Self → View };
@@ -69,8 +78,8 @@ pub trait Steps {
     /// The second is the first after steps of this pass alone.
     ghost only: { Self → Self → Type 0 };
 
-    /// This happened to the shared words, at one instant between the first and the second.
-    ghost at_once: { Instant → Self → Self → Type 0 };
+    /// The words and all views just before and just after an instant between the first and the second.
+    ghost instants: { Self → Self → Instant };
 
     /// The version word of the anchor or of a node. A clear one gives a stamp.
     fn begin(&mut self, cell: Cell) -> Result<Stamp, Locked>
@@ -78,7 +87,7 @@ pub trait Steps {
         requires pinned { (view self.old).pin ≢ 0 }
         ensures sizes { sizes self.new ≡ sizes self.old }
         ensures only { only self.old self.new }
-        ensures at_once { MatchResult result (λ x. at_once (FindsVersion cell x.version) self.old self.new) (λ l. at_once (FindsVersion cell l.found) self.old self.new) }
+        ensures at_once { MatchResult result (λ x. AtSome (instants self.old self.new) (FindsVersion cell x.version)) (λ l. AtSome (instants self.old self.new) (FindsVersion cell l.found)) }
         ensures row { MatchResult result (λ x. (x.cell ≡ cell) × IsClear x.version × (view self.new ≡ begun (view self.old) cell x.version)) (λ l. (l.cell ≡ cell) × (IsClear l.found → ⊥) × (view self.new ≡ begun (view self.old) cell l.found)) };
 
     /// A word of the stamp's cell, or of a leaf that its words name.
@@ -87,7 +96,7 @@ pub trait Steps {
         requires may { MayReadCell (sizes self.old) (view self.old) stamp.now cell place }
         ensures sizes { sizes self.new ≡ sizes self.old }
         ensures only { only self.old self.new }
-        ensures at_once { at_once (FindsWord cell place result) self.old self.new }
+        ensures at_once { AtSome (instants self.old self.new) (FindsWord cell place result) }
         ensures row { view self.new ≡ has_read (view self.old) stamp.now (fact_read cell place result) };
 
     /// Whether the stamp's version word is unchanged: then what was read under the stamp is what the cell says at this
@@ -97,7 +106,7 @@ pub trait Steps {
         requires may { MayPass (sizes self.old) (view self.old) stamp.now (option_map (λ d. what_of d.now) deed) }
         ensures sizes { sizes self.new ≡ sizes self.old }
         ensures only { only self.old self.new }
-        ensures at_once { MatchResult result (λ _. at_once (FindsUnchanged (sizes self.old) (view self.old) stamp.now) self.old self.new) (λ c. at_once (FindsVersion stamp.now.cell c.found) self.old self.new) }
+        ensures at_once { MatchResult result (λ _. AtSome (instants self.old self.new) (FindsUnchanged (sizes self.old) (view self.old) stamp.now)) (λ c. AtSome (instants self.old self.new) (FindsVersion stamp.now.cell c.found)) }
         ensures row { MatchResult result (λ _. Passed (sizes self.old) (view self.old) (view self.new) stamp.now (option_map (λ d. what_of d.now) deed.entry)) (λ c. (c.cell ≡ stamp.now.cell) × (c.seen ≡ stamp.now.version) × (c.found ≢ c.seen) × Failed (view self.old) (view self.new) stamp.now c.found) };
 
     /// Locks the stamp's cell, whose path is known, if its version word is unchanged.
@@ -109,33 +118,33 @@ pub trait Steps {
         requires unclaimed { HasClaimedNone (view self.old) }
         ensures sizes { sizes self.new ≡ sizes self.old }
         ensures only { only self.old self.new }
-        ensures at_once { MatchResult result (λ _. at_once (LocksStamped stamp) self.old self.new) (λ e. at_once (LocksNothing stamp e) self.old self.new) }
-        ensures row { MatchResult result (λ h. (h.cell ≡ stamp.cell) × Upgraded (view self.old) (view self.new) stamp) (λ e. FailedUpgrade (view self.old) (view self.new) stamp e) };
+        ensures at_once { MatchResult result (λ _. AtSome (instants self.old self.new) (LocksStamped stamp)) (λ e. AtSome (instants self.old self.new) (LocksNothing stamp e)) }
+        ensures row { MatchResult result (λ h. (cell_held h ≡ stamp.cell) × Upgraded (view self.old) (view self.new) stamp) (λ e. FailedUpgrade (view self.old) (view self.new) stamp e) };
 
     /// Locks a node whose number is in hand.
     fn claim(&mut self, number: Number) -> Held
         requires inside { (n : NodeOf) × (link_of_number number ≡ node n) × IsInside (sizes self.old) (node_cell n) × MayClaim (view self.old) n }
         ensures sizes { sizes self.new ≡ sizes self.old }
         ensures only { only self.old self.new }
-        ensures at_once { (n : NodeOf) → link_of_number number ≡ node n → at_once (LocksClaimed n) self.old self.new }
-        ensures row { (n : NodeOf) → link_of_number number ≡ node n → (result.cell ≡ node_cell n) × Claimed (view self.old) (view self.new) n };
+        ensures at_once { (n : NodeOf) → link_of_number number ≡ node n → AtSome (instants self.old self.new) (LocksClaimed n) }
+        ensures row { (n : NodeOf) → link_of_number number ≡ node n → (cell_held result ≡ node_cell n) × Claimed (view self.old) (view self.new) n };
 
     /// Writes a word of a held cell, before the commit.
     fn write(&mut self, held: &mut Held, place: usize, value: u64)
-        requires inside { IsInside (sizes self.old) held.old.cell }
-        requires may { (h : HoldingOf) × (h.cell ≡ held.old.cell) × MayWrite (view self.old) h place }
+        requires inside { IsInside (sizes self.old) (cell_held held.old) }
+        requires may { (h : HoldingOf) × (h.cell ≡ cell_held held.old) × MayWrite (view self.old) h place }
         ensures sizes { sizes self.new ≡ sizes self.old }
         ensures only { only self.old self.new }
-        ensures at_once { at_once (PutsWord held.old.cell place value) self.old self.new }
+        ensures at_once { AtSome (instants self.old self.new) (PutsWord (cell_held held.old) place value) }
         ensures same { held.new ≡ held.old }
-        ensures row { (h : HoldingOf) → IsHolding (view self.old) held.old.cell h → Wrote (view self.old) (view self.new) h place value };
+        ensures row { (h : HoldingOf) → IsHolding (view self.old) (cell_held held.old) h → Wrote (view self.old) (view self.new) h place value };
 
     /// Writes a word of a leaf whose number is in hand.
     fn write_leaf(&mut self, number: &mut Number, place: usize, value: u64)
         requires inside { (l : ℕ) × (y : NumberInHand) × (link_of_number number.old ≡ leaf l) × (l < (sizes self.old).leaves) × MayWriteLeaf (view self.old) y l place }
         ensures sizes { sizes self.new ≡ sizes self.old }
         ensures only { only self.old self.new }
-        ensures at_once { (l : ℕ) → link_of_number number.old ≡ leaf l → at_once (PutsWord (leaf_cell l) place value) self.old self.new }
+        ensures at_once { (l : ℕ) → link_of_number number.old ≡ leaf l → AtSome (instants self.old self.new) (PutsWord (leaf_cell l) place value) }
         ensures same { number.new ≡ number.old }
         ensures row { (y : NumberInHand) → IsInHand (view self.old) (link_of_number number.old) y → WroteLeaf (view self.old) (view self.new) y place value };
 
@@ -149,25 +158,28 @@ pub trait Steps {
         leaf: Option<Number>,
         unlinked: &[u64],
     ) -> Unlinked
-        requires inside { IsInside (sizes self.old) held.cell }
+        requires inside { IsInside (sizes self.old) (cell_held held) }
         requires words { map child_word (links_of unlinked.now) ≡ unlinked.now }
         requires few { length unlinked.now ≤ 3 }
-        requires first { (h : HoldingOf) × (h.cell ≡ held.cell) × MayBeFirst (view self.old) (links_of unlinked.now) h obsolete }
+        requires first { (h : HoldingOf) × (h.cell ≡ cell_held held) × MayBeFirst (view self.old) (links_of unlinked.now) h obsolete }
         requires may { MayCommit (sizes self.old) (view self.old) (what_of deed.now) (links_of unlinked.now) (coming (view self.old) (option_map link_of_number leaf)) }
         ensures sizes { sizes self.new ≡ sizes self.old }
         ensures only { only self.old self.new }
-        ensures at_once { at_once (UnlocksFirst (view self.old) held.cell obsolete) self.old self.new }
+        ensures at_once { AtSome (instants self.old self.new) (UnlocksFirst (view self.old) (cell_held held) obsolete) }
         ensures numbers { filter_map (option_map link_of_number) result ≡ links_of unlinked.now }
-        ensures row { (h : HoldingOf) → IsHolding (view self.old) held.cell h → Committed (view self.old) (view self.new) (what_of deed.now) (links_of unlinked.now) (coming (view self.old) (option_map link_of_number leaf)) h };
+        ensures row { (h : HoldingOf) → IsHolding (view self.old) (cell_held held) h → Committed (view self.old) (view self.new) (what_of deed.now) (links_of unlinked.now) (coming (view self.old) (option_map link_of_number leaf)) h };
 
     /// A later release, or that of a change that is given up with nothing written and nothing claimed.
     fn release(&mut self, held: Held, obsolete: bool)
-        requires inside { IsInside (sizes self.old) held.cell }
-        requires may { (h : HoldingOf) × (h.cell ≡ held.cell) × MayRelease (view self.old) h obsolete }
+        requires inside { IsInside (sizes self.old) (cell_held held) }
+        requires may { (h : HoldingOf) × (h.cell ≡ cell_held held) × MayRelease (view self.old) h obsolete }
         ensures sizes { sizes self.new ≡ sizes self.old }
         ensures only { only self.old self.new }
-        ensures at_once { at_once (Unlocks held.cell obsolete) self.old self.new }
-        ensures row { (h : HoldingOf) → IsHolding (view self.old) held.cell h → Released (view self.old) (view self.new) h };
+        ensures at_once { AtSome (instants self.old self.new) (Unlocks (cell_held held) obsolete) }
+        ensures row { (h : HoldingOf) → IsHolding (view self.old) (cell_held held) h → Released (view self.old) (view self.new) h };
+
+    /// The view of the pass was the first's before the instant, and the second's after it.
+    ghost shows: { (a b : Self) (m : Memory) (f : Views) (n : Memory) (g : Views) → only a b → instants a b m f n g → Shows (view a) (view b) m f n g };
 
     ghost only_same: { (a : Self) → only a a };
 

@@ -110,7 +110,9 @@ impl World {
     fn fail(&mut self, pass: usize, stamp: Stamp, found: u64) -> Changed
         requires pass { pass < length self.old.views }
         requires inside { IsInside self.old.sizes stamp.cell }
+        requires stamp { Member stamp (view_at self.old.views pass).stamps }
         requires found { found ≡ (memory_now self.old).version stamp.cell }
+        requires changed { found ≢ stamp.version }
         ensures only { OnlyTurned self.old self.new pass }
         ensures at_once { AtOnce (FindsVersion stamp.cell result.found) self.old self.new }
         ensures changed { result ≡ record { cell = stamp.cell; seen = stamp.version; found = found } }

@@ -9,5 +9,5 @@ pub changed-requires : goal.changed-requires
 changed-requires c =
     let now : Kept = c.args.self.now in
     subst (λ (k : Kept). IsKept k → Next k.sizes k.views c.args.pass k.words (λ v w. Failed v w c.args.stamp c.args.found)) (sym c.self.view_is)
-    (λ i. turn_fails now.sizes now.words now.views c.args.pass i.2 c.requires.pass i.0 c.args.stamp c.args.found c.requires.found)
+    (λ i. turn_fails now.sizes now.words now.views c.args.pass i.2 c.requires.pass i.0 c.args.stamp c.args.found c.requires.found c.requires.stamp c.requires.changed)
     c.self.invariant
