@@ -1,6 +1,7 @@
 pub mod After
 pub mod AnchorReads
 pub mod AnchorRows
+pub mod AnyStep
 pub mod ByteTexts
 pub mod ChangeCommits
 pub mod ChangeForks

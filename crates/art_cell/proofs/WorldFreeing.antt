@@ -15,10 +15,10 @@ use Rattle.art_cell.specs.Children.{link_in_pool}
 use Rattle.art_cell.specs.Headers.{bit_at_least, bit_more_below}
 use Rattle.art_cell.specs.Shown.{Freed, Gave, Took}
 use Rattle.art_cell.specs.Sound.{Whereabouts, InHandOf, InLimboOf, Nowhere, IsFree, IsSound}
+use Rattle.art_cell.specs.StepKinds.{Take, Give, Free}
 use Rattle.art_cell.specs.StepRows.{SetsFree, MayFree, MayGive, freed, gave, took}
 use Rattle.art_cell.specs.Views.{Memory, IsNumber, cell_named}
 use Rattle.art_cell.specs.WorldWords.{number_in_pool, first_free_word, free_place, bit_of, is_free, word_count, memory_of, Kept, memory_now, views_of, view_at}
-use Rattle.art_cell.proofs.StepNumbers.{take_law, give_law, free_law}
 use Rattle.art_cell.proofs.WorldFree.{frees_number, takes_number, free_has_bit, free_found}
 use Rattle.art_cell.proofs.WorldMemory.{copy_of, is_taken, taken_again}
 use Rattle.art_cell.proofs.WorldPlaces.{HasBit, has_bit, free_below}
@@ -121,24 +121,24 @@ module _ (z : Sizes) (ws : List ℕ) (vs : List View) (p : ℕ) (r : IsSound z (
 
   module _ (d : Link) (place found bit : ℕ) (word : IsBitWord z ws d place found bit) where
     -- a free number comes into the hand
-    pub turn_takes : is_free z ws d ≡ true → Next z vs p (slice_set ws place (found - bit)) (λ u w. Took (memory_of z (slice_set ws place (found - bit))) u w d)
+    pub turn_takes : is_free z ws d ≡ true → Next z ws vs p (slice_set ws place (found - bit)) (λ u w. Took (memory_of z (slice_set ws place (found - bit))) u w d)
     turn_takes free =
         let words : List ℕ = copy_of z ws (cell_named d) in
         let us : List ℕ = slice_set ws place (found - bit) in
         let sets = takes_bit z ws long d place found bit word free in
         turned z ws vs p r inside long us (λ u w. Took (memory_of z us) u w d) (took v d words) record { words = words; copy = taken_again (memory_of z ws) (memory_of z us) d words sets.words (is_taken z ws d); is = refl }
-        (λ g t. take_law z p v (memory_of z ws) (views_of vs) (memory_of z us) g at r record { link = d; copy = words; free = free; copied = is_taken z ws d; sets = sets; view = t })
+        (λ g t. Take record { link = d; copy = words; free = free; copied = is_taken z ws d; sets = sets; view = t })
 
   module _ (us : List ℕ) (d : Link) (sets : SetsFree (memory_of z ws) d true (memory_of z us)) where
     -- a number in hand is free again
-    pub turn_gives : (xs : List InHand) → MayGive v d xs → Next z vs p us (λ u w. Gave u w d)
+    pub turn_gives : (xs : List InHand) → MayGive v d xs → Next z ws vs p us (λ u w. Gave u w d)
     turn_gives xs may = turned z ws vs p r inside long us (λ u w. Gave u w d) (gave v xs) record { hand = xs; rest = may.rest; is = refl }
-        (λ g t. give_law z p v (memory_of z ws) (views_of vs) (memory_of z us) g at r record { link = d; hand = xs; may = may; sets = sets; view = t })
+        (λ g t. Give record { link = d; hand = xs; may = may; sets = sets; view = t })
 
     -- a number in limbo is free again
-    pub turn_frees : (es : List Retired) → MayFree z v d es → Next z vs p us (λ u w. Freed u w d)
+    pub turn_frees : (es : List Retired) → MayFree z v d es → Next z ws vs p us (λ u w. Freed u w d)
     turn_frees es may = turned z ws vs p r inside long us (λ u w. Freed u w d) (freed v es) record { limbo = es; was = may.was; stays = may.stays; is = refl }
-        (λ g t. free_law z p v (memory_of z ws) (views_of vs) (memory_of z us) g at r record { link = d; limbo = es; may = may; sets = sets; view = t })
+        (λ g t. Free record { link = d; limbo = es; may = may; sets = sets; view = t })
 
 -- ---- the calls that free a number
 
@@ -146,7 +146,7 @@ module _ (z : Sizes) (ws : List ℕ) (vs : List View) (p : ℕ) (r : IsSound z (
 pub record Freeing (k : Kept) (p : ℕ) (d : Link) (W : View → View → Link → Type 0) : Type 0 where
   pub number : IsNumber k.sizes d
   pub taken : (memory_now k).free d ≡ false
-  pub turn : (us : List ℕ) → SetsFree (memory_now k) d true (memory_of k.sizes us) → Next k.sizes k.views p us (λ v w. W v w d)
+  pub turn : (us : List ℕ) → SetsFree (memory_now k) d true (memory_of k.sizes us) → Next k.sizes k.words k.views p us (λ v w. W v w d)
 
 -- of the world as it is now, seen as k
 module _ {k now : Kept} (seen : k ≡ now) (kept : IsKept k) (p : ℕ) (inside : p < length now.views) (d : Link) where

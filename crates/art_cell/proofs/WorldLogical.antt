@@ -83,11 +83,11 @@ module _ (m m' : Memory) (f g : Views) (p : ℕ) (v w : View) (h₀ : Holding) (
   }
 
 -- what a commit of the pass does to a world, of which k is what its code finds
-pub unlocks_first : {k now : Kept} {p : ℕ} {c : Cell} {m' : Memory} {ws : List ℕ} {what : What} {us : List Link} {new : List View} (obsolete : Bool) (leaf : Option Link) (h : Holding) → k ≡ now → IsKept k → p < length now.views → h.cell ≡ c
+pub unlocks_first : {k now : Kept} {p : ℕ} {c : Cell} {m' : Memory} {before ws : List ℕ} {what : What} {us : List Link} {new : List View} (obsolete : Bool) (leaf : Option Link) (h : Holding) → k ≡ now → IsKept k → p < length now.views → h.cell ≡ c
     → Member h (view_at now.views p).held → Unlocks c obsolete (memory_now now) (views_of now.views) m' (views_of new)
-    → Turns k.sizes ws p (λ v w. (h : Holding) → IsHolding v c h → Committed v w what us (coming v leaf) h × RetiresPinned (views_of k.views) v w) k.views new
+    → Turns k.sizes before ws p (λ v w. (h : Holding) → IsHolding v c h → Committed v w what us (coming v leaf) h × RetiresPinned (views_of k.views) v w) k.views new
     → UnlocksFirst (view_at now.views p) c obsolete (memory_now now) (views_of now.views) m' (views_of new)
-unlocks_first {k} {now} {p} {c} {m'} {ws} {what} {us} {new} obsolete leaf h same kept inside of held sets turns =
+unlocks_first {k} {now} {p} {c} {m'} {before} {ws} {what} {us} {new} obsolete leaf h same kept inside of held sets turns =
     let v : View = view_at now.views p in
     let w : View = turns.view in
     let at = at_view now.views p inside in

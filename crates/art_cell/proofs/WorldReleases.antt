@@ -17,16 +17,18 @@ use Rattle.art_cell.specs.Histories.{event, IsAnswered, becomes, run, replay, Is
 use Rattle.art_cell.specs.Rows.{ByteMap}
 use Rattle.art_cell.specs.Shown.{IsHolding, Released, Committed, coming}
 use Rattle.art_cell.specs.Sound.{IsOneHistory, HoldsEach, IsSound}
+use Rattle.art_cell.specs.StepKinds.{OfAKind, Commit, Release}
 use Rattle.art_cell.specs.StepRows.{SetsVersion, Drops, HandsOver, AreStanding, RetiresPinned, all_retired, released_word, MayRelease, MayBeFirst, MayCommit, writing, committed}
 use Rattle.art_cell.specs.Views.{Member, Memory, IsLocked, Views, Turned}
 use Rattle.art_cell.specs.WorldWords.{Kept, IsInside, place_of, word_count, memory_of, memory_now, views_of, view_at}
+use Rattle.art_cell.proofs.AnyStep.{kind_sound}
 use Rattle.art_cell.proofs.Places.{same_cell}
 use Rattle.art_cell.proofs.Gathered.{Gathered, gathered, left_over}
-use Rattle.art_cell.proofs.StepCommits.{either_member, retired_of, commit_law}
-use Rattle.art_cell.proofs.StepLocks.{no_leaf, release_law}
+use Rattle.art_cell.proofs.StepCommits.{either_member, retired_of}
+use Rattle.art_cell.proofs.StepLocks.{no_leaf}
 use Rattle.art_cell.proofs.Turns.{member_append}
 use Rattle.art_cell.proofs.WorldMemory.{puts_version}
-use Rattle.art_cell.proofs.WorldTurns.{IsKept, Next, makes}
+use Rattle.art_cell.proofs.WorldTurns.{IsKept, Next, makes, turned}
 use Rattle.art_cell.proofs.WorldViews.{at_view, turned_view}
 
 -- ---- what a pass keeps
@@ -122,41 +124,43 @@ module _ (z : Sizes) (ws : List ℕ) (vs : List View) (p : ℕ) (r : IsSound z (
   -- the cell of the holding h is released, and the pass's view becomes w
   abbrev IsRelease : Holding → Bool → View → (View → View → Holding → Type 0) → Type 0
   IsRelease h obsolete w Row = (m' : Memory) (g : Views) → SetsVersion m h.cell (released_word (m.version h.cell) obsolete) m' → Turned f p w g
-      → IsSound z m' g × ((k : Holding) → k.cell ≡ h.cell → Row v w k)
+      → OfAKind z p v m f m' g r.log r.logical × ((k : Holding) → k.cell ≡ h.cell → Row v w k)
 
   -- so the world makes a step whose row is of each holding of the cell
   abbrev pub AfterRelease : Cell → Bool → ℕ → (View → View → Holding → Type 0) → Type 0
-  AfterRelease c obsolete word Row = IsInside z c → word ≡ released_word (m.version c) obsolete → Next z vs p (slice_set ws (place_of z c) word) (λ u w. (k : Holding) → IsHolding u c k → Row u w k)
+  AfterRelease c obsolete word Row = IsInside z c → word ≡ released_word (m.version c) obsolete → Next z ws vs p (slice_set ws (place_of z c) word) (λ u w. (k : Holding) → IsHolding u c k → Row u w k)
 
   released : (h : Holding) (obsolete : Bool) (word : ℕ) (w : View) (Row : View → View → Holding → Type 0) → Member h v.held → IsRelease h obsolete w Row → AfterRelease h.cell obsolete word Row
   released h obsolete word w Row i law there is =
       let us : List ℕ = slice_set ws (place_of z h.cell) word in
-      let done = law (memory_of z us) (views_of (slice_set vs p w)) (release_sets h.cell h obsolete word (place_of z h.cell) refl i there is refl) (turned_view vs p w inside) in
-      (slice_set vs p w, record { view = w; set = refl; row = λ k held. done.1 k held.1; sound = done.0 })
+      let sets = release_sets h.cell h obsolete word (place_of z h.cell) refl i there is refl in
+      let done = λ (g : Views) (t : Turned f p w g). law (memory_of z us) g sets t in
+      let row = (done (views_of (slice_set vs p w)) (turned_view vs p w inside)).1 in
+      turned z ws vs p r inside long us (λ u w. (k : Holding) → IsHolding u h.cell k → Row u w k) w (λ k held. row k held.1) (λ g t. (done g t).0)
 
   -- a later release, or one of a change that is given up
   pub turn_releases : (c : Cell) (h : Holding) (obsolete : Bool) (word : ℕ) → h.cell ≡ c → MayRelease v h obsolete → AfterRelease c obsolete word Released
   turn_releases c h obsolete word of may =
       let rest = dropped v.held h.cell in
       subst (λ (d : Cell). AfterRelease d obsolete word Released) of (released h obsolete word (writing v rest.0) Released may.0 (λ m' g sets t. (
-        release_law z p v m f m' g at r record { holding = h; held = rest.0; obsolete = obsolete; may = may; drops = rest.1; unlocks = sets; view = t },
+        Release record { holding = h; held = rest.0; obsolete = obsolete; may = may; drops = rest.1; unlocks = sets; view = t },
         λ k same. record { held = rest.0; drops = subst (λ (d : Cell). Drops v.held d rest.0) (sym same) rest.1; is = refl },
       )))
 
   -- what a first release makes of the view, with the leaf that comes into the tree
-  abbrev pub Commit : What → List Link → Option Link → View → View → Holding → Type 0
-  Commit what us leaf u w h = Committed u w what us (coming u leaf) h × RetiresPinned f u w
+  abbrev pub IsCommit : What → List Link → Option Link → View → View → Holding → Type 0
+  IsCommit what us leaf u w h = Committed u w what us (coming u leaf) h × RetiresPinned f u w
 
   -- the first release of a change
   pub turn_commits : (c : Cell) (h : Holding) (what : What) (us : List Link) (leaf : Option Link) (obsolete : Bool) (word : ℕ) → h.cell ≡ c → MayBeFirst v us h obsolete
-      → MayCommit z v what us (coming v leaf) → AfterRelease c obsolete word (Commit what us leaf)
+      → MayCommit z v what us (coming v leaf) → AfterRelease c obsolete word (IsCommit what us leaf)
   turn_commits c h what us leaf obsolete word of first may =
       let rest = dropped v.held h.cell in
       let hand = handed_over v.hand (coming v leaf) in
       let pins = standing vs (λ q u is. (r.history.tells q u is).pass) in
       let w : View = committed v r.log what rest.0 hand.0 (all_retired pins.0 us ++ v.limbo) in
-      subst (λ (d : Cell). AfterRelease d obsolete word (Commit what us leaf)) of (released h obsolete word w (Commit what us leaf) first.held (λ m' g sets t.
-      let sound = commit_law z p v m f m' g at r record {
+      subst (λ (d : Cell). AfterRelease d obsolete word (IsCommit what us leaf)) of (released h obsolete word w (IsCommit what us leaf) first.held (λ m' g sets t.
+      let kind : OfAKind z p v m f m' g r.log r.logical = Commit record {
         what = what;
         unlinked = us;
         linked = coming v leaf;
@@ -172,8 +176,9 @@ module _ (z : Sizes) (ws : List ℕ) (vs : List View) (p : ℕ) (r : IsSound z (
         standing = pins.1;
         unlocks = sets;
         view = t;
-      } in (
-        sound,
+      } in
+      let sound = kind_sound z p v m f m' g at r kind in (
+        kind,
         λ k same. (
           record {
             held = rest.0;

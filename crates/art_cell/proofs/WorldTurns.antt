@@ -21,20 +21,20 @@ use Rattle.art_cell.specs.Histories.{event, replay, IsLegal, IsAnswered, places}
 use Rattle.art_cell.specs.Knowledge.{CellAt, HoldsAll}
 use Rattle.art_cell.specs.Shown.{MayReadCell, fact_read, Failed, Passed, Made, Told, IsHolding, IsInHand, Upgraded, Claimed, Wrote, WroteLeaf}
 use Rattle.art_cell.specs.Sound.{IsOneHistory, Whereabouts, InTree, IsFree, InHandOf, InLimboOf, Nowhere, IsSound}
+use Rattle.art_cell.specs.StepKinds.{OfAKind, Begin, Read, ReadLeaf, Pass, Fail, Upgrade, Claim, Write, WriteLeaf}
 use Rattle.art_cell.specs.StepRows.{SetsVersion, SetsWord, note_of, MayRead, MayTell, MayPass, MayUpgrade, MayClaim, MayWrite, MayWriteLeaf, ArePaths, Without}
 use Rattle.art_cell.specs.StepRows.{begun, has_read, passed, telling, failed, upgraded, claimed, with_word, writing, with_leaf_word, handing}
 use Rattle.art_cell.specs.Tree.{At, IsTree}
 use Rattle.art_cell.specs.Views.{Member, Memory, size_of, Views, Turned}
 use Rattle.art_cell.specs.Words.{Words}
 use Rattle.art_cell.specs.WorldWords.{word_count, IsInside, place_of, first_place, memory_of, views_of, view_at, Kept, memory_now, Turns}
+use Rattle.art_cell.proofs.AnyStep.{kind_sound}
 use Rattle.art_cell.proofs.Kept.{one_entry}
 use Rattle.art_cell.proofs.Facts.{holds_all}
 use Rattle.art_cell.proofs.Gathered.{Gathered, gathered, left_over, put}
 use Rattle.art_cell.proofs.Histories.{history_grows}
 use Rattle.art_cell.proofs.Places.{one_path, same_cell, same_link}
-use Rattle.art_cell.proofs.StepLocks.{no_leaf, upgrade_law, unclaimed_law, claim_law}
-use Rattle.art_cell.proofs.StepNotes.{begin_law, read_law, read_leaf_law, pass_law, fail_law}
-use Rattle.art_cell.proofs.StepWrites.{write_law, write_leaf_law}
+use Rattle.art_cell.proofs.StepLocks.{no_leaf, unclaimed_law}
 use Rattle.art_cell.proofs.WorldMemory.{IsNoLeaf, puts_version, puts_word, copy_of, is_copy, copy_version}
 use Rattle.art_cell.proofs.WorldViews.{at_view, turned_view}
 
@@ -145,8 +145,8 @@ abbrev pub IsKept : Kept → Type 0
 IsKept k = (length k.words ≡ word_count k.sizes) × (length k.views ≡ k.sizes.passes) × IsSound k.sizes (memory_now k) (views_of k.views)
 
 -- after a step of the pass by the row, which leaves the words us
-abbrev pub Next : Sizes → List View → ℕ → List ℕ → (View → View → Type 0) → Type 0
-Next z vs p us Row = (new : List View) × Turns z us p Row vs new
+abbrev pub Next : Sizes → List ℕ → List View → ℕ → List ℕ → (View → View → Type 0) → Type 0
+Next z ws vs p us Row = (new : List View) × Turns z ws us p Row vs new
 
 module _ (z : Sizes) (ws : List ℕ) (vs : List View) (p : ℕ) (r : IsSound z (memory_of z ws) (views_of vs)) (inside : p < length vs) (long : length ws ≡ word_count z) where
   abbrev m : Memory
@@ -161,37 +161,45 @@ module _ (z : Sizes) (ws : List ℕ) (vs : List View) (p : ℕ) (r : IsSound z (
   at : views_of vs p ≡ Some (view_at vs p)
   at = at_view vs p inside
 
-  -- the view of the pass becomes w, where the law of the step says that all is sound then
-  pub turned : (us : List ℕ) (Row : View → View → Type 0) (w : View) → Row v w → ((g : Views) → Turned f p w g → IsSound z (memory_of z us) g) → Next z vs p us Row
-  turned us Row w row law = (slice_set vs p w, record { view = w; set = refl; row = row; sound = law (views_of (slice_set vs p w)) (turned_view vs p w inside) })
+  -- the view of the pass becomes w in a step of one of the kinds, so that all is sound then
+  pub turned : (us : List ℕ) (Row : View → View → Type 0) (w : View) → Row v w → ((g : Views) → Turned f p w g → OfAKind z p v m f (memory_of z us) g r.log r.logical) → Next z ws vs p us Row
+  turned us Row w row kind =
+      let k = kind (views_of (slice_set vs p w)) (turned_view vs p w inside) in
+      (slice_set vs p w, record {
+        view = w;
+        set = refl;
+        row = row;
+        step = record { view = v; before = at; sound = r; kind = k };
+        sound = kind_sound z p v m f (memory_of z us) (views_of (slice_set vs p w)) at r k;
+      })
 
   -- ---- steps that change no word
 
   -- the version word of a cell is found
-  pub turn_begins : (c : Cell) (found : ℕ) → v.pin ≢ 0 → found ≡ m.version c → Next z vs p ws (λ v w. w ≡ begun v c found)
-  turn_begins c found pinned is = turned ws (λ v w. w ≡ begun v c found) (begun v c (m.version c)) (ap (begun v c) (sym is)) (λ g t. begin_law z p v m f m g at r record { cell = c; pinned = pinned; words = refl; view = t })
+  pub turn_begins : (c : Cell) (found : ℕ) → v.pin ≢ 0 → found ≡ m.version c → Next z ws vs p ws (λ v w. w ≡ begun v c found)
+  turn_begins c found pinned is = turned ws (λ v w. w ≡ begun v c found) (begun v c (m.version c)) (ap (begun v c) (sym is)) (λ g t. Begin record { cell = c; pinned = pinned; words = refl; view = t })
 
   -- a word of the stamp's own cell is read
-  reads_word : (x : Stamp) (c : Cell) (i found : ℕ) → x.cell ≡ c → MayRead v x i → found ≡ m.words c i → Next z vs p ws (λ v w. w ≡ has_read v x (Word i found))
+  reads_word : (x : Stamp) (c : Cell) (i found : ℕ) → x.cell ≡ c → MayRead v x i → found ≡ m.words c i → Next z ws vs p ws (λ v w. w ≡ has_read v x (Word i found))
   reads_word x c i found of may is = turned ws (λ v w. w ≡ has_read v x (Word i found)) (has_read v x (Word i (m.words x.cell i)))
       (ap (λ (word : ℕ). has_read v x (Word i word)) (ap (λ (c : Cell). m.words c i) of ∙ sym is))
-      (λ g t. read_law z p v m f m g at r record { stamp = x; place = i; may = may; words = refl; view = t })
+      (λ g t. Read record { stamp = x; place = i; may = may; words = refl; view = t })
 
   -- a word of a stamped cell is read, or of a leaf that it names
-  pub turn_reads : (x : Stamp) (c : Cell) (i found : ℕ) → MayReadCell z v x c i → found ≡ m.words c i → Next z vs p ws (λ v w. w ≡ has_read v x (fact_read c i found))
+  pub turn_reads : (x : Stamp) (c : Cell) (i found : ℕ) → MayReadCell z v x c i → found ≡ m.words c i → Next z ws vs p ws (λ v w. w ≡ has_read v x (fact_read c i found))
   turn_reads x cell.Anchor i found may is = reads_word x cell.Anchor i found may.0 may.1 is
   turn_reads x (cell.Leaf l) i found may is = turned ws (λ v w. w ≡ has_read v x (LeafWord l i found)) (has_read v x (LeafWord l i (m.words (cell.Leaf l) i)))
       (ap (λ (word : ℕ). has_read v x (LeafWord l i word)) (sym is))
-      (λ g t. read_leaf_law z p v m f m g at r record { stamp = x; number = l; place = i; may = may; words = refl; view = t })
+      (λ g t. ReadLeaf record { stamp = x; number = l; place = i; may = may; words = refl; view = t })
   turn_reads x (cell.Node n) i found may is = reads_word x (cell.Node n) i found may.0 may.1 is
 
   -- a changed version word is found
-  pub turn_fails : (x : Stamp) (found : ℕ) → found ≡ m.version x.cell → Member x v.stamps → found ≢ x.version → Next z vs p ws (λ v w. Failed v w x found)
+  pub turn_fails : (x : Stamp) (found : ℕ) → found ≡ m.version x.cell → Member x v.stamps → found ≢ x.version → Next z ws vs p ws (λ v w. Failed v w x found)
   turn_fails x found is has other =
       let k = without v x in
       turned ws (λ v w. Failed v w x found) (failed v x (m.version x.cell) k.0 k.1)
       record { stamps = k.0; notes = k.1; without = k.2; is = ap (λ (word : ℕ). failed v x word k.0 k.1) (sym is) }
-      (λ g t. fail_law z p v m f m g at r record { stamp = x; stamps = k.0; notes = k.1; has = has; changed = λ e. other (is ∙ e); without = k.2; words = refl; view = t })
+      (λ g t. Fail record { stamp = x; stamps = k.0; notes = k.1; has = has; changed = λ e. other (is ∙ e); without = k.2; words = refl; view = t })
 
   -- what was seen and made, at an unchanged version word
   told : (g : Views) (x : Stamp) (ys : List Note) (o : Option What) → MayTell z v x o → HoldsAll v x r.logical → Turned f p (telling (passed v x ys) r.log o) g → Told v (telling (passed v x ys) r.log o) o
@@ -199,7 +207,7 @@ module _ (z : Sizes) (ws : List ℕ) (vs : List View) (p : ℕ) (r : IsSound z (
   told g x ys (Some what) tells holds t = makes f g p v (telling (passed v x ys) r.log (Some what)) r.log what at t r.history refl (tells r.logical (replay r.log) r.shows.shape r.shows.rows holds).0 refl refl
 
   -- an unchanged version word is found
-  pub turn_passes : (x : Stamp) (o : Option What) → m.version x.cell ≡ x.version → MayPass z v x o → Next z vs p ws (λ v w. Passed z v w x o)
+  pub turn_passes : (x : Stamp) (o : Option What) → m.version x.cell ≡ x.version → MayPass z v x o → Next z ws vs p ws (λ v w. Passed z v w x o)
   turn_passes x o same may =
       let k : Gathered (IsWay z m f v r) v.stamps = ways z m f v r in
       let paths = are_paths z m f v r in
@@ -214,7 +222,7 @@ module _ (z : Sizes) (ws : List ℕ) (vs : List View) (p : ℕ) (r : IsSound z (
         vouched = (r.logical, r.shows.shape, holds);
         told = told (views_of (slice_set vs p w)) x k.list o may.tells holds (turned_view vs p w inside);
       }
-      (λ g t. pass_law z p v m f m g at r record { stamp = x; paths = k.list; event = o; may = may; found = same; led = paths; words = refl; view = t })
+      (λ g t. Pass record { stamp = x; paths = k.list; event = o; may = may; found = same; led = paths; words = refl; view = t })
 
   -- ---- steps that change a word
 
@@ -231,7 +239,7 @@ module _ (z : Sizes) (ws : List ℕ) (vs : List View) (p : ℕ) (r : IsSound z (
 
   -- a stamped cell is locked
   pub turn_upgrades : (x : Stamp) (place found : ℕ) → IsInside z x.cell → place ≡ place_of z x.cell → found ≡ m.version x.cell → found ≡ x.version → MayUpgrade v x
-      → Next z vs p (set ws place (found + 2)) (λ v w. Upgraded v w x)
+      → Next z ws vs p (set ws place (found + 2)) (λ v w. Upgraded v w x)
   turn_upgrades x place found there is found_is same may =
       let clear = ((r.vouch p v at).stamps x may.stamp).clear in
       let us : List ℕ = set ws place (found + 2) in
@@ -247,7 +255,7 @@ module _ (z : Sizes) (ws : List ℕ) (vs : List View) (p : ℕ) (r : IsSound z (
         agrees = λ i value j. ap (λ (w : Words). w i) (sym copy.words ∙ sym (r.holder.at_rest x.cell (λ locked. omega arith))) ∙ ((r.vouch p v at).notes (note_of x (Word i value)) j).same stays;
         is = refl;
       }
-      (λ g t. upgrade_law z p v m f (memory_of z us) g at r record { stamp = x; copy = words; may = may; copied = copy; locks = record { found = sym stays; sets = upgrade_sets x place found there is found_is same may.stamp }; view = t })
+      (λ g t. Upgrade record { stamp = x; copy = words; may = may; copied = copy; locks = record { found = sym stays; sets = upgrade_sets x place found there is found_is same may.stamp }; view = t })
 
   -- a node's number in hand is one whose word may go up
   pub claim_fits : (n : Node) (found : ℕ) → found ≡ m.version (cell.Node n) → MayClaim v n → found + 1 < 2 ^ 64
@@ -263,7 +271,7 @@ module _ (z : Sizes) (ws : List ℕ) (vs : List View) (p : ℕ) (r : IsSound z (
 
   -- a node in hand is locked
   pub turn_claims : (n : Node) (place found : ℕ) → IsInside z (cell.Node n) → place ≡ place_of z (cell.Node n) → found ≡ m.version (cell.Node n) → MayClaim v n
-      → Next z vs p (set ws place (found + 1)) (λ v w. Claimed v w n)
+      → Next z ws vs p (set ws place (found + 1)) (λ v w. Claimed v w n)
   turn_claims n place found there is found_is may =
       let c : Cell = cell.Node n in
       let copy = is_copy z ws c in
@@ -271,7 +279,7 @@ module _ (z : Sizes) (ws : List ℕ) (vs : List View) (p : ℕ) (r : IsSound z (
       let us : List ℕ = set ws place (found + 1) in
       turned us (λ v w. Claimed v w n) (claimed v n words)
       record { words = words; long = copy.long; version = copy_version z ws c (λ l e. cc); is = refl }
-      (λ g t. claim_law z p v m f (memory_of z us) g at r record { node = n; copy = words; may = may; copied = copy; locks = claim_sets n place found there is found_is; view = t })
+      (λ g t. Claim record { node = n; copy = words; may = may; copied = copy; locks = claim_sets n place found there is found_is; view = t })
 
   pub write_sets : (c : Cell) (h : Holding) (i x first : ℕ) → IsInside z c → first ≡ place_of z c → h.cell ≡ c → MayWrite v h i → SetsWord m c i x (memory_of z (set ws (first + i) x))
   write_sets c h i x first there is of may =
@@ -281,7 +289,7 @@ module _ (z : Sizes) (ws : List ℕ) (vs : List View) (p : ℕ) (r : IsSound z (
 
   -- a word of a cell that is held is written
   pub turn_writes : (c : Cell) (h : Holding) (i x first : ℕ) → IsInside z c → first ≡ place_of z c → h.cell ≡ c → MayWrite v h i
-      → Next z vs p (set ws (first + i) x) (λ v w. (k : Holding) → IsHolding v c k → Wrote v w k i x)
+      → Next z ws vs p (set ws (first + i) x) (λ v w. (k : Holding) → IsHolding v c k → Wrote v w k i x)
   turn_writes c h i x first there is of may =
       let Row : View → View → Type 0 = λ v w. (k : Holding) → IsHolding v c k → Wrote v w k i x in
       let single = (r.holder.holds p v at).single in
@@ -290,11 +298,11 @@ module _ (z : Sizes) (ws : List ℕ) (vs : List View) (p : ℕ) (r : IsSound z (
       let sets : SetsWord m h.cell i x (memory_of z us) = subst (λ (d : Cell). SetsWord m d i x (memory_of z us)) (sym of) (write_sets c h i x first there is of may) in
       turned us Row (writing v held.0)
       (λ k a. subst (λ (j : Holding). Wrote v (writing v held.0) j i x) (single h k may.held a.0 (of ∙ sym a.1)) record { held = held.0; puts = held.1; is = refl })
-      (λ g t. write_law z p v m f (memory_of z us) g at r record { holding = h; held = held.0; place = i; value = x; may = may; puts = held.1; word = sets; view = t })
+      (λ g t. Write record { holding = h; held = held.0; place = i; value = x; may = may; puts = held.1; word = sets; view = t })
 
   -- a word of a leaf in hand is written
   pub turn_writes_leaf : (y : InHand) (l i x first : ℕ) → l < z.leaves → first ≡ place_of z (cell.Leaf l) → MayWriteLeaf v y l i
-      → Next z vs p (set ws (first + i) x) (λ v w. (a : InHand) → IsInHand v (leaf l) a → WroteLeaf v w a i x)
+      → Next z ws vs p (set ws (first + i) x) (λ v w. (a : InHand) → IsInHand v (leaf l) a → WroteLeaf v w a i x)
   turn_writes_leaf y l i x first there is may =
       let Row : View → View → Type 0 = λ v w. (a : InHand) → IsInHand v (leaf l) a → WroteLeaf v w a i x in
       let one = one_entry m r.at p v l in
@@ -303,7 +311,7 @@ module _ (z : Sizes) (ws : List ℕ) (vs : List View) (p : ℕ) (r : IsSound z (
       let us : List ℕ = set ws (first + i) x in
       turned us Row (handing v hand.0)
       (λ a o. subst (λ (b : InHand). WroteLeaf v (handing v hand.0) b i x) (one y a k may.hand o.0 may.leaf o.1) record { hand = hand.0; puts = hand.1; is = refl })
-      (λ g t. write_leaf_law z p v m f (memory_of z us) g at r record {
+      (λ g t. WriteLeaf record {
         leaf = y;
         hand = hand.0;
         number = l;

@@ -1,10 +1,10 @@
 -- The views of passes, as they stand in a list, and the passes that know nothing.
-use Rattle.std.proofs.Common.{◌≡◌, ◌≢◌, ℕ, zero, suc, ◌+◌, ◌<◌, List, [], ◌∷◌, Some, length, slice_get, slice_set, refl, sym, ap, ◌∙◌, arith, length-set, get_or-set_same, get_or-set_other}
+use Rattle.std.proofs.Common.{◌≡◌, ◌≢◌, ℕ, zero, suc, ◌+◌, ◌<◌, List, [], ◌∷◌, Some, length, slice_get, slice_set, refl, sym, ap, ◌∙◌, subst, arith, length-set, get_or-set_same, get_or-set_other}
 use Rattle.std.proofs.lemmas.Option.{same_Some, slice_get-get_or}
 use Rattle.art_cell.specs.declared.views.View.{View}
 use Rattle.art_cell.specs.StepLaws.{newcomer}
 use Rattle.art_cell.specs.Views.{Turned}
-use Rattle.art_cell.specs.WorldWords.{views_of, view_at, newcomers}
+use Rattle.art_cell.specs.WorldWords.{Kept, OnlyTurned, Turns, views_of, view_at, newcomers}
 
 -- the view of each pass that there is
 pub at_view : (vs : List View) (p : ℕ) → p < length vs → views_of vs p ≡ Some (view_at vs p)
@@ -37,6 +37,21 @@ turned_view vs p w low = record {
   here = at_view (slice_set vs p w) p (let same = length_set_view vs p w in omega (arith, same)) ∙ ap Some (view_set vs p w low);
   there = λ q other. get_other vs p q w other;
 }
+
+-- the pass made one step, and nothing else happened
+only_by : (Row : View → View → Type 0) (k : Kept) (us : List ℕ) (p : ℕ) (new : List View) → Turns k.sizes k.words us p Row k.views new → OnlyTurned k (record { sizes = k.sizes; words = us; views = new }) p
+only_by Row k us p new t = record {
+  sizes = refl;
+  count = ap (λ (vs : List View). length vs) t.set ∙ length_set_view k.views p t.view;
+  others = λ q other. ap (λ (vs : List View). view_at vs q) t.set ∙ view_other k.views p q t.view other;
+  made = (1, (record { sizes = k.sizes; words = us; views = new }, refl, t.step, refl));
+}
+
+-- of the world as it is now, seen as k
+pub only_turned : {Row : View → View → Type 0} {k now : Kept} {before us : List ℕ} {p : ℕ} {new : List View} → k ≡ now → before ≡ k.words → Turns k.sizes before us p Row k.views new
+    → OnlyTurned now (record { sizes = k.sizes; words = us; views = new }) p
+only_turned {Row} {k} {now} {before} {us} {p} {new} seen same t =
+    subst (λ (j : Kept). OnlyTurned j (record { sizes = k.sizes; words = us; views = new }) p) seen (only_by Row k us p new (subst (λ (ws : List ℕ). Turns k.sizes ws us p Row k.views new) same t))
 
 -- ---- passes that know nothing
 

@@ -1,5 +1,5 @@
 -- What contracts see of a world that is lent to one pass.
-use Rattle.std.specs.Prelude.{◌≡◌, ℕ, Some}
+use Rattle.std.specs.Prelude.{◌≡◌, ℕ, Some, refl}
 use Rattle.std.proofs.Common.{◌∙◌, ap, subst}
 use Rattle.std.proofs.lemmas.Option.{slice_get-get_or}
 use Rattle.art_cell.specs.declared.world.At.{At}
@@ -8,7 +8,7 @@ use Rattle.art_cell.specs.declared.views.View.{View}
 use Rattle.art_cell.specs.Instants.{Shows}
 use Rattle.art_cell.specs.StepLaws.{newcomer}
 use Rattle.art_cell.specs.Views.{Memory, Views}
-use Rattle.art_cell.specs.WorldWords.{IsAround, Kept, OnlyTurned, view_at, views_of}
+use Rattle.art_cell.specs.WorldWords.{IsAround, Kept, OnlyTurned, only_same_turned, only_turned_then, view_at, views_of}
 
 -- the borrow of the world
 abbrev pub lender : At → ℕ
@@ -29,9 +29,17 @@ sizes_lent a = (lent a).sizes
 abbrev pub view_lent : At → View
 view_lent a = view_at (lent a).views (pass_of a)
 
--- it is the same borrow and the same pass, and no view but that of the pass changed
-abbrev pub OnlyStepped : At → At → Type 0
-OnlyStepped a b = ((lender b ≡ lender a) × (pass_of b ≡ pass_of a)) × OnlyTurned (lent a) (lent b) (pass_of a)
+-- it is the same borrow and the same pass, and nothing happened but steps of that pass
+pub record OnlyStepped (a b : At) : Type 0 where
+  pub lender : lender b ≡ lender a
+  pub pass : pass_of b ≡ pass_of a
+  pub turned : OnlyTurned (lent a) (lent b) (pass_of a)
+
+pub only_same : (a : At) → OnlyStepped a a
+only_same a = record { lender = refl; pass = refl; turned = only_same_turned (lent a) (pass_of a) }
+
+pub only_then : (a b c : At) → OnlyStepped a b → OnlyStepped b c → OnlyStepped a c
+only_then a b c x y = record { lender = y.lender ∙ x.lender; pass = y.pass ∙ x.pass; turned = only_turned_then (lent a) (lent b) (lent c) (pass_of a) (pass_of b) x.pass x.turned y.turned }
 
 -- where the pass steps, the instant shows its view as it was and as it is
 pub shows : (a b : At) (m : Memory) (f : Views) (n : Memory) (g : Views) → OnlyStepped a b → IsAround (lent a) (lent b) m f n g → Shows (view_lent a) (view_lent b) m f n g
@@ -39,5 +47,5 @@ shows a b m f n g only around = record {
   pass = pass_of a;
   before = ap (λ (h : Views). h (pass_of a)) around.views ∙ slice_get-get_or (lent a).views (pass_of a) (newcomer (pass_of a)) a.inside;
   after = ap (λ (h : Views). h (pass_of a)) around.views_after
-      ∙ subst (λ (p : ℕ). views_of (lent b).views p ≡ Some (view_lent b)) only.0.1 (slice_get-get_or (lent b).views (pass_of b) (newcomer (pass_of b)) b.inside);
+      ∙ subst (λ (p : ℕ). views_of (lent b).views p ≡ Some (view_lent b)) only.pass (slice_get-get_or (lent b).views (pass_of b) (newcomer (pass_of b)) b.inside);
 }

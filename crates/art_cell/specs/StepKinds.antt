@@ -1,6 +1,6 @@
 -- Each kind of step: where it is allowed, and what changes in the shared words and in the view of the pass that makes it. Nothing
 -- else changes.
-use Rattle.std.specs.Prelude.{◌≡◌, ◌≢◌, ℕ, List, ◌++◌, Bool, true, false, Option}
+use Rattle.std.specs.Prelude.{◌≡◌, ◌≢◌, ℕ, List, ◌++◌, Bool, true, false, Option, Some}
 use Rattle.art_cell.specs.declared.cells.Node.{Node}
 use Rattle.art_cell.specs.declared.cells.Cell.{Cell}
 use Rattle.art_cell.specs.declared.cells.Cell.TheVariants as cell
@@ -18,6 +18,7 @@ use Rattle.art_cell.specs.declared.views.View.{View}
 use Rattle.art_cell.specs.declared.views.What.{What}
 use Rattle.art_cell.specs.Heaps.{Cells}
 use Rattle.art_cell.specs.Instants.{LocksClaimed, LocksStamped, PutsWord, Unlocks}
+use Rattle.art_cell.specs.Sound.{IsSound}
 use Rattle.art_cell.specs.StepRows.{AreStanding, ArePaths, Drops, HandsOver, IsCopy, IsTaken, MayBeFirst, MayClaim, MayCommit, MayFree, MayGive, MayPass, MayRead, MayReadLeaf, MayRelease, MayUpgrade, MayWrite, MayWriteLeaf, Puts, SetsFree, Without, all_retired, begun, claimed, committed, failed, forgetting, freed, gave, handing, has_read, passed, telling, took, upgraded, with_leaf_word, with_word, writing}
 use Rattle.art_cell.specs.Views.{Member, Memory, Views, Turned}
 
@@ -181,3 +182,30 @@ module _ (z : Sizes) (p : ℕ) (v : View) (m : Memory) (f : Views) (n : Memory) 
     pub may : MayFree z v link limbo
     pub sets : SetsFree m link true n
     pub view : Turned f p (freed v limbo) g
+
+-- ---- any step
+
+-- it is of one of these kinds, where log is the history before it and s the tree
+pub data OfAKind (z : Sizes) (p : ℕ) (v : View) (m : Memory) (f : Views) (n : Memory) (g : Views) (log : List Event) (s : Cells) : Type 0 where
+  Begin : Begins z p v m f n g → OfAKind z p v m f n g log s
+  Read : Reads z p v m f n g → OfAKind z p v m f n g log s
+  ReadLeaf : ReadsLeaf z p v m f n g → OfAKind z p v m f n g log s
+  Pass : Passes z p v m f n g log s → OfAKind z p v m f n g log s
+  Fail : Fails z p v m f n g → OfAKind z p v m f n g log s
+  Forget : Forgets z p v m f n g → OfAKind z p v m f n g log s
+  Upgrade : Upgrades z p v m f n g → OfAKind z p v m f n g log s
+  Claim : Claims z p v m f n g → OfAKind z p v m f n g log s
+  Commit : CommitsChange z p v m f n g log → OfAKind z p v m f n g log s
+  Release : Releases z p v m f n g → OfAKind z p v m f n g log s
+  Write : Writes z p v m f n g → OfAKind z p v m f n g log s
+  WriteLeaf : WritesLeaf z p v m f n g → OfAKind z p v m f n g log s
+  Take : Takes z p v m f n g → OfAKind z p v m f n g log s
+  Give : Gives z p v m f n g → OfAKind z p v m f n g log s
+  Free : Frees z p v m f n g → OfAKind z p v m f n g log s
+
+-- one step of the pass p, before which all was sound
+pub record OneStep (z : Sizes) (p : ℕ) (m : Memory) (f : Views) (n : Memory) (g : Views) : Type 0 where
+  pub view : View
+  pub before : f p ≡ Some view
+  pub sound : IsSound z m f
+  pub kind : OfAKind z p view m f n g sound.log sound.logical

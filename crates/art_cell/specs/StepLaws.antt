@@ -9,7 +9,7 @@ use Rattle.art_cell.specs.declared.views.Stamp.{Stamp}
 use Rattle.art_cell.specs.declared.views.View.{View}
 use Rattle.art_cell.specs.Knowledge.{HoldsAll}
 use Rattle.art_cell.specs.Sound.{IsSound}
-use Rattle.art_cell.specs.StepKinds.{Begins, Claims, CommitsChange, Fails, Forgets, Frees, Gives, Passes, Reads, ReadsLeaf, Releases, Takes, Upgrades, Writes, WritesLeaf}
+use Rattle.art_cell.specs.StepKinds.{Begins, Claims, CommitsChange, Fails, Forgets, Frees, Gives, OneStep, Passes, Reads, ReadsLeaf, Releases, Takes, Upgrades, Writes, WritesLeaf}
 use Rattle.art_cell.specs.StepRows.{MayClaim}
 use Rattle.art_cell.specs.Views.{IsNumber, IsObsolete, Memory, Views, last_counter}
 
@@ -82,6 +82,11 @@ GiveLaw = KeepsSound Gives
 
 abbrev pub FreeLaw : Type 0
 FreeLaw = KeepsSound Frees
+
+-- ---- any step
+
+abbrev pub StepLaw : Type 0
+StepLaw = (z : Sizes) (p : ℕ) (m : Memory) (f : Views) (n : Memory) (g : Views) → OneStep z p m f n g → IsSound z n g
 
 -- ---- opening
 

@@ -2,7 +2,7 @@
 -- the epoch, and the words of the passes.
 use Rattle.std.specs.Prelude.{◌≡◌, ◌≢◌, ℕ, zero, suc, ◌+◌, ◌*◌, ◌/◌, ◌%◌, ◌^◌, ◌==◌, List, [], ◌∷◌, length, get_or, slice_index_or, slice_set, nat_lt, if◌then◌else◌, Bool, true, false, ⊤, refl}
 use Rattle.std.specs.List.{slice_get}
-use Rattle.std.proofs.Common.{◌∙◌}
+use Rattle.std.proofs.Common.{◌∙◌, subst}
 use Rattle.art_cell.specs.declared.layouts.Layout.{Layout}
 use Rattle.art_cell.specs.declared.layouts.Layout.TheVariants.{Node4, Node16, Node48, Node256}
 use Rattle.art_cell.specs.declared.layouts.Pool.{Pool}
@@ -15,6 +15,7 @@ use Rattle.art_cell.specs.declared.views.Sizes.{Sizes}
 use Rattle.art_cell.specs.declared.views.View.{View}
 use Rattle.art_cell.specs.Instants.{AtSome, Instant}
 use Rattle.art_cell.specs.Sound.{IsSound}
+use Rattle.art_cell.specs.StepKinds.{OneStep}
 use Rattle.art_cell.specs.StepLaws.{newcomer}
 use Rattle.art_cell.specs.Views.{Memory, Views, size_of, IsNumber}
 
@@ -185,21 +186,37 @@ at_some I a b so = record {
   was = so;
 }
 
--- no view but that of the pass changes
+-- so many steps of the pass lead from the one to the other
+abbrev pub Stepped : ℕ → ℕ → Kept → Kept → Type 0
+Stepped zero p a b = b ≡ a
+Stepped (suc k) p a b = (c : Kept) × (c.sizes ≡ a.sizes) × AtOnce (OneStep a.sizes p) a c × Stepped k p c b
+
+-- nothing happens but steps of the pass, so that no other view changes
 pub record OnlyTurned (a b : Kept) (p : ℕ) : Type 0 where
   pub sizes : b.sizes ≡ a.sizes
   pub count : length b.views ≡ length a.views
   pub others : (q : ℕ) → q ≢ p → view_at b.views q ≡ view_at a.views q
+  pub made : (k : ℕ) × Stepped k p a b
+
+steps_then : (k l : ℕ) (p : ℕ) (a b c : Kept) → Stepped k p a b → Stepped l p b c → (i : ℕ) × Stepped i p a c
+steps_then zero l p a b c none more = (l, subst (λ (d : Kept). Stepped l p d c) none more)
+steps_then (suc k) l p a b c (d, sizes, step, rest) more = let all = steps_then k l p d b c rest more in (suc all.0, (d, sizes, step, all.1))
 
 pub only_same_turned : (a : Kept) (p : ℕ) → OnlyTurned a a p
-only_same_turned a p = record { sizes = refl; count = refl; others = λ q h. refl }
+only_same_turned a p = record { sizes = refl; count = refl; others = λ q h. refl; made = (0, refl) }
 
 pub only_turned_then : (a b c : Kept) (p q : ℕ) → q ≡ p → OnlyTurned a b p → OnlyTurned b c q → OnlyTurned a c p
-only_turned_then a b c p q same x y = record { sizes = y.sizes ∙ x.sizes; count = y.count ∙ x.count; others = λ r h. y.others r (λ e. h (e ∙ same)) ∙ x.others r h }
+only_turned_then a b c p q same x y = record {
+  sizes = y.sizes ∙ x.sizes;
+  count = y.count ∙ x.count;
+  others = λ r h. y.others r (λ e. h (e ∙ same)) ∙ x.others r h;
+  made = steps_then x.made.0 y.made.0 p a b c x.made.1 (subst (λ (i : ℕ). Stepped y.made.0 i b c) same y.made.1);
+}
 
--- the view of the pass changes by the row, and all is sound then
-pub record Turns (z : Sizes) (ws : List ℕ) (p : ℕ) (Row : View → View → Type 0) (old new : List View) : Type 0 where
+-- in one step of the pass, by which the words change from before to after, its view changes by the row; and all is sound then
+pub record Turns (z : Sizes) (before after : List ℕ) (p : ℕ) (Row : View → View → Type 0) (old new : List View) : Type 0 where
   pub view : View
   pub set : new ≡ slice_set old p view
   pub row : Row (view_at old p) view
-  pub sound : IsSound z (memory_of z ws) (views_of new)
+  pub step : OneStep z p (memory_of z before) (views_of old) (memory_of z after) (views_of new)
+  pub sound : IsSound z (memory_of z after) (views_of new)

@@ -1,13 +1,12 @@
 //! The steps of the pass that a world is lent to.
-ghost use Rattle.std.specs.Prelude.{◌≡◌, ◌<◌, List, false, true, length, refl, IfNone, IfSome};
-ghost use Rattle.std.proofs.Common.{◌∙◌};
+ghost use Rattle.std.specs.Prelude.{◌≡◌, ◌<◌, List, false, true, length, IfNone, IfSome};
 ghost use Rattle.art_cell.specs.declared.views.InHand.{InHand as NumberInHand};
 ghost use Rattle.art_cell.specs.declared.views.Retired.{Retired as RetiredNumber};
 ghost use Rattle.art_cell.specs.FreeNumbers.{HasNoneFree, IsLeastFree};
-ghost use Rattle.art_cell.specs.Lent.{OnlyStepped, lent, pass_of, shows, sizes_lent, view_lent};
+ghost use Rattle.art_cell.specs.Lent.{OnlyStepped, lent, only_same, only_then, shows, sizes_lent, view_lent};
 ghost use Rattle.art_cell.specs.Shown.{Freed, Gave, Took, link_of_number};
 ghost use Rattle.art_cell.specs.StepRows.{MayFree, MayGive, SetsFree};
-ghost use Rattle.art_cell.specs.WorldWords.{IsAround, memory_now, only_same_turned, only_turned_then};
+ghost use Rattle.art_cell.specs.WorldWords.{IsAround, memory_now};
 
 use crate::{
     At, Cell, Changed, Deed, Held, Locked, Number, Pool, Stamp, Steps, Unlinked, UpgradeFault,
@@ -24,9 +23,9 @@ impl Steps for At<'_> {
 
     ghost shows = { λ a b m f n g only around. shows a b m f n g only around };
 
-    ghost only_same = { λ a. ((refl, refl), only_same_turned (lent a) (pass_of a)) };
+    ghost only_same = { λ a. only_same a };
 
-    ghost only_then = { λ a b c x y. ((y.0.0 ∙ x.0.0, y.0.1 ∙ x.0.1), only_turned_then (lent a) (lent b) (lent c) (pass_of a) (pass_of b) x.0.1 x.1 y.1) };
+    ghost only_then = { λ a b c x y. only_then a b c x y };
 
     fn begin(&mut self, cell: Cell) -> Result<Stamp, Locked> {
         self.world.begin(self.pass, cell)

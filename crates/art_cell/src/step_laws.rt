@@ -1,6 +1,6 @@
 //! One law for each kind of step: what is sound before it is sound after it. Each is the contract of a function with
 //! nothing to do.
-ghost use Rattle.art_cell.specs.StepLaws.{BeginLaw, ClaimLaw, CommitLaw, FailLaw, ForgetLaw, FreeLaw, GiveLaw, OpenLaw, PassLaw, ReadLaw, ReadLeafLaw, ReleaseLaw, TakeLaw, UnclaimedLaw, UpgradeLaw, VouchLaw, WriteLaw, WriteLeafLaw};
+ghost use Rattle.art_cell.specs.StepLaws.{BeginLaw, ClaimLaw, CommitLaw, FailLaw, ForgetLaw, FreeLaw, GiveLaw, OpenLaw, PassLaw, ReadLaw, ReadLeafLaw, ReleaseLaw, StepLaw, TakeLaw, UnclaimedLaw, UpgradeLaw, VouchLaw, WriteLaw, WriteLeafLaw};
 
 /// At opening: the anchor names no root, all numbers are free, and no pass knows anything.
 pub fn opening_is_sound()
@@ -67,4 +67,9 @@ pub fn taking_is_sound()
 pub fn giving_is_sound()
     ensures hand { GiveLaw }
     ensures limbo { FreeLaw }
+{}
+
+/// A step of any of these kinds.
+pub fn stepping_is_sound()
+    ensures { StepLaw }
 {}

@@ -10,7 +10,7 @@ ghost use Rattle.art_cell.specs.Views.{IsNumber};
 ghost use Rattle.art_cell.specs.WordChanges.{FitsWord};
 ghost use Rattle.art_cell.specs.WorldWords.{OnlyTurned, is_free, memory_now, memory_of, pool_size, view_at, views_of, word_count};
 
-use crate::made_steps::{Frees, Gives, Takes};
+use crate::made_steps::{copied, Frees, Gives, Takes};
 use crate::{Number, Pool, Sizes, World};
 
 impl World {
@@ -25,12 +25,14 @@ impl World {
     {
         let number = self.least_free(pool)?;
         let place = self.sizes.first_free_word(pool) + number as usize / 64;
+        let before = copied(&self.words);
         self.words[place] -= 1 << (number % 64);
         let number = Number { pool, number };
         let turn = Takes {
             sizes: self.sizes,
             pass,
             link: number.link(),
+            before,
         };
         self.views = self
             .views
@@ -65,6 +67,7 @@ impl World {
             sizes: self.sizes,
             pass,
             link: number.link(),
+            before: copied(&self.words),
         };
         set_bit(&mut self.words, self.sizes, number);
         self.views = self
@@ -84,6 +87,7 @@ impl World {
             sizes: self.sizes,
             pass,
             link: number.link(),
+            before: copied(&self.words),
         };
         set_bit(&mut self.words, self.sizes, number);
         self.views = self

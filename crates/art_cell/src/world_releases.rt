@@ -10,7 +10,7 @@ ghost use Rattle.art_cell.specs.Shown.{Committed, IsHolding, Released, coming, l
 ghost use Rattle.art_cell.specs.StepRows.{MayBeFirst, MayCommit, MayRelease, released_word};
 ghost use Rattle.art_cell.specs.WorldWords.{AtOnce, IsInside, OnlyTurned, view_at};
 
-use crate::made_steps::{Commits, Releases};
+use crate::made_steps::{copied, Commits, Releases};
 use crate::{Deed, Held, Link, Number, Unlinked, World};
 
 /// What a release makes of a version word.
@@ -75,7 +75,6 @@ impl World {
         let leaf = spent(leaf);
         let found = self.version(cell);
         let place = self.sizes.place_of(cell);
-        self.words[place] = released(found, obsolete);
         let turn = Commits {
             sizes: self.sizes,
             pass,
@@ -83,7 +82,9 @@ impl World {
             deed,
             leaf,
             unlinked,
+            before: copied(&self.words),
         };
+        self.words[place] = released(found, obsolete);
         self.views = self
             .views
             .changed::<Vec<u64>, Commits<'_>, Commits<'_>>(&self.words, &turn);
@@ -101,12 +102,13 @@ impl World {
         let Held { cell } = held;
         let found = self.version(cell);
         let place = self.sizes.place_of(cell);
-        self.words[place] = released(found, obsolete);
         let turn = Releases {
             sizes: self.sizes,
             pass,
             cell,
+            before: copied(&self.words),
         };
+        self.words[place] = released(found, obsolete);
         self.views = self
             .views
             .changed::<Vec<u64>, Releases, Releases>(&self.words, &turn);

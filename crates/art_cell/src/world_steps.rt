@@ -16,7 +16,7 @@ ghost use Rattle.art_cell.specs.Views.{IsClear, Member};
 ghost use Rattle.art_cell.specs.WorldWords.{AtOnce, IsInside, OnlyTurned, memory_now, view_at};
 
 use crate::made_steps::{
-    Begins, Claims, Commits, Fails, Passes, Reads, Releases, Upgrades, Writes, WritesLeaf,
+    copied, Begins, Claims, Commits, Fails, Passes, Reads, Releases, Upgrades, Writes, WritesLeaf,
 };
 use crate::{
     Cell, Changed, Deed, Held, Link, Locked, Number, Stamp, Unlinked, UpgradeFault, World,
@@ -153,12 +153,13 @@ impl World {
             return Err(UpgradeFault::Changed(self.fail(pass, stamp, found)));
         }
         let place = self.sizes.place_of(stamp.cell);
-        self.words[place] = found + 2;
         let turn = Upgrades {
             sizes: self.sizes,
             pass,
             stamp,
+            before: copied(&self.words),
         };
+        self.words[place] = found + 2;
         self.views = self
             .views
             .changed::<Vec<u64>, Upgrades, Upgrades>(&self.words, &turn);
@@ -180,12 +181,13 @@ impl World {
         let cell = Cell::Node(node);
         let found = self.version(cell);
         let place = self.sizes.place_of(cell);
-        self.words[place] = found + 1;
         let turn = Claims {
             sizes: self.sizes,
             pass,
             node,
+            before: copied(&self.words),
         };
+        self.words[place] = found + 1;
         self.views = self
             .views
             .changed::<Vec<u64>, Claims, Claims>(&self.words, &turn);
@@ -203,14 +205,15 @@ impl World {
     {
         let cell = held.cell;
         let first = self.sizes.place_of(cell);
-        self.words[first + place] = value;
         let turn = Writes {
             sizes: self.sizes,
             pass,
             cell,
             place,
             value,
+            before: copied(&self.words),
         };
+        self.words[first + place] = value;
         self.views = self
             .views
             .changed::<Vec<u64>, Writes, Writes>(&self.words, &turn);
@@ -229,14 +232,15 @@ impl World {
             unreachable!();
         };
         let first = self.sizes.place_of(Cell::Leaf(leaf));
-        self.words[first + place] = value;
         let turn = WritesLeaf {
             sizes: self.sizes,
             pass,
             link,
             place,
             value,
+            before: copied(&self.words),
         };
+        self.words[first + place] = value;
         self.views = self
             .views
             .changed::<Vec<u64>, WritesLeaf, WritesLeaf>(&self.words, &turn);

@@ -1,4 +1,4 @@
-use Rattle.art_cell.specs.Lent.{sizes_lent, view_lent}
+use Rattle.art_cell.specs.Lent.{only_then, sizes_lent, view_lent}
 use Rattle.art_cell.proofs.AnchorRows.{may_give_back, freed_idle}
 use Rattle.art_cell.proofs.actor_tests.take_out.Goals as goal
 
@@ -12,3 +12,6 @@ pub returns-clause-idle : goal.returns-clause-idle
 returns-clause-idle c =
     let at = c.commit_remove-number.new.steps in
     freed_idle (view_lent at) _ _ c.commit_remove-number.ensures.idle c.give_back.ensures.row
+
+pub returns-clause-only : goal.returns-clause-only
+returns-clause-only c = only_then _ _ _ c.commit_remove-number.ensures.only c.give_back.ensures.only

@@ -1,6 +1,6 @@
 use Rattle.std.proofs.Common.{◌≡◌, refl, subst, ◌∙◌}
 use Rattle.art_cell.specs.declared.cells.Link.TheVariants.{Leaf as leaf, Node as node}
-use Rattle.art_cell.specs.Lent.{sizes_lent, view_lent}
+use Rattle.art_cell.specs.Lent.{only_then, sizes_lent, view_lent}
 use Rattle.art_cell.specs.Views.{Member}
 use Rattle.art_cell.proofs.AnchorRows.{freed_idle, may_give_back}
 use Rattle.art_cell.proofs.Gathered.{no_members}
@@ -14,7 +14,7 @@ pub merge-unlinked-requires-clause-hand : goal.merge-unlinked-requires-clause-ha
 merge-unlinked-requires-clause-hand c x i = c.requires.idle.hand x (subst (Member x) c.in_ok-anchor.ensures.hand i)
 
 pub no_other_pass-requires : goal.no_other_pass-requires
-no_other_pass-requires c = c.if-not-forget.ensures.only.1.count ∙ (c.merge-unlinked.ensures.only.1.count ∙ (c.in_ok-anchor.ensures.only.1.count ∙ c.requires.alone))
+no_other_pass-requires c = c.if-not-forget.ensures.only.turned.count ∙ (c.merge-unlinked.ensures.only.turned.count ∙ (c.in_ok-anchor.ensures.only.turned.count ∙ c.requires.alone))
 
 pub give_back-requires : goal.give_back-requires
 give_back-requires c =
@@ -36,3 +36,17 @@ returns-clause-idle c =
     (c.if-not-forget.ensures.pin ∙ (c.merge-unlinked.ensures.idle.1 ∙ c.in_ok-anchor.ensures.pin)) (c.if-not-forget.ensures.held ∙ c.merge-unlinked.ensures.idle.0)
     (λ x i. c.merge-unlinked.ensures.hand x (subst (Member x) c.if-not-forget.ensures.hand i)) in
     freed_idle _ _ _ (freed_idle _ _ _ idle c.give_back.ensures.row) c.give_back-2.ensures.row
+
+pub returns-then-not-forget-clause-only : goal.returns-then-not-forget-clause-only
+returns-then-not-forget-clause-only c =
+    let merged = c.merge-unlinked.ensures.only in
+    let forgot = c.forget.ensures.only in
+    only_then _ c.merge-unlinked.new.steps _ (only_then _ _ _ c.in_ok-anchor.ensures.only (record { lender = merged.lender; pass = merged.pass; turned = merged.turned }))
+    (record { lender = forgot.lender; pass = forgot.pass; turned = forgot.turned })
+
+pub returns-clause-only : goal.returns-clause-only
+returns-clause-only c =
+    let merged = c.merge-unlinked.ensures.only in
+    let freed = only_then _ _ _ c.forget.ensures.only (only_then _ _ _ c.give_back.ensures.only c.give_back-2.ensures.only) in
+    only_then _ c.merge-unlinked.new.steps _ (only_then _ _ _ c.in_ok-anchor.ensures.only (record { lender = merged.lender; pass = merged.pass; turned = merged.turned }))
+    (record { lender = freed.lender; pass = freed.pass; turned = freed.turned })

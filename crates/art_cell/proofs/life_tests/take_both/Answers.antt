@@ -1,5 +1,5 @@
 use Rattle.std.proofs.Common.{arith, sym, ◌∙◌}
-use Rattle.art_cell.specs.Lent.{view_lent}
+use Rattle.art_cell.specs.Lent.{only_then, view_lent}
 use Rattle.art_cell.proofs.Gathered.{no_members}
 use Rattle.art_cell.proofs.LeavesInHand.{has_leaf}
 use Rattle.art_cell.proofs.LifePairs.{is_node4, just_both, leaf_beside}
@@ -18,4 +18,13 @@ returns-clause-hand c =
 pub returns-clause-leaf : goal.returns-clause-leaf
 returns-clause-leaf c =
     let fills = c.in_ok-leaf.ensures.fills in
-    (fills.pool, leaf_beside _ _ (view_lent c.take_second.new.at) (view_lent c.take_node.new.at) _ _ _ _ c.in-Some.ensures.only.1.sizes c.in-Some.ensures.hand.1 (has_leaf _ (view_lent c.take_second.new.at) c.in_ok-leaf.leaf 98 2 (omega arith) fills))
+    (fills.pool, leaf_beside _ _ (view_lent c.take_second.new.at) (view_lent c.take_node.new.at) _ _ _ _ c.in-Some.ensures.only.turned.sizes c.in-Some.ensures.hand.1 (has_leaf _ (view_lent c.take_second.new.at) c.in_ok-leaf.leaf 98 2 (omega arith) fills))
+
+pub returns-in_default-clause-only : goal.returns-in_default-clause-only
+returns-in_default-clause-only c = only_then _ _ _ c.in_ok-leaf.ensures.only c.take_node.ensures.only
+
+pub returns-then-number-node-clause-only : goal.returns-then-number-node-clause-only
+returns-then-number-node-clause-only c = only_then _ _ _ c.in_ok-leaf.ensures.only c.take_node.ensures.only
+
+pub returns-clause-only : goal.returns-clause-only
+returns-clause-only c = only_then _ _ _ c.in_ok-leaf.ensures.only c.take_node.ensures.only

@@ -1,13 +1,20 @@
 -- The version word of a cell is found.
-use Rattle.std.proofs.Common.{◌≡◌, sym, subst}
+use Rattle.std.proofs.Common.{◌≡◌, sym, subst, refl}
 use Rattle.art_cell.specs.StepRows.{begun}
 use Rattle.art_cell.specs.WorldWords.{Kept}
 use Rattle.art_cell.proofs.WorldTurns.{IsKept, Next, turn_begins}
+use Rattle.art_cell.proofs.WorldViews.{only_turned}
 use Rattle.art_cell.proofs.world.World.begin.Goals as goal
 
 pub changed-requires : goal.changed-requires
 changed-requires c =
     let now : Kept = c.args.self.now in
-    subst (λ (k : Kept). IsKept k → Next k.sizes k.views c.args.pass k.words (λ v w. w ≡ begun v c.args.cell c.version-found.result)) (sym c.self.view_is)
+    subst (λ (k : Kept). IsKept k → Next k.sizes k.words k.views c.args.pass k.words (λ v w. w ≡ begun v c.args.cell c.version-found.result)) (sym c.self.view_is)
     (λ i. turn_begins now.sizes now.words now.views c.args.pass i.2 c.requires.pass i.0 c.args.cell c.version-found.result c.requires.pinned c.version-found.ensures)
     c.self.invariant
+
+pub returns-then-found-ne0-clause-only : goal.returns-then-found-ne0-clause-only
+returns-then-found-ne0-clause-only c = only_turned c.self.view_is refl c.changed.ensures
+
+pub returns-clause-only : goal.returns-clause-only
+returns-clause-only c = only_turned c.self.view_is refl c.changed.ensures

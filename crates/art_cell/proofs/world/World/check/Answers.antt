@@ -1,5 +1,5 @@
 -- An unchanged version word is found.
-use Rattle.std.proofs.Common.{◌∙◌, ap, sym, subst}
+use Rattle.std.proofs.Common.{◌∙◌, ap, sym, subst, refl}
 use Rattle.std.specs.Prelude.{Option}
 use Rattle.std.specs.Option.{option_map}
 use Rattle.art_cell.specs.declared.views.What.{What}
@@ -8,16 +8,20 @@ use Rattle.art_cell.specs.Shown.{Passed}
 use Rattle.art_cell.specs.WorldWords.{Kept, memory_now}
 use Rattle.art_cell.proofs.WorldLogical.{stands}
 use Rattle.art_cell.proofs.WorldTurns.{IsKept, Next, turn_passes}
+use Rattle.art_cell.proofs.WorldViews.{only_turned}
 use Rattle.art_cell.proofs.world.World.check.Goals as goal
 
 pub changed-requires : goal.changed-requires
 changed-requires c =
     let now : Kept = c.args.self.now in
     let what : Option What = option_map (λ d. what_of d.now) c.args.deed in
-    subst (λ (k : Kept). IsKept k → Next k.sizes k.views c.args.pass k.words (λ v w. Passed k.sizes v w c.args.stamp.now what)) (sym c.self.view_is)
+    subst (λ (k : Kept). IsKept k → Next k.sizes k.words k.views c.args.pass k.words (λ v w. Passed k.sizes v w c.args.stamp.now what)) (sym c.self.view_is)
     (λ i. turn_passes now.sizes now.words now.views c.args.pass i.2 c.requires.pass i.0 c.args.stamp.now what (sym c.version-found.ensures ∙ sym c.if-stamp-found.false) c.requires.may)
     c.self.invariant
 
 pub returns-clause-at_once : goal.returns-clause-at_once
 returns-clause-at_once c =
     stands c.args.self.now c.args.pass c.args.stamp.now _ _ (subst IsKept c.self.view_is c.self.invariant) c.requires.pass (c.if-stamp-found.false ∙ c.version-found.ensures) (ap memory_now c.self.view_is)
+
+pub returns-clause-only : goal.returns-clause-only
+returns-clause-only c = only_turned c.self.view_is refl c.changed.ensures

@@ -12,6 +12,7 @@ use Rattle.art_cell.specs.WorldWords.{Kept, place_of, view_at, views_of}
 use Rattle.art_cell.proofs.WorldLogical.{unlocks_first}
 use Rattle.art_cell.proofs.WorldReleases.{found_fits, found_sets, turn_commits}
 use Rattle.art_cell.proofs.WorldTurns.{IsKept, Next}
+use Rattle.art_cell.proofs.WorldViews.{only_turned}
 use Rattle.art_cell.proofs.world.World.commit.Goals as goal
 
 pub released-requires : goal.released-requires
@@ -30,9 +31,9 @@ changed-requires c =
     let first = c.requires.first in
     let may = subst (λ (d : Option Link). MayCommit now.sizes (view_at now.views c.args.pass) what us (coming (view_at now.views c.args.pass) d)) (sym c.spent-leaf.ensures) c.requires.may in
     let word = c.released.ensures ∙ ap (λ (x : ℕ). released_word x c.args.obsolete) c.version-found.ensures in
-    rw c.place_of-place.ensures
+    rw (c.place_of-place.ensures, c.copied.ensures)
     (subst (λ (k : Kept).
-    Next k.sizes k.views c.args.pass (slice_set k.words (place_of k.sizes cell) c.released.result) (λ v w. (h : Holding) → IsHolding v cell h → Committed v w what us (coming v leaf) h × RetiresPinned (views_of k.views) v w)) (sym c.self.view_is)
+    Next k.sizes k.words k.views c.args.pass (slice_set k.words (place_of k.sizes cell) c.released.result) (λ v w. (h : Holding) → IsHolding v cell h → Committed v w what us (coming v leaf) h × RetiresPinned (views_of k.views) v w)) (sym c.self.view_is)
     (turn_commits now.sizes now.words now.views c.args.pass kept.2 c.requires.pass kept.0 cell first.0 what us leaf c.args.obsolete c.released.result first.1 first.2 may c.requires.inside word))
 
 pub returns-clause-at_once : goal.returns-clause-at_once
@@ -40,3 +41,6 @@ returns-clause-at_once c =
     let first = c.requires.first in
     let unlocks = found_sets c.self.view_is c.self.invariant c.args.pass c.requires.pass c.args.held.cell first.0 first.1 first.2.held c.version-found.result c.version-found.ensures c.args.obsolete c.place_of-place.result c.released.result c.requires.inside c.released.ensures c.place_of-place.ensures in
     unlocks_first c.args.obsolete c.spent-leaf.result first.0 c.self.view_is c.self.invariant c.requires.pass first.1 first.2.held unlocks c.changed.ensures
+
+pub returns-clause-only : goal.returns-clause-only
+returns-clause-only c = only_turned c.self.view_is c.copied.ensures c.changed.ensures

@@ -1,13 +1,17 @@
 -- A changed version word is found: the stamp goes.
-use Rattle.std.proofs.Common.{sym, subst}
+use Rattle.std.proofs.Common.{sym, subst, refl}
 use Rattle.art_cell.specs.Shown.{Failed}
 use Rattle.art_cell.specs.WorldWords.{Kept}
 use Rattle.art_cell.proofs.WorldTurns.{IsKept, Next, turn_fails}
+use Rattle.art_cell.proofs.WorldViews.{only_turned}
 use Rattle.art_cell.proofs.world.World.fail.Goals as goal
 
 pub changed-requires : goal.changed-requires
 changed-requires c =
     let now : Kept = c.args.self.now in
-    subst (λ (k : Kept). IsKept k → Next k.sizes k.views c.args.pass k.words (λ v w. Failed v w c.args.stamp c.args.found)) (sym c.self.view_is)
+    subst (λ (k : Kept). IsKept k → Next k.sizes k.words k.views c.args.pass k.words (λ v w. Failed v w c.args.stamp c.args.found)) (sym c.self.view_is)
     (λ i. turn_fails now.sizes now.words now.views c.args.pass i.2 c.requires.pass i.0 c.args.stamp c.args.found c.requires.found c.requires.stamp c.requires.changed)
     c.self.invariant
+
+pub returns-clause-only : goal.returns-clause-only
+returns-clause-only c = only_turned c.self.view_is refl c.changed.ensures

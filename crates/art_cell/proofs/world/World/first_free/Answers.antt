@@ -6,6 +6,7 @@ use Rattle.art_cell.specs.WorldWords.{Kept, first_free_word, memory_now, views_o
 use Rattle.art_cell.proofs.WorldFree.{free_is_number}
 use Rattle.art_cell.proofs.WorldFreeing.{WordWithBit, bit_within, takes_bit, seen_before, word_with_bit, turn_takes}
 use Rattle.art_cell.proofs.WorldTurns.{IsKept}
+use Rattle.art_cell.proofs.WorldViews.{only_turned}
 use Rattle.art_cell.proofs.world.World.first_free.Goals as goal
 
 -- the number is free, and this is the word with its bit
@@ -26,7 +27,7 @@ changed-requires c =
     let free = c.in_ok-number.ensures.some.1 in
     let h = word_of_free c.args.pool c.in_ok-number.number c.first_free_word.result c.index_mut.result.now c.self.view_is c.self.invariant free c.first_free_word.ensures c.index_mut.ensures.value in
     let pass = subst (λ (k : Kept). c.args.pass < length k.views) (sym c.self.view_is) c.requires in
-    rw c.link.ensures (turn_takes _ _ _ _ c.self.invariant.2 pass c.self.invariant.0 _ _ _ _ h.1 h.0)
+    rw (c.link.ensures, c.copied-before.ensures) (turn_takes _ _ _ _ c.self.invariant.2 pass c.self.invariant.0 _ _ _ _ h.1 h.0)
 
 pub returns-clause-memory : goal.returns-clause-memory
 returns-clause-memory c =
@@ -38,3 +39,6 @@ pub returns-clause-some : goal.returns-clause-some
 returns-clause-some c =
     let found = c.in_ok-number.ensures.some in
     record { pool = refl; there = search rules; fits = search rules; free = found.1; least = found.2 }
+
+pub returns-clause-only : goal.returns-clause-only
+returns-clause-only c = only_turned c.self.view_is c.copied-before.ensures c.changed.ensures

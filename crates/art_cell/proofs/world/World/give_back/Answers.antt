@@ -1,6 +1,7 @@
 -- A number in limbo is not free: its bit can be set, and all is sound after that.
 use Rattle.art_cell.specs.Shown.{link_of_number}
 use Rattle.art_cell.proofs.WorldFreeing.{seen_before, freeing}
+use Rattle.art_cell.proofs.WorldViews.{only_turned}
 use Rattle.art_cell.proofs.world.World.give_back.Goals as goal
 
 pub set_bit-requires-clause-inside : goal.set_bit-requires-clause-inside
@@ -10,8 +11,11 @@ pub set_bit-requires-clause-taken : goal.set_bit-requires-clause-taken
 set_bit-requires-clause-taken c = (freeing c.self.view_is c.self.invariant c.args.pass c.requires.pass (link_of_number c.args.number) c.requires.may).taken
 
 pub changed-requires : goal.changed-requires
-changed-requires c = rw c.link.ensures
+changed-requires c = rw (c.link.ensures, c.copied.ensures)
     ((freeing c.self.view_is c.self.invariant c.args.pass c.requires.pass (link_of_number c.args.number) c.requires.may).turn c.set_bit.new.words.items c.set_bit.ensures.memory)
 
 pub returns-clause-memory : goal.returns-clause-memory
 returns-clause-memory c = seen_before c.self.view_is c.set_bit.ensures.memory
+
+pub returns-clause-only : goal.returns-clause-only
+returns-clause-only c = only_turned c.self.view_is c.copied.ensures c.changed.ensures

@@ -7,6 +7,7 @@ use Rattle.art_cell.specs.StepRows.{released_word}
 use Rattle.art_cell.specs.WorldWords.{Kept, place_of}
 use Rattle.art_cell.proofs.WorldReleases.{found_fits, found_sets, turn_releases}
 use Rattle.art_cell.proofs.WorldTurns.{IsKept, Next}
+use Rattle.art_cell.proofs.WorldViews.{only_turned}
 use Rattle.art_cell.proofs.world.World.release.Goals as goal
 
 pub released-requires : goal.released-requires
@@ -21,11 +22,14 @@ changed-requires c =
     let cell : Cell = c.args.held.cell in
     let may = c.requires.may in
     let word = c.released.ensures ∙ ap (λ (x : ℕ). released_word x c.args.obsolete) c.version-found.ensures in
-    rw c.place_of-place.ensures
-    (subst (λ (k : Kept). Next k.sizes k.views c.args.pass (slice_set k.words (place_of k.sizes cell) c.released.result) (λ v w. (h : Holding) → IsHolding v cell h → Released v w h)) (sym c.self.view_is)
+    rw (c.place_of-place.ensures, c.copied.ensures)
+    (subst (λ (k : Kept). Next k.sizes k.words k.views c.args.pass (slice_set k.words (place_of k.sizes cell) c.released.result) (λ v w. (h : Holding) → IsHolding v cell h → Released v w h)) (sym c.self.view_is)
     (turn_releases now.sizes now.words now.views c.args.pass kept.2 c.requires.pass kept.0 cell may.0 c.args.obsolete c.released.result may.1 may.2 c.requires.inside word))
 
 pub returns-clause-at_once : goal.returns-clause-at_once
 returns-clause-at_once c =
     let may = c.requires.may in
     found_sets c.self.view_is c.self.invariant c.args.pass c.requires.pass c.args.held.cell may.0 may.1 may.2.0 c.version-found.result c.version-found.ensures c.args.obsolete c.place_of-place.result c.released.result c.requires.inside c.released.ensures c.place_of-place.ensures
+
+pub returns-clause-only : goal.returns-clause-only
+returns-clause-only c = only_turned c.self.view_is c.copied.ensures c.changed.ensures

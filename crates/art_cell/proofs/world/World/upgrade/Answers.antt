@@ -5,6 +5,7 @@ use Rattle.art_cell.specs.Shown.{Upgraded}
 use Rattle.art_cell.specs.StepRows.{SetsVersion}
 use Rattle.art_cell.specs.WorldWords.{Kept, memory_now, memory_of, place_of}
 use Rattle.art_cell.proofs.WorldTurns.{IsKept, Next, turn_upgrades, upgrade_sets}
+use Rattle.art_cell.proofs.WorldViews.{only_turned}
 use Rattle.art_cell.proofs.world.World.upgrade.Goals as goal
 
 pub changed-requires : goal.changed-requires
@@ -12,10 +13,11 @@ changed-requires c =
     let now : Kept = c.args.self.now in
     let place : ℕ = c.place_of-place.result in
     let found : ℕ = c.version-found.result in
-    subst (λ (k : Kept). IsKept k → place ≡ place_of k.sizes c.args.stamp.cell → Next k.sizes k.views c.args.pass (set k.words place (found + 2)) (λ v w. Upgraded v w c.args.stamp)) (sym c.self.view_is)
+    rw c.copied.ensures
+    (subst (λ (k : Kept). IsKept k → place ≡ place_of k.sizes c.args.stamp.cell → Next k.sizes k.words k.views c.args.pass (set k.words place (found + 2)) (λ v w. Upgraded v w c.args.stamp)) (sym c.self.view_is)
     (λ i at. turn_upgrades now.sizes now.words now.views c.args.pass i.2 c.requires.pass i.0 c.args.stamp place found c.requires.inside at c.version-found.ensures c.if-found-stamp.false
     record { stamp = c.requires.stamp; path = c.requires.path; limit = let low = c.if-stamp-ge-LAST_COUNTER.false in omega arith; early = c.requires.early; unclaimed = c.requires.unclaimed })
-    c.self.invariant c.place_of-place.ensures
+    c.self.invariant c.place_of-place.ensures)
 
 pub returns-clause-at_once : goal.returns-clause-at_once
 returns-clause-at_once c =
@@ -29,3 +31,6 @@ returns-clause-at_once c =
           (λ i at. upgrade_sets now.sizes now.words now.views c.args.pass i.2 c.requires.pass i.0 x place found c.requires.inside at c.version-found.ensures c.if-found-stamp.false c.requires.stamp)
           c.self.invariant c.place_of-place.ensures;
     }
+
+pub returns-clause-only : goal.returns-clause-only
+returns-clause-only c = only_turned c.self.view_is c.copied.ensures c.changed.ensures

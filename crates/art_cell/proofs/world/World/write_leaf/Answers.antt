@@ -8,6 +8,7 @@ use Rattle.art_cell.specs.StepRows.{MayWriteLeaf, SetsWord}
 use Rattle.art_cell.specs.WorldWords.{Kept, memory_now, memory_of, place_of, view_at}
 use Rattle.art_cell.proofs.WorldMemory.{puts_word}
 use Rattle.art_cell.proofs.WorldTurns.{IsKept, Next, turn_writes_leaf}
+use Rattle.art_cell.proofs.WorldViews.{only_turned}
 use Rattle.art_cell.proofs.world.World.write_leaf.Goals as goal
 
 pub changed-requires : goal.changed-requires
@@ -21,10 +22,11 @@ changed-requires c =
     let named : leaf o.0 ≡ leaf l = sym o.2 ∙ (sym c.link-link.ensures ∙ c.in-Leaf.is) in
     let same : o.0 ≡ l = cc in
     let may : (l < now.sizes.leaves) × MayWriteLeaf (view_at now.views c.args.pass) o.1 l place = subst (λ (a : ℕ). (a < now.sizes.leaves) × MayWriteLeaf (view_at now.views c.args.pass) o.1 a place) same (o.3, o.4) in
-    subst (λ (k : Kept). IsKept k → first ≡ place_of k.sizes (cell.Leaf l)
-    → Next k.sizes k.views c.args.pass (set k.words (first + place) value) (λ v w. (y : InHand) → IsInHand v (leaf l) y → WroteLeaf v w y place value)) (sym c.self.view_is)
+    rw c.copied.ensures
+    (subst (λ (k : Kept). IsKept k → first ≡ place_of k.sizes (cell.Leaf l)
+    → Next k.sizes k.words k.views c.args.pass (set k.words (first + place) value) (λ v w. (y : InHand) → IsInHand v (leaf l) y → WroteLeaf v w y place value)) (sym c.self.view_is)
     (λ i at. turn_writes_leaf now.sizes now.words now.views c.args.pass i.2 c.requires.pass i.0 o.1 l place value first may.0 at may.1)
-    c.self.invariant c.place_of-first.ensures
+    c.self.invariant c.place_of-first.ensures)
 
 pub returns-clause-at_once : goal.returns-clause-at_once
 returns-clause-at_once c l is =
@@ -40,3 +42,6 @@ returns-clause-at_once c l is =
     subst (λ (k : Kept). IsKept k → first ≡ place_of k.sizes (cell.Leaf l) → SetsWord (memory_now now) (cell.Leaf l) place value (memory_of k.sizes (set k.words (first + place) value))) (sym c.self.view_is)
     (λ i at. puts_word now.sizes now.words (cell.Leaf l) place value first low (omega arith) o.4.place i.0 at)
     c.self.invariant (c.place_of-first.ensures ∙ ap (λ (a : ℕ). place_of c.self.inside.sizes (cell.Leaf a)) same)
+
+pub returns-clause-only : goal.returns-clause-only
+returns-clause-only c = only_turned c.self.view_is c.copied.ensures c.changed.ensures
