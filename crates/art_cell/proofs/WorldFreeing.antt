@@ -11,14 +11,14 @@ use Rattle.art_cell.specs.declared.views.InHand.{InHand}
 use Rattle.art_cell.specs.declared.views.Retired.{Retired}
 use Rattle.art_cell.specs.declared.views.Sizes.{Sizes}
 use Rattle.art_cell.specs.declared.views.View.{View}
-use Rattle.art_cell.specs.Children.{link_in_pool}
+use Rattle.art_cell.specs.Children.{link_in_pool, number_of}
 use Rattle.art_cell.specs.Headers.{bit_at_least, bit_more_below}
 use Rattle.art_cell.specs.Shown.{Freed, Gave, Took}
 use Rattle.art_cell.specs.Sound.{Whereabouts, InHandOf, InLimboOf, Nowhere, IsFree, IsSound}
 use Rattle.art_cell.specs.StepKinds.{Take, Give, Free}
 use Rattle.art_cell.specs.StepRows.{SetsFree, MayFree, MayGive, freed, gave, took}
 use Rattle.art_cell.specs.Views.{Memory, IsNumber, cell_named}
-use Rattle.art_cell.specs.WorldWords.{number_in_pool, first_free_word, free_place, bit_of, is_free, word_count, memory_of, Kept, memory_now, views_of, view_at}
+use Rattle.art_cell.specs.WorldWords.{first_free_word, free_place, bit_of, is_free, word_count, memory_of, Kept, memory_now, views_of, view_at}
 use Rattle.art_cell.proofs.WorldFree.{frees_number, takes_number, free_has_bit, free_found}
 use Rattle.art_cell.proofs.WorldMemory.{copy_of, is_taken, taken_again}
 use Rattle.art_cell.proofs.WorldPlaces.{HasBit, has_bit, free_below}
@@ -30,14 +30,14 @@ use Rattle.art_cell.proofs.WorldViews.{at_view}
 place_in_pool : (z : Sizes) (pool : Pool) (n : ℕ) → free_place z (link_in_pool pool n) ≡ first_free_word z pool + n / 64
 place_in_pool z pool n = elim pool as (λ k. free_place z (link_in_pool k n) ≡ first_free_word z k + n / 64) [ Leaves ↦ refl | _ ↦ refl ]
 
-number_again : (pool : Pool) (n : ℕ) → number_in_pool (link_in_pool pool n) ≡ n
-number_again pool n = elim pool as (λ k. number_in_pool (link_in_pool k n) ≡ n) [ Leaves ↦ refl | _ ↦ refl ]
+number_again : (pool : Pool) (n : ℕ) → number_of (link_in_pool pool n) ≡ n
+number_again pool n = elim pool as (λ k. number_of (link_in_pool k n) ≡ n) [ Leaves ↦ refl | _ ↦ refl ]
 
 -- it was found at its place, and this is the power of the bit
 pub record IsBitWord (z : Sizes) (ws : List ℕ) (d : Link) (place found bit : ℕ) : Type 0 where
   pub stands : place ≡ free_place z d
   pub read : found ≡ get_or ws (free_place z d) 0
-  pub power : bit ≡ 2 ^ (number_in_pool d % 64)
+  pub power : bit ≡ 2 ^ (number_of d % 64)
 
 -- it is one of the world's words
 pub bit_below : (z : Sizes) (ws : List ℕ) (pool : Pool) (n first : ℕ) → IsNumber z (link_in_pool pool n) → length ws ≡ word_count z → first ≡ first_free_word z pool → first + n / 64 < length ws
@@ -64,12 +64,12 @@ word_with_bit z ws pool n first found inside long is read =
     }
 
 module _ (z : Sizes) (ws : List ℕ) (long : length ws ≡ word_count z) (d : Link) (place found bit : ℕ) (word : IsBitWord z ws d place found bit) where
-  bit_is : (b : Bool) → HasBit z d → is_free z ws d ≡ b → (bit_of found (number_in_pool d % 64) == 1) ≡ b
+  bit_is : (b : Bool) → HasBit z d → is_free z ws d ≡ b → (bit_of found (number_of d % 64) == 1) ≡ b
   bit_is b has is = rw word.read (sym (free_found z ws d has) ∙ is)
 
   -- the bit of a free number can be subtracted
   pub bit_within : is_free z ws d ≡ true → bit ≤ found
-  bit_within free = rw word.power (bit_at_least found (number_in_pool d % 64) (eqb-true _ 1 (bit_is true (free_has_bit z ws d free) free)))
+  bit_within free = rw word.power (bit_at_least found (number_of d % 64) (eqb-true _ 1 (bit_is true (free_has_bit z ws d free) free)))
 
   -- and that takes the number
   pub takes_bit : is_free z ws d ≡ true → SetsFree (memory_of z ws) d false (memory_of z (slice_set ws place (found - bit)))
@@ -79,7 +79,7 @@ module _ (z : Sizes) (ws : List ℕ) (long : length ws ≡ word_count z) (d : Li
   pub bit_room : IsNumber z d → is_free z ws d ≡ false → found < 2 ^ 64 → found + bit < 2 ^ 64
   bit_room inside taken low =
       let other = eqb-false _ 1 (bit_is false (has_bit z d inside) taken) in
-      rw word.power (bit_more_below found (number_in_pool d % 64) (omega arith) (omega arith) low)
+      rw word.power (bit_more_below found (number_of d % 64) (omega arith) (omega arith) low)
 
   -- and that frees the number
   pub frees_bit : IsNumber z d → is_free z ws d ≡ false → SetsFree (memory_of z ws) d true (memory_of z (slice_set ws place (found + bit)))

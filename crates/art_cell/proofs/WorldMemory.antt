@@ -15,7 +15,8 @@ use Rattle.art_cell.specs.Heaps.{Cells}
 use Rattle.art_cell.specs.StepRows.{SetsVersion, SetsWord, IsCopy, IsTaken}
 use Rattle.art_cell.specs.Views.{Memory, size_of, words_in, cell_named}
 use Rattle.art_cell.specs.Words.{Words, size}
-use Rattle.art_cell.specs.WorldWords.{pool_size, pool_of, number_in_pool, cells_end, free_words, epoch_place, pass_place, word_count, IsInside, is_inside, place_of, first_place}
+use Rattle.art_cell.specs.Children.{number_of}
+use Rattle.art_cell.specs.WorldWords.{pool_size, pool_of, cells_end, free_words, epoch_place, pass_place, word_count, IsInside, is_inside, place_of, first_place}
 use Rattle.art_cell.specs.WorldWords.{version_in, word_in, free_place, bit_of, is_free, pass_word_in, memory_of}
 use Rattle.art_cell.proofs.WorldPlaces.{HasBit, is_inside_true, is_inside_of, cell_below, free_below, places_apart}
 
@@ -48,8 +49,8 @@ module _ (z : Sizes) (ws us : List ℕ) where
       then_same (nat_lt i (size_of c)) _ _ 0 (λ low. h (is_inside_of z c e) (ltb-false i (first_place c) late) (ltb-true i (size_of c) low))))
 
   -- a number whose bit stands in the words is free by that bit, and no other is free
-  pub same_free : (d : Link) → (HasBit z d → bit_of (get_or us (free_place z d) 0) (number_in_pool d % 64) ≡ bit_of (get_or ws (free_place z d) 0) (number_in_pool d % 64)) → is_free z us d ≡ is_free z ws d
-  same_free d h = then_same (nat_lt (number_in_pool d) (64 * free_words (pool_size z (pool_of d)))) _ _ false (λ e. ap (λ (bit : ℕ). bit == 1) (h (ltb-true _ _ e)))
+  pub same_free : (d : Link) → (HasBit z d → bit_of (get_or us (free_place z d) 0) (number_of d % 64) ≡ bit_of (get_or ws (free_place z d) 0) (number_of d % 64)) → is_free z us d ≡ is_free z ws d
+  same_free d h = then_same (nat_lt (number_of d) (64 * free_words (pool_size z (pool_of d)))) _ _ false (λ e. ap (λ (bit : ℕ). bit == 1) (h (ltb-true _ _ e)))
 
   -- each pass that there is has a word
   pub same_pass_word : (p : ℕ) → (p < z.passes → get_or us (pass_place z p) 0 ≡ get_or ws (pass_place z p) 0) → pass_word_in z us p ≡ pass_word_in z ws p
@@ -93,7 +94,7 @@ module _ (z : Sizes) (ws : List ℕ) (place x : ℕ) where
   -- a word of a cell is no word of free numbers
   pub frees_stay : place < cells_end z → is_free z (set ws place x) ≡ is_free z ws
   frees_stay low = (λ k d. same_free z ws (set ws place x) d (λ inside.
-      ap (λ (word : ℕ). bit_of word (number_in_pool d % 64)) (get_or-set_other ws place (free_place z d) x 0 (λ e. let high = (free_below z d inside).0 in omega arith))) k)
+      ap (λ (word : ℕ). bit_of word (number_of d % 64)) (get_or-set_other ws place (free_place z d) x 0 (λ e. let high = (free_below z d inside).0 in omega arith))) k)
 
   -- a word before the epoch's is not the epoch's
   pub epoch_stays : place < epoch_place z → get_or (set ws place x) (epoch_place z) 0 ≡ get_or ws (epoch_place z) 0

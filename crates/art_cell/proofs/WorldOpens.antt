@@ -20,7 +20,8 @@ use Rattle.art_cell.specs.declared.views.View.{View}
 use Rattle.art_cell.specs.OpeningWords.{version_or_zero, first_bits, opening_word, opening_words, OpensAt}
 use Rattle.art_cell.specs.StepLaws.{Opens}
 use Rattle.art_cell.specs.Views.{IsNumber, last_counter}
-use Rattle.art_cell.specs.WorldWords.{pool_size, pool_of_layout, pool_of, number_in_pool, words_each, first_cell, free_words, first_free_word, epoch_place, pass_place, word_count, newcomers}
+use Rattle.art_cell.specs.Children.{number_of}
+use Rattle.art_cell.specs.WorldWords.{pool_size, pool_of_layout, pool_of, words_each, first_cell, free_words, first_free_word, epoch_place, pass_place, word_count, newcomers}
 use Rattle.art_cell.specs.WorldWords.{is_inside, place_of, version_in, free_place, bit_of, is_free, memory_of, views_of}
 use Rattle.art_cell.proofs.WorldFree.{free_has_bit, free_found}
 use Rattle.art_cell.proofs.WorldMemory.{version_found, word_found, version_below}
@@ -103,17 +104,17 @@ module _ (z : Sizes) (k : ℕ) where
 
   -- how many numbers the pool has from the first of the number's word on
   abbrev rest : Link → ℕ
-  rest d = pool_size z (pool_of d) - 64 * (number_in_pool d / 64)
+  rest d = pool_size z (pool_of d) - 64 * (number_of d / 64)
 
   -- so many bits of the word are set
   word_of : (d : Link) → HasBit z d → get_or opened (free_place z d) 0 ≡ first_bits (rest d)
   word_of d has =
       let below = free_below z d has in
-      opening_at z k (free_place z d) (omega arith) ∙ free_word_at z k (number_in_pool d / 64) (pool_of d) (omega arith)
+      opening_at z k (free_place z d) (omega arith) ∙ free_word_at z k (number_of d / 64) (pool_of d) (omega arith)
 
   all_free : (d : Link) → IsNumber z d → is_free z opened d ≡ true
   all_free d inside =
-      let i : ℕ = number_in_pool d in
+      let i : ℕ = number_of d in
       let few = (is_number z d).0 inside in
       let has = has_bit z d inside in
       let bit = ap (λ (w : ℕ). bit_of w (i % 64)) (word_of d has) ∙ bit_at_first (rest d) (i % 64) (omega arith) (omega arith) in
@@ -122,7 +123,7 @@ module _ (z : Sizes) (k : ℕ) where
   -- no bit above the pool's numbers is set
   no_other_free : (d : Link) → is_free z opened d ≡ true → IsNumber z d
   no_other_free d free =
-      let i : ℕ = number_in_pool d in
+      let i : ℕ = number_of d in
       let has = free_has_bit z opened d free in
       let set = eqb-true _ 1 (sym (free_found z opened d has) ∙ free) in
       ⊎_elim

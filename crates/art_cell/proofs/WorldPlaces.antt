@@ -11,7 +11,8 @@ use Rattle.art_cell.specs.declared.cells.Link.TheVariants.{Leaf as leaf, Node as
 use Rattle.art_cell.specs.declared.views.Sizes.{Sizes}
 use Rattle.art_cell.specs.Views.{size_of, nodes_of, IsNumber, cell_named}
 use Rattle.art_cell.specs.Words.{size}
-use Rattle.art_cell.specs.WorldWords.{pool_size, pool_of_layout, pool_of, number_in_pool, words_each, IsInside, is_inside}
+use Rattle.art_cell.specs.Children.{number_of}
+use Rattle.art_cell.specs.WorldWords.{pool_size, pool_of_layout, pool_of, words_each, IsInside, is_inside}
 use Rattle.art_cell.specs.WorldWords.{first_cell, cells_end, free_words, first_free_word, epoch_place, word_count, place_of, free_place}
 
 -- ---- numbers inside
@@ -20,13 +21,13 @@ nodes_again : (z : Sizes) (k : Layout) → pool_size z (pool_of_layout k) ≡ no
 nodes_again z k = elim k as (λ k. pool_size z (pool_of_layout k) ≡ nodes_of z k) [ Node4 ↦ refl | _ ↦ refl ]
 
 -- there is such a number just where its pool has so many
-pub is_number : (z : Sizes) (d : Link) → IsNumber z d ↔ (number_in_pool d < pool_size z (pool_of d))
+pub is_number : (z : Sizes) (d : Link) → IsNumber z d ↔ (number_of d < pool_size z (pool_of d))
 is_number z (leaf l) = (λ h. h, λ h. h)
 is_number z (node n) = let e = nodes_again z n.layout in (λ h. omega (arith, e), λ h. omega (arith, e))
 
 -- the words of its pool have a bit for the number, whether there is such a number or not
 abbrev pub HasBit : Sizes → Link → Type 0
-HasBit z d = number_in_pool d < 64 * free_words (pool_size z (pool_of d))
+HasBit z d = number_of d < 64 * free_words (pool_size z (pool_of d))
 
 pub has_bit : (z : Sizes) (d : Link) → IsNumber z d → HasBit z d
 has_bit z d inside = let few = (is_number z d).0 inside in omega arith
@@ -186,7 +187,7 @@ node_bit_stands z Node16 m low = omega arith
 node_bit_stands z Node48 m low = omega arith
 node_bit_stands z Node256 m low = omega arith
 
-bit_stands : (z : Sizes) (d : Link) → HasBit z d → BitStandsIn z (free_place z d) (region (cell_named d)) (number_in_pool d / 64)
+bit_stands : (z : Sizes) (d : Link) → HasBit z d → BitStandsIn z (free_place z d) (region (cell_named d)) (number_of d / 64)
 unfolding start bit_words region
 bit_stands z (leaf l) low = omega arith
 bit_stands z (node n) low = node_bit_stands z n.layout n.number low
@@ -212,17 +213,17 @@ unfolding link_named
 link_again (leaf l) = refl
 link_again (node n) = refl
 
-number_again : (d : Link) → number (cell_named d) ≡ number_in_pool d
+number_again : (d : Link) → number (cell_named d) ≡ number_of d
 unfolding number
 number_again (leaf l) = refl
 number_again (node n) = refl
 
 -- two numbers share no bit
-pub bits_apart : (z : Sizes) (c d : Link) → HasBit z c → HasBit z d → free_place z c ≡ free_place z d → number_in_pool c % 64 ≡ number_in_pool d % 64 → c ≡ d
+pub bits_apart : (z : Sizes) (c d : Link) → HasBit z c → HasBit z d → free_place z c ≡ free_place z d → number_of c % 64 ≡ number_of d % 64 → c ≡ d
 bits_apart z c d inside within same bit =
     let at = bit_stands z c inside in
     let to = bit_stands z d within in
-    let one = one_region (bit_words z) (region (cell_named c)) (region (cell_named d)) (number_in_pool c / 64) (number_in_pool d / 64) at.1 to.1 (omega (arith, at.0, to.0, same)) in
-    let same_number : number_in_pool c ≡ number_in_pool d = omega (arith, one.1, bit) in
+    let one = one_region (bit_words z) (region (cell_named c)) (region (cell_named d)) (number_of c / 64) (number_of d / 64) at.1 to.1 (omega (arith, at.0, to.0, same)) in
+    let same_number : number_of c ≡ number_of d = omega (arith, one.1, bit) in
     let same_cell = same_cell_at (cell_named c) (cell_named d) one.0 (number_again c ∙ (same_number ∙ sym (number_again d))) in
     sym (link_again c) ∙ (ap link_named same_cell ∙ link_again d)

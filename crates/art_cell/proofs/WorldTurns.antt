@@ -164,14 +164,16 @@ module _ (z : Sizes) (ws : List ℕ) (vs : List View) (p : ℕ) (r : IsSound z (
   -- the view of the pass becomes w in a step of one of the kinds, so that all is sound then
   pub turned : (us : List ℕ) (Row : View → View → Type 0) (w : View) → Row v w → ((g : Views) → Turned f p w g → OfAKind z p v m f (memory_of z us) g r.log r.logical) → Next z ws vs p us Row
   turned us Row w row kind =
-      let k = kind (views_of (slice_set vs p w)) (turned_view vs p w inside) in
-      (slice_set vs p w, record {
-        view = w;
-        set = refl;
-        row = row;
-        step = record { view = v; before = at; sound = r; kind = k };
-        sound = kind_sound z p v m f (memory_of z us) (views_of (slice_set vs p w)) at r k;
-      })
+      let k = kind (views_of (slice_set vs p w)) (turned_view vs p w inside) in (
+        slice_set vs p w,
+        record {
+          view = w;
+          set = refl;
+          row = row;
+          step = record { view = v; before = at; sound = r; kind = k };
+          sound = kind_sound z p v m f (memory_of z us) (views_of (slice_set vs p w)) at r k;
+        },
+      )
 
   -- ---- steps that change no word
 

@@ -13,11 +13,13 @@ use Rattle.art_cell.specs.declared.cells.Link.{Link}
 use Rattle.art_cell.specs.declared.cells.Link.TheVariants.{Leaf as leaf, Node as node}
 use Rattle.art_cell.specs.declared.views.Sizes.{Sizes}
 use Rattle.art_cell.specs.declared.views.View.{View}
+use Rattle.art_cell.specs.Children.{number_of}
 use Rattle.art_cell.specs.Instants.{AtSome, Instant}
 use Rattle.art_cell.specs.Sound.{IsSound}
 use Rattle.art_cell.specs.StepKinds.{OneStep}
 use Rattle.art_cell.specs.StepLaws.{newcomer}
 use Rattle.art_cell.specs.Views.{Memory, Views, size_of, IsNumber}
+use Rattle.art_cell.specs.Words.{size}
 
 -- how many numbers a pool has
 abbrev pub pool_size : Sizes → Pool → ℕ
@@ -37,29 +39,25 @@ abbrev pub pool_of : Link → Pool
 pool_of (leaf l) = Leaves
 pool_of (node n) = pool_of_layout n.layout
 
-abbrev pub number_in_pool : Link → ℕ
-number_in_pool (leaf l) = l
-number_in_pool (node n) = n.number
-
 -- how many words a cell of the pool has
 abbrev pub words_each : Pool → ℕ
-words_each Leaves = 10
-words_each N4 = 15
-words_each N16 = 28
-words_each N48 = 90
-words_each N256 = 266
+words_each Leaves = size_of (cell.Leaf 0)
+words_each N4 = size Node4
+words_each N16 = size Node16
+words_each N48 = size Node48
+words_each N256 = size Node256
 
 -- the place of the first word of a pool's cells
 abbrev pub first_cell : Sizes → Pool → ℕ
 first_cell z Leaves = 2
-first_cell z N4 = 2 + 10 * z.leaves
-first_cell z N16 = 2 + 10 * z.leaves + 15 * z.n4
-first_cell z N48 = 2 + 10 * z.leaves + 15 * z.n4 + 28 * z.n16
-first_cell z N256 = 2 + 10 * z.leaves + 15 * z.n4 + 28 * z.n16 + 90 * z.n48
+first_cell z N4 = 2 + words_each Leaves * z.leaves
+first_cell z N16 = 2 + words_each Leaves * z.leaves + words_each N4 * z.n4
+first_cell z N48 = 2 + words_each Leaves * z.leaves + words_each N4 * z.n4 + words_each N16 * z.n16
+first_cell z N256 = 2 + words_each Leaves * z.leaves + words_each N4 * z.n4 + words_each N16 * z.n16 + words_each N48 * z.n48
 
 -- the place after the last cell
 abbrev pub cells_end : Sizes → ℕ
-cells_end z = first_cell z N256 + 266 * z.n256
+cells_end z = first_cell z N256 + words_each N256 * z.n256
 
 -- a word of free numbers has a bit for each of 64
 abbrev pub free_words : ℕ → ℕ
@@ -99,7 +97,7 @@ is_inside z (cell.Node n) = nat_lt n.number (pool_size z (pool_of_layout n.layou
 -- the place of a cell's first word
 abbrev pub place_of : Sizes → Cell → ℕ
 place_of z cell.Anchor = 0
-place_of z (cell.Leaf l) = 2 + 10 * l
+place_of z (cell.Leaf l) = first_cell z Leaves + words_each Leaves * l
 place_of z (cell.Node n) = first_cell z (pool_of_layout n.layout) + words_each (pool_of_layout n.layout) * n.number
 
 -- the place of the first word that is no version word
@@ -119,7 +117,7 @@ word_in z ws c i = if is_inside z c then (if nat_lt i (first_place c) then 0 els
 
 -- the place of the word that has the number's bit
 abbrev pub free_place : Sizes → Link → ℕ
-free_place z d = first_free_word z (pool_of d) + number_in_pool d / 64
+free_place z d = first_free_word z (pool_of d) + number_of d / 64
 
 abbrev pub bit_of : ℕ → ℕ → ℕ
 bit_of word i = word / 2 ^ i % 2
@@ -127,7 +125,7 @@ bit_of word i = word / 2 ^ i % 2
 -- whether the bit of the number is set. The words of a pool may have bits above its last number: these are looked at too, so that
 -- one that is set there shows as free a number that there is not, which the invariant rules out
 abbrev pub is_free : Sizes → List ℕ → Link → Bool
-is_free z ws d = if nat_lt (number_in_pool d) (64 * free_words (pool_size z (pool_of d))) then bit_of (get_or ws (free_place z d) 0) (number_in_pool d % 64) == 1 else false
+is_free z ws d = if nat_lt (number_of d) (64 * free_words (pool_size z (pool_of d))) then bit_of (get_or ws (free_place z d) 0) (number_of d % 64) == 1 else false
 
 abbrev pub pass_word_in : Sizes → List ℕ → ℕ → ℕ
 pass_word_in z ws p = if nat_lt p z.passes then get_or ws (pass_place z p) 0 else 0

@@ -63,8 +63,9 @@ pub struct Number {
 }
 
 impl Number {
+    ghost use Rattle.art_cell.specs.Children.{number_of};
     ghost use Rattle.art_cell.specs.Shown.{link_of_number};
-    ghost use Rattle.art_cell.specs.WorldWords.{number_in_pool, pool_of};
+    ghost use Rattle.art_cell.specs.WorldWords.{pool_of};
 
     pub fn pool(&self) -> Pool
         ensures { result ≡ pool_of (link_of_number self.now) }
@@ -74,7 +75,7 @@ impl Number {
 
     /// Which of its pool's numbers it is.
     pub fn number(&self) -> u32
-        ensures { result ≡ number_in_pool (link_of_number self.now) }
+        ensures { result ≡ number_of (link_of_number self.now) }
     {
         self.number
     }

@@ -10,7 +10,7 @@ ghost use Rattle.art_cell.specs.Views.{IsNumber};
 ghost use Rattle.art_cell.specs.WordChanges.{FitsWord};
 ghost use Rattle.art_cell.specs.WorldWords.{OnlyTurned, is_free, memory_now, memory_of, pool_size, view_at, views_of, word_count};
 
-use crate::made_steps::{copied, Frees, Gives, Takes};
+use crate::made_steps::{Frees, Gives, Takes, copied};
 use crate::{Number, Pool, Sizes, World};
 
 impl World {

@@ -10,7 +10,7 @@ ghost use Rattle.art_cell.specs.Shown.{Committed, IsHolding, Released, coming, l
 ghost use Rattle.art_cell.specs.StepRows.{MayBeFirst, MayCommit, MayRelease, released_word};
 ghost use Rattle.art_cell.specs.WorldWords.{AtOnce, IsInside, OnlyTurned, view_at};
 
-use crate::made_steps::{copied, Commits, Releases};
+use crate::made_steps::{Commits, Releases, copied};
 use crate::{Deed, Held, Link, Number, Unlinked, World};
 
 /// What a release makes of a version word.

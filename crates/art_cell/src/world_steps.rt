@@ -16,7 +16,7 @@ ghost use Rattle.art_cell.specs.Views.{IsClear, Member};
 ghost use Rattle.art_cell.specs.WorldWords.{AtOnce, IsInside, OnlyTurned, memory_now, view_at};
 
 use crate::made_steps::{
-    copied, Begins, Claims, Commits, Fails, Passes, Reads, Releases, Upgrades, Writes, WritesLeaf,
+    Begins, Claims, Commits, Fails, Passes, Reads, Releases, Upgrades, Writes, WritesLeaf, copied,
 };
 use crate::{
     Cell, Changed, Deed, Held, Link, Locked, Number, Stamp, Unlinked, UpgradeFault, World,
