@@ -14,7 +14,7 @@ use Rattle.art_cell.specs.Shown.{IsHolding, Committed, coming}
 use Rattle.art_cell.specs.Sound.{Keeps, Holder, OneHolder}
 use Rattle.art_cell.specs.StepRows.{SetsVersion, IsNotHeld, AllNew, Drops, RetiresPinned, released_word}
 use Rattle.art_cell.specs.Views.{Member, Memory, words_in, IsLocked, Views, Turned}
-use Rattle.art_cell.specs.WorldWords.{Kept, memory_now, views_of, view_at, Turns}
+use Rattle.art_cell.specs.WorldWords.{Kept, memory_now, memory_of, views_of, view_at, Turns}
 use Rattle.art_cell.proofs.Places.{same_cell}
 use Rattle.art_cell.proofs.Facts.{holds_all}
 use Rattle.art_cell.proofs.Turns.{one_view}
@@ -83,21 +83,27 @@ module _ (m m' : Memory) (f g : Views) (p : ℕ) (v w : View) (h₀ : Holding) (
   }
 
 -- what a commit of the pass does to a world, of which k is what its code finds
-pub unlocks_first : {k now : Kept} {p : ℕ} {c : Cell} {m' : Memory} {before ws : List ℕ} {what : What} {us : List Link} {new : List View} (obsolete : Bool) (leaf : Option Link) (h : Holding) → k ≡ now → IsKept k → p < length now.views → h.cell ≡ c
-    → Member h (view_at now.views p).held → Unlocks c obsolete (memory_now now) (views_of now.views) m' (views_of new)
+pub unlocks_first : {k now : Kept} {p : ℕ} {c : Cell} {before ws : List ℕ} {what : What} {us : List Link} {new : List View} (obsolete : Bool) (leaf : Option Link) (h : Holding) → k ≡ now → IsKept k → p < length now.views → h.cell ≡ c
+    → Member h (view_at now.views p).held → Unlocks c obsolete (memory_now now) (views_of now.views) (memory_of k.sizes ws) (views_of new)
     → Turns k.sizes before ws p (λ v w. (h : Holding) → IsHolding v c h → Committed v w what us (coming v leaf) h × RetiresPinned (views_of k.views) v w) k.views new
-    → UnlocksFirst (view_at now.views p) c obsolete (memory_now now) (views_of now.views) m' (views_of new)
-unlocks_first {k} {now} {p} {c} {m'} {before} {ws} {what} {us} {new} obsolete leaf h same kept inside of held sets turns =
+    → UnlocksFirst (view_at now.views p) c obsolete (memory_now now) (views_of now.views) (memory_of k.sizes ws) (views_of new)
+unlocks_first {k} {now} {p} {c} {before} {ws} {what} {us} {new} obsolete leaf h same kept inside of held sets turns =
     let v : View = view_at now.views p in
     let w : View = turns.view in
     let at = at_view now.views p inside in
+    let r = (subst IsKept same kept).2 in
     let row = subst (λ (a : Kept). (h : Holding) → IsHolding (view_at a.views p) c h → Committed (view_at a.views p) w what us (coming (view_at a.views p) leaf) h × RetiresPinned (views_of a.views) (view_at a.views p) w) same turns.row h (held, of) in
     let turned : Turned (views_of now.views) p w (views_of new) = subst (λ (vs : List View). Turned (views_of now.views) p w (views_of vs)) (sym (turns.set ∙ ap (λ (a : Kept). slice_set a.views p w) same)) (turned_view now.views p w inside) in
     let drops : Drops v.held h.cell w.held = subst (Drops v.held h.cell) (sym (ap (λ (u : View). u.held) row.0.is)) row.0.drops in
-    let own : v.pass ≡ p = ((subst IsKept same kept).2.history.tells p v at).pass in
     record {
       unlocks = sets;
-      bodies = λ s t before after. all_new (memory_now now) m' (views_of now.views) (views_of new) p v w h obsolete s t at turned held drops (ap (λ (u : View). u.committed) row.0.is)
-          (subst (λ (d : Cell). SetsVersion (memory_now now) d (released_word ((memory_now now).version d) obsolete) m') (sym of) sets) before after;
-      pins = λ u is. subst (RetiresPinned (views_of now.views) v) (sym (one_view (views_of new) v.pass p u w own is turned.here)) row.1;
+      logical = r.logical;
+      logical_after = turns.sound.logical;
+      holder = r.holder;
+      holder_after = turns.sound.holder;
+      bodies = all_new (memory_now now) (memory_of k.sizes ws) (views_of now.views) (views_of new) p v w h obsolete r.logical turns.sound.logical at turned held drops (ap (λ (u : View). u.committed) row.0.is)
+          (subst (λ (d : Cell). SetsVersion (memory_now now) d (released_word ((memory_now now).version d) obsolete) (memory_of k.sizes ws)) (sym of) sets) r.holder turns.sound.holder;
+      pins = λ q u was is.
+          let here : q ≡ p = sym (r.history.tells q v was).pass ∙ (r.history.tells p v at).pass in
+          subst (RetiresPinned (views_of now.views) v) (sym (one_view (views_of new) q p u w here is turned.here)) row.1;
     }

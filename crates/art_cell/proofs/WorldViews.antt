@@ -2,9 +2,11 @@
 use Rattle.std.proofs.Common.{◌≡◌, ◌≢◌, ℕ, zero, suc, ◌+◌, ◌<◌, List, [], ◌∷◌, Some, length, slice_get, slice_set, refl, sym, ap, ◌∙◌, subst, arith, length-set, get_or-set_same, get_or-set_other}
 use Rattle.std.proofs.lemmas.Option.{same_Some, slice_get-get_or}
 use Rattle.art_cell.specs.declared.views.View.{View}
+use Rattle.art_cell.specs.Instants.{Instant}
+use Rattle.art_cell.specs.StepKinds.{AtStep}
 use Rattle.art_cell.specs.StepLaws.{newcomer}
 use Rattle.art_cell.specs.Views.{Turned}
-use Rattle.art_cell.specs.WorldWords.{Kept, OnlyTurned, Turns, views_of, view_at, newcomers}
+use Rattle.art_cell.specs.WorldWords.{IsAround, Kept, OnlyTurned, Turns, memory_now, memory_of, views_of, view_at, newcomers}
 
 -- the view of each pass that there is
 pub at_view : (vs : List View) (p : ℕ) → p < length vs → views_of vs p ≡ Some (view_at vs p)
@@ -52,6 +54,31 @@ pub only_turned : {Row : View → View → Type 0} {k now : Kept} {before us : L
     → OnlyTurned now (record { sizes = k.sizes; words = us; views = new }) p
 only_turned {Row} {k} {now} {before} {us} {p} {new} seen same t =
     subst (λ (j : Kept). OnlyTurned j (record { sizes = k.sizes; words = us; views = new }) p) seen (only_by Row k us p new (subst (λ (ws : List ℕ). Turns k.sizes ws us p Row k.views new) same t))
+
+at_step_by : (Row : View → View → Type 0) (I : Instant) (k : Kept) (us : List ℕ) (p : ℕ) (new : List View) → p < length k.views → Turns k.sizes k.words us p Row k.views new → I (memory_now k) (views_of k.views) (memory_of k.sizes us) (views_of new)
+    → AtStep k.sizes (view_at k.views p) (view_at new p) (IsAround k (record { sizes = k.sizes; words = us; views = new })) I
+at_step_by Row I k us p new inside t so = record {
+  words = memory_now k;
+  views = views_of k.views;
+  words_after = memory_of k.sizes us;
+  views_after = views_of new;
+  instant = record { words = refl; views = refl; words_after = refl; views_after = refl };
+  pass = p;
+  before = at_view k.views p inside;
+  after = at_view new p (subst (λ (vs : List View). p < length vs) (sym t.set) (let same = length_set_view k.views p t.view in omega (arith, same)));
+  step = t.step;
+  was = so;
+}
+
+-- at the instant of the step it was so
+pub at_step : {Row : View → View → Type 0} (I : Instant) {k now : Kept} {before us : List ℕ} {p : ℕ} {new : List View} → k ≡ now → before ≡ k.words → p < length now.views → Turns k.sizes before us p Row k.views new
+    → I (memory_now now) (views_of now.views) (memory_of k.sizes us) (views_of new)
+    → AtStep now.sizes (view_at now.views p) (view_at new p) (IsAround now (record { sizes = k.sizes; words = us; views = new })) I
+at_step {Row} I {k} {now} {before} {us} {p} {new} seen same inside t so =
+    let l : Kept = record { sizes = k.sizes; words = us; views = new } in
+    subst (λ (j : Kept). p < length j.views → I (memory_now j) (views_of j.views) (memory_of k.sizes us) (views_of new) → AtStep j.sizes (view_at j.views p) (view_at new p) (IsAround j l) I) seen
+    (λ inside so. at_step_by Row I k us p new inside (subst (λ (ws : List ℕ). Turns k.sizes ws us p Row k.views new) same t) so)
+    inside so
 
 -- ---- passes that know nothing
 

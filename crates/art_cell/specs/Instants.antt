@@ -3,8 +3,6 @@ use Rattle.std.specs.Prelude.{◌≡◌, ℕ, ◌+◌, Bool, Some}
 use Rattle.art_cell.specs.declared.cells.Node.{Node}
 use Rattle.art_cell.specs.declared.cells.Cell.{Cell}
 use Rattle.art_cell.specs.declared.cells.Cell.TheVariants as cell
-use Rattle.art_cell.specs.declared.steps.UpgradeFault.{UpgradeFault}
-use Rattle.art_cell.specs.declared.steps.UpgradeFault.TheVariants as fault
 use Rattle.art_cell.specs.declared.views.Sizes.{Sizes}
 use Rattle.art_cell.specs.declared.views.Stamp.{Stamp}
 use Rattle.art_cell.specs.declared.views.View.{View}
@@ -26,12 +24,6 @@ pub record AtSome (instants so : Instant) : Type 0 where
   pub views_after : Views
   pub instant : instants words views words_after views_after
   pub was : so words views words_after views_after
-
--- the view of a pass was v just before it and w just after it
-pub record Shows (v w : View) (m : Memory) (f : Views) (n : Memory) (g : Views) : Type 0 where
-  pub pass : ℕ
-  pub before : f pass ≡ Some v
-  pub after : g pass ≡ Some w
 
 -- the version word of the cell is x, and no word changes
 pub record FindsVersion (c : Cell) (x : ℕ) (m : Memory) (f : Views) (n : Memory) (g : Views) : Type 0 where
@@ -58,11 +50,6 @@ pub record LocksStamped (x : Stamp) (m : Memory) (f : Views) (n : Memory) (g : V
   pub found : x.version ≡ m.version x.cell
   pub sets : SetsVersion m x.cell (x.version + 2) n
 
--- an upgrade that locks nothing: another version word is found, or the stamped one is at its counter's end and nothing happens
-abbrev pub LocksNothing : Stamp → UpgradeFault → Instant
-LocksNothing x (fault.Changed c) = FindsVersion x.cell c.found
-LocksNothing x (fault.Exhausted c) = λ m f n g. n ≡ m
-
 -- the version word of the node's cell goes up by 1
 abbrev pub LocksClaimed : Node → Instant
 LocksClaimed a m f n g = SetsVersion m (cell.Node a) (m.version (cell.Node a) + 1) n
@@ -79,5 +66,9 @@ Unlocks c obsolete m f n g = SetsVersion m c (released_word (m.version c) obsole
 -- comes into the limbo of its pass holds the pins that stand just before the instant
 pub record UnlocksFirst (v : View) (c : Cell) (obsolete : Bool) (m : Memory) (f : Views) (n : Memory) (g : Views) : Type 0 where
   pub unlocks : Unlocks c obsolete m f n g
-  pub bodies : (s t : Cells) → OneHolder m f s → OneHolder n g t → AllNew v.held s t
-  pub pins : (w : View) → g v.pass ≡ Some w → RetiresPinned f v w
+  pub logical : Cells
+  pub logical_after : Cells
+  pub holder : OneHolder m f logical
+  pub holder_after : OneHolder n g logical_after
+  pub bodies : AllNew v.held logical logical_after
+  pub pins : (q : ℕ) (w : View) → f q ≡ Some v → g q ≡ Some w → RetiresPinned f v w

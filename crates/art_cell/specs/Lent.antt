@@ -1,14 +1,10 @@
 -- What contracts see of a world that is lent to one pass.
-use Rattle.std.specs.Prelude.{◌≡◌, ℕ, Some, refl}
-use Rattle.std.proofs.Common.{◌∙◌, ap, subst}
-use Rattle.std.proofs.lemmas.Option.{slice_get-get_or}
+use Rattle.std.specs.Prelude.{◌≡◌, ℕ, refl}
+use Rattle.std.proofs.Common.{◌∙◌}
 use Rattle.art_cell.specs.declared.world.At.{At}
 use Rattle.art_cell.specs.declared.views.Sizes.{Sizes}
 use Rattle.art_cell.specs.declared.views.View.{View}
-use Rattle.art_cell.specs.Instants.{Shows}
-use Rattle.art_cell.specs.StepLaws.{newcomer}
-use Rattle.art_cell.specs.Views.{Memory, Views}
-use Rattle.art_cell.specs.WorldWords.{IsAround, Kept, OnlyTurned, only_same_turned, only_turned_then, view_at, views_of}
+use Rattle.art_cell.specs.WorldWords.{Kept, OnlyTurned, only_same_turned, only_turned_then, view_at}
 
 -- the borrow of the world
 abbrev pub lender : At → ℕ
@@ -40,12 +36,3 @@ only_same a = record { lender = refl; pass = refl; turned = only_same_turned (le
 
 pub only_then : (a b c : At) → OnlyStepped a b → OnlyStepped b c → OnlyStepped a c
 only_then a b c x y = record { lender = y.lender ∙ x.lender; pass = y.pass ∙ x.pass; turned = only_turned_then (lent a) (lent b) (lent c) (pass_of a) (pass_of b) x.pass x.turned y.turned }
-
--- where the pass steps, the instant shows its view as it was and as it is
-pub shows : (a b : At) (m : Memory) (f : Views) (n : Memory) (g : Views) → OnlyStepped a b → IsAround (lent a) (lent b) m f n g → Shows (view_lent a) (view_lent b) m f n g
-shows a b m f n g only around = record {
-  pass = pass_of a;
-  before = ap (λ (h : Views). h (pass_of a)) around.views ∙ slice_get-get_or (lent a).views (pass_of a) (newcomer (pass_of a)) a.inside;
-  after = ap (λ (h : Views). h (pass_of a)) around.views_after
-      ∙ subst (λ (p : ℕ). views_of (lent b).views p ≡ Some (view_lent b)) only.pass (slice_get-get_or (lent b).views (pass_of b) (newcomer (pass_of b)) b.inside);
-}

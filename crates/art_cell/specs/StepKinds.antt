@@ -5,6 +5,8 @@ use Rattle.art_cell.specs.declared.cells.Node.{Node}
 use Rattle.art_cell.specs.declared.cells.Cell.{Cell}
 use Rattle.art_cell.specs.declared.cells.Cell.TheVariants as cell
 use Rattle.art_cell.specs.declared.cells.Link.{Link}
+use Rattle.art_cell.specs.declared.steps.UpgradeFault.{UpgradeFault}
+use Rattle.art_cell.specs.declared.steps.UpgradeFault.TheVariants as fault
 use Rattle.art_cell.specs.declared.views.Event.{Event}
 use Rattle.art_cell.specs.declared.views.Fact.TheVariants.{Word, LeafWord}
 use Rattle.art_cell.specs.declared.views.Holding.{Holding}
@@ -17,7 +19,7 @@ use Rattle.art_cell.specs.declared.views.Stamp.{Stamp}
 use Rattle.art_cell.specs.declared.views.View.{View}
 use Rattle.art_cell.specs.declared.views.What.{What}
 use Rattle.art_cell.specs.Heaps.{Cells}
-use Rattle.art_cell.specs.Instants.{LocksClaimed, LocksStamped, PutsWord, Unlocks}
+use Rattle.art_cell.specs.Instants.{AtSome, FindsVersion, Instant, LocksClaimed, LocksStamped, PutsWord, Unlocks}
 use Rattle.art_cell.specs.Sound.{IsSound}
 use Rattle.art_cell.specs.StepRows.{AreStanding, ArePaths, Drops, HandsOver, IsCopy, IsTaken, MayBeFirst, MayClaim, MayCommit, MayFree, MayGive, MayPass, MayRead, MayReadLeaf, MayRelease, MayUpgrade, MayWrite, MayWriteLeaf, Puts, SetsFree, Without, all_retired, begun, claimed, committed, failed, forgetting, freed, gave, handing, has_read, passed, telling, took, upgraded, with_leaf_word, with_word, writing}
 use Rattle.art_cell.specs.Views.{Member, Memory, Views, Turned}
@@ -50,7 +52,7 @@ module _ (z : Sizes) (p : ℕ) (v : View) (m : Memory) (f : Views) (n : Memory) 
     pub words : n ≡ m
     pub view : Turned f p (has_read v stamp (LeafWord number place (m.words (cell.Leaf number) place))) g
 
-  -- the version word is the stamped one: the stamped cells gain their paths in the tree s, and the history may grow by an event
+  -- the version word is the stamped one: stamped cells may gain their paths in the tree s, and the history may grow by an event
   pub record Passes (log : List Event) (s : Cells) : Type 0 where
     pub stamp : Stamp
     pub paths : List Note
@@ -72,7 +74,7 @@ module _ (z : Sizes) (p : ℕ) (v : View) (m : Memory) (f : Views) (n : Memory) 
     pub words : n ≡ m
     pub view : Turned f p (failed v stamp (m.version stamp.cell) stamps notes) g
 
-  -- stamps are let go, each with its notes
+  -- stamps and notes are let go, a stamp with all its notes
   pub record Forgets : Type 0 where
     pub stamps : List Stamp
     pub notes : List Note
@@ -209,3 +211,21 @@ pub record OneStep (z : Sizes) (p : ℕ) (m : Memory) (f : Views) (n : Memory) (
   pub before : f p ≡ Some view
   pub sound : IsSound z m f
   pub kind : OfAKind z p view m f n g sound.log sound.logical
+
+-- at one of these instants the pass made one step, which took its view from v to w, and it was so
+pub record AtStep (z : Sizes) (v w : View) (instants so : Instant) : Type 0 where
+  pub words : Memory
+  pub views : Views
+  pub words_after : Memory
+  pub views_after : Views
+  pub instant : instants words views words_after views_after
+  pub pass : ℕ
+  pub before : views pass ≡ Some v
+  pub after : views_after pass ≡ Some w
+  pub step : OneStep z pass words views words_after views_after
+  pub was : so words views words_after views_after
+
+-- an upgrade that locks nothing: another version word is found, or the stamped one is at its counter's end and nothing happens
+abbrev pub LocksNothing : Sizes → View → View → Instant → Stamp → UpgradeFault → Type 0
+LocksNothing z v w instants x (fault.Changed c) = AtStep z v w instants (FindsVersion x.cell c.found)
+LocksNothing z v w instants x (fault.Exhausted c) = AtSome instants (λ m f n g. (n ≡ m) × (g ≡ f))

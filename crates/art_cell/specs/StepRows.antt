@@ -58,7 +58,7 @@ pub record SetsFree (m : Memory) (d : Link) (b : Bool) (m' : Memory) : Type 0 wh
   pub epoch : m'.epoch ≡ m.epoch
   pub pass_word : m'.pass_word ≡ m.pass_word
 
--- ---- the view, which counts each step
+-- ---- the view, which counts each step but those that let stamps go or move a number
 
 -- the version word of the cell was found at this step
 abbrev pub found_version : View → Cell → ℕ → List Finding

@@ -3,7 +3,7 @@ ghost use Rattle.std.specs.Prelude.{◌≡◌, ◌<◌, List, false, true, lengt
 ghost use Rattle.art_cell.specs.declared.views.InHand.{InHand as NumberInHand};
 ghost use Rattle.art_cell.specs.declared.views.Retired.{Retired as RetiredNumber};
 ghost use Rattle.art_cell.specs.FreeNumbers.{HasNoneFree, IsLeastFree};
-ghost use Rattle.art_cell.specs.Lent.{OnlyStepped, lent, only_same, only_then, shows, sizes_lent, view_lent};
+ghost use Rattle.art_cell.specs.Lent.{OnlyStepped, lent, only_same, only_then, sizes_lent, view_lent};
 ghost use Rattle.art_cell.specs.Shown.{Freed, Gave, Took, link_of_number};
 ghost use Rattle.art_cell.specs.StepRows.{MayFree, MayGive, SetsFree};
 ghost use Rattle.art_cell.specs.WorldWords.{IsAround, memory_now};
@@ -20,8 +20,6 @@ impl Steps for At<'_> {
     ghost only = { λ a b. OnlyStepped a b };
 
     ghost instants = { λ a b. IsAround (lent a) (lent b) };
-
-    ghost shows = { λ a b m f n g only around. shows a b m f n g only around };
 
     ghost only_same = { λ a. only_same a };
 

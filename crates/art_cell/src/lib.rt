@@ -4,6 +4,9 @@
 //! to child. A contract sees the words of a node as a function from a word's place to the word, and their meaning by
 //! `prefix_of` and `child_of`. The four layouts meet one trait, `NodeKind`, so that nothing above knows which one a
 //! node has.
+//!
+//! Passes read and change cells by atomic steps (DaMoN 2016): `Steps` has the steps of one pass, `World` keeps all words
+//! with what always holds of them, and lends itself to one pass (`At`), or runs a list of turns (`World::run`).
 #![tactic(auto)]
 
 #[cfg(test)]
@@ -58,7 +61,7 @@ pub use run::Actor;
 pub use step_laws::{
     beginning_is_sound, checking_is_sound, claiming_is_sound, committing_is_sound,
     forgetting_is_sound, giving_is_sound, opening_is_sound, reading_is_sound, releasing_is_sound,
-    taking_is_sound, upgrading_is_sound, writing_is_sound,
+    stepping_is_sound, taking_is_sound, upgrading_is_sound, writing_is_sound,
 };
 pub use steps::{Changed, Held, Locked, Steps, Unlinked, UpgradeFault};
 pub use views::{

@@ -10,8 +10,9 @@ ghost use Rattle.art_cell.specs.declared.views.Holding.{Holding as HoldingOf};
 ghost use Rattle.art_cell.specs.declared.views.InHand.{InHand as NumberInHand};
 ghost use Rattle.art_cell.specs.Children.{child_word};
 ghost use Rattle.art_cell.specs.Deeds.{what_of};
-ghost use Rattle.art_cell.specs.Instants.{AtSome, FindsUnchanged, FindsVersion, FindsWord, LocksClaimed, LocksNothing, LocksStamped, PutsWord, Unlocks, UnlocksFirst};
+ghost use Rattle.art_cell.specs.Instants.{FindsUnchanged, FindsVersion, FindsWord, LocksClaimed, LocksStamped, PutsWord, Unlocks, UnlocksFirst};
 ghost use Rattle.art_cell.specs.Shown.{Claimed, Committed, FailedUpgrade, Failed, IsHolding, IsInHand, MayReadCell, Passed, Released, Upgraded, Wrote, WroteLeaf, cell_held, coming, fact_read, link_of_number, links_of};
+ghost use Rattle.art_cell.specs.StepKinds.{AtStep, LocksNothing};
 ghost use Rattle.art_cell.specs.StepRows.{HasClaimedNone, MayBeFirst, MayClaim, MayCommit, MayLock, MayPass, MayRelease, MayWrite, MayWriteLeaf, begun, has_read, note_of};
 ghost use Rattle.art_cell.specs.Views.{IsClear, Member};
 ghost use Rattle.art_cell.specs.WorldWords.{IsInside};
@@ -61,13 +62,12 @@ pub type Unlinked = [Option<Number>; 3];
 /// The steps of one pass. Each call makes one atomic step, but for an upgrade that is refused as Exhausted, which makes
 /// none (DaMoN 2016).
 ///
-/// Contracts see the view of the pass before and after, and what happened at once to the words that all passes share.
-/// `only` says what else stayed.
+/// Contracts see the view of the pass before and after, and that it made one step at an instant between the call and its
+/// return, with what happened at once to the words that all passes share. `only` says what else stayed.
 pub trait Steps {
     ghost use Rattle.art_cell.specs.declared.views.Sizes.{Sizes};
     ghost use Rattle.art_cell.specs.declared.views.View.{View};
-    ghost use Rattle.art_cell.specs.Instants.{Instant, Shows};
-    ghost use Rattle.art_cell.specs.Views.{Memory, Views};
+    ghost use Rattle.art_cell.specs.Instants.{Instant};
 
     /// What the pass knows.
     ghost view: { Self → View };
@@ -87,7 +87,7 @@ pub trait Steps {
         requires pinned { (view self.old).pin ≢ 0 }
         ensures sizes { sizes self.new ≡ sizes self.old }
         ensures only { only self.old self.new }
-        ensures at_once { MatchResult result (λ x. AtSome (instants self.old self.new) (FindsVersion cell x.version)) (λ l. AtSome (instants self.old self.new) (FindsVersion cell l.found)) }
+        ensures at_once { MatchResult result (λ x. AtStep (sizes self.old) (view self.old) (view self.new) (instants self.old self.new) (FindsVersion cell x.version)) (λ l. AtStep (sizes self.old) (view self.old) (view self.new) (instants self.old self.new) (FindsVersion cell l.found)) }
         ensures row { MatchResult result (λ x. (x.cell ≡ cell) × IsClear x.version × (view self.new ≡ begun (view self.old) cell x.version)) (λ l. (l.cell ≡ cell) × (IsClear l.found → ⊥) × (view self.new ≡ begun (view self.old) cell l.found)) };
 
     /// A word of the stamp's cell, or of a leaf that its words name.
@@ -96,7 +96,7 @@ pub trait Steps {
         requires may { MayReadCell (sizes self.old) (view self.old) stamp.now cell place }
         ensures sizes { sizes self.new ≡ sizes self.old }
         ensures only { only self.old self.new }
-        ensures at_once { AtSome (instants self.old self.new) (FindsWord cell place result) }
+        ensures at_once { AtStep (sizes self.old) (view self.old) (view self.new) (instants self.old self.new) (FindsWord cell place result) }
         ensures row { view self.new ≡ has_read (view self.old) stamp.now (fact_read cell place result) };
 
     /// Whether the stamp's version word is unchanged: then what was read under the stamp is what the cell says at this
@@ -106,7 +106,7 @@ pub trait Steps {
         requires may { MayPass (sizes self.old) (view self.old) stamp.now (option_map (λ d. what_of d.now) deed) }
         ensures sizes { sizes self.new ≡ sizes self.old }
         ensures only { only self.old self.new }
-        ensures at_once { MatchResult result (λ _. AtSome (instants self.old self.new) (FindsUnchanged (sizes self.old) (view self.old) stamp.now)) (λ c. AtSome (instants self.old self.new) (FindsVersion stamp.now.cell c.found)) }
+        ensures at_once { MatchResult result (λ _. AtStep (sizes self.old) (view self.old) (view self.new) (instants self.old self.new) (FindsUnchanged (sizes self.old) (view self.old) stamp.now)) (λ c. AtStep (sizes self.old) (view self.old) (view self.new) (instants self.old self.new) (FindsVersion stamp.now.cell c.found)) }
         ensures row { MatchResult result (λ _. Passed (sizes self.old) (view self.old) (view self.new) stamp.now (option_map (λ d. what_of d.now) deed.entry)) (λ c. (c.cell ≡ stamp.now.cell) × (c.seen ≡ stamp.now.version) × (c.found ≢ c.seen) × Failed (view self.old) (view self.new) stamp.now c.found) };
 
     /// Locks the stamp's cell, whose path is known, if its version word is unchanged.
@@ -118,7 +118,7 @@ pub trait Steps {
         requires unclaimed { HasClaimedNone (view self.old) }
         ensures sizes { sizes self.new ≡ sizes self.old }
         ensures only { only self.old self.new }
-        ensures at_once { MatchResult result (λ _. AtSome (instants self.old self.new) (LocksStamped stamp)) (λ e. AtSome (instants self.old self.new) (LocksNothing stamp e)) }
+        ensures at_once { MatchResult result (λ _. AtStep (sizes self.old) (view self.old) (view self.new) (instants self.old self.new) (LocksStamped stamp)) (λ e. LocksNothing (sizes self.old) (view self.old) (view self.new) (instants self.old self.new) stamp e) }
         ensures row { MatchResult result (λ h. (cell_held h ≡ stamp.cell) × Upgraded (view self.old) (view self.new) stamp) (λ e. FailedUpgrade (view self.old) (view self.new) stamp e) };
 
     /// Locks a node whose number is in hand.
@@ -126,7 +126,7 @@ pub trait Steps {
         requires inside { (n : NodeOf) × (link_of_number number ≡ node n) × IsInside (sizes self.old) (node_cell n) × MayClaim (view self.old) n }
         ensures sizes { sizes self.new ≡ sizes self.old }
         ensures only { only self.old self.new }
-        ensures at_once { (n : NodeOf) → link_of_number number ≡ node n → AtSome (instants self.old self.new) (LocksClaimed n) }
+        ensures at_once { (n : NodeOf) → link_of_number number ≡ node n → AtStep (sizes self.old) (view self.old) (view self.new) (instants self.old self.new) (LocksClaimed n) }
         ensures row { (n : NodeOf) → link_of_number number ≡ node n → (cell_held result ≡ node_cell n) × Claimed (view self.old) (view self.new) n };
 
     /// Writes a word of a held cell, before the commit.
@@ -135,7 +135,7 @@ pub trait Steps {
         requires may { (h : HoldingOf) × (h.cell ≡ cell_held held.old) × MayWrite (view self.old) h place }
         ensures sizes { sizes self.new ≡ sizes self.old }
         ensures only { only self.old self.new }
-        ensures at_once { AtSome (instants self.old self.new) (PutsWord (cell_held held.old) place value) }
+        ensures at_once { AtStep (sizes self.old) (view self.old) (view self.new) (instants self.old self.new) (PutsWord (cell_held held.old) place value) }
         ensures same { held.new ≡ held.old }
         ensures row { (h : HoldingOf) → IsHolding (view self.old) (cell_held held.old) h → Wrote (view self.old) (view self.new) h place value };
 
@@ -144,7 +144,7 @@ pub trait Steps {
         requires inside { (l : ℕ) × (y : NumberInHand) × (link_of_number number.old ≡ leaf l) × (l < (sizes self.old).leaves) × MayWriteLeaf (view self.old) y l place }
         ensures sizes { sizes self.new ≡ sizes self.old }
         ensures only { only self.old self.new }
-        ensures at_once { (l : ℕ) → link_of_number number.old ≡ leaf l → AtSome (instants self.old self.new) (PutsWord (leaf_cell l) place value) }
+        ensures at_once { (l : ℕ) → link_of_number number.old ≡ leaf l → AtStep (sizes self.old) (view self.old) (view self.new) (instants self.old self.new) (PutsWord (leaf_cell l) place value) }
         ensures same { number.new ≡ number.old }
         ensures row { (y : NumberInHand) → IsInHand (view self.old) (link_of_number number.old) y → WroteLeaf (view self.old) (view self.new) y place value };
 
@@ -165,7 +165,7 @@ pub trait Steps {
         requires may { MayCommit (sizes self.old) (view self.old) (what_of deed.now) (links_of unlinked.now) (coming (view self.old) (option_map link_of_number leaf)) }
         ensures sizes { sizes self.new ≡ sizes self.old }
         ensures only { only self.old self.new }
-        ensures at_once { AtSome (instants self.old self.new) (UnlocksFirst (view self.old) (cell_held held) obsolete) }
+        ensures at_once { AtStep (sizes self.old) (view self.old) (view self.new) (instants self.old self.new) (UnlocksFirst (view self.old) (cell_held held) obsolete) }
         ensures numbers { filter_map (option_map link_of_number) result ≡ links_of unlinked.now }
         ensures row { (h : HoldingOf) → IsHolding (view self.old) (cell_held held) h → Committed (view self.old) (view self.new) (what_of deed.now) (links_of unlinked.now) (coming (view self.old) (option_map link_of_number leaf)) h };
 
@@ -175,11 +175,8 @@ pub trait Steps {
         requires may { (h : HoldingOf) × (h.cell ≡ cell_held held) × MayRelease (view self.old) h obsolete }
         ensures sizes { sizes self.new ≡ sizes self.old }
         ensures only { only self.old self.new }
-        ensures at_once { AtSome (instants self.old self.new) (Unlocks (cell_held held) obsolete) }
+        ensures at_once { AtStep (sizes self.old) (view self.old) (view self.new) (instants self.old self.new) (Unlocks (cell_held held) obsolete) }
         ensures row { (h : HoldingOf) → IsHolding (view self.old) (cell_held held) h → Released (view self.old) (view self.new) h };
-
-    /// The view of the pass was the first's before the instant, and the second's after it.
-    ghost shows: { (a b : Self) (m : Memory) (f : Views) (n : Memory) (g : Views) → only a b → instants a b m f n g → Shows (view a) (view b) m f n g };
 
     ghost only_same: { (a : Self) → only a a };
 

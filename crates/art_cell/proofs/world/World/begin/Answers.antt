@@ -1,9 +1,9 @@
 -- The version word of a cell is found.
-use Rattle.std.proofs.Common.{◌≡◌, sym, subst, refl}
+use Rattle.std.proofs.Common.{ap, ◌≡◌, sym, subst, refl}
 use Rattle.art_cell.specs.StepRows.{begun}
-use Rattle.art_cell.specs.WorldWords.{Kept}
+use Rattle.art_cell.specs.WorldWords.{Kept, memory_now}
 use Rattle.art_cell.proofs.WorldTurns.{IsKept, Next, turn_begins}
-use Rattle.art_cell.proofs.WorldViews.{only_turned}
+use Rattle.art_cell.proofs.WorldViews.{at_step, only_turned}
 use Rattle.art_cell.proofs.world.World.begin.Goals as goal
 
 pub changed-requires : goal.changed-requires
@@ -18,3 +18,13 @@ returns-then-found-ne0-clause-only c = only_turned c.self.view_is refl c.changed
 
 pub returns-clause-only : goal.returns-clause-only
 returns-clause-only c = only_turned c.self.view_is refl c.changed.ensures
+
+pub returns-then-found-ne0-clause-at_once : goal.returns-then-found-ne0-clause-at_once
+returns-then-found-ne0-clause-at_once c = 
+    at_step _ c.self.view_is refl c.requires.pass c.changed.ensures
+    (record { found = c.version-found.ensures; same = ap memory_now c.self.view_is })
+
+pub returns-clause-at_once : goal.returns-clause-at_once
+returns-clause-at_once c = 
+    at_step _ c.self.view_is refl c.requires.pass c.changed.ensures
+    (record { found = c.version-found.ensures; same = ap memory_now c.self.view_is })

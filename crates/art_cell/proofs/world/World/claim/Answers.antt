@@ -7,7 +7,7 @@ use Rattle.art_cell.specs.Shown.{Claimed, link_of_number}
 use Rattle.art_cell.specs.StepRows.{SetsVersion}
 use Rattle.art_cell.specs.WorldWords.{Kept, memory_now, memory_of, place_of, view_at}
 use Rattle.art_cell.proofs.WorldTurns.{IsKept, Next, claim_named, claim_fits, claim_sets, turn_claims}
-use Rattle.art_cell.proofs.WorldViews.{only_turned}
+use Rattle.art_cell.proofs.WorldViews.{at_step, only_turned}
 use Rattle.art_cell.proofs.world.World.claim.Goals as goal
 
 pub overflow_add-found : goal.overflow_add-found
@@ -38,9 +38,10 @@ returns-clause-at_once c n is =
     let named : node c.in-Node.node ≡ node n = sym c.in-Node.is ∙ (c.link-link.ensures ∙ is) in
     let same : c.in-Node.node ≡ n = cc in
     let may = claim_named now.sizes (view_at now.views c.args.pass) (link_of_number c.args.number) n c.requires.inside is in
-    subst (λ (k : Kept). IsKept k → place ≡ place_of k.sizes (cell.Node n) → SetsVersion (memory_now now) (cell.Node n) ((memory_now now).version (cell.Node n) + 1) (memory_of k.sizes (set k.words place (found + 1)))) (sym c.self.view_is)
+    at_step _ c.self.view_is c.copied.ensures c.requires.pass c.changed.ensures
+    (subst (λ (k : Kept). IsKept k → place ≡ place_of k.sizes (cell.Node n) → SetsVersion (memory_now now) (cell.Node n) ((memory_now now).version (cell.Node n) + 1) (memory_of k.sizes (set k.words place (found + 1)))) (sym c.self.view_is)
     (λ i at. claim_sets now.sizes now.words now.views c.args.pass i.2 c.requires.pass i.0 n place found may.0 at (c.version-found.ensures ∙ ap (λ (a : Node). (memory_now now).version (cell.Node a)) same))
-    c.self.invariant (c.place_of-place.ensures ∙ ap (λ (a : Node). place_of c.self.inside.sizes (cell.Node a)) same)
+    c.self.invariant (c.place_of-place.ensures ∙ ap (λ (a : Node). place_of c.self.inside.sizes (cell.Node a)) same))
 
 pub returns-clause-only : goal.returns-clause-only
 returns-clause-only c = only_turned c.self.view_is c.copied.ensures c.changed.ensures

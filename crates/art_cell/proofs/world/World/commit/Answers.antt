@@ -12,7 +12,7 @@ use Rattle.art_cell.specs.WorldWords.{Kept, place_of, view_at, views_of}
 use Rattle.art_cell.proofs.WorldLogical.{unlocks_first}
 use Rattle.art_cell.proofs.WorldReleases.{found_fits, found_sets, turn_commits}
 use Rattle.art_cell.proofs.WorldTurns.{IsKept, Next}
-use Rattle.art_cell.proofs.WorldViews.{only_turned}
+use Rattle.art_cell.proofs.WorldViews.{at_step, only_turned}
 use Rattle.art_cell.proofs.world.World.commit.Goals as goal
 
 pub released-requires : goal.released-requires
@@ -40,7 +40,8 @@ pub returns-clause-at_once : goal.returns-clause-at_once
 returns-clause-at_once c =
     let first = c.requires.first in
     let unlocks = found_sets c.self.view_is c.self.invariant c.args.pass c.requires.pass c.args.held.cell first.0 first.1 first.2.held c.version-found.result c.version-found.ensures c.args.obsolete c.place_of-place.result c.released.result c.requires.inside c.released.ensures c.place_of-place.ensures in
-    unlocks_first c.args.obsolete c.spent-leaf.result first.0 c.self.view_is c.self.invariant c.requires.pass first.1 first.2.held unlocks c.changed.ensures
+    at_step _ c.self.view_is c.copied.ensures c.requires.pass c.changed.ensures
+    (unlocks_first c.args.obsolete c.spent-leaf.result first.0 c.self.view_is c.self.invariant c.requires.pass first.1 first.2.held unlocks c.changed.ensures)
 
 pub returns-clause-only : goal.returns-clause-only
 returns-clause-only c = only_turned c.self.view_is c.copied.ensures c.changed.ensures

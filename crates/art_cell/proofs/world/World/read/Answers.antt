@@ -1,10 +1,10 @@
 -- A word of a stamped cell is read, or of a leaf that it names.
-use Rattle.std.proofs.Common.{◌≡◌, sym, subst, refl}
+use Rattle.std.proofs.Common.{ap, ◌≡◌, sym, subst, refl}
 use Rattle.art_cell.specs.Shown.{fact_read}
 use Rattle.art_cell.specs.StepRows.{has_read}
-use Rattle.art_cell.specs.WorldWords.{Kept}
+use Rattle.art_cell.specs.WorldWords.{Kept, memory_now}
 use Rattle.art_cell.proofs.WorldTurns.{IsKept, Next, turn_reads}
-use Rattle.art_cell.proofs.WorldViews.{only_turned}
+use Rattle.art_cell.proofs.WorldViews.{at_step, only_turned}
 use Rattle.art_cell.proofs.world.World.read.Goals as goal
 
 pub changed-requires : goal.changed-requires
@@ -16,3 +16,8 @@ changed-requires c =
 
 pub returns-clause-only : goal.returns-clause-only
 returns-clause-only c = only_turned c.self.view_is refl c.changed.ensures
+
+pub returns-clause-at_once : goal.returns-clause-at_once
+returns-clause-at_once c =
+    at_step _ c.self.view_is refl c.requires.pass c.changed.ensures
+    (record { found = c.word-value.ensures; same = ap memory_now c.self.view_is })

@@ -5,7 +5,7 @@ use Rattle.art_cell.specs.Shown.{Upgraded}
 use Rattle.art_cell.specs.StepRows.{SetsVersion}
 use Rattle.art_cell.specs.WorldWords.{Kept, memory_now, memory_of, place_of}
 use Rattle.art_cell.proofs.WorldTurns.{IsKept, Next, turn_upgrades, upgrade_sets}
-use Rattle.art_cell.proofs.WorldViews.{only_turned}
+use Rattle.art_cell.proofs.WorldViews.{at_step, only_turned}
 use Rattle.art_cell.proofs.world.World.upgrade.Goals as goal
 
 pub changed-requires : goal.changed-requires
@@ -25,12 +25,13 @@ returns-clause-at_once c =
     let place : ℕ = c.place_of-place.result in
     let found : ℕ = c.version-found.result in
     let x : Stamp = c.args.stamp in
-    record {
+    at_step _ c.self.view_is c.copied.ensures c.requires.pass c.changed.ensures
+    (record {
       found = sym c.if-found-stamp.false ∙ c.version-found.ensures;
       sets = subst (λ (k : Kept). IsKept k → place ≡ place_of k.sizes x.cell → SetsVersion (memory_now now) x.cell (x.version + 2) (memory_of k.sizes (set k.words place (found + 2)))) (sym c.self.view_is)
           (λ i at. upgrade_sets now.sizes now.words now.views c.args.pass i.2 c.requires.pass i.0 x place found c.requires.inside at c.version-found.ensures c.if-found-stamp.false c.requires.stamp)
           c.self.invariant c.place_of-place.ensures;
-    }
+    })
 
 pub returns-clause-only : goal.returns-clause-only
 returns-clause-only c = only_turned c.self.view_is c.copied.ensures c.changed.ensures

@@ -6,7 +6,7 @@ use Rattle.art_cell.specs.Shown.{IsHolding, Wrote}
 use Rattle.art_cell.specs.StepRows.{SetsWord}
 use Rattle.art_cell.specs.WorldWords.{Kept, memory_now, memory_of, place_of}
 use Rattle.art_cell.proofs.WorldTurns.{IsKept, Next, turn_writes, write_sets}
-use Rattle.art_cell.proofs.WorldViews.{only_turned}
+use Rattle.art_cell.proofs.WorldViews.{at_step, only_turned}
 use Rattle.art_cell.proofs.world.World.write.Goals as goal
 
 pub changed-requires : goal.changed-requires
@@ -31,9 +31,10 @@ returns-clause-at_once c =
     let first : ℕ = c.place_of-first.result in
     let place : ℕ = c.args.place in
     let value : ℕ = c.args.value in
-    subst (λ (k : Kept). IsKept k → first ≡ place_of k.sizes held → SetsWord (memory_now now) held place value (memory_of k.sizes (set k.words (first + place) value))) (sym c.self.view_is)
+    at_step _ c.self.view_is c.copied.ensures c.requires.pass c.changed.ensures
+    (subst (λ (k : Kept). IsKept k → first ≡ place_of k.sizes held → SetsWord (memory_now now) held place value (memory_of k.sizes (set k.words (first + place) value))) (sym c.self.view_is)
     (λ i at. write_sets now.sizes now.words now.views c.args.pass i.2 c.requires.pass i.0 held o.0 place value first c.requires.inside at o.1 o.2)
-    c.self.invariant c.place_of-first.ensures
+    c.self.invariant c.place_of-first.ensures)
 
 pub returns-clause-only : goal.returns-clause-only
 returns-clause-only c = only_turned c.self.view_is c.copied.ensures c.changed.ensures

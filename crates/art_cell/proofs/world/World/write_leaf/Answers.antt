@@ -8,7 +8,7 @@ use Rattle.art_cell.specs.StepRows.{MayWriteLeaf, SetsWord}
 use Rattle.art_cell.specs.WorldWords.{Kept, memory_now, memory_of, place_of, view_at}
 use Rattle.art_cell.proofs.WorldMemory.{puts_word}
 use Rattle.art_cell.proofs.WorldTurns.{IsKept, Next, turn_writes_leaf}
-use Rattle.art_cell.proofs.WorldViews.{only_turned}
+use Rattle.art_cell.proofs.WorldViews.{at_step, only_turned}
 use Rattle.art_cell.proofs.world.World.write_leaf.Goals as goal
 
 pub changed-requires : goal.changed-requires
@@ -39,9 +39,10 @@ returns-clause-at_once c l is =
     let same : c.in-Leaf.leaf ≡ l = cc in
     let named : leaf o.0 ≡ leaf l = sym o.2 ∙ is in
     let low : l < now.sizes.leaves = subst (λ (a : ℕ). a < now.sizes.leaves) (let e : o.0 ≡ l = cc in e) o.3 in
-    subst (λ (k : Kept). IsKept k → first ≡ place_of k.sizes (cell.Leaf l) → SetsWord (memory_now now) (cell.Leaf l) place value (memory_of k.sizes (set k.words (first + place) value))) (sym c.self.view_is)
+    at_step _ c.self.view_is c.copied.ensures c.requires.pass c.changed.ensures
+    (subst (λ (k : Kept). IsKept k → first ≡ place_of k.sizes (cell.Leaf l) → SetsWord (memory_now now) (cell.Leaf l) place value (memory_of k.sizes (set k.words (first + place) value))) (sym c.self.view_is)
     (λ i at. puts_word now.sizes now.words (cell.Leaf l) place value first low (omega arith) o.4.place i.0 at)
-    c.self.invariant (c.place_of-first.ensures ∙ ap (λ (a : ℕ). place_of c.self.inside.sizes (cell.Leaf a)) same)
+    c.self.invariant (c.place_of-first.ensures ∙ ap (λ (a : ℕ). place_of c.self.inside.sizes (cell.Leaf a)) same))
 
 pub returns-clause-only : goal.returns-clause-only
 returns-clause-only c = only_turned c.self.view_is c.copied.ensures c.changed.ensures
