@@ -15,7 +15,8 @@ module _ {A : Type 0} (ended : A → Bool) (after : ℕ → A → A → Type 0) 
   abbrev pub NamesNobody : ℕ → List A → Type 0
   NamesNobody p xs = (slice_get xs p ≡ None) ⊎ ((x : A) × (slice_get xs p ≡ Some x) × (ended x ≡ true))
 
-  -- the actor p makes its turn, at most one step of its pass: then the world k is the world l, and the actors xs are ys
+  -- the actor p makes its turn, steps of its pass of which one counts at most: then the world k is the world l, and the actors xs
+  -- are ys
   pub record TakesTurn (p : ℕ) (k : Kept) (xs : List A) (l : Kept) (ys : List A) : Type 0 where
     pub before : A
     pub now : A

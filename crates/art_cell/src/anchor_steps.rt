@@ -113,7 +113,7 @@ pub(crate) fn leaves_of(world: &World) -> u32
     world.sizes.leaves
 }
 
-/// Takes a leaf's number into the hand, if one is free, which is no step.
+/// Takes a leaf's number into the hand, if one is free. This step is not counted.
 pub(crate) fn take_leaf(at: &mut At<'_>) -> Option<Number>
     requires { IsIdle (view_lent at.old) }
     ensures only { OnlyStepped at.old at.new }

@@ -3,10 +3,11 @@ ghost use Rattle.std.specs.Prelude.{◌≡◌, ◌<◌, List, false, true, lengt
 ghost use Rattle.art_cell.specs.declared.views.InHand.{InHand as NumberInHand};
 ghost use Rattle.art_cell.specs.declared.views.Retired.{Retired as RetiredNumber};
 ghost use Rattle.art_cell.specs.FreeNumbers.{HasNoneFree, IsLeastFree};
-ghost use Rattle.art_cell.specs.Lent.{OnlyStepped, lent, only_same, only_then, sizes_lent, view_lent};
+ghost use Rattle.art_cell.specs.Lent.{OnlyStepped, lent, only_same, only_then, pass_of, sizes_lent, view_lent};
 ghost use Rattle.art_cell.specs.Shown.{Freed, Gave, Took, link_of_number};
+ghost use Rattle.art_cell.specs.Sound.{IsSound};
 ghost use Rattle.art_cell.specs.StepRows.{MayFree, MayGive, SetsFree};
-ghost use Rattle.art_cell.specs.WorldWords.{IsAround, memory_now};
+ghost use Rattle.art_cell.specs.WorldWords.{IsAround, memory_now, views_of, word_count};
 
 use crate::{
     At, Cell, Changed, Deed, Held, Locked, Number, Pool, Stamp, Steps, Unlinked, UpgradeFault,
@@ -71,8 +72,18 @@ impl Steps for At<'_> {
 }
 
 impl At<'_> {
+    /// What always holds of the world that is lent.
+    pub fn stays_sound(&self)
+        ensures pass { pass_of self.now < length (lent self.now).views }
+        ensures words { length (lent self.now).words ≡ word_count (sizes_lent self.now) }
+        ensures passes { length (lent self.now).views ≡ (sizes_lent self.now).passes }
+        ensures sound { IsSound (sizes_lent self.now) (memory_now (lent self.now)) (views_of (lent self.now).views) }
+    {
+        self.world.stays_sound();
+    }
+
     /// The least free number of the pool, which comes into the hand of the pass. None where no number of the pool is free.
-    /// This is no step, and nor are the two calls that give numbers back.
+    /// This step is not counted, and nor are those of the two calls that give numbers back.
     pub fn first_free(&mut self, pool: Pool) -> Option<Number>
         ensures only { OnlyStepped self.old self.new }
         ensures memory { IfSome result (λ n. SetsFree (memory_now (lent self.old)) (link_of_number n) false (memory_now (lent self.new))) }

@@ -347,7 +347,7 @@ fn forget<S: Steps>(steps: &mut S, node: Node) -> bool
     }
 }
 
-/// Takes the number of a Node4 into the hand, if one is free, which is no step.
+/// Takes the number of a Node4 into the hand, if one is free. This step is not counted.
 fn take_node(at: &mut At<'_>) -> Option<Number>
     ensures only { OnlyStepped at.old at.new }
     ensures held { (view_lent at.new).held ≡ (view_lent at.old).held }
@@ -438,8 +438,7 @@ fn no_other_pass(at: &At<'_>)
     requires { length (lent at.now).views ≡ 1 }
     ensures { (q : ℕ) → q < (sizes_lent at.now).passes → q ≡ (view_lent at.now).pass }
 {
-    let world = &*at.world;
-    let _sizes = &world.sizes;
+    at.stays_sound();
 }
 
 /// Removes the second row, for which the node goes. Tells the node's version word once it is locked and once it is obsolete.

@@ -8,7 +8,7 @@ ghost use Rattle.art_cell.specs.WorldWords.{OnlyTurned, memory_now, view_at, vie
 
 use crate::{At, World};
 
-/// Who makes at most one step of its pass at each of its turns.
+/// Who makes at most one counted step of its pass at each of its turns. Numbers that it takes and gives back are not counted.
 pub trait Actor {
     ghost use Rattle.std.specs.Prelude.{ℕ, Bool};
     ghost use Rattle.art_cell.specs.declared.views.Sizes.{Sizes};
@@ -22,7 +22,7 @@ pub trait Actor {
     /// So many turns lead from the first to the second; one that has ended stays as it is.
     ghost after: { ℕ → Self → Self → Type 0 };
 
-    /// Makes one step, or none where it only gives up. Says whether it has ended.
+    /// Makes one counted step, or none where it only gives up. Says whether it has ended.
     fn turn(&mut self, at: &mut At<'_>) -> bool
         requires going { has_ended self.old ≡ false }
         requires fits { fits self.old (sizes_lent at.old) (view_lent at.old) }
@@ -44,8 +44,8 @@ pub trait Actor {
 }
 
 impl World {
-    /// Each turn lets the actor that it names make one step; actor i is pass i. A turn that names no actor, or one that has
-    /// ended, does nothing.
+    /// Each turn lets the actor that it names make one counted step; actor i is pass i. A turn that names no actor, or one
+    /// that has ended, does nothing.
     pub fn run<T: Actor>(&mut self, actors: &mut [T], turns: &[u32])
         requires passes { length actors.old ≤ length self.old.views }
         requires fits { (p : ℕ) (a : _) → slice_get actors.old p ≡ Some a → T.fits a self.old.sizes (view_at self.old.views p) }
@@ -94,7 +94,7 @@ impl World {
     {
         let mut at = At { world: self, pass };
         actor.turn(&mut at);
-        let _ = &self.sizes;
+        self.stays_sound();
     }
 
     /// The world, in which the pass makes its steps: it is afterwards as they leave it.

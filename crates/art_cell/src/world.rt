@@ -1,6 +1,7 @@
 //! The words of all cells in one row, with what each pass knows.
 ghost use Rattle.std.specs.Prelude.{◌≡◌, ◌≢◌, ◌<◌, ◌≤◌, ◌*◌, length};
-ghost use Rattle.art_cell.specs.WorldWords.{IsInside, first_place, memory_now};
+ghost use Rattle.art_cell.specs.Sound.{IsSound};
+ghost use Rattle.art_cell.specs.WorldWords.{IsInside, first_place, memory_now, views_of, word_count};
 ghost use Rattle.art_cell.specs.Views.{size_of};
 
 use crate::{Cell, Sizes, View};
@@ -41,6 +42,15 @@ impl Model for World {
 }
 
 impl World {
+    /// What always holds of a world, between any two steps.
+    pub fn stays_sound(&self)
+        ensures words { length self.now.words ≡ word_count self.now.sizes }
+        ensures passes { length self.now.views ≡ self.now.sizes.passes }
+        ensures sound { IsSound self.now.sizes (memory_now self.now) (views_of self.now.views) }
+    {
+        let _ = &self.sizes;
+    }
+
     /// The version word of a cell. A leaf has none, and counts as obsolete.
     pub(crate) fn version(&self, cell: Cell) -> u64
         requires { IsInside self.now.sizes cell }
