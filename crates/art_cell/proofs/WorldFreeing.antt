@@ -137,7 +137,7 @@ module _ (z : Sizes) (ws : List ℕ) (vs : List View) (p : ℕ) (r : IsSound z (
 
     -- a number in limbo is free again
     pub turn_frees : (es : List Retired) → MayFree z v d es → Next z ws vs p us (λ u w. Freed u w d)
-    turn_frees es may = turned z ws vs p r inside long us (λ u w. Freed u w d) (freed v es) record { limbo = es; was = may.was; stays = may.stays; is = refl }
+    turn_frees es may = turned z ws vs p r inside long us (λ u w. Freed u w d) (freed v es) record { limbo = es; rest = may.rest; is = refl }
         (λ g t. Free record { link = d; limbo = es; may = may; sets = sets; view = t })
 
 -- ---- the calls that free a number
