@@ -306,7 +306,7 @@ IsInLimbo v d = (e : Retired) × Member e v.limbo × (e.link ≡ d)
 
 abbrev pub MayRelease : View → Holding → Bool → Type 0
 MayRelease v h obsolete = Member h v.held × (((v.committed ≡ true) × ((obsolete ≡ true) ↔ IsNodeAmong h.cell (IsInLimbo v)))
-    ⊎ ((v.committed ≡ false) × (obsolete ≡ false) × ((k : Holding) → Member k v.held → (k.new ≡ k.old) × ((x : ℕ) × (k.stamped ≡ Some x)))))
+    ⊎ ((v.committed ≡ false) × (obsolete ≡ false) × ((k : Holding) → Member k v.held → k.new ≡ k.old) × HasClaimedNone v))
 
 -- ---- numbers
 
