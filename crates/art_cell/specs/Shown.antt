@@ -166,7 +166,7 @@ pub record Committed (v w : View) (what : What) (us ls : List Link) (h : Holding
 
 -- ---- numbers
 
--- of a leaf with its words
+-- of a leaf with its words, of a node with none
 pub record Took (m : Memory) (v w : View) (d : Link) : Type 0 where
   pub words : List ℕ
   pub copy : IsTaken m d words

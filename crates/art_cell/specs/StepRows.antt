@@ -310,13 +310,13 @@ MayRelease v h obsolete = Member h v.held × (((v.committed ≡ true) × ((obsol
 
 -- ---- numbers
 
--- a number that was free comes into the hand; of a leaf with its words
+-- a number that was free comes into the hand: of a leaf with its words, of a node with none
 abbrev pub took : View → Link → List ℕ → View
 took v d ws = record v { hand = record { link = d; words = ws } ∷ v.hand }
 
 abbrev pub IsTaken : Memory → Link → List ℕ → Type 0
 IsTaken m (leaf l) ws = (length ws ≡ 10) × (m.words (cell.Leaf l) ≡ words_in ws)
-IsTaken m (node n) ws = ⊤
+IsTaken m (node n) ws = ws ≡ []
 
 -- a number in hand that is not held goes back
 pub record MayGive (v : View) (d : Link) (xs : List InHand) : Type 0 where
