@@ -17,7 +17,7 @@ use Rattle.art_cell.specs.Shown.{Freed, Gave, Took}
 use Rattle.art_cell.specs.Sound.{Whereabouts, InHandOf, InLimboOf, Nowhere, IsFree, IsSound}
 use Rattle.art_cell.specs.StepKinds.{Take, Give, Free}
 use Rattle.art_cell.specs.StepRows.{SetsFree, MayFree, MayGive, freed, gave, took}
-use Rattle.art_cell.specs.Views.{Memory, IsNumber, cell_named}
+use Rattle.art_cell.specs.Views.{Memory, IsNumber}
 use Rattle.art_cell.specs.WorldWords.{first_free_word, free_place, bit_of, is_free, word_count, memory_of, Kept, memory_now, views_of, view_at}
 use Rattle.art_cell.proofs.WorldFree.{frees_number, takes_number, free_has_bit, free_found}
 use Rattle.art_cell.proofs.WorldMemory.{words_taken, is_taken, taken_again}

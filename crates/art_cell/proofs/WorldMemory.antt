@@ -13,7 +13,7 @@ use Rattle.art_cell.specs.declared.cells.Link.TheVariants.{Leaf as leaf, Node as
 use Rattle.art_cell.specs.declared.views.Sizes.{Sizes}
 use Rattle.art_cell.specs.Heaps.{Cells}
 use Rattle.art_cell.specs.StepRows.{SetsVersion, SetsWord, IsCopy, IsTaken}
-use Rattle.art_cell.specs.Views.{Memory, size_of, words_in, cell_named}
+use Rattle.art_cell.specs.Views.{Memory, size_of, words_in}
 use Rattle.art_cell.specs.Words.{Words, size}
 use Rattle.art_cell.specs.Children.{number_of}
 use Rattle.art_cell.specs.WorldWords.{pool_size, pool_of, cells_end, free_words, epoch_place, pass_place, word_count, IsInside, is_inside, place_of, first_place}
