@@ -1,5 +1,5 @@
 -- A pass that holds the anchor alone writes its child word, and commits.
-use Rattle.std.proofs.Common.{◌≡◌, ◌≢◌, ℕ, ◌+◌, ◌^◌, ◌<◌, false, List, [], ◌∷◌, ◌++◌, set, Some, None, Option, refl, sym, ap, ap₂, ◌∙◌, subst, subst₂, inl, ⊎_elim, arith, get_or-set_same}
+use Rattle.std.proofs.Common.{◌≡◌, ℕ, ◌+◌, ◌^◌, ◌<◌, false, List, [], ◌∷◌, ◌++◌, set, Some, None, Option, refl, sym, ap, ap₂, ◌∙◌, subst, subst₂, inl, ⊎_elim, arith, get_or-set_same}
 use Rattle.std.specs.List.{cons_option}
 use Rattle.art_cell.specs.declared.cells.Cell.TheVariants as cell
 use Rattle.art_cell.specs.declared.cells.Link.{Link}
@@ -22,7 +22,7 @@ use Rattle.art_cell.specs.Heaps.{Cells, heap_of}
 use Rattle.art_cell.specs.Leaves.{leaf_word}
 use Rattle.art_cell.specs.NodeLives.{anchor_held}
 use Rattle.art_cell.specs.Shown.{Committed, Freed, IsHolding, Wrote, claimed_nodes, coming, link_of_number, links_of}
-use Rattle.art_cell.specs.StepRows.{AllNew, Commits, IsInLimbo, Knows, MayBeFirst, MayCommit, MayFree, MayWrite, note_of, all_retired, retired, stamp_of}
+use Rattle.art_cell.specs.StepRows.{AllNew, Commits, IsInLimbo, Knows, LetsGo, MayBeFirst, MayCommit, MayFree, MayWrite, note_of, all_retired, retired, stamp_of}
 use Rattle.art_cell.specs.Tree.{Top}
 use Rattle.art_cell.specs.Views.{Member}
 use Rattle.art_cell.specs.Visits.{HasNone, IsAway, IsIdle, HoldsAnchor, HoldsWord, ChangesWord, Fills, NotesLeaf}
@@ -208,10 +208,10 @@ one_link word l small e = ap (λ (o : Option Link). cons_option o []) (ap link_o
 -- ---- and it goes back, since no stamp is a leaf's
 
 -- the list without the number
-pub without_link : (d : Link) (es : List Retired) → (ks : List Retired) × ((e : Retired) → Member e ks → Member e es × (e.link ≢ d)) × ((e : Retired) → Member e es → e.link ≢ d → Member e ks)
+pub without_link : (d : Link) (es : List Retired) → (ks : List Retired) × LetsGo es d ks
 without_link d es =
     let rest = left_over (λ (e : Retired). e.link ≡ d) es (λ e. same_link e.link d) in
-    (rest.0, λ e i. (rest.1 e).0 i, λ e i other. (rest.1 e).1 (i, other))
+    (rest.0, record { was = λ e. (rest.1 e).0; stays = λ e i other. (rest.1 e).1 (i, other) })
 
 pub may_give_back : (z : Sizes) (v : View) (d : Link) (l : ℕ) → d ≡ leaf l → IsInLimbo v (leaf l) → (es : List Retired) × MayFree z v d es
 may_give_back z v d l is limbo =
@@ -222,8 +222,7 @@ may_give_back z v d l is limbo =
         free = λ n e. absurd (cc);
         unstamped = λ n e. absurd (cc);
         marked = λ n e q is. absurd (cc);
-        was = rest.1;
-        stays = rest.2;
+        rest = rest.1;
       }),
     )
 

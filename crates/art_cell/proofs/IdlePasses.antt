@@ -94,8 +94,8 @@ may_let_go w h holds =
         inr (
           k.early,
           refl,
-          (λ y i. let e = k.just.only y i in
-              (ap (λ (z : Holding). z.new) e ∙ sym (ap (λ (z : Holding). z.old) e), (x, ap (λ (z : Holding). z.stamped) e))),
+          λ y i. let e = k.just.only y i in ap (λ (z : Holding). z.new) e ∙ sym (ap (λ (z : Holding). z.old) e),
+          λ y i. (x, ap (λ (z : Holding). z.stamped) (k.just.only y i)),
         ),
       ),
     )

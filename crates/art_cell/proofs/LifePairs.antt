@@ -338,15 +338,14 @@ may_free_node z v d n alone none free is limbo =
         free = λ m e h i. absurd (subst (Member h) free i);
         unstamped = λ m e stamped. subst (Member stamped.0) none stamped.1;
         marked = λ m e q at i link low other. absurd (other (alone q low));
-        was = rest.1;
-        stays = rest.2;
+        rest = rest.1;
       }),
     )
 
 -- the others stay in limbo
 pub stays_in_limbo : (v w : View) (d c : Link) → c ≢ d → IsInLimbo v c → Freed v w d → IsInLimbo w c
 stays_in_limbo v w d c other limbo f =
-    subst (λ (u : View). IsInLimbo u c) (sym f.is) (limbo.0, f.stays limbo.0 limbo.1 (λ e. other (sym limbo.2 ∙ e)), limbo.2)
+    subst (λ (u : View). IsInLimbo u c) (sym f.is) (limbo.0, f.rest.stays limbo.0 limbo.1 (λ e. other (sym limbo.2 ∙ e)), limbo.2)
 
 pub idle_by : (u v : View) → u.pin ≢ 0 → v.pin ≡ u.pin → v.held ≡ [] → HasNone v.hand → IsIdle v
 idle_by u v pinned same free none = record {

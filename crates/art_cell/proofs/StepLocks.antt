@@ -16,7 +16,7 @@ use Rattle.art_cell.specs.Heaps.{Cells}
 use Rattle.art_cell.specs.Knowledge.{Holds}
 use Rattle.art_cell.specs.Sound.{Keeps, HoldsEach, OneHolder, Holder, IsStampOf, Vouched, Whereabouts, InTree, InHandOf, InLimboOf, HeldAt, Accounts, WordsFormed, IsSound}
 use Rattle.art_cell.specs.StepLaws.{UpgradeLaw, ClaimLaw, UnclaimedLaw, ReleaseLaw}
-use Rattle.art_cell.specs.StepRows.{SetsVersion, IsNotHeld, MayLock, IsCopy, found_version, MayClaim, released_word, IsNodeAmong, IsInLimbo, MayRelease}
+use Rattle.art_cell.specs.StepRows.{SetsVersion, IsNotHeld, MayLock, IsCopy, found_version, MayClaim, released_word, IsNodeAmong, IsInLimbo, HasClaimedNone, MayRelease}
 use Rattle.art_cell.specs.Views.{Member, Memory, words_in, IsClear, IsLocked, IsObsolete, last_counter, IsVersion, cell_named, Views, Turned}
 use Rattle.art_cell.proofs.Places.{same_cell}
 use Rattle.art_cell.proofs.Histories.{history_stays}
@@ -399,7 +399,7 @@ module _ (z : Sizes) (m : Memory) (f : Views) (p : ℕ) (v : View) (is : f p ≡
   Late = (v.committed ≡ true) × ((obsolete ≡ true) ↔ IsNodeAmong h.cell (IsInLimbo v))
 
   abbrev Early : Type 0
-  Early = (v.committed ≡ false) × (obsolete ≡ false) × ((k : Holding) → Member k v.held → (k.new ≡ k.old) × ((x : ℕ) × (k.stamped ≡ Some x)))
+  Early = (v.committed ≡ false) × (obsolete ≡ false) × ((k : Holding) → Member k v.held → k.new ≡ k.old) × HasClaimedNone v
 
   keeps : Keeps m r.logical v.committed h
   keeps = (r.holder.holds p v is).keeps h may.0
@@ -416,7 +416,7 @@ module _ (z : Sizes) (m : Memory) (f : Views) (p : ℕ) (v : View) (is : f p ≡
       same : (if v.committed then h.new else h.old) ≡ h.new
       same = ⊎_elim
           (λ (a : Late). ap (λ (b : Bool). if b then h.new else h.old) a.0)
-          (λ (a : Early). ap (λ (b : Bool). if b then h.new else h.old) a.0 ∙ sym (a.2 h may.0).0) may.1
+          (λ (a : Early). ap (λ (b : Bool). if b then h.new else h.old) a.0 ∙ sym (a.2 h may.0)) may.1
 
   upgraded_before : obsolete ≡ true → (x : ℕ) × (h.stamped ≡ Some x)
   upgraded_before e = ⊎_elim
@@ -425,7 +425,7 @@ module _ (z : Sizes) (m : Memory) (f : Views) (p : ℕ) (v : View) (is : f p ≡
       let at : r.at (node b.0) ≡ InLimboOf p = ap r.at (sym b.2.2) ∙ accounts.limbo b.2.0 b.2.1 in
       was_upgraded p v.committed h.stamped (r.at (node b.0)) (accounts.held h b.0 may.0 b.1)
       (λ late e. let i : InTree ≡ InLimboOf p = sym e ∙ at in cc) (λ early e. let i : InHandOf p ≡ InLimboOf p = sym e ∙ at in cc))
-      (λ (a : Early). (a.2 h may.0).1) may.1
+      (λ (a : Early). a.3 h may.0) may.1
 
   clear_in_tree : (d : Link) → h.cell ≡ cell_named d → IsClear (released_word (m.version h.cell) obsolete) → r.at d ≡ InTree
   clear_in_tree (leaf l) same clear = absurd (is_no_leaf l same)
@@ -437,7 +437,7 @@ module _ (z : Sizes) (m : Memory) (f : Views) (p : ℕ) (v : View) (is : f p ≡
       (λ (a : Early). let i : true ≡ false = sym late ∙ a.0 in cc) may.1)
       (λ early. ⊎_elim
       (λ (a : Late). let i : true ≡ false = sym a.0 ∙ early in absurd (cc))
-      (λ (a : Early). (a.2 h may.0).1) may.1)
+      (λ (a : Early). a.3 h may.0) may.1)
 
 -- after the commit, or of a change that is given up, a cell is no longer held
 pub release_law : ReleaseLaw

@@ -316,7 +316,7 @@ give_law z p v m f m' g is r row =
 -- a number in limbo that is not held, that the pass has in no stamp, and whose place is marked for every other pass, goes back
 pub free_law : FreeLaw
 free_law z p v m f m' g is r row =
-    number_moves z m m' f g p v is r row.link (InLimboOf p) IsFree true v.hand row.limbo was refl tt (λ e. refl, λ e. refl) row.sets row.view account unstamped (λ e i. (row.may.was e i).0)
+    number_moves z m m' f g p v is r row.link (InLimboOf p) IsFree true v.hand row.limbo was refl tt (λ e. refl, λ e. refl) row.sets row.view account unstamped (λ e i. (row.may.rest.was e i).0)
   where
     mine : Accounts m r.at p v
     mine = r.numbers.accounts p v is
@@ -339,10 +339,10 @@ free_law z p v m f m' g is r row =
       hand = λ y i. put_after r.at row.link (InLimboOf p) IsFree (InHandOf p) was (λ e. cc) y.link (mine.hand y i);
       in_hand = λ e i. mine.in_hand e (put_before r.at row.link IsFree (InHandOf p) (λ e. cc) e i).1;
       leaves = mine.leaves;
-      limbo = λ e i. let k = row.may.was e i in put_else r.at row.link IsFree e.link k.1 ∙ mine.limbo e k.0;
+      limbo = λ e i. let k = row.may.rest.was e i in put_else r.at row.link IsFree e.link k.1 ∙ mine.limbo e k.0;
       in_limbo = λ e i.
           let o = put_before r.at row.link IsFree (InLimboOf p) (λ e. cc) e i in
           let k = mine.in_limbo e o.1 in
-          (k.0, row.may.stays k.0 k.1 (λ same. o.0 (sym k.2 ∙ same)), k.2);
+          (k.0, row.may.rest.stays k.0 k.1 (λ same. o.0 (sym k.2 ∙ same)), k.2);
       held = λ h n i cell. held_stays r.at row.link IsFree p v.committed h n (λ e. row.may.free n (sym e) h i cell) (mine.held h n i cell);
     }

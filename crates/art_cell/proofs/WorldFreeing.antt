@@ -17,10 +17,10 @@ use Rattle.art_cell.specs.Shown.{Freed, Gave, Took}
 use Rattle.art_cell.specs.Sound.{Whereabouts, InHandOf, InLimboOf, Nowhere, IsFree, IsSound}
 use Rattle.art_cell.specs.StepKinds.{Take, Give, Free}
 use Rattle.art_cell.specs.StepRows.{SetsFree, MayFree, MayGive, freed, gave, took}
-use Rattle.art_cell.specs.Views.{Memory, IsNumber, cell_named}
+use Rattle.art_cell.specs.Views.{Memory, IsNumber}
 use Rattle.art_cell.specs.WorldWords.{first_free_word, free_place, bit_of, is_free, word_count, memory_of, Kept, memory_now, views_of, view_at}
 use Rattle.art_cell.proofs.WorldFree.{frees_number, takes_number, free_has_bit, free_found}
-use Rattle.art_cell.proofs.WorldMemory.{copy_of, is_taken, taken_again}
+use Rattle.art_cell.proofs.WorldMemory.{words_taken, is_taken, taken_again}
 use Rattle.art_cell.proofs.WorldPlaces.{HasBit, has_bit, free_below}
 use Rattle.art_cell.proofs.WorldTurns.{IsKept, Next, turned}
 use Rattle.art_cell.proofs.WorldViews.{at_view}
@@ -123,7 +123,7 @@ module _ (z : Sizes) (ws : List ℕ) (vs : List View) (p : ℕ) (r : IsSound z (
     -- a free number comes into the hand
     pub turn_takes : is_free z ws d ≡ true → Next z ws vs p (slice_set ws place (found - bit)) (λ u w. Took (memory_of z (slice_set ws place (found - bit))) u w d)
     turn_takes free =
-        let words : List ℕ = copy_of z ws (cell_named d) in
+        let words : List ℕ = words_taken z ws d in
         let us : List ℕ = slice_set ws place (found - bit) in
         let sets = takes_bit z ws long d place found bit word free in
         turned z ws vs p r inside long us (λ u w. Took (memory_of z us) u w d) (took v d words) record { words = words; copy = taken_again (memory_of z ws) (memory_of z us) d words sets.words (is_taken z ws d); is = refl }
@@ -137,7 +137,7 @@ module _ (z : Sizes) (ws : List ℕ) (vs : List View) (p : ℕ) (r : IsSound z (
 
     -- a number in limbo is free again
     pub turn_frees : (es : List Retired) → MayFree z v d es → Next z ws vs p us (λ u w. Freed u w d)
-    turn_frees es may = turned z ws vs p r inside long us (λ u w. Freed u w d) (freed v es) record { limbo = es; was = may.was; stays = may.stays; is = refl }
+    turn_frees es may = turned z ws vs p r inside long us (λ u w. Freed u w d) (freed v es) record { limbo = es; rest = may.rest; is = refl }
         (λ g t. Free record { link = d; limbo = es; may = may; sets = sets; view = t })
 
 -- ---- the calls that free a number

@@ -1,5 +1,5 @@
 -- What a world's words mean where one of them changes: the words of cells and of version words.
-use Rattle.std.proofs.Common.{◌≡◌, ◌≢◌, ℕ, ◌+◌, ◌*◌, ◌%◌, ◌<◌, ◌≤◌, ◌==◌, Bool, true, false, if◌then◌else◌, List, length, map, get_or, set, nat_lt, sym, refl, ap, ap₂, ◌∙◌, subst, ⊎_elim}
+use Rattle.std.proofs.Common.{◌≡◌, ◌≢◌, ℕ, ◌+◌, ◌*◌, ◌%◌, ◌<◌, ◌≤◌, ◌==◌, Bool, true, false, if◌then◌else◌, List, [], length, map, get_or, set, nat_lt, sym, refl, ap, ap₂, ◌∙◌, subst, ⊎_elim}
 use Rattle.std.proofs.Common.{arith, get_or-set_same, get_or-set_other, lt-ltb, le-ltb, ltb-true, ltb-false}
 use Rattle.std.specs.List.{range_with_len}
 use Rattle.std.proofs.lemmas.Bool.{cases_lt, cond-true, cond-false, cond_both}
@@ -13,7 +13,7 @@ use Rattle.art_cell.specs.declared.cells.Link.TheVariants.{Leaf as leaf, Node as
 use Rattle.art_cell.specs.declared.views.Sizes.{Sizes}
 use Rattle.art_cell.specs.Heaps.{Cells}
 use Rattle.art_cell.specs.StepRows.{SetsVersion, SetsWord, IsCopy, IsTaken}
-use Rattle.art_cell.specs.Views.{Memory, size_of, words_in, cell_named}
+use Rattle.art_cell.specs.Views.{Memory, size_of, words_in}
 use Rattle.art_cell.specs.Words.{Words, size}
 use Rattle.art_cell.specs.Children.{number_of}
 use Rattle.art_cell.specs.WorldWords.{pool_size, pool_of, cells_end, free_words, epoch_place, pass_place, word_count, IsInside, is_inside, place_of, first_place}
@@ -202,12 +202,18 @@ no_version z ws c plain = cond_both (is_inside z c) _ 0 (λ (word : ℕ). word �
 pub copy_version : (z : Sizes) (ws : List ℕ) (c : Cell) → IsNoLeaf c → words_in (copy_of z ws c) 0 ≡ 0
 copy_version z ws c plain = ap (λ (w : Words). w 0) (sym (is_copy z ws c).words) ∙ no_version z ws c plain
 
--- a number may be taken with the words of its cell
-pub is_taken : (z : Sizes) (ws : List ℕ) (d : Link) → IsTaken (memory_of z ws) d (copy_of z ws (cell_named d))
+-- the words that come into the hand with a number
+pub words_taken : Sizes → List ℕ → Link → List ℕ
+words_taken z ws (leaf l) = copy_of z ws (cell.Leaf l)
+words_taken z ws (node n) = []
+
+-- a number may be taken with them
+pub is_taken : (z : Sizes) (ws : List ℕ) (d : Link) → IsTaken (memory_of z ws) d (words_taken z ws d)
+unfolding words_taken
 is_taken z ws (leaf l) = let copy = is_copy z ws (cell.Leaf l) in (copy.long, copy.words)
-is_taken z ws (node n) = tt
+is_taken z ws (node n) = refl
 
 -- as long as no cell's words change
 pub taken_again : (m m' : Memory) (d : Link) (ws : List ℕ) → m'.words ≡ m.words → IsTaken m d ws → IsTaken m' d ws
 taken_again m m' (leaf l) ws same copy = (copy.0, ap (λ (s : Cells). s (cell.Leaf l)) same ∙ copy.1)
-taken_again m m' (node n) ws same copy = tt
+taken_again m m' (node n) ws same none = none

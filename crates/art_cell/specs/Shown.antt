@@ -25,7 +25,7 @@ use Rattle.art_cell.specs.Children.{link_of, link_in_pool}
 use Rattle.art_cell.specs.Heaps.{Cells}
 use Rattle.art_cell.specs.Histories.{event, IsLegal, places}
 use Rattle.art_cell.specs.Knowledge.{IsShape, HoldsAll, Leads}
-use Rattle.art_cell.specs.StepRows.{note_of, passed, Without, failed, upgraded, claimed, Puts, with_word, writing, with_leaf_word, handing, all_retired, Drops, HandsOver, MayRead, MayReadLeaf, IsTaken, took, gave, freed}
+use Rattle.art_cell.specs.StepRows.{note_of, passed, Without, failed, upgraded, claimed, Puts, with_word, writing, with_leaf_word, handing, all_retired, Drops, HandsOver, LetsGo, MayRead, MayReadLeaf, IsTaken, took, gave, freed}
 use Rattle.art_cell.specs.Views.{Member, Memory, size_of, words_in, last_counter}
 
 -- ---- events
@@ -166,7 +166,7 @@ pub record Committed (v w : View) (what : What) (us ls : List Link) (h : Holding
 
 -- ---- numbers
 
--- of a leaf with its words
+-- of a leaf with its words, of a node with none
 pub record Took (m : Memory) (v w : View) (d : Link) : Type 0 where
   pub words : List ℕ
   pub copy : IsTaken m d words
@@ -177,9 +177,7 @@ pub record Gave (v w : View) (d : Link) : Type 0 where
   pub rest : HandsOver v.hand (d ∷ []) hand
   pub is : w ≡ gave v hand
 
--- the limbo is without the number
 pub record Freed (v w : View) (d : Link) : Type 0 where
   pub limbo : List Retired
-  pub was : (e : Retired) → Member e limbo → Member e v.limbo × (e.link ≢ d)
-  pub stays : (e : Retired) → Member e v.limbo → e.link ≢ d → Member e limbo
+  pub rest : LetsGo v.limbo d limbo
   pub is : w ≡ freed v limbo

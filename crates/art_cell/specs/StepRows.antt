@@ -306,17 +306,17 @@ IsInLimbo v d = (e : Retired) × Member e v.limbo × (e.link ≡ d)
 
 abbrev pub MayRelease : View → Holding → Bool → Type 0
 MayRelease v h obsolete = Member h v.held × (((v.committed ≡ true) × ((obsolete ≡ true) ↔ IsNodeAmong h.cell (IsInLimbo v)))
-    ⊎ ((v.committed ≡ false) × (obsolete ≡ false) × ((k : Holding) → Member k v.held → (k.new ≡ k.old) × ((x : ℕ) × (k.stamped ≡ Some x)))))
+    ⊎ ((v.committed ≡ false) × (obsolete ≡ false) × ((k : Holding) → Member k v.held → k.new ≡ k.old) × HasClaimedNone v))
 
 -- ---- numbers
 
--- a number that was free comes into the hand; of a leaf with its words
+-- a number that was free comes into the hand: of a leaf with its words, of a node with none
 abbrev pub took : View → Link → List ℕ → View
 took v d ws = record v { hand = record { link = d; words = ws } ∷ v.hand }
 
 abbrev pub IsTaken : Memory → Link → List ℕ → Type 0
 IsTaken m (leaf l) ws = (length ws ≡ 10) × (m.words (cell.Leaf l) ≡ words_in ws)
-IsTaken m (node n) ws = ⊤
+IsTaken m (node n) ws = ws ≡ []
 
 -- a number in hand that is not held goes back
 pub record MayGive (v : View) (d : Link) (xs : List InHand) : Type 0 where
@@ -327,6 +327,11 @@ pub record MayGive (v : View) (d : Link) (xs : List InHand) : Type 0 where
 abbrev pub gave : View → List InHand → View
 gave v xs = record v { hand = xs }
 
+-- the limbo without the number
+pub record LetsGo (es : List Retired) (d : Link) (es' : List Retired) : Type 0 where
+  pub was : (e : Retired) → Member e es' → Member e es × (e.link ≢ d)
+  pub stays : (e : Retired) → Member e es → e.link ≢ d → Member e es'
+
 -- a number in limbo that is not held goes back; a node's only where the pass has no stamp of it and its place is marked for
 -- every other pass
 pub record MayFree (z : Sizes) (v : View) (d : Link) (es : List Retired) : Type 0 where
@@ -334,8 +339,7 @@ pub record MayFree (z : Sizes) (v : View) (d : Link) (es : List Retired) : Type 
   pub free : (n : Node) → d ≡ node n → IsNotHeld v.held (cell.Node n)
   pub unstamped : (n : Node) → d ≡ node n → IsStamped v n → ⊥
   pub marked : (n : Node) (e : Retired) (q : ℕ) → d ≡ node n → Member e v.limbo → e.link ≡ d → q < z.passes → q ≢ v.pass → Member q e.marked
-  pub was : (e : Retired) → Member e es → Member e v.limbo × (e.link ≢ d)
-  pub stays : (e : Retired) → Member e v.limbo → e.link ≢ d → Member e es
+  pub rest : LetsGo v.limbo d es
 
 abbrev pub freed : View → List Retired → View
 freed v es = record v { limbo = es }

@@ -18,16 +18,16 @@ use Rattle.art_cell.specs.Instants.{AtSome, Instant}
 use Rattle.art_cell.specs.Sound.{IsSound}
 use Rattle.art_cell.specs.StepKinds.{OneStep}
 use Rattle.art_cell.specs.StepLaws.{newcomer}
-use Rattle.art_cell.specs.Views.{Memory, Views, size_of, IsNumber}
+use Rattle.art_cell.specs.Views.{Memory, Views, size_of, nodes_of, IsNumber}
 use Rattle.art_cell.specs.Words.{size}
 
 -- how many numbers a pool has
 abbrev pub pool_size : Sizes → Pool → ℕ
 pool_size z Leaves = z.leaves
-pool_size z N4 = z.n4
-pool_size z N16 = z.n16
-pool_size z N48 = z.n48
-pool_size z N256 = z.n256
+pool_size z N4 = nodes_of z Node4
+pool_size z N16 = nodes_of z Node16
+pool_size z N48 = nodes_of z Node48
+pool_size z N256 = nodes_of z Node256
 
 abbrev pub pool_of_layout : Layout → Pool
 pool_of_layout Node4 = N4

@@ -69,7 +69,7 @@ pub struct Holding {
     pub new: LinkedList<u64>,
 }
 
-/// A number in hand, and the words of a leaf.
+/// A number in hand, and the words of a leaf, or none of a node.
 pub struct InHand {
     pub link: Link,
     pub words: LinkedList<u64>,
