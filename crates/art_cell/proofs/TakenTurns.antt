@@ -7,7 +7,7 @@ use Rattle.std.specs.List.{slice_get}
 use Rattle.art_cell.specs.declared.views.Sizes.{Sizes}
 use Rattle.art_cell.specs.declared.views.View.{View}
 use Rattle.art_cell.specs.Turns.{IsRun, IsTurn, NamesNobody, TakesTurn}
-use Rattle.art_cell.specs.WorldWords.{Kept, OnlyTurned, view_at}
+use Rattle.art_cell.specs.WorldWords.{Kept, OnlyStepsOf, view_at}
 
 -- ---- an actor in its place
 
@@ -26,7 +26,7 @@ placed_there {A} xs p q x other =
     (cases_lt q (length xs))
 
 -- what each actor knows of its pass's view holds on, where one has made its turn
-pub fits_on : {A : Type 0} (Fits : A → Sizes → View → Type 0) (k l : Kept) (xs : List A) (p : ℕ) (x : A) → p < length xs → OnlyTurned k l p → Fits x l.sizes (view_at l.views p)
+pub fits_on : {A : Type 0} (Fits : A → Sizes → View → Type 0) (k l : Kept) (xs : List A) (p : ℕ) (x : A) → p < length xs → OnlyStepsOf k l p → Fits x l.sizes (view_at l.views p)
     → ((q : ℕ) (a : A) → slice_get xs q ≡ Some a → Fits a k.sizes (view_at k.views q)) → (q : ℕ) (a : A) → slice_get (set xs p x) q ≡ Some a → Fits a l.sizes (view_at l.views q)
 fits_on {A} Fits k l xs p x inside only mine all q a is =
     ⊎_elim

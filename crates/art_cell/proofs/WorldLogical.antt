@@ -14,7 +14,7 @@ use Rattle.art_cell.specs.Shown.{IsHolding, Committed, coming}
 use Rattle.art_cell.specs.Sound.{Keeps, Holder, OneHolder}
 use Rattle.art_cell.specs.StepRows.{SetsVersion, IsNotHeld, AllNew, Drops, RetiresPinned, released_word}
 use Rattle.art_cell.specs.Views.{Member, Memory, words_in, IsLocked, Views, Turned}
-use Rattle.art_cell.specs.WorldWords.{Kept, memory_now, memory_of, views_of, view_at, Turns}
+use Rattle.art_cell.specs.WorldWords.{Kept, memory_now, memory_of, views_of, view_at, StepBy}
 use Rattle.art_cell.proofs.Places.{same_cell}
 use Rattle.art_cell.proofs.Facts.{holds_all}
 use Rattle.art_cell.proofs.Turns.{one_view}
@@ -85,7 +85,7 @@ module _ (m m' : Memory) (f g : Views) (p : ℕ) (v w : View) (h₀ : Holding) (
 -- what a commit of the pass does to a world, of which k is what its code finds
 pub unlocks_first : {k now : Kept} {p : ℕ} {c : Cell} {before ws : List ℕ} {what : What} {us : List Link} {new : List View} (obsolete : Bool) (leaf : Option Link) (h : Holding) → k ≡ now → IsKept k → p < length now.views → h.cell ≡ c
     → Member h (view_at now.views p).held → Unlocks c obsolete (memory_now now) (views_of now.views) (memory_of k.sizes ws) (views_of new)
-    → Turns k.sizes before ws p (λ v w. (h : Holding) → IsHolding v c h → Committed v w what us (coming v leaf) h × RetiresPinned (views_of k.views) v w) k.views new
+    → StepBy k.sizes before ws p (λ v w. (h : Holding) → IsHolding v c h → Committed v w what us (coming v leaf) h × RetiresPinned (views_of k.views) v w) k.views new
     → UnlocksFirst (view_at now.views p) c obsolete (memory_now now) (views_of now.views) (memory_of k.sizes ws) (views_of new)
 unlocks_first {k} {now} {p} {c} {before} {ws} {what} {us} {new} obsolete leaf h same kept inside of held sets turns =
     let v : View = view_at now.views p in

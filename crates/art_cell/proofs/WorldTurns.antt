@@ -27,7 +27,7 @@ use Rattle.art_cell.specs.StepRows.{begun, has_read, passed, telling, failed, up
 use Rattle.art_cell.specs.Tree.{At, IsTree}
 use Rattle.art_cell.specs.Views.{Member, Memory, size_of, Views, Turned}
 use Rattle.art_cell.specs.Words.{Words}
-use Rattle.art_cell.specs.WorldWords.{word_count, IsInside, place_of, first_place, memory_of, views_of, view_at, Kept, memory_now, Turns}
+use Rattle.art_cell.specs.WorldWords.{word_count, IsInside, place_of, first_place, memory_of, views_of, view_at, Kept, memory_now, StepBy}
 use Rattle.art_cell.proofs.AnyStep.{kind_sound}
 use Rattle.art_cell.proofs.Kept.{one_entry}
 use Rattle.art_cell.proofs.Facts.{holds_all}
@@ -146,7 +146,7 @@ IsKept k = (length k.words ≡ word_count k.sizes) × (length k.views ≡ k.size
 
 -- after a step of the pass by the row, which leaves the words us
 abbrev pub Next : Sizes → List ℕ → List View → ℕ → List ℕ → (View → View → Type 0) → Type 0
-Next z ws vs p us Row = (new : List View) × Turns z ws us p Row vs new
+Next z ws vs p us Row = (new : List View) × StepBy z ws us p Row vs new
 
 module _ (z : Sizes) (ws : List ℕ) (vs : List View) (p : ℕ) (r : IsSound z (memory_of z ws) (views_of vs)) (inside : p < length vs) (long : length ws ≡ word_count z) where
   abbrev m : Memory

@@ -3,10 +3,9 @@ use Rattle.std.proofs.Common.{◌≡◌, ◌≢◌, ℕ, zero, suc, ◌+◌, ◌
 use Rattle.std.proofs.lemmas.Option.{same_Some, slice_get-get_or}
 use Rattle.art_cell.specs.declared.views.View.{View}
 use Rattle.art_cell.specs.Instants.{Instant}
-use Rattle.art_cell.specs.StepKinds.{AtStep}
 use Rattle.art_cell.specs.StepLaws.{newcomer}
 use Rattle.art_cell.specs.Views.{Turned}
-use Rattle.art_cell.specs.WorldWords.{IsAround, Kept, OnlyTurned, Turns, memory_now, memory_of, views_of, view_at, newcomers}
+use Rattle.art_cell.specs.WorldWords.{Kept, MakesStep, OnlyStepsOf, StepBy, memory_now, memory_of, views_of, view_at, newcomers}
 
 -- the view of each pass that there is
 pub at_view : (vs : List View) (p : ℕ) → p < length vs → views_of vs p ≡ Some (view_at vs p)
@@ -41,7 +40,7 @@ turned_view vs p w low = record {
 }
 
 -- the pass made one step, and nothing else happened
-only_by : (Row : View → View → Type 0) (k : Kept) (us : List ℕ) (p : ℕ) (new : List View) → Turns k.sizes k.words us p Row k.views new → OnlyTurned k (record { sizes = k.sizes; words = us; views = new }) p
+only_by : (Row : View → View → Type 0) (k : Kept) (us : List ℕ) (p : ℕ) (new : List View) → StepBy k.sizes k.words us p Row k.views new → OnlyStepsOf k (record { sizes = k.sizes; words = us; views = new }) p
 only_by Row k us p new t = record {
   sizes = refl;
   count = ap (λ (vs : List View). length vs) t.set ∙ length_set_view k.views p t.view;
@@ -50,13 +49,13 @@ only_by Row k us p new t = record {
 }
 
 -- of the world as it is now, seen as k
-pub only_turned : {Row : View → View → Type 0} {k now : Kept} {before us : List ℕ} {p : ℕ} {new : List View} → k ≡ now → before ≡ k.words → Turns k.sizes before us p Row k.views new
-    → OnlyTurned now (record { sizes = k.sizes; words = us; views = new }) p
-only_turned {Row} {k} {now} {before} {us} {p} {new} seen same t =
-    subst (λ (j : Kept). OnlyTurned j (record { sizes = k.sizes; words = us; views = new }) p) seen (only_by Row k us p new (subst (λ (ws : List ℕ). Turns k.sizes ws us p Row k.views new) same t))
+pub only_steps_of : {Row : View → View → Type 0} {k now : Kept} {before us : List ℕ} {p : ℕ} {new : List View} → k ≡ now → before ≡ k.words → StepBy k.sizes before us p Row k.views new
+    → OnlyStepsOf now (record { sizes = k.sizes; words = us; views = new }) p
+only_steps_of {Row} {k} {now} {before} {us} {p} {new} seen same t =
+    subst (λ (j : Kept). OnlyStepsOf j (record { sizes = k.sizes; words = us; views = new }) p) seen (only_by Row k us p new (subst (λ (ws : List ℕ). StepBy k.sizes ws us p Row k.views new) same t))
 
-at_step_by : (Row : View → View → Type 0) (I : Instant) (k : Kept) (us : List ℕ) (p : ℕ) (new : List View) → p < length k.views → Turns k.sizes k.words us p Row k.views new → I (memory_now k) (views_of k.views) (memory_of k.sizes us) (views_of new)
-    → AtStep k.sizes (view_at k.views p) (view_at new p) (IsAround k (record { sizes = k.sizes; words = us; views = new })) I
+at_step_by : (Row : View → View → Type 0) (I : Instant) (k : Kept) (us : List ℕ) (p : ℕ) (new : List View) → p < length k.views → StepBy k.sizes k.words us p Row k.views new → I (memory_now k) (views_of k.views) (memory_of k.sizes us) (views_of new)
+    → MakesStep p k (record { sizes = k.sizes; words = us; views = new }) I
 at_step_by Row I k us p new inside t so = record {
   words = memory_now k;
   views = views_of k.views;
@@ -71,13 +70,13 @@ at_step_by Row I k us p new inside t so = record {
 }
 
 -- at the instant of the step it was so
-pub at_step : {Row : View → View → Type 0} (I : Instant) {k now : Kept} {before us : List ℕ} {p : ℕ} {new : List View} → k ≡ now → before ≡ k.words → p < length now.views → Turns k.sizes before us p Row k.views new
+pub at_step : {Row : View → View → Type 0} (I : Instant) {k now : Kept} {before us : List ℕ} {p : ℕ} {new : List View} → k ≡ now → before ≡ k.words → p < length now.views → StepBy k.sizes before us p Row k.views new
     → I (memory_now now) (views_of now.views) (memory_of k.sizes us) (views_of new)
-    → AtStep now.sizes (view_at now.views p) (view_at new p) (IsAround now (record { sizes = k.sizes; words = us; views = new })) I
+    → MakesStep p now (record { sizes = k.sizes; words = us; views = new }) I
 at_step {Row} I {k} {now} {before} {us} {p} {new} seen same inside t so =
     let l : Kept = record { sizes = k.sizes; words = us; views = new } in
-    subst (λ (j : Kept). p < length j.views → I (memory_now j) (views_of j.views) (memory_of k.sizes us) (views_of new) → AtStep j.sizes (view_at j.views p) (view_at new p) (IsAround j l) I) seen
-    (λ inside so. at_step_by Row I k us p new inside (subst (λ (ws : List ℕ). Turns k.sizes ws us p Row k.views new) same t) so)
+    subst (λ (j : Kept). p < length j.views → I (memory_now j) (views_of j.views) (memory_of k.sizes us) (views_of new) → MakesStep p j l I) seen
+    (λ inside so. at_step_by Row I k us p new inside (subst (λ (ws : List ℕ). StepBy k.sizes ws us p Row k.views new) same t) so)
     inside so
 
 -- ---- passes that know nothing

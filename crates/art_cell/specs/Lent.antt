@@ -4,7 +4,7 @@ use Rattle.std.proofs.Common.{◌∙◌}
 use Rattle.art_cell.specs.declared.world.At.{At}
 use Rattle.art_cell.specs.declared.views.Sizes.{Sizes}
 use Rattle.art_cell.specs.declared.views.View.{View}
-use Rattle.art_cell.specs.WorldWords.{Kept, OnlyTurned, only_same_turned, only_turned_then, view_at}
+use Rattle.art_cell.specs.WorldWords.{Kept, OnlyStepsOf, only_no_steps, only_steps_then, view_at}
 
 -- the borrow of the world
 abbrev pub lender : At → ℕ
@@ -29,10 +29,10 @@ view_lent a = view_at (lent a).views (pass_of a)
 pub record OnlyStepped (a b : At) : Type 0 where
   pub lender : lender b ≡ lender a
   pub pass : pass_of b ≡ pass_of a
-  pub turned : OnlyTurned (lent a) (lent b) (pass_of a)
+  pub steps : OnlyStepsOf (lent a) (lent b) (pass_of a)
 
 pub only_same : (a : At) → OnlyStepped a a
-only_same a = record { lender = refl; pass = refl; turned = only_same_turned (lent a) (pass_of a) }
+only_same a = record { lender = refl; pass = refl; steps = only_no_steps (lent a) (pass_of a) }
 
 pub only_then : (a b c : At) → OnlyStepped a b → OnlyStepped b c → OnlyStepped a c
-only_then a b c x y = record { lender = y.lender ∙ x.lender; pass = y.pass ∙ x.pass; turned = only_turned_then (lent a) (lent b) (lent c) (pass_of a) (pass_of b) x.pass x.turned y.turned }
+only_then a b c x y = record { lender = y.lender ∙ x.lender; pass = y.pass ∙ x.pass; steps = only_steps_then (lent a) (lent b) (lent c) (pass_of a) (pass_of b) x.pass x.steps y.steps }

@@ -29,14 +29,14 @@ module _ (z : Sizes) (p : ℕ) (v : View) (m : Memory) (f : Views) (n : Memory) 
   -- ---- steps that change no shared word
 
   -- the version word of a cell is found
-  pub record Begins : Type 0 where
+  pub record BeginStep : Type 0 where
     pub cell : Cell
     pub pinned : v.pin ≢ 0
     pub words : n ≡ m
     pub view : Turned f p (begun v cell (m.version cell)) g
 
   -- a word of a stamped cell is noted
-  pub record Reads : Type 0 where
+  pub record ReadStep : Type 0 where
     pub stamp : Stamp
     pub place : ℕ
     pub may : MayRead v stamp place
@@ -44,7 +44,7 @@ module _ (z : Sizes) (p : ℕ) (v : View) (m : Memory) (f : Views) (n : Memory) 
     pub view : Turned f p (has_read v stamp (Word place (m.words stamp.cell place))) g
 
   -- one of a leaf that the stamped cell names
-  pub record ReadsLeaf : Type 0 where
+  pub record ReadLeafStep : Type 0 where
     pub stamp : Stamp
     pub number : ℕ
     pub place : ℕ
@@ -53,7 +53,7 @@ module _ (z : Sizes) (p : ℕ) (v : View) (m : Memory) (f : Views) (n : Memory) 
     pub view : Turned f p (has_read v stamp (LeafWord number place (m.words (cell.Leaf number) place))) g
 
   -- the version word is the stamped one: stamped cells may gain their paths in the tree s, and the history may grow by an event
-  pub record Passes (log : List Event) (s : Cells) : Type 0 where
+  pub record PassStep (log : List Event) (s : Cells) : Type 0 where
     pub stamp : Stamp
     pub paths : List Note
     pub event : Option What
@@ -64,7 +64,7 @@ module _ (z : Sizes) (p : ℕ) (v : View) (m : Memory) (f : Views) (n : Memory) 
     pub view : Turned f p (telling (passed v stamp paths) log event) g
 
   -- it is another, at a check or an upgrade: the stamp goes with its notes
-  pub record Fails : Type 0 where
+  pub record FailStep : Type 0 where
     pub stamp : Stamp
     pub stamps : List Stamp
     pub notes : List Note
@@ -75,7 +75,7 @@ module _ (z : Sizes) (p : ℕ) (v : View) (m : Memory) (f : Views) (n : Memory) 
     pub view : Turned f p (failed v stamp (m.version stamp.cell) stamps notes) g
 
   -- stamps and notes are let go, a stamp with all its notes
-  pub record Forgets : Type 0 where
+  pub record ForgetStep : Type 0 where
     pub stamps : List Stamp
     pub notes : List Note
     pub had : (x : Stamp) → Member x stamps → Member x v.stamps
@@ -87,7 +87,7 @@ module _ (z : Sizes) (p : ℕ) (v : View) (m : Memory) (f : Views) (n : Memory) 
   -- ---- steps that lock and release
 
   -- a stamped cell is locked and held, with its words
-  pub record Upgrades : Type 0 where
+  pub record UpgradeStep : Type 0 where
     pub stamp : Stamp
     pub copy : List ℕ
     pub may : MayUpgrade v stamp
@@ -96,7 +96,7 @@ module _ (z : Sizes) (p : ℕ) (v : View) (m : Memory) (f : Views) (n : Memory) 
     pub view : Turned f p (upgraded v stamp copy) g
 
   -- a node's number in hand is locked and held, with its words
-  pub record Claims : Type 0 where
+  pub record ClaimStep : Type 0 where
     pub node : Node
     pub copy : List ℕ
     pub may : MayClaim v node
@@ -106,7 +106,7 @@ module _ (z : Sizes) (p : ℕ) (v : View) (m : Memory) (f : Views) (n : Memory) 
 
   -- the first release of a change: the history grows by its event, the numbers that it links leave the hand, and those that it
   -- unlinks go to limbo with the pins that stand
-  pub record CommitsChange (log : List Event) : Type 0 where
+  pub record CommitStep (log : List Event) : Type 0 where
     pub what : What
     pub unlinked : List Link
     pub linked : List Link
@@ -124,7 +124,7 @@ module _ (z : Sizes) (p : ℕ) (v : View) (m : Memory) (f : Views) (n : Memory) 
     pub view : Turned f p (committed v log what held hand (all_retired pins unlinked ++ v.limbo)) g
 
   -- a later release, or that of a change that is given up
-  pub record Releases : Type 0 where
+  pub record ReleaseStep : Type 0 where
     pub holding : Holding
     pub held : List Holding
     pub obsolete : Bool
@@ -136,7 +136,7 @@ module _ (z : Sizes) (p : ℕ) (v : View) (m : Memory) (f : Views) (n : Memory) 
   -- ---- steps that write
 
   -- a word of a held cell, before the commit
-  pub record Writes : Type 0 where
+  pub record WriteStep : Type 0 where
     pub holding : Holding
     pub held : List Holding
     pub place : ℕ
@@ -147,7 +147,7 @@ module _ (z : Sizes) (p : ℕ) (v : View) (m : Memory) (f : Views) (n : Memory) 
     pub view : Turned f p (writing v held) g
 
   -- a word of a leaf in hand
-  pub record WritesLeaf : Type 0 where
+  pub record WriteLeafStep : Type 0 where
     pub leaf : InHand
     pub hand : List InHand
     pub number : ℕ
@@ -161,7 +161,7 @@ module _ (z : Sizes) (p : ℕ) (v : View) (m : Memory) (f : Views) (n : Memory) 
   -- ---- numbers
 
   -- a free number comes into the hand
-  pub record Takes : Type 0 where
+  pub record TakeStep : Type 0 where
     pub link : Link
     pub copy : List ℕ
     pub free : m.free link ≡ true
@@ -170,7 +170,7 @@ module _ (z : Sizes) (p : ℕ) (v : View) (m : Memory) (f : Views) (n : Memory) 
     pub view : Turned f p (took v link copy) g
 
   -- one in hand is free again
-  pub record Gives : Type 0 where
+  pub record GiveStep : Type 0 where
     pub link : Link
     pub hand : List InHand
     pub may : MayGive v link hand
@@ -178,7 +178,7 @@ module _ (z : Sizes) (p : ℕ) (v : View) (m : Memory) (f : Views) (n : Memory) 
     pub view : Turned f p (gave v hand) g
 
   -- one in limbo is
-  pub record Frees : Type 0 where
+  pub record FreeStep : Type 0 where
     pub link : Link
     pub limbo : List Retired
     pub may : MayFree z v link limbo
@@ -189,21 +189,21 @@ module _ (z : Sizes) (p : ℕ) (v : View) (m : Memory) (f : Views) (n : Memory) 
 
 -- it is of one of these kinds, where log is the history before it and s the tree
 pub data OfAKind (z : Sizes) (p : ℕ) (v : View) (m : Memory) (f : Views) (n : Memory) (g : Views) (log : List Event) (s : Cells) : Type 0 where
-  Begin : Begins z p v m f n g → OfAKind z p v m f n g log s
-  Read : Reads z p v m f n g → OfAKind z p v m f n g log s
-  ReadLeaf : ReadsLeaf z p v m f n g → OfAKind z p v m f n g log s
-  Pass : Passes z p v m f n g log s → OfAKind z p v m f n g log s
-  Fail : Fails z p v m f n g → OfAKind z p v m f n g log s
-  Forget : Forgets z p v m f n g → OfAKind z p v m f n g log s
-  Upgrade : Upgrades z p v m f n g → OfAKind z p v m f n g log s
-  Claim : Claims z p v m f n g → OfAKind z p v m f n g log s
-  Commit : CommitsChange z p v m f n g log → OfAKind z p v m f n g log s
-  Release : Releases z p v m f n g → OfAKind z p v m f n g log s
-  Write : Writes z p v m f n g → OfAKind z p v m f n g log s
-  WriteLeaf : WritesLeaf z p v m f n g → OfAKind z p v m f n g log s
-  Take : Takes z p v m f n g → OfAKind z p v m f n g log s
-  Give : Gives z p v m f n g → OfAKind z p v m f n g log s
-  Free : Frees z p v m f n g → OfAKind z p v m f n g log s
+  Begin : BeginStep z p v m f n g → OfAKind z p v m f n g log s
+  Read : ReadStep z p v m f n g → OfAKind z p v m f n g log s
+  ReadLeaf : ReadLeafStep z p v m f n g → OfAKind z p v m f n g log s
+  Pass : PassStep z p v m f n g log s → OfAKind z p v m f n g log s
+  Fail : FailStep z p v m f n g → OfAKind z p v m f n g log s
+  Forget : ForgetStep z p v m f n g → OfAKind z p v m f n g log s
+  Upgrade : UpgradeStep z p v m f n g → OfAKind z p v m f n g log s
+  Claim : ClaimStep z p v m f n g → OfAKind z p v m f n g log s
+  Commit : CommitStep z p v m f n g log → OfAKind z p v m f n g log s
+  Release : ReleaseStep z p v m f n g → OfAKind z p v m f n g log s
+  Write : WriteStep z p v m f n g → OfAKind z p v m f n g log s
+  WriteLeaf : WriteLeafStep z p v m f n g → OfAKind z p v m f n g log s
+  Take : TakeStep z p v m f n g → OfAKind z p v m f n g log s
+  Give : GiveStep z p v m f n g → OfAKind z p v m f n g log s
+  Free : FreeStep z p v m f n g → OfAKind z p v m f n g log s
 
 -- one step of the pass p, before which all was sound
 pub record OneStep (z : Sizes) (p : ℕ) (m : Memory) (f : Views) (n : Memory) (g : Views) : Type 0 where

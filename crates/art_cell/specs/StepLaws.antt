@@ -9,7 +9,7 @@ use Rattle.art_cell.specs.declared.views.Stamp.{Stamp}
 use Rattle.art_cell.specs.declared.views.View.{View}
 use Rattle.art_cell.specs.Knowledge.{HoldsAll}
 use Rattle.art_cell.specs.Sound.{IsSound}
-use Rattle.art_cell.specs.StepKinds.{Begins, Claims, CommitsChange, Fails, Forgets, Frees, Gives, OneStep, Passes, Reads, ReadsLeaf, Releases, Takes, Upgrades, Writes, WritesLeaf}
+use Rattle.art_cell.specs.StepKinds.{BeginStep, ClaimStep, CommitStep, FailStep, ForgetStep, FreeStep, GiveStep, OneStep, PassStep, ReadStep, ReadLeafStep, ReleaseStep, TakeStep, UpgradeStep, WriteStep, WriteLeafStep}
 use Rattle.art_cell.specs.StepRows.{MayClaim}
 use Rattle.art_cell.specs.Views.{IsNumber, IsObsolete, Memory, Views, last_counter}
 
@@ -24,64 +24,64 @@ KeepsSound K = (z : Sizes) (p : ℕ) (v : View) (m : Memory) (f : Views) (n : Me
 -- ---- steps that change no shared word
 
 abbrev pub BeginLaw : Type 0
-BeginLaw = KeepsSound Begins
+BeginLaw = KeepsSound BeginStep
 
 abbrev pub ReadLaw : Type 0
-ReadLaw = KeepsSound Reads
+ReadLaw = KeepsSound ReadStep
 
 abbrev pub ReadLeafLaw : Type 0
-ReadLeafLaw = KeepsSound ReadsLeaf
+ReadLeafLaw = KeepsSound ReadLeafStep
 
 -- the history is the one of all views, and the tree that of the logical words
 abbrev pub PassLaw : Type 0
-PassLaw = (z : Sizes) (p : ℕ) (v : View) (m : Memory) (f : Views) (n : Memory) (g : Views) → f p ≡ Some v → (r : IsSound z m f) → Passes z p v m f n g r.log r.logical → IsSound z n g
+PassLaw = (z : Sizes) (p : ℕ) (v : View) (m : Memory) (f : Views) (n : Memory) (g : Views) → f p ≡ Some v → (r : IsSound z m f) → PassStep z p v m f n g r.log r.logical → IsSound z n g
 
 -- what was noted under an unchanged stamp holds of the logical words that there are now
 abbrev pub VouchLaw : Type 0
 VouchLaw = (z : Sizes) (p : ℕ) (v : View) (m : Memory) (f : Views) (x : Stamp) → f p ≡ Some v → (r : IsSound z m f) → m.version x.cell ≡ x.version → HoldsAll v x r.logical
 
 abbrev pub FailLaw : Type 0
-FailLaw = KeepsSound Fails
+FailLaw = KeepsSound FailStep
 
 abbrev pub ForgetLaw : Type 0
-ForgetLaw = KeepsSound Forgets
+ForgetLaw = KeepsSound ForgetStep
 
 -- ---- steps that lock and release
 
 abbrev pub UpgradeLaw : Type 0
-UpgradeLaw = KeepsSound Upgrades
+UpgradeLaw = KeepsSound UpgradeStep
 
 abbrev pub ClaimLaw : Type 0
-ClaimLaw = KeepsSound Claims
+ClaimLaw = KeepsSound ClaimStep
 
 -- a node's number in hand that the pass does not hold is obsolete
 abbrev pub UnclaimedLaw : Type 0
 UnclaimedLaw = (z : Sizes) (p : ℕ) (v : View) (m : Memory) (f : Views) (a : Node) → f p ≡ Some v → IsSound z m f → MayClaim v a → IsObsolete (m.version (cell.Node a))
 
 abbrev pub ReleaseLaw : Type 0
-ReleaseLaw = KeepsSound Releases
+ReleaseLaw = KeepsSound ReleaseStep
 
 abbrev pub CommitLaw : Type 0
-CommitLaw = (z : Sizes) (p : ℕ) (v : View) (m : Memory) (f : Views) (n : Memory) (g : Views) → f p ≡ Some v → (r : IsSound z m f) → CommitsChange z p v m f n g r.log → IsSound z n g
+CommitLaw = (z : Sizes) (p : ℕ) (v : View) (m : Memory) (f : Views) (n : Memory) (g : Views) → f p ≡ Some v → (r : IsSound z m f) → CommitStep z p v m f n g r.log → IsSound z n g
 
 -- ---- steps that write
 
 abbrev pub WriteLaw : Type 0
-WriteLaw = KeepsSound Writes
+WriteLaw = KeepsSound WriteStep
 
 abbrev pub WriteLeafLaw : Type 0
-WriteLeafLaw = KeepsSound WritesLeaf
+WriteLeafLaw = KeepsSound WriteLeafStep
 
 -- ---- numbers
 
 abbrev pub TakeLaw : Type 0
-TakeLaw = KeepsSound Takes
+TakeLaw = KeepsSound TakeStep
 
 abbrev pub GiveLaw : Type 0
-GiveLaw = KeepsSound Gives
+GiveLaw = KeepsSound GiveStep
 
 abbrev pub FreeLaw : Type 0
-FreeLaw = KeepsSound Frees
+FreeLaw = KeepsSound FreeStep
 
 -- ---- any step
 

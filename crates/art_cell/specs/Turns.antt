@@ -2,7 +2,7 @@
 use Rattle.std.specs.Prelude.{◌≡◌, ◌⊎◌, ℕ, suc, ◌+◌, ◌≤◌, ◌==◌, List, [], ◌∷◌, Bool, true, false, None, Some, slice_set, if◌then◌else◌}
 use Rattle.std.specs.List.{slice_get}
 use Rattle.art_cell.specs.Sound.{IsSound}
-use Rattle.art_cell.specs.WorldWords.{Kept, OnlyTurned, memory_now, view_at, views_of}
+use Rattle.art_cell.specs.WorldWords.{Kept, OnlyStepsOf, memory_now, view_at, views_of}
 
 -- how many of the turns name the pass
 abbrev pub turns_of : ℕ → List ℕ → ℕ
@@ -24,7 +24,7 @@ module _ {A : Type 0} (ended : A → Bool) (after : ℕ → A → A → Type 0) 
     pub goes_on : ended before ≡ false
     pub turn : after 1 before now
     pub actors : ys ≡ slice_set xs p now
-    pub only : OnlyTurned k l p
+    pub only : OnlyStepsOf k l p
     pub step : (view_at l.views p).steps ≤ (view_at k.views p).steps + 1
     pub sound : IsSound l.sizes (memory_now l) (views_of l.views)
 

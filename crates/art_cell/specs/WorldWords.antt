@@ -14,9 +14,9 @@ use Rattle.art_cell.specs.declared.cells.Link.TheVariants.{Leaf as leaf, Node as
 use Rattle.art_cell.specs.declared.views.Sizes.{Sizes}
 use Rattle.art_cell.specs.declared.views.View.{View}
 use Rattle.art_cell.specs.Children.{number_of}
-use Rattle.art_cell.specs.Instants.{AtSome, Instant}
+use Rattle.art_cell.specs.Instants.{Instant}
 use Rattle.art_cell.specs.Sound.{IsSound}
-use Rattle.art_cell.specs.StepKinds.{OneStep}
+use Rattle.art_cell.specs.StepKinds.{AtStep, OneStep}
 use Rattle.art_cell.specs.StepLaws.{newcomer}
 use Rattle.art_cell.specs.Views.{Memory, Views, size_of, nodes_of, IsNumber}
 use Rattle.art_cell.specs.Words.{size}
@@ -173,16 +173,9 @@ pub record IsAround (a b : Kept) (m : Memory) (f : Views) (n : Memory) (g : View
   pub words_after : n ≡ memory_now b
   pub views_after : g ≡ views_of b.views
 
--- what happened to the words of the world was so at that instant
-pub at_some : (I : Instant) (a b : Kept) → AtOnce I a b → AtSome (IsAround a b) I
-at_some I a b so = record {
-  words = memory_now a;
-  views = views_of a.views;
-  words_after = memory_now b;
-  views_after = views_of b.views;
-  instant = record { words = refl; views = refl; words_after = refl; views_after = refl };
-  was = so;
-}
+-- the pass made one step on the world, and it was so
+abbrev pub MakesStep : ℕ → Kept → Kept → Instant → Type 0
+MakesStep p a b so = AtStep a.sizes (view_at a.views p) (view_at b.views p) (IsAround a b) so
 
 -- so many steps of the pass lead from the one to the other
 abbrev pub Stepped : ℕ → ℕ → Kept → Kept → Type 0
@@ -190,7 +183,7 @@ Stepped zero p a b = b ≡ a
 Stepped (suc k) p a b = (c : Kept) × (c.sizes ≡ a.sizes) × AtOnce (OneStep a.sizes p) a c × Stepped k p c b
 
 -- nothing happens but steps of the pass, so that no other view changes
-pub record OnlyTurned (a b : Kept) (p : ℕ) : Type 0 where
+pub record OnlyStepsOf (a b : Kept) (p : ℕ) : Type 0 where
   pub sizes : b.sizes ≡ a.sizes
   pub count : length b.views ≡ length a.views
   pub others : (q : ℕ) → q ≢ p → view_at b.views q ≡ view_at a.views q
@@ -200,11 +193,11 @@ steps_then : (k l : ℕ) (p : ℕ) (a b c : Kept) → Stepped k p a b → Steppe
 steps_then zero l p a b c none more = (l, subst (λ (d : Kept). Stepped l p d c) none more)
 steps_then (suc k) l p a b c (d, sizes, step, rest) more = let all = steps_then k l p d b c rest more in (suc all.0, (d, sizes, step, all.1))
 
-pub only_same_turned : (a : Kept) (p : ℕ) → OnlyTurned a a p
-only_same_turned a p = record { sizes = refl; count = refl; others = λ q h. refl; made = (0, refl) }
+pub only_no_steps : (a : Kept) (p : ℕ) → OnlyStepsOf a a p
+only_no_steps a p = record { sizes = refl; count = refl; others = λ q h. refl; made = (0, refl) }
 
-pub only_turned_then : (a b c : Kept) (p q : ℕ) → q ≡ p → OnlyTurned a b p → OnlyTurned b c q → OnlyTurned a c p
-only_turned_then a b c p q same x y = record {
+pub only_steps_then : (a b c : Kept) (p q : ℕ) → q ≡ p → OnlyStepsOf a b p → OnlyStepsOf b c q → OnlyStepsOf a c p
+only_steps_then a b c p q same x y = record {
   sizes = y.sizes ∙ x.sizes;
   count = y.count ∙ x.count;
   others = λ r h. y.others r (λ e. h (e ∙ same)) ∙ x.others r h;
@@ -212,7 +205,7 @@ only_turned_then a b c p q same x y = record {
 }
 
 -- in one step of the pass, by which the words change from before to after, its view changes by the row; and all is sound then
-pub record Turns (z : Sizes) (before after : List ℕ) (p : ℕ) (Row : View → View → Type 0) (old new : List View) : Type 0 where
+pub record StepBy (z : Sizes) (before after : List ℕ) (p : ℕ) (Row : View → View → Type 0) (old new : List View) : Type 0 where
   pub view : View
   pub set : new ≡ slice_set old p view
   pub row : Row (view_at old p) view

@@ -4,7 +4,7 @@ ghost use Rattle.std.specs.List.{slice_get};
 ghost use Rattle.art_cell.specs.Lent.{OnlyStepped, lender, lent, pass_of, sizes_lent, view_lent};
 ghost use Rattle.art_cell.specs.Sound.{IsSound};
 ghost use Rattle.art_cell.specs.Turns.{IsRun, IsTurn, turns_of};
-ghost use Rattle.art_cell.specs.WorldWords.{OnlyTurned, memory_now, view_at, views_of};
+ghost use Rattle.art_cell.specs.WorldWords.{OnlyStepsOf, memory_now, view_at, views_of};
 
 use crate::{At, World};
 
@@ -86,7 +86,7 @@ impl World {
         requires pass { pass < length self.old.views }
         requires going { T.has_ended actor.old ≡ false }
         requires fits { T.fits actor.old self.old.sizes (view_at self.old.views pass) }
-        ensures only { OnlyTurned self.old self.new pass }
+        ensures only { OnlyStepsOf self.old self.new pass }
         ensures step { (view_at self.new.views pass).steps ≤ (view_at self.old.views pass).steps + 1 }
         ensures sound { IsSound self.new.sizes (memory_now self.new) (views_of self.new.views) }
         ensures fits { T.fits actor.new self.new.sizes (view_at self.new.views pass) }

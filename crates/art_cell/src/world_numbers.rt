@@ -8,7 +8,7 @@ ghost use Rattle.art_cell.specs.Shown.{Freed, Gave, Took, link_of_number};
 ghost use Rattle.art_cell.specs.StepRows.{MayFree, MayGive, SetsFree};
 ghost use Rattle.art_cell.specs.Views.{IsNumber};
 ghost use Rattle.art_cell.specs.WordChanges.{FitsWord};
-ghost use Rattle.art_cell.specs.WorldWords.{OnlyTurned, is_free, memory_now, memory_of, pool_size, view_at, views_of, word_count};
+ghost use Rattle.art_cell.specs.WorldWords.{OnlyStepsOf, is_free, memory_now, memory_of, pool_size, view_at, views_of, word_count};
 
 use crate::made_steps::{Frees, Gives, Takes, copied};
 use crate::{Number, Pool, Sizes, World};
@@ -17,7 +17,7 @@ impl World {
     /// The least free number of the pool, which comes into the hand of the pass. None where no number of the pool is free.
     pub(crate) fn first_free(&mut self, pass: usize, pool: Pool) -> Option<Number>
         requires { pass < length self.old.views }
-        ensures only { OnlyTurned self.old self.new pass }
+        ensures only { OnlyStepsOf self.old self.new pass }
         ensures memory { IfSome result (λ n. SetsFree (memory_now self.old) (link_of_number n) false (memory_now self.new)) }
         ensures none { IfNone result ((self.new ≡ self.old) × HasNoneFree self.old pool) }
         ensures some { IfSome result (IsLeastFree self.old pool) }
@@ -59,7 +59,7 @@ impl World {
     pub(crate) fn put_back(&mut self, pass: usize, number: Number)
         requires pass { pass < length self.old.views }
         requires may { (xs : List NumberInHand) × MayGive (view_at self.old.views pass) (link_of_number number) xs }
-        ensures only { OnlyTurned self.old self.new pass }
+        ensures only { OnlyStepsOf self.old self.new pass }
         ensures memory { SetsFree (memory_now self.old) (link_of_number number) true (memory_now self.new) }
         ensures row { Gave (view_at self.old.views pass) (view_at self.new.views pass) (link_of_number number) }
     {
@@ -79,7 +79,7 @@ impl World {
     pub(crate) fn give_back(&mut self, pass: usize, number: Number)
         requires pass { pass < length self.old.views }
         requires may { (es : List RetiredNumber) × MayFree self.old.sizes (view_at self.old.views pass) (link_of_number number) es }
-        ensures only { OnlyTurned self.old self.new pass }
+        ensures only { OnlyStepsOf self.old self.new pass }
         ensures memory { SetsFree (memory_now self.old) (link_of_number number) true (memory_now self.new) }
         ensures row { Freed (view_at self.old.views pass) (view_at self.new.views pass) (link_of_number number) }
     {

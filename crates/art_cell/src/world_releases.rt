@@ -7,9 +7,8 @@ ghost use Rattle.art_cell.specs.Children.{child_word, link_of};
 ghost use Rattle.art_cell.specs.Deeds.{what_of};
 ghost use Rattle.art_cell.specs.Instants.{Unlocks, UnlocksFirst};
 ghost use Rattle.art_cell.specs.Shown.{Committed, IsHolding, Released, coming, link_of_number, links_of};
-ghost use Rattle.art_cell.specs.StepKinds.{AtStep};
 ghost use Rattle.art_cell.specs.StepRows.{MayBeFirst, MayCommit, MayRelease, released_word};
-ghost use Rattle.art_cell.specs.WorldWords.{IsAround, IsInside, OnlyTurned, view_at};
+ghost use Rattle.art_cell.specs.WorldWords.{IsInside, MakesStep, OnlyStepsOf, view_at};
 
 use crate::made_steps::{Commits, Releases, copied};
 use crate::{Deed, Held, Link, Number, Unlinked, World};
@@ -67,8 +66,8 @@ impl World {
         requires few { length unlinked.now ≤ 3 }
         requires first { (h : HoldingOf) × (h.cell ≡ held.cell) × MayBeFirst (view_at self.old.views pass) (links_of unlinked.now) h obsolete }
         requires may { MayCommit self.old.sizes (view_at self.old.views pass) (what_of deed.now) (links_of unlinked.now) (coming (view_at self.old.views pass) (option_map link_of_number leaf)) }
-        ensures only { OnlyTurned self.old self.new pass }
-        ensures at_once { AtStep self.old.sizes (view_at self.old.views pass) (view_at self.new.views pass) (IsAround self.old self.new) (UnlocksFirst (view_at self.old.views pass) held.cell obsolete) }
+        ensures only { OnlyStepsOf self.old self.new pass }
+        ensures at_once { MakesStep pass self.old self.new (UnlocksFirst (view_at self.old.views pass) held.cell obsolete) }
         ensures numbers { filter_map (option_map link_of_number) result ≡ links_of unlinked.now }
         ensures row { (h : HoldingOf) → IsHolding (view_at self.old.views pass) held.cell h → Committed (view_at self.old.views pass) (view_at self.new.views pass) (what_of deed.now) (links_of unlinked.now) (coming (view_at self.old.views pass) (option_map link_of_number leaf)) h }
     {
@@ -96,8 +95,8 @@ impl World {
         requires pass { pass < length self.old.views }
         requires inside { IsInside self.old.sizes held.cell }
         requires may { (h : HoldingOf) × (h.cell ≡ held.cell) × MayRelease (view_at self.old.views pass) h obsolete }
-        ensures only { OnlyTurned self.old self.new pass }
-        ensures at_once { AtStep self.old.sizes (view_at self.old.views pass) (view_at self.new.views pass) (IsAround self.old self.new) (Unlocks held.cell obsolete) }
+        ensures only { OnlyStepsOf self.old self.new pass }
+        ensures at_once { MakesStep pass self.old self.new (Unlocks held.cell obsolete) }
         ensures row { (h : HoldingOf) → IsHolding (view_at self.old.views pass) held.cell h → Released (view_at self.old.views pass) (view_at self.new.views pass) h }
     {
         let Held { cell } = held;

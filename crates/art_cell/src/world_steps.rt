@@ -11,10 +11,10 @@ ghost use Rattle.art_cell.specs.Children.{child_word};
 ghost use Rattle.art_cell.specs.Deeds.{what_of};
 ghost use Rattle.art_cell.specs.Instants.{FindsUnchanged, FindsVersion, FindsWord, LocksClaimed, LocksStamped, PutsWord};
 ghost use Rattle.art_cell.specs.Shown.{Claimed, Committed, FailedUpgrade, Failed, IsHolding, IsInHand, MayReadCell, Passed, Released, Upgraded, Wrote, WroteLeaf, coming, fact_read, link_of_number, links_of};
-ghost use Rattle.art_cell.specs.StepKinds.{AtStep, LocksNothing};
+ghost use Rattle.art_cell.specs.StepKinds.{LocksNothing};
 ghost use Rattle.art_cell.specs.StepRows.{HasClaimedNone, MayBeFirst, MayClaim, MayCommit, MayLock, MayPass, MayRelease, MayWrite, MayWriteLeaf, begun, has_read, note_of};
 ghost use Rattle.art_cell.specs.Views.{IsClear, Member};
-ghost use Rattle.art_cell.specs.WorldWords.{IsAround, IsInside, OnlyTurned, memory_now, view_at};
+ghost use Rattle.art_cell.specs.WorldWords.{IsAround, IsInside, MakesStep, OnlyStepsOf, memory_now, view_at};
 
 use crate::made_steps::{
     Begins, Claims, Commits, Fails, Passes, Reads, Releases, Upgrades, Writes, WritesLeaf, copied,
@@ -32,8 +32,8 @@ impl World {
         requires pass { pass < length self.old.views }
         requires inside { IsInside self.old.sizes cell }
         requires pinned { (view_at self.old.views pass).pin ≢ 0 }
-        ensures only { OnlyTurned self.old self.new pass }
-        ensures at_once { MatchResult result (λ x. AtStep self.old.sizes (view_at self.old.views pass) (view_at self.new.views pass) (IsAround self.old self.new) (FindsVersion cell x.version)) (λ l. AtStep self.old.sizes (view_at self.old.views pass) (view_at self.new.views pass) (IsAround self.old self.new) (FindsVersion cell l.found)) }
+        ensures only { OnlyStepsOf self.old self.new pass }
+        ensures at_once { MatchResult result (λ x. MakesStep pass self.old self.new (FindsVersion cell x.version)) (λ l. MakesStep pass self.old self.new (FindsVersion cell l.found)) }
         ensures row { MatchResult result (λ x. (x.cell ≡ cell) × IsClear x.version × (view_at self.new.views pass ≡ begun (view_at self.old.views pass) cell x.version)) (λ l. (l.cell ≡ cell) × (IsClear l.found → ⊥) × (view_at self.new.views pass ≡ begun (view_at self.old.views pass) cell l.found)) }
     {
         let found = self.version(cell);
@@ -59,8 +59,8 @@ impl World {
         requires pass { pass < length self.old.views }
         requires inside { IsInside self.old.sizes cell }
         requires may { MayReadCell self.old.sizes (view_at self.old.views pass) stamp.now cell place }
-        ensures only { OnlyTurned self.old self.new pass }
-        ensures at_once { AtStep self.old.sizes (view_at self.old.views pass) (view_at self.new.views pass) (IsAround self.old self.new) (FindsWord cell place result) }
+        ensures only { OnlyStepsOf self.old self.new pass }
+        ensures at_once { MakesStep pass self.old self.new (FindsWord cell place result) }
         ensures row { view_at self.new.views pass ≡ has_read (view_at self.old.views pass) stamp.now (fact_read cell place result) }
     {
         let value = self.word(cell, place);
@@ -87,8 +87,8 @@ impl World {
         requires pass { pass < length self.old.views }
         requires inside { IsInside self.old.sizes stamp.now.cell }
         requires may { MayPass self.old.sizes (view_at self.old.views pass) stamp.now (option_map (λ d. what_of d.now) deed) }
-        ensures only { OnlyTurned self.old self.new pass }
-        ensures at_once { MatchResult result (λ _. AtStep self.old.sizes (view_at self.old.views pass) (view_at self.new.views pass) (IsAround self.old self.new) (FindsUnchanged self.old.sizes (view_at self.old.views pass) stamp.now)) (λ c. AtStep self.old.sizes (view_at self.old.views pass) (view_at self.new.views pass) (IsAround self.old self.new) (FindsVersion stamp.now.cell c.found)) }
+        ensures only { OnlyStepsOf self.old self.new pass }
+        ensures at_once { MatchResult result (λ _. MakesStep pass self.old self.new (FindsUnchanged self.old.sizes (view_at self.old.views pass) stamp.now)) (λ c. MakesStep pass self.old self.new (FindsVersion stamp.now.cell c.found)) }
         ensures row { MatchResult result (λ _. Passed self.old.sizes (view_at self.old.views pass) (view_at self.new.views pass) stamp.now (option_map (λ d. what_of d.now) deed.entry)) (λ c. (c.cell ≡ stamp.now.cell) × (c.seen ≡ stamp.now.version) × (c.found ≢ c.seen) × Failed (view_at self.old.views pass) (view_at self.new.views pass) stamp.now c.found) }
     {
         let found = self.version(stamp.cell);
@@ -114,8 +114,8 @@ impl World {
         requires stamp { Member stamp (view_at self.old.views pass).stamps }
         requires found { found ≡ (memory_now self.old).version stamp.cell }
         requires changed { found ≢ stamp.version }
-        ensures only { OnlyTurned self.old self.new pass }
-        ensures at_once { AtStep self.old.sizes (view_at self.old.views pass) (view_at self.new.views pass) (IsAround self.old self.new) (FindsVersion stamp.cell result.found) }
+        ensures only { OnlyStepsOf self.old self.new pass }
+        ensures at_once { MakesStep pass self.old self.new (FindsVersion stamp.cell result.found) }
         ensures changed { result ≡ record { cell = stamp.cell; seen = stamp.version; found = found } }
         ensures row { Failed (view_at self.old.views pass) (view_at self.new.views pass) stamp found }
     {
@@ -142,8 +142,8 @@ impl World {
         requires path { (q : List ℕ) × Member (note_of stamp (Starts q)) (view_at self.old.views pass).notes }
         requires early { MayLock (view_at self.old.views pass) }
         requires unclaimed { HasClaimedNone (view_at self.old.views pass) }
-        ensures only { OnlyTurned self.old self.new pass }
-        ensures at_once { MatchResult result (λ _. AtStep self.old.sizes (view_at self.old.views pass) (view_at self.new.views pass) (IsAround self.old self.new) (LocksStamped stamp)) (λ e. LocksNothing self.old.sizes (view_at self.old.views pass) (view_at self.new.views pass) (IsAround self.old self.new) stamp e) }
+        ensures only { OnlyStepsOf self.old self.new pass }
+        ensures at_once { MatchResult result (λ _. MakesStep pass self.old self.new (LocksStamped stamp)) (λ e. LocksNothing self.old.sizes (view_at self.old.views pass) (view_at self.new.views pass) (IsAround self.old self.new) stamp e) }
         ensures row { MatchResult result (λ h. (h.cell ≡ stamp.cell) × Upgraded (view_at self.old.views pass) (view_at self.new.views pass) stamp) (λ e. FailedUpgrade (view_at self.old.views pass) (view_at self.new.views pass) stamp e) }
     {
         if stamp.version / 4 >= LAST_COUNTER {
@@ -170,8 +170,8 @@ impl World {
     pub(crate) fn claim(&mut self, pass: usize, number: Number) -> Held
         requires pass { pass < length self.old.views }
         requires inside { (n : NodeOf) × (link_of_number number ≡ node n) × IsInside self.old.sizes (node_cell n) × MayClaim (view_at self.old.views pass) n }
-        ensures only { OnlyTurned self.old self.new pass }
-        ensures at_once { (n : NodeOf) → link_of_number number ≡ node n → AtStep self.old.sizes (view_at self.old.views pass) (view_at self.new.views pass) (IsAround self.old self.new) (LocksClaimed n) }
+        ensures only { OnlyStepsOf self.old self.new pass }
+        ensures at_once { (n : NodeOf) → link_of_number number ≡ node n → MakesStep pass self.old self.new (LocksClaimed n) }
         ensures row { (n : NodeOf) → link_of_number number ≡ node n → (result.cell ≡ node_cell n) × Claimed (view_at self.old.views pass) (view_at self.new.views pass) n }
     {
         let link = number.link();
@@ -199,8 +199,8 @@ impl World {
         requires pass { pass < length self.old.views }
         requires inside { IsInside self.old.sizes held.old.cell }
         requires may { (h : HoldingOf) × (h.cell ≡ held.old.cell) × MayWrite (view_at self.old.views pass) h place }
-        ensures only { OnlyTurned self.old self.new pass }
-        ensures at_once { AtStep self.old.sizes (view_at self.old.views pass) (view_at self.new.views pass) (IsAround self.old self.new) (PutsWord held.old.cell place value) }
+        ensures only { OnlyStepsOf self.old self.new pass }
+        ensures at_once { MakesStep pass self.old self.new (PutsWord held.old.cell place value) }
         ensures same { held.new ≡ held.old }
         ensures row { (h : HoldingOf) → IsHolding (view_at self.old.views pass) held.old.cell h → Wrote (view_at self.old.views pass) (view_at self.new.views pass) h place value }
     {
@@ -223,8 +223,8 @@ impl World {
     pub(crate) fn write_leaf(&mut self, pass: usize, number: &mut Number, place: usize, value: u64)
         requires pass { pass < length self.old.views }
         requires inside { (l : ℕ) × (y : NumberInHand) × (link_of_number number.old ≡ leaf l) × (l < self.old.sizes.leaves) × MayWriteLeaf (view_at self.old.views pass) y l place }
-        ensures only { OnlyTurned self.old self.new pass }
-        ensures at_once { (l : ℕ) → link_of_number number.old ≡ leaf l → AtStep self.old.sizes (view_at self.old.views pass) (view_at self.new.views pass) (IsAround self.old self.new) (PutsWord (leaf_cell l) place value) }
+        ensures only { OnlyStepsOf self.old self.new pass }
+        ensures at_once { (l : ℕ) → link_of_number number.old ≡ leaf l → MakesStep pass self.old self.new (PutsWord (leaf_cell l) place value) }
         ensures same { number.new ≡ number.old }
         ensures row { (y : NumberInHand) → IsInHand (view_at self.old.views pass) (link_of_number number.old) y → WroteLeaf (view_at self.old.views pass) (view_at self.new.views pass) y place value }
     {

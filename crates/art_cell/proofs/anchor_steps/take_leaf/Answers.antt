@@ -6,9 +6,9 @@ use Rattle.art_cell.proofs.anchor_steps.take_leaf.Goals as goal
 pub returns-clause-away : goal.returns-clause-away
 returns-clause-away c =
     let took = c.in_ok-number.ensures in
-    (took_leaf (lent c.args.at.now) _ _ (view_lent c.args.at.now) _ c.in_ok-number.number (0 ∷ []) 0 took.only.turned.sizes c.requires took.some took.row).0
+    (took_leaf (lent c.args.at.now) _ _ (view_lent c.args.at.now) _ c.in_ok-number.number (0 ∷ []) 0 took.only.steps.sizes c.requires took.some took.row).0
 
 pub returns-clause-fills : goal.returns-clause-fills
 returns-clause-fills c key value =
     let took = c.in_ok-number.ensures in
-    (took_leaf (lent c.args.at.now) _ _ (view_lent c.args.at.now) _ c.in_ok-number.number (key ∷ []) value took.only.turned.sizes c.requires took.some took.row).1
+    (took_leaf (lent c.args.at.now) _ _ (view_lent c.args.at.now) _ c.in_ok-number.number (key ∷ []) value took.only.steps.sizes c.requires took.some took.row).1

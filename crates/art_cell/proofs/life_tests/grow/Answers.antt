@@ -13,4 +13,4 @@ pub returns-clause-only : goal.returns-clause-only
 returns-clause-only c =
     let forked = c.fork.ensures.only in
     only_then _ _ _ c.in_ok-leaf.ensures.only
-    (only_then _ _ _ c.in-Some.ensures.only (only_then _ _ _ c.claim_beside-claimed.ensures.only (record { lender = forked.lender; pass = forked.pass; turned = forked.turned })))
+    (only_then _ _ _ c.in-Some.ensures.only (only_then _ _ _ c.claim_beside-claimed.ensures.only (record { lender = forked.lender; pass = forked.pass; steps = forked.steps })))

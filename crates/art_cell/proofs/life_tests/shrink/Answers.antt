@@ -14,7 +14,7 @@ pub merge-unlinked-requires-clause-hand : goal.merge-unlinked-requires-clause-ha
 merge-unlinked-requires-clause-hand c x i = c.requires.idle.hand x (subst (Member x) c.in_ok-anchor.ensures.hand i)
 
 pub no_other_pass-requires : goal.no_other_pass-requires
-no_other_pass-requires c = c.if-not-forget.ensures.only.turned.count ∙ (c.merge-unlinked.ensures.only.turned.count ∙ (c.in_ok-anchor.ensures.only.turned.count ∙ c.requires.alone))
+no_other_pass-requires c = c.if-not-forget.ensures.only.steps.count ∙ (c.merge-unlinked.ensures.only.steps.count ∙ (c.in_ok-anchor.ensures.only.steps.count ∙ c.requires.alone))
 
 pub give_back-requires : goal.give_back-requires
 give_back-requires c =
@@ -41,12 +41,12 @@ pub returns-then-not-forget-clause-only : goal.returns-then-not-forget-clause-on
 returns-then-not-forget-clause-only c =
     let merged = c.merge-unlinked.ensures.only in
     let forgot = c.forget.ensures.only in
-    only_then _ c.merge-unlinked.new.steps _ (only_then _ _ _ c.in_ok-anchor.ensures.only (record { lender = merged.lender; pass = merged.pass; turned = merged.turned }))
-    (record { lender = forgot.lender; pass = forgot.pass; turned = forgot.turned })
+    only_then _ c.merge-unlinked.new.steps _ (only_then _ _ _ c.in_ok-anchor.ensures.only (record { lender = merged.lender; pass = merged.pass; steps = merged.steps }))
+    (record { lender = forgot.lender; pass = forgot.pass; steps = forgot.steps })
 
 pub returns-clause-only : goal.returns-clause-only
 returns-clause-only c =
     let merged = c.merge-unlinked.ensures.only in
     let freed = only_then _ _ _ c.forget.ensures.only (only_then _ _ _ c.give_back.ensures.only c.give_back-2.ensures.only) in
-    only_then _ c.merge-unlinked.new.steps _ (only_then _ _ _ c.in_ok-anchor.ensures.only (record { lender = merged.lender; pass = merged.pass; turned = merged.turned }))
-    (record { lender = freed.lender; pass = freed.pass; turned = freed.turned })
+    only_then _ c.merge-unlinked.new.steps _ (only_then _ _ _ c.in_ok-anchor.ensures.only (record { lender = merged.lender; pass = merged.pass; steps = merged.steps }))
+    (record { lender = freed.lender; pass = freed.pass; steps = freed.steps })

@@ -18,7 +18,7 @@ returns-clause-hand c =
 pub returns-clause-leaf : goal.returns-clause-leaf
 returns-clause-leaf c =
     let fills = c.in_ok-leaf.ensures.fills in
-    (fills.pool, leaf_beside _ _ (view_lent c.take_second.new.at) (view_lent c.take_node.new.at) _ _ _ _ c.in-Some.ensures.only.turned.sizes c.in-Some.ensures.hand.1 (has_leaf _ (view_lent c.take_second.new.at) c.in_ok-leaf.leaf 98 2 (omega arith) fills))
+    (fills.pool, leaf_beside _ _ (view_lent c.take_second.new.at) (view_lent c.take_node.new.at) _ _ _ _ c.in-Some.ensures.only.steps.sizes c.in-Some.ensures.hand.1 (has_leaf _ (view_lent c.take_second.new.at) c.in_ok-leaf.leaf 98 2 (omega arith) fills))
 
 pub returns-in_default-clause-only : goal.returns-in_default-clause-only
 returns-in_default-clause-only c = only_then _ _ _ c.in_ok-leaf.ensures.only c.take_node.ensures.only

@@ -5,4 +5,4 @@ use Rattle.art_cell.proofs.life_tests.take_node.Goals as goal
 pub returns-clause-node : goal.returns-clause-node
 returns-clause-node c =
     let took = c.in_ok-number.ensures in
-    (took.some.pool, took_node (lent c.args.at.now) _ _ (view_lent c.args.at.now) _ c.in_ok-number.number took.only.turned.sizes took.some took.row)
+    (took.some.pool, took_node (lent c.args.at.now) _ _ (view_lent c.args.at.now) _ c.in_ok-number.number took.only.steps.sizes took.some took.row)

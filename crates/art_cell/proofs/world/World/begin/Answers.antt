@@ -3,7 +3,7 @@ use Rattle.std.proofs.Common.{ap, ◌≡◌, sym, subst, refl}
 use Rattle.art_cell.specs.StepRows.{begun}
 use Rattle.art_cell.specs.WorldWords.{Kept, memory_now}
 use Rattle.art_cell.proofs.WorldTurns.{IsKept, Next, turn_begins}
-use Rattle.art_cell.proofs.WorldViews.{at_step, only_turned}
+use Rattle.art_cell.proofs.WorldViews.{at_step, only_steps_of}
 use Rattle.art_cell.proofs.world.World.begin.Goals as goal
 
 pub changed-requires : goal.changed-requires
@@ -14,17 +14,17 @@ changed-requires c =
     c.self.invariant
 
 pub returns-then-found-ne0-clause-only : goal.returns-then-found-ne0-clause-only
-returns-then-found-ne0-clause-only c = only_turned c.self.view_is refl c.changed.ensures
+returns-then-found-ne0-clause-only c = only_steps_of c.self.view_is refl c.changed.ensures
 
 pub returns-clause-only : goal.returns-clause-only
-returns-clause-only c = only_turned c.self.view_is refl c.changed.ensures
+returns-clause-only c = only_steps_of c.self.view_is refl c.changed.ensures
 
 pub returns-then-found-ne0-clause-at_once : goal.returns-then-found-ne0-clause-at_once
-returns-then-found-ne0-clause-at_once c = 
+returns-then-found-ne0-clause-at_once c =
     at_step _ c.self.view_is refl c.requires.pass c.changed.ensures
     (record { found = c.version-found.ensures; same = ap memory_now c.self.view_is })
 
 pub returns-clause-at_once : goal.returns-clause-at_once
-returns-clause-at_once c = 
+returns-clause-at_once c =
     at_step _ c.self.view_is refl c.requires.pass c.changed.ensures
     (record { found = c.version-found.ensures; same = ap memory_now c.self.view_is })

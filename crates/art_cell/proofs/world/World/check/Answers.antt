@@ -8,7 +8,7 @@ use Rattle.art_cell.specs.Shown.{Passed}
 use Rattle.art_cell.specs.WorldWords.{Kept, memory_now}
 use Rattle.art_cell.proofs.WorldLogical.{stands}
 use Rattle.art_cell.proofs.WorldTurns.{IsKept, Next, turn_passes}
-use Rattle.art_cell.proofs.WorldViews.{at_step, only_turned}
+use Rattle.art_cell.proofs.WorldViews.{at_step, only_steps_of}
 use Rattle.art_cell.proofs.world.World.check.Goals as goal
 
 pub changed-requires : goal.changed-requires
@@ -25,4 +25,4 @@ returns-clause-at_once c =
     (stands c.args.self.now c.args.pass c.args.stamp.now _ _ (subst IsKept c.self.view_is c.self.invariant) c.requires.pass (c.if-stamp-found.false ∙ c.version-found.ensures) (ap memory_now c.self.view_is))
 
 pub returns-clause-only : goal.returns-clause-only
-returns-clause-only c = only_turned c.self.view_is refl c.changed.ensures
+returns-clause-only c = only_steps_of c.self.view_is refl c.changed.ensures

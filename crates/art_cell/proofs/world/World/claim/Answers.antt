@@ -7,7 +7,7 @@ use Rattle.art_cell.specs.Shown.{Claimed, link_of_number}
 use Rattle.art_cell.specs.StepRows.{SetsVersion}
 use Rattle.art_cell.specs.WorldWords.{Kept, memory_now, memory_of, place_of, view_at}
 use Rattle.art_cell.proofs.WorldTurns.{IsKept, Next, claim_named, claim_fits, claim_sets, turn_claims}
-use Rattle.art_cell.proofs.WorldViews.{at_step, only_turned}
+use Rattle.art_cell.proofs.WorldViews.{at_step, only_steps_of}
 use Rattle.art_cell.proofs.world.World.claim.Goals as goal
 
 pub overflow_add-found : goal.overflow_add-found
@@ -44,4 +44,4 @@ returns-clause-at_once c n is =
     c.self.invariant (c.place_of-place.ensures ∙ ap (λ (a : Node). place_of c.self.inside.sizes (cell.Node a)) same))
 
 pub returns-clause-only : goal.returns-clause-only
-returns-clause-only c = only_turned c.self.view_is c.copied.ensures c.changed.ensures
+returns-clause-only c = only_steps_of c.self.view_is c.copied.ensures c.changed.ensures

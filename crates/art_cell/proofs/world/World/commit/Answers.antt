@@ -12,7 +12,7 @@ use Rattle.art_cell.specs.WorldWords.{Kept, place_of, view_at, views_of}
 use Rattle.art_cell.proofs.WorldLogical.{unlocks_first}
 use Rattle.art_cell.proofs.WorldReleases.{found_fits, found_sets, turn_commits}
 use Rattle.art_cell.proofs.WorldTurns.{IsKept, Next}
-use Rattle.art_cell.proofs.WorldViews.{at_step, only_turned}
+use Rattle.art_cell.proofs.WorldViews.{at_step, only_steps_of}
 use Rattle.art_cell.proofs.world.World.commit.Goals as goal
 
 pub released-requires : goal.released-requires
@@ -44,4 +44,4 @@ returns-clause-at_once c =
     (unlocks_first c.args.obsolete c.spent-leaf.result first.0 c.self.view_is c.self.invariant c.requires.pass first.1 first.2.held unlocks c.changed.ensures)
 
 pub returns-clause-only : goal.returns-clause-only
-returns-clause-only c = only_turned c.self.view_is c.copied.ensures c.changed.ensures
+returns-clause-only c = only_steps_of c.self.view_is c.copied.ensures c.changed.ensures

@@ -6,7 +6,7 @@ use Rattle.art_cell.specs.WorldWords.{Kept, first_free_word, memory_now, views_o
 use Rattle.art_cell.proofs.WorldFree.{free_is_number}
 use Rattle.art_cell.proofs.WorldFreeing.{WordWithBit, bit_within, takes_bit, seen_before, word_with_bit, turn_takes}
 use Rattle.art_cell.proofs.WorldTurns.{IsKept}
-use Rattle.art_cell.proofs.WorldViews.{only_turned}
+use Rattle.art_cell.proofs.WorldViews.{only_steps_of}
 use Rattle.art_cell.proofs.world.World.first_free.Goals as goal
 
 -- the number is free, and this is the word with its bit
@@ -41,4 +41,4 @@ returns-clause-some c =
     record { pool = refl; there = search rules; fits = search rules; free = found.1; least = found.2 }
 
 pub returns-clause-only : goal.returns-clause-only
-returns-clause-only c = only_turned c.self.view_is c.copied-before.ensures c.changed.ensures
+returns-clause-only c = only_steps_of c.self.view_is c.copied-before.ensures c.changed.ensures

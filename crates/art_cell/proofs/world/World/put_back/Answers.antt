@@ -1,7 +1,7 @@
 -- A number in hand is not free: its bit can be set, and all is sound after that.
 use Rattle.art_cell.specs.Shown.{link_of_number}
 use Rattle.art_cell.proofs.WorldFreeing.{seen_before, giving}
-use Rattle.art_cell.proofs.WorldViews.{only_turned}
+use Rattle.art_cell.proofs.WorldViews.{only_steps_of}
 use Rattle.art_cell.proofs.world.World.put_back.Goals as goal
 
 pub set_bit-requires-clause-inside : goal.set_bit-requires-clause-inside
@@ -18,4 +18,4 @@ pub returns-clause-memory : goal.returns-clause-memory
 returns-clause-memory c = seen_before c.self.view_is c.set_bit.ensures.memory
 
 pub returns-clause-only : goal.returns-clause-only
-returns-clause-only c = only_turned c.self.view_is c.copied.ensures c.changed.ensures
+returns-clause-only c = only_steps_of c.self.view_is c.copied.ensures c.changed.ensures

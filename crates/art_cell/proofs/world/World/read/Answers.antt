@@ -4,7 +4,7 @@ use Rattle.art_cell.specs.Shown.{fact_read}
 use Rattle.art_cell.specs.StepRows.{has_read}
 use Rattle.art_cell.specs.WorldWords.{Kept, memory_now}
 use Rattle.art_cell.proofs.WorldTurns.{IsKept, Next, turn_reads}
-use Rattle.art_cell.proofs.WorldViews.{at_step, only_turned}
+use Rattle.art_cell.proofs.WorldViews.{at_step, only_steps_of}
 use Rattle.art_cell.proofs.world.World.read.Goals as goal
 
 pub changed-requires : goal.changed-requires
@@ -15,7 +15,7 @@ changed-requires c =
     c.self.invariant
 
 pub returns-clause-only : goal.returns-clause-only
-returns-clause-only c = only_turned c.self.view_is refl c.changed.ensures
+returns-clause-only c = only_steps_of c.self.view_is refl c.changed.ensures
 
 pub returns-clause-at_once : goal.returns-clause-at_once
 returns-clause-at_once c =

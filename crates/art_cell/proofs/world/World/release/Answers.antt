@@ -7,7 +7,7 @@ use Rattle.art_cell.specs.StepRows.{released_word}
 use Rattle.art_cell.specs.WorldWords.{Kept, place_of}
 use Rattle.art_cell.proofs.WorldReleases.{found_fits, found_sets, turn_releases}
 use Rattle.art_cell.proofs.WorldTurns.{IsKept, Next}
-use Rattle.art_cell.proofs.WorldViews.{at_step, only_turned}
+use Rattle.art_cell.proofs.WorldViews.{at_step, only_steps_of}
 use Rattle.art_cell.proofs.world.World.release.Goals as goal
 
 pub released-requires : goal.released-requires
@@ -33,4 +33,4 @@ returns-clause-at_once c =
     (found_sets c.self.view_is c.self.invariant c.args.pass c.requires.pass c.args.held.cell may.0 may.1 may.2.0 c.version-found.result c.version-found.ensures c.args.obsolete c.place_of-place.result c.released.result c.requires.inside c.released.ensures c.place_of-place.ensures)
 
 pub returns-clause-only : goal.returns-clause-only
-returns-clause-only c = only_turned c.self.view_is c.copied.ensures c.changed.ensures
+returns-clause-only c = only_steps_of c.self.view_is c.copied.ensures c.changed.ensures

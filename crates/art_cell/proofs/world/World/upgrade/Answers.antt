@@ -5,7 +5,7 @@ use Rattle.art_cell.specs.Shown.{Upgraded}
 use Rattle.art_cell.specs.StepRows.{SetsVersion}
 use Rattle.art_cell.specs.WorldWords.{Kept, memory_now, memory_of, place_of}
 use Rattle.art_cell.proofs.WorldTurns.{IsKept, Next, turn_upgrades, upgrade_sets}
-use Rattle.art_cell.proofs.WorldViews.{at_step, only_turned}
+use Rattle.art_cell.proofs.WorldViews.{at_step, only_steps_of}
 use Rattle.art_cell.proofs.world.World.upgrade.Goals as goal
 
 pub changed-requires : goal.changed-requires
@@ -34,4 +34,4 @@ returns-clause-at_once c =
     })
 
 pub returns-clause-only : goal.returns-clause-only
-returns-clause-only c = only_turned c.self.view_is c.copied.ensures c.changed.ensures
+returns-clause-only c = only_steps_of c.self.view_is c.copied.ensures c.changed.ensures

@@ -8,7 +8,7 @@ use Rattle.art_cell.specs.StepRows.{MayWriteLeaf, SetsWord}
 use Rattle.art_cell.specs.WorldWords.{Kept, memory_now, memory_of, place_of, view_at}
 use Rattle.art_cell.proofs.WorldMemory.{puts_word}
 use Rattle.art_cell.proofs.WorldTurns.{IsKept, Next, turn_writes_leaf}
-use Rattle.art_cell.proofs.WorldViews.{at_step, only_turned}
+use Rattle.art_cell.proofs.WorldViews.{at_step, only_steps_of}
 use Rattle.art_cell.proofs.world.World.write_leaf.Goals as goal
 
 pub changed-requires : goal.changed-requires
@@ -45,4 +45,4 @@ returns-clause-at_once c l is =
     c.self.invariant (c.place_of-first.ensures ∙ ap (λ (a : ℕ). place_of c.self.inside.sizes (cell.Leaf a)) same))
 
 pub returns-clause-only : goal.returns-clause-only
-returns-clause-only c = only_turned c.self.view_is c.copied.ensures c.changed.ensures
+returns-clause-only c = only_steps_of c.self.view_is c.copied.ensures c.changed.ensures
