@@ -1,9 +1,6 @@
 //! The words of a node, all of them.
-ghost use Rattle.std.specs.Prelude.{◌≡◌, ◌<◌, length, IfSome, IfNone};
-ghost use Rattle.art_cell.specs.Words.{size};
-ghost use Rattle.art_cell.specs.Reads.{word_read, word_of};
 
-use crate::{Layout, Reads};
+use crate::Layout;
 
 /// As many words as the largest cell has.
 pub(crate) const WORDS: usize = 266;

@@ -1,5 +1,5 @@
 //! What every layout of a node can do.
-ghost use Rattle.std.specs.Prelude.{◌≡◌, ◌<◌, ◌↔◌, ℕ, Some, None, IsNone, IfSome, false, true, All};
+ghost use Rattle.std.specs.Prelude.{◌≡◌, ◌<◌, ◌↔◌, ℕ, Some, None, IsNone, IfSome, false, true};
 
 use crate::{Body, Reads, Writes, changes};
 use arrayvec::ArrayVec;

@@ -1,6 +1,6 @@
 //! A world at its opening.
 ghost use Rattle.std.specs.Prelude.{◌≡◌, ◌+◌, ◌*◌, ◌<◌, ◌≤◌, IfOk};
-ghost use Rattle.art_cell.specs.OpeningWords.{OpensAt, first_bits, opening_free_word, opening_node_word, opening_word, opening_words, version_or_zero};
+ghost use Rattle.art_cell.specs.OpeningWords.{OpensAt, first_bits, opening_free_word, opening_node_word, opening_word, version_or_zero};
 ghost use Rattle.art_cell.specs.Views.{last_counter};
 ghost use Rattle.art_cell.specs.WorldWords.{cells_end, epoch_place, first_cell, first_free_word, newcomers};
 ghost use Rattle.art_cell.specs.declared.layouts.Pool.TheVariants.{Leaves as leaf_pool, N4 as n4_pool};

@@ -1,5 +1,5 @@
 //! A world, run by a list of turns.
-ghost use Rattle.std.specs.Prelude.{◌≡◌, ◌≢◌, ◌⊎◌, ◌+◌, ◌≤◌, ◌<◌, ℕ, length, Bool, true, false, None, Some, refl};
+ghost use Rattle.std.specs.Prelude.{◌≡◌, ◌+◌, ◌≤◌, ◌<◌, ℕ, length, Bool, true, false, Some};
 ghost use Rattle.std.specs.List.{slice_get};
 ghost use Rattle.art_cell.specs.Lent.{OnlyStepped, lender, lent, pass_of, sizes_lent, view_lent};
 ghost use Rattle.art_cell.specs.Sound.{IsSound};

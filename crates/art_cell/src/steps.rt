@@ -1,8 +1,7 @@
 //! The atomic steps of one pass, whoever keeps the words.
-ghost use Rattle.std.specs.Prelude.{◌≡◌, ◌≢◌, ◌<◌, ◌≤◌, ◌*◌, ◌∷◌, ℕ, List, length, map, filter_map, MatchResult, Some};
+ghost use Rattle.std.specs.Prelude.{◌≡◌, ◌≢◌, ◌<◌, ◌≤◌, ℕ, List, length, map, filter_map, MatchResult};
 ghost use Rattle.std.specs.Option.{option_map};
 ghost use Rattle.art_cell.specs.declared.cells.Cell.TheVariants.{Leaf as leaf_cell, Node as node_cell};
-ghost use Rattle.art_cell.specs.declared.cells.Link.{Link as LinkOf};
 ghost use Rattle.art_cell.specs.declared.cells.Link.TheVariants.{Leaf as leaf, Node as node};
 ghost use Rattle.art_cell.specs.declared.cells.Node.{Node as NodeOf};
 ghost use Rattle.art_cell.specs.declared.views.Fact.TheVariants.{Starts};

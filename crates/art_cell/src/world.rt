@@ -1,5 +1,5 @@
 //! The words of all cells in one row, with what each pass knows.
-ghost use Rattle.std.specs.Prelude.{◌≡◌, ◌≢◌, ◌<◌, ◌≤◌, ◌*◌, length};
+ghost use Rattle.std.specs.Prelude.{◌≡◌, ◌<◌, ◌≤◌, length};
 ghost use Rattle.art_cell.specs.Sound.{IsSound};
 ghost use Rattle.art_cell.specs.WorldWords.{IsInside, first_place, memory_now, views_of, word_count};
 ghost use Rattle.art_cell.specs.Views.{size_of};

@@ -7,8 +7,7 @@ ghost use Rattle.art_cell.specs.FreeNumbers.{HasNoneFree, IsLeastFree};
 ghost use Rattle.art_cell.specs.Shown.{Freed, Gave, Took, link_of_number};
 ghost use Rattle.art_cell.specs.StepRows.{MayFree, MayGive, SetsFree};
 ghost use Rattle.art_cell.specs.Views.{IsNumber};
-ghost use Rattle.art_cell.specs.WordChanges.{FitsWord};
-ghost use Rattle.art_cell.specs.WorldWords.{OnlyStepsOf, is_free, memory_now, memory_of, pool_size, view_at, views_of, word_count};
+ghost use Rattle.art_cell.specs.WorldWords.{OnlyStepsOf, is_free, memory_now, memory_of, pool_size, view_at, word_count};
 
 use crate::made_steps::{Frees, Gives, Takes, copied};
 use crate::{Number, Pool, Sizes, World};

@@ -1,5 +1,5 @@
 //! The steps of one pass on a world.
-ghost use Rattle.std.specs.Prelude.{◌≡◌, ◌≢◌, ◌<◌, ◌≤◌, ◌+◌, ◌*◌, ◌∷◌, ℕ, List, length, map, MatchResult, Some};
+ghost use Rattle.std.specs.Prelude.{◌≡◌, ◌≢◌, ◌<◌, ◌+◌, ◌*◌, ℕ, List, length, MatchResult};
 ghost use Rattle.std.specs.Option.{option_map};
 ghost use Rattle.art_cell.specs.declared.cells.Cell.TheVariants.{Leaf as leaf_cell, Node as node_cell};
 ghost use Rattle.art_cell.specs.declared.cells.Link.TheVariants.{Leaf as leaf, Node as node};
@@ -7,22 +7,18 @@ ghost use Rattle.art_cell.specs.declared.cells.Node.{Node as NodeOf};
 ghost use Rattle.art_cell.specs.declared.views.Fact.TheVariants.{Starts};
 ghost use Rattle.art_cell.specs.declared.views.Holding.{Holding as HoldingOf};
 ghost use Rattle.art_cell.specs.declared.views.InHand.{InHand as NumberInHand};
-ghost use Rattle.art_cell.specs.Children.{child_word};
 ghost use Rattle.art_cell.specs.Deeds.{what_of};
 ghost use Rattle.art_cell.specs.Instants.{FindsUnchanged, FindsVersion, FindsWord, LocksClaimed, LocksStamped, PutsWord};
-ghost use Rattle.art_cell.specs.Shown.{Claimed, Committed, FailedUpgrade, Failed, IsHolding, IsInHand, MayReadCell, Passed, Released, Upgraded, Wrote, WroteLeaf, coming, fact_read, link_of_number, links_of};
+ghost use Rattle.art_cell.specs.Shown.{Claimed, FailedUpgrade, Failed, IsHolding, IsInHand, MayReadCell, Passed, Upgraded, Wrote, WroteLeaf, fact_read, link_of_number};
 ghost use Rattle.art_cell.specs.StepKinds.{LocksNothing};
-ghost use Rattle.art_cell.specs.StepRows.{HasClaimedNone, MayBeFirst, MayClaim, MayCommit, MayLock, MayPass, MayRelease, MayWrite, MayWriteLeaf, begun, has_read, note_of};
+ghost use Rattle.art_cell.specs.StepRows.{HasClaimedNone, MayClaim, MayLock, MayPass, MayWrite, MayWriteLeaf, begun, has_read, note_of};
 ghost use Rattle.art_cell.specs.Views.{IsClear, Member};
 ghost use Rattle.art_cell.specs.WorldWords.{IsAround, IsInside, MakesStep, OnlyStepsOf, memory_now, view_at};
 
 use crate::made_steps::{
-    Begins, Claims, Commits, Fails, Passes, Reads, Releases, Upgrades, Writes, WritesLeaf, copied,
+    Begins, Claims, Fails, Passes, Reads, Upgrades, Writes, WritesLeaf, copied,
 };
-use crate::{
-    Cell, Changed, Deed, Held, Link, Locked, Number, Stamp, Unlinked, UpgradeFault, World,
-};
-use arrayvec::ArrayVec;
+use crate::{Cell, Changed, Deed, Held, Link, Locked, Number, Stamp, UpgradeFault, World};
 
 /// No counter that is this or more goes on by an upgrade.
 pub(crate) const LAST_COUNTER: u64 = (1 << 62) - 8;

@@ -1,5 +1,5 @@
 //! Words to write.
-ghost use Rattle.std.specs.Prelude.{◌≡◌, ◌≤◌};
+ghost use Rattle.std.specs.Prelude.{◌≡◌};
 ghost use Rattle.art_cell.specs.Reads.{word_of, changes};
 
 use crate::Body;
