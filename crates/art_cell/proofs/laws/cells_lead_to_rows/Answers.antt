@@ -1,5 +1,0 @@
-use Rattle.art_cell.proofs.Full.{row_below_cell}
-use Rattle.art_cell.proofs.laws.cells_lead_to_rows.Goals as goal
-
-pub returns : goal.returns
-returns c = row_below_cell

@@ -1,8 +1,0 @@
-use Rattle.art_cell.proofs.ChildWords.{link_back, link_exact}
-use Rattle.art_cell.proofs.laws.child_words_are_read_back.Goals as goal
-
-pub returns-clause-back : goal.returns-clause-back
-returns-clause-back c = link_back
-
-pub returns-clause-exact : goal.returns-clause-exact
-returns-clause-exact c = link_exact

@@ -1,5 +1,0 @@
-use Rattle.art_cell.proofs.TreeLaws.{drop_law}
-use Rattle.art_cell.proofs.laws.leaves_are_dropped.Goals as goal
-
-pub returns : goal.returns
-returns c = drop_law

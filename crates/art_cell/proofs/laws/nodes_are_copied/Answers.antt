@@ -1,5 +1,0 @@
-use Rattle.art_cell.proofs.TreeLaws.{copy_law}
-use Rattle.art_cell.proofs.laws.nodes_are_copied.Goals as goal
-
-pub returns : goal.returns
-returns c = copy_law

@@ -1,5 +1,0 @@
-use Rattle.art_cell.proofs.TreeLaws.{grow_law}
-use Rattle.art_cell.proofs.laws.nodes_grow.Goals as goal
-
-pub returns : goal.returns
-returns c = grow_law

@@ -1,5 +1,0 @@
-use Rattle.art_cell.proofs.TreeLaws.{rows_stand_below}
-use Rattle.art_cell.proofs.laws.rows_stand_below_the_root.Goals as goal
-
-pub returns : goal.returns
-returns c = rows_stand_below

@@ -1,5 +1,0 @@
-use Rattle.art_cell.proofs.TreeLaws.{frame_law}
-use Rattle.art_cell.proofs.laws.unlinked_cells_do_not_matter.Goals as goal
-
-pub returns : goal.returns
-returns c = frame_law

@@ -1,8 +1,0 @@
-use Rattle.art_cell.proofs.StepLocks.{claim_law, unclaimed_law}
-use Rattle.art_cell.proofs.step_laws.claiming_is_sound.Goals as goal
-
-pub returns-clause-claimed : goal.returns-clause-claimed
-returns-clause-claimed c = claim_law
-
-pub returns-clause-unclaimed : goal.returns-clause-unclaimed
-returns-clause-unclaimed c = unclaimed_law

@@ -1,5 +1,0 @@
-use Rattle.art_cell.proofs.AnyStep.{step_law}
-use Rattle.art_cell.proofs.step_laws.stepping_is_sound.Goals as goal
-
-pub returns : goal.returns
-returns c = step_law

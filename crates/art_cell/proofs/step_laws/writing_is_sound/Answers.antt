@@ -1,8 +1,0 @@
-use Rattle.art_cell.proofs.StepWrites.{write_law, write_leaf_law}
-use Rattle.art_cell.proofs.step_laws.writing_is_sound.Goals as goal
-
-pub returns-clause-cell : goal.returns-clause-cell
-returns-clause-cell c = write_law
-
-pub returns-clause-leaf : goal.returns-clause-leaf
-returns-clause-leaf c = write_leaf_law

@@ -1,0 +1,234 @@
+-- A pass that holds the anchor alone writes its child word, and commits.
+use Rattle.std.proofs.Common.{◌≡◌, ℕ, ◌+◌, ◌^◌, ◌<◌, false, List, [], ◌∷◌, ◌++◌, set, Some, None, Option, refl, sym, ap, ap₂, ◌∙◌, subst, subst₂, inl, ⊎_elim, arith, get_or-set_same}
+use Rattle.std.specs.List.{cons_option}
+use Rattle.art_cell.specs.declared.cells.Cell.TheVariants as cell
+use Rattle.art_cell.specs.declared.cells.Link.{Link}
+use Rattle.art_cell.specs.declared.cells.Link.TheVariants.{Leaf as leaf}
+use Rattle.art_world.specs.declared.numbers.Number.{Number}
+use Rattle.art_world.specs.declared.steps.Held.{Held}
+use Rattle.art_step.specs.declared.views.Answer.TheVariants.{Inserted, Removed}
+use Rattle.art_step.specs.declared.views.Asked.TheVariants.{Insert, Remove}
+use Rattle.art_step.specs.declared.views.Fact.TheVariants.{LeafWord}
+use Rattle.art_step.specs.declared.views.Holding.{Holding}
+use Rattle.art_step.specs.declared.views.InHand.{InHand}
+use Rattle.art_step.specs.declared.views.Retired.{Retired}
+use Rattle.art_step.specs.declared.views.Sizes.{Sizes}
+use Rattle.art_step.specs.declared.views.View.{View}
+use Rattle.art_step.specs.declared.views.What.{What}
+use Rattle.art_step.specs.declared.views.What.TheVariants.{Done}
+use Rattle.art_cell.specs.Children.{child_word, link_of}
+use Rattle.art_commit.specs.CommitLaws.{HoldsJust, ClaimedAmong}
+use Rattle.art_tree.specs.Heaps.{Cells, heap_of}
+use Rattle.art_cell.specs.Leaves.{leaf_word}
+use Rattle.art_cell_uses.specs.NodeLives.{anchor_held}
+use Rattle.art_world.specs.Shown.{Committed, Freed, IsHolding, Wrote, claimed_nodes, coming, link_of_number, links_of}
+use Rattle.art_step.specs.StepRows.{AllNew, Commits, IsInLimbo, Knows, LetsGo, MayBeFirst, MayCommit, MayFree, MayWrite, note_of, all_retired, retired, stamp_of}
+use Rattle.art_tree.specs.Tree.{Top}
+use Rattle.art_step.specs.Views.{Member}
+use Rattle.art_cell_uses.specs.Visits.{HasNone, IsAway, IsIdle, HoldsAnchor, HoldsWord, ChangesWord, Fills, NotesLeaf}
+use Rattle.art_cell.specs.Words.{Words}
+use Rattle.art_commit.proofs.ChangeCommits.{add_commits, drop_commits}
+use Rattle.art_tree.proofs.ChildWords.{link_back}
+use Rattle.art_cell_uses.proofs.Few.{no_members, none_left}
+use Rattle.art_world.proofs.Gathered.{left_over}
+use Rattle.art_cell_uses.proofs.IdlePasses.{still_away, still_empty}
+use Rattle.art_cell_uses.proofs.LeavesInHand.{first_words, has_leaf, leaf_link}
+use Rattle.art_cell_uses.proofs.NodeLives.{claimed_is, key_is_one}
+use Rattle.art_tree.proofs.Places.{same_link}
+
+-- ---- nothing is claimed
+
+module _ (w : View) (h : Held) (x : ℕ) (old new : List ℕ) (holds : HoldsAnchor w h x old new) where
+  pub not_claimed : (k : Holding) → Member k w.held → k.stamped ≡ None → ⊥
+  not_claimed k i e = let was = ap (λ (y : Holding). y.stamped) (holds.just.only k i) in cc
+
+  -- so nothing comes into the tree but what is in hand
+  pub none_coming : claimed_nodes w.held ≡ []
+  none_coming = no_members (claimed_nodes w.held) (λ d i. let k = claimed_is w.held d i in not_claimed k.0 k.2 k.4)
+
+  -- it may be the first cell that is released
+  pub anchor_first : (us : List Link) → (k : Holding) × (k.cell ≡ h.cell) × MayBeFirst w us k false
+  anchor_first us = (
+    anchor_held x old new,
+    sym holds.cell,
+    record {
+      early = holds.early;
+      held = holds.just.has;
+      obsolete = ((λ e. cc), (λ o. let is = o.1 in cc));
+    },
+  )
+
+  -- and then the pass is away
+  pub committed_away : (u : View) (what : What) (us ls : List Link) → ((k : Holding) → IsHolding w h.cell k → Committed w u what us ls k) → IsAway u
+  committed_away u what us ls committed =
+      let r = committed (anchor_held x old new) (holds.just.has, sym holds.cell) in
+      record {
+        pinned = λ zero. holds.pinned (sym (ap (λ (y : View). y.pin) r.is) ∙ zero);
+        held = subst (λ (hs : List Holding). HasNone hs) (sym (ap (λ (y : View). y.held) r.is)) (none_left w.held r.held _ cell.Anchor holds.just refl r.drops);
+      }
+
+  pub committed_steps : (u : View) (what : What) (us ls : List Link) → ((k : Holding) → IsHolding w h.cell k → Committed w u what us ls k) → u.steps ≡ w.steps + 1
+  committed_steps u what us ls committed = ap (λ (y : View). y.steps) (committed (anchor_held x old new) (holds.just.has, sym holds.cell)).is
+
+  -- nothing new is in hand
+  pub committed_hand : (u : View) (what : What) (us ls : List Link) → ((k : Holding) → IsHolding w h.cell k → Committed w u what us ls k) → (y : InHand) → Member y u.hand → Member y w.hand × (Member y.link ls → ⊥)
+  committed_hand u what us ls committed y i =
+      let r = committed (anchor_held x old new) (holds.just.has, sym holds.cell) in
+      r.hands.was y (subst (Member y) (ap (λ (z : View). z.hand) r.is) i)
+
+-- ---- the child word is written
+
+pub may_write_child : (v : View) (h : Held) (x a : ℕ) → HoldsWord v h x a → (k : Holding) × (k.cell ≡ h.cell) × MayWrite v k 1
+may_write_child v h x a w = (anchor_held x w.words w.words, sym w.holds.cell, record { held = w.holds.just.has; early = w.holds.early; place = (omega arith, omega arith) })
+
+module _ (v w : View) (h : Held) (x a b : ℕ) (has : HoldsWord v h x a) (wrote : (k : Holding) → IsHolding v h.cell k → Wrote v w k 1 b) where
+  child_row : Wrote v w (anchor_held x has.words has.words) 1 b
+  child_row = wrote (anchor_held x has.words has.words) (has.holds.just.has, sym has.holds.cell)
+
+  pub child_written : ChangesWord w h x a b
+  child_written = record {
+    old = has.words;
+    new = set has.words 1 b;
+    holds = record {
+      cell = has.holds.cell;
+      pinned = λ zero. has.holds.pinned (sym (ap (λ (y : View). y.pin) child_row.is) ∙ zero);
+      early = ap (λ (y : View). y.committed) child_row.is ∙ has.holds.early;
+      just = record {
+        has = subst (Member (anchor_held x has.words (set has.words 1 b))) (sym held) child_row.puts.has;
+        only = λ y i. ⊎_elim
+            (λ (e : y ≡ anchor_held x has.words (set has.words 1 b)). e)
+            (λ (o : Member y v.held × (y ≡ anchor_held x has.words has.words → ⊥)). absurd (o.1 (has.holds.just.only y o.0)))
+            (child_row.puts.was y (subst (Member y) held i));
+      };
+    };
+    was = has.is;
+    now = get_or-set_same has.words 1 b 0 (omega (arith, has.long));
+  }
+    where
+      held : w.held ≡ child_row.held
+      held = ap (λ (y : View). y.held) child_row.is
+
+  -- nothing else changes
+  pub child_hand : w.hand ≡ v.hand
+  child_hand = ap (λ (y : View). y.hand) child_row.is
+
+  pub child_notes : w.notes ≡ v.notes
+  child_notes = ap (λ (y : View). y.notes) child_row.is
+
+  pub child_steps : w.steps ≡ v.steps + 1
+  child_steps = ap (λ (y : View). y.steps) child_row.is
+
+-- ---- a tree that is as the pass knows it, and what it writes
+
+module _ (z : Sizes) (v : View) (h : Held) (x a b : ℕ) (c : ChangesWord v h x a b) where
+  holds_just : HoldsJust v (λ d. d ≡ cell.Anchor)
+  holds_just = record {
+    each = λ d e. (anchor_held x c.old c.new, c.holds.just.has, sym e);
+    only = λ k i. ap (λ (y : Holding). y.cell) (c.holds.just.only k i);
+  }
+
+  claimed_none : ClaimedAmong v (λ n. ⊥)
+  claimed_none k n i none is = not_claimed v h x c.old c.new c.holds k i none
+
+  module _ (s s' : Cells) (knows : Knows v s) (turns : AllNew v.held s s') where
+    word_before : s cell.Anchor 1 ≡ a
+    word_before = ap (λ (w : Words). w 1) (knows.old _ c.holds.just.has) ∙ c.was
+
+    word_after : s' cell.Anchor 1 ≡ b
+    word_after = ap (λ (w : Words). w 1) (turns.here _ c.holds.just.has) ∙ c.now
+
+    root_before : (heap_of s).root ≡ link_of a
+    unfolding heap_of
+    root_before = ap link_of word_before
+
+-- ---- a leaf is added where the anchor names nothing
+
+pub may_add : (z : Sizes) (v : View) (h : Held) (n : Number) (x byte value : ℕ) → byte < 256 → Fills z v.hand n (byte ∷ []) value 10 → ChangesWord v h x 0 (child_word (leaf n.number))
+    → MayCommit z v (Done (Insert (byte ∷ []) value) Inserted) [] (coming v (Some (link_of_number n)))
+may_add z v h n x byte value small f c s s' shape knows turns =
+    let empty = root_before z v h x 0 _ c s s' knows turns in
+    subst (λ (ls : List Link). Commits z v (Done (Insert (byte ∷ []) value) Inserted) [] ls s s') (sym comes)
+    (add_commits z v s s' Top [] n.number (byte ∷ []) value (record { shape = shape; knows = knows; new = turns }) (has_leaf z v n byte value small f)
+    (holds_just z v h x 0 _ c) (claimed_none z v h x 0 _ c) (word_after z v h x 0 _ c s s' knows turns) refl empty (byte ∷ [], refl))
+  where
+    comes : coming v (Some (link_of_number n)) ≡ leaf n.number ∷ []
+    comes = ap₂ (λ (d : Link) (ls : List Link). d ∷ ls) (leaf_link n f.pool) (none_coming v h x c.old c.new c.holds)
+
+-- and then the pass is idle
+pub added_idle : (z : Sizes) (v w : View) (h : Held) (n : Number) (k : List ℕ) (value x a b : ℕ) (what : What) (us ls : List Link) → Fills z v.hand n k value 10 → ChangesWord v h x a b
+    → ((y : Holding) → IsHolding v h.cell y → Committed v w what us (link_of_number n ∷ ls) y) → IsIdle w
+added_idle z v w h n k value x a b what us ls f c committed = record {
+  away = committed_away v h x c.old c.new c.holds w what us (link_of_number n ∷ ls) committed;
+  hand = λ y i.
+      let o = committed_hand v h x c.old c.new c.holds w what us (link_of_number n ∷ ls) committed y i in
+      o.1 (inl (ap (λ (e : InHand). e.link) (f.just.only y o.0) ∙ sym (leaf_link n f.pool)));
+}
+
+-- ---- the leaf that the anchor names is removed
+
+-- what was noted of the leaf holds until the commit
+module _ (z : Sizes) (v : View) (h : Held) (l x byte value b : ℕ) (n : NotesLeaf z v (stamp_of cell.Anchor x) l (byte ∷ []) value 3) (c : ChangesWord v h x (child_word (leaf l)) b) (s : Cells) (knows : Knows v s) where
+  word_of_leaf : (i : ℕ) → i < 3 → s (cell.Leaf l) i ≡ leaf_word (byte ∷ []) value i
+  word_of_leaf i low = (knows.kept _ (note_of (stamp_of cell.Anchor x) (LeafWord l i (leaf_word (byte ∷ []) value i))) c.holds.just.has (n.read i low) refl refl).1
+
+  key_noted : byte < 256 → (heap_of s).key l ≡ byte ∷ []
+  unfolding heap_of
+  key_noted small = key_is_one (s (cell.Leaf l)) byte small (word_of_leaf 1 (omega arith)) (word_of_leaf 2 (omega arith) ∙ ((first_words byte value).2 ∙ omega arith))
+
+  value_noted : (heap_of s).value l ≡ value
+  unfolding heap_of
+  value_noted = word_of_leaf 0 (omega arith)
+
+pub may_remove : (z : Sizes) (v : View) (h : Held) (l x byte value : ℕ) → byte < 256 → NotesLeaf z v (stamp_of cell.Anchor x) l (byte ∷ []) value 3 → ChangesWord v h x (child_word (leaf l)) 0
+    → MayCommit z v (Done (Remove (byte ∷ [])) (Removed value)) (leaf l ∷ []) (coming v None)
+may_remove z v h l x byte value small n c s s' shape knows turns =
+    subst₂ (λ (k : List ℕ) (w : ℕ). Commits z v (Done (Remove k) (Removed w)) (leaf l ∷ []) (coming v None) s s') (key_noted z v h l x byte value 0 n c s knows small) (value_noted z v h l x byte value 0 n c s knows)
+    (subst (λ (ls : List Link). Commits z v (Done (Remove ((heap_of s).key l)) (Removed ((heap_of s).value l))) (leaf l ∷ []) ls s s') (sym (none_coming v h x c.old c.new c.holds))
+    (drop_commits z v s s' Top [] l (record { shape = shape; knows = knows; new = turns })
+    (holds_just z v h x _ 0 c) (claimed_none z v h x _ 0 c) (word_after z v h x _ 0 c s s' knows turns) refl
+    (root_before z v h x _ 0 c s s' knows turns ∙ link_back (leaf l) n.small)
+    (λ m b e. cc)))
+
+-- and then it is idle, with the leaf in limbo
+pub removed_idle : (v w : View) (h : Held) (x a b : ℕ) (what : What) (us ls : List Link) → HasNone v.hand → ChangesWord v h x a b → ((y : Holding) → IsHolding v h.cell y → Committed v w what us ls y) → IsIdle w
+removed_idle v w h x a b what us ls none c committed = record {
+  away = committed_away v h x c.old c.new c.holds w what us ls committed;
+  hand = λ y i. none y (committed_hand v h x c.old c.new c.holds w what us ls committed y i).0;
+}
+
+pub removed_limbo : (v w : View) (h : Held) (x a b l : ℕ) (what : What) (us ls : List Link) → us ≡ leaf l ∷ [] → ChangesWord v h x a b → ((y : Holding) → IsHolding v h.cell y → Committed v w what us ls y) → IsInLimbo w (leaf l)
+removed_limbo v w h x a b l what us ls one c committed =
+    let r = committed (anchor_held x c.old c.new) (c.holds.just.has, sym c.holds.cell) in
+    let is : w.limbo ≡ retired r.pins (leaf l) ∷ v.limbo = ap (λ (y : View). y.limbo) r.is ∙ ap (λ (ds : List Link). all_retired r.pins ds ++ v.limbo) one in
+    (retired r.pins (leaf l), subst (Member (retired r.pins (leaf l))) (sym is) (inl refl), refl)
+
+-- the one cell that its child word names
+pub one_link : (word l : ℕ) → l < 2 ^ 32 → word ≡ child_word (leaf l) → links_of (word ∷ []) ≡ leaf l ∷ []
+one_link word l small e = ap (λ (o : Option Link). cons_option o []) (ap link_of e ∙ link_back (leaf l) small)
+
+-- ---- and it goes back, since no stamp is a leaf's
+
+-- the list without the number
+pub without_link : (d : Link) (es : List Retired) → (ks : List Retired) × LetsGo es d ks
+without_link d es =
+    let rest = left_over (λ (e : Retired). e.link ≡ d) es (λ e. same_link e.link d) in
+    (rest.0, record { was = λ e. (rest.1 e).0; stays = λ e i other. (rest.1 e).1 (i, other) })
+
+pub may_give_back : (z : Sizes) (v : View) (d : Link) (l : ℕ) → d ≡ leaf l → IsInLimbo v (leaf l) → (es : List Retired) × MayFree z v d es
+may_give_back z v d l is limbo =
+    let rest = without_link (leaf l) v.limbo in (
+      rest.0,
+      subst (λ (c : Link). MayFree z v c rest.0) (sym is) (record {
+        limbo = limbo;
+        free = λ n e. absurd (cc);
+        unstamped = λ n e. absurd (cc);
+        marked = λ n e q is. absurd (cc);
+        rest = rest.1;
+      }),
+    )
+
+pub freed_idle : (v w : View) (d : Link) → IsIdle v → Freed v w d → IsIdle w
+freed_idle v w d idle f = record {
+  away = still_away v w (ap (λ (y : View). y.pin) f.is) (ap (λ (y : View). y.held) f.is) idle.away;
+  hand = still_empty v w idle.hand (ap (λ (y : View). y.hand) f.is);
+}

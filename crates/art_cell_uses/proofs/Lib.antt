@@ -1,0 +1,9 @@
+pub mod AnchorReads
+pub mod AnchorRows
+pub mod Few
+pub mod IdlePasses
+pub mod LeafPair
+pub mod LeavesInHand
+pub mod LifePairs
+pub mod LifeSteps
+pub mod NodeLives

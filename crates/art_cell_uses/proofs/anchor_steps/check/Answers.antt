@@ -1,0 +1,15 @@
+use Rattle.std.specs.Prelude.{[], None}
+use Rattle.art_cell.specs.declared.cells.Cell.TheVariants as cell
+use Rattle.art_cell_uses.proofs.AnchorReads.{learns_away}
+use Rattle.art_cell_uses.proofs.IdlePasses.{failed_away}
+use Rattle.art_cell_uses.proofs.LifeSteps.{passed_learns, stamp_at_on}
+use Rattle.art_cell_uses.proofs.anchor_steps.check.Goals as goal
+
+pub returns-in-Ok-clause-away : goal.returns-in-Ok-clause-away
+returns-in-Ok-clause-away g c = learns_away _ _ (passed_learns _ _ _ c.args.stamp None c.in-Ok.ensures.row) c.requires.away
+
+pub returns-in-Ok-clause-stamp : goal.returns-in-Ok-clause-stamp
+returns-in-Ok-clause-stamp g c = stamp_at_on _ _ c.args.stamp cell.Anchor [] (passed_learns _ _ _ c.args.stamp None c.in-Ok.ensures.row) c.requires.stamp
+
+pub returns-in-Err-clause-away : goal.returns-in-Err-clause-away
+returns-in-Err-clause-away g c = failed_away (g.S.Steps.view c.args.steps.now) (g.S.Steps.view c.check.new.self) c.args.stamp _ c.requires.away c.in-Err.ensures.row.3

@@ -1,0 +1,2 @@
+pub mod NodeLives
+pub mod Visits

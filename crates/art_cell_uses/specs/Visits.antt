@@ -1,0 +1,145 @@
+-- What a pass that visits the anchor again and again knows between two of its steps.
+use Rattle.std.specs.Prelude.{◌≡◌, ◌≢◌, ℕ, ◌+◌, ◌%◌, ◌^◌, ◌<◌, List, length, false}
+use Rattle.std.proofs.Common.{add_assoc, ap, sym, ◌∙◌}
+use Rattle.std.proofs.Math.Nat.{add-zero, mod-add-mod}
+use Rattle.art_cell.specs.declared.cells.Cell.TheVariants as cell
+use Rattle.art_cell.specs.declared.cells.Link.TheVariants.{Leaf as leaf}
+use Rattle.art_world.specs.declared.numbers.Number.{Number}
+use Rattle.art_cell.specs.declared.layouts.Pool.TheVariants.{Leaves}
+use Rattle.art_world.specs.declared.steps.Held.{Held}
+use Rattle.art_step.specs.declared.views.Fact.TheVariants.{Word, LeafWord}
+use Rattle.art_step.specs.declared.views.InHand.{InHand}
+use Rattle.art_step.specs.declared.views.Sizes.{Sizes}
+use Rattle.art_step.specs.declared.views.Stamp.{Stamp}
+use Rattle.art_step.specs.declared.views.View.{View}
+use Rattle.art_cell_uses.specs.declared.visits.Adding.{Adding}
+use Rattle.art_cell_uses.specs.declared.visits.Adding.TheVariants as adding
+use Rattle.art_cell_uses.specs.declared.visits.Removing.{Removing}
+use Rattle.art_cell_uses.specs.declared.visits.Removing.TheVariants as removing
+use Rattle.art_cell_uses.specs.declared.visits.Visit.{Visit}
+use Rattle.art_cell_uses.specs.declared.visits.Visit.TheVariants as visit
+use Rattle.art_cell.specs.Children.{child_word}
+use Rattle.art_cell.specs.Leaves.{leaf_word}
+use Rattle.art_cell_uses.specs.NodeLives.{IsNoted, StampsAnchor, anchor_held}
+use Rattle.art_world.specs.Shown.{AgreesWithNotes}
+use Rattle.art_step.specs.StepRows.{stamp_of}
+use Rattle.art_step.specs.Views.{Member, words_in}
+
+-- ---- lists with few members
+
+abbrev pub HasNone : {A : Type 0} → List A → Type 0
+HasNone {A} xs = (x : A) → Member x xs → ⊥
+
+-- the list has this member and no other
+pub record HasJust {A : Type 0} (xs : List A) (x : A) : Type 0 where
+  pub has : Member x xs
+  pub only : (y : A) → Member y xs → y ≡ x
+
+-- ---- the anchor
+
+-- the pass is pinned and holds no cell
+pub record IsAway (v : View) : Type 0 where
+  pub pinned : v.pin ≢ 0
+  pub held : HasNone v.held
+
+-- and has nothing in hand
+pub record IsIdle (v : View) : Type 0 where
+  pub away : IsAway v
+  pub hand : HasNone v.hand
+
+-- the pass holds the anchor alone, and has not committed
+pub record HoldsAnchor (v : View) (h : Held) (x : ℕ) (old new : List ℕ) : Type 0 where
+  pub cell : h.cell ≡ cell.Anchor
+  pub pinned : v.pin ≢ 0
+  pub early : v.committed ≡ false
+  pub just : HasJust v.held (anchor_held x old new)
+
+-- unchanged
+abbrev pub HoldsUnchanged : View → Held → Type 0
+HoldsUnchanged v h = (x : ℕ) × (ws : List ℕ) × HoldsAnchor v h x ws ws
+
+-- the upgrade of a stamp locked the anchor: its words are as the notes say, and the notes stay
+pub record Locks (v w : View) (x : Stamp) (h : Held) : Type 0 where
+  pub words : List ℕ
+  pub long : length words ≡ 2
+  pub agrees : AgreesWithNotes v x words
+  pub holds : HoldsAnchor w h x.version words words
+  pub notes : w.notes ≡ v.notes
+
+-- the anchor is held unchanged, and this is its child word
+pub record HoldsWord (v : View) (h : Held) (x a : ℕ) : Type 0 where
+  pub words : List ℕ
+  pub long : length words ≡ 2
+  pub holds : HoldsAnchor v h x words words
+  pub is : words_in words 1 ≡ a
+
+-- the anchor is held, and its child word becomes b where it was a
+pub record ChangesWord (v : View) (h : Held) (x a b : ℕ) : Type 0 where
+  pub old : List ℕ
+  pub new : List ℕ
+  pub holds : HoldsAnchor v h x old new
+  pub was : words_in old 1 ≡ a
+  pub now : words_in new 1 ≡ b
+
+-- ---- a leaf in hand
+
+abbrev pub leaf_in_hand : ℕ → List ℕ → InHand
+leaf_in_hand l ws = record { link = leaf l; words = ws }
+
+-- the number is that of a leaf, which alone is in hand; so many of its words are those of this key and value
+pub record Fills (z : Sizes) (hand : List InHand) (n : Number) (k : List ℕ) (value place : ℕ) : Type 0 where
+  pub pool : n.pool ≡ Leaves
+  pub inside : n.number < z.leaves
+  pub small : n.number < 2 ^ 32
+  pub words : List ℕ
+  pub long : length words ≡ 10
+  pub just : HasJust hand (leaf_in_hand n.number words)
+  pub written : (i : ℕ) → i < place → words_in words i ≡ leaf_word k value i
+
+-- ---- the leaf that the anchor names
+
+-- under the stamp it is noted that the anchor names the leaf l, and that so many of its words are those of this key and value
+pub record NotesLeaf (z : Sizes) (v : View) (x : Stamp) (l : ℕ) (k : List ℕ) (value place : ℕ) : Type 0 where
+  pub inside : l < z.leaves
+  pub small : l < 2 ^ 32
+  pub names : IsNoted v x (Word 1 (child_word (leaf l)))
+  pub read : (i : ℕ) → i < place → IsNoted v x (LeafWord l i (leaf_word k value i))
+
+-- ---- the states of a visitor that adds and removes a leaf with the key k and this value
+
+abbrev pub Adds : List ℕ → ℕ → Sizes → View → Adding → Type 0
+Adds k value z v (adding.Filling n place) = IsAway v × Fills z v.hand n k value place
+Adds k value z v (adding.Stamped n x) = IsAway v × Fills z v.hand n k value 10 × StampsAnchor v x
+Adds k value z v (adding.Seen n x) = IsAway v × Fills z v.hand n k value 10 × StampsAnchor v x × IsNoted v x (Word 1 0)
+Adds k value z v (adding.Locked n h) = Fills z v.hand n k value 10 × ((x : ℕ) × HoldsWord v h x 0)
+Adds k value z v (adding.Written n h) = Fills z v.hand n k value 10 × ((x : ℕ) × ChangesWord v h x 0 (child_word (leaf n.number)))
+
+abbrev pub Removes : List ℕ → ℕ → Sizes → View → Removing → Type 0
+Removes k value z v removing.Idle = IsIdle v
+Removes k value z v (removing.Stamped x) = IsIdle v × StampsAnchor v x
+Removes k value z v (removing.Reading x l place) = IsIdle v × StampsAnchor v x × NotesLeaf z v x l k value place
+Removes k value z v (removing.Locked h l) = HasNone v.hand × ((x : ℕ) × HoldsWord v h x (child_word (leaf l)) × NotesLeaf z v (stamp_of cell.Anchor x) l k value 3)
+Removes k value z v (removing.Written h l) = HasNone v.hand × ((x : ℕ) × ChangesWord v h x (child_word (leaf l)) 0 × NotesLeaf z v (stamp_of cell.Anchor x) l k value 3)
+
+abbrev pub Visits : List ℕ → ℕ → Sizes → View → Visit → Type 0
+Visits k value z v visit.Idle = IsIdle v
+Visits k value z v (visit.Stamped x) = IsIdle v × StampsAnchor v x
+Visits k value z v (visit.Locked h) = HasNone v.hand × HoldsUnchanged v h
+Visits k value z v (visit.Adding a) = Adds k value z v a
+Visits k value z v (visit.Removing r) = Removes k value z v r
+
+-- ---- turns, counted from a on by a number that wraps
+
+-- so many turns lead from the count a to the count b
+abbrev pub Counts : ℕ → ℕ → ℕ → Type 0
+Counts n a b = b % 2 ^ 64 ≡ (a + n) % 2 ^ 64
+
+pub counts_none : (a : ℕ) → Counts 0 a a
+counts_none a = ap (λ k. k % 2 ^ 64) (sym (add-zero a))
+
+pub counts_one_more : (n a b c : ℕ) → Counts n a b → Counts 1 b c → Counts (n + 1) a c
+counts_one_more n a b c x y =
+    y ∙ (sym (mod-add-mod b (2 ^ 64) 1)
+    ∙ (ap (λ k. (k + 1) % 2 ^ 64) x
+    ∙ (mod-add-mod (a + n) (2 ^ 64) 1
+    ∙ ap (λ k. k % 2 ^ 64) (add_assoc a n 1))))

@@ -1,0 +1,87 @@
+-- What a change makes of the rows, and the leaf that the pass has in hand.
+use Rattle.std.proofs.Common.{◌≡◌, ℕ, ◌≤◌, cond, List, [], length, Option, Some, None, refl, sym, ap, ◌∙◌, subst, subst₂, arith}
+use Rattle.std.proofs.lemmas.Bool.{le-ltb}
+use Rattle.std.specs.FinMap.{get, insert, remove}
+use Rattle.art_cell.specs.declared.cells.Cell.TheVariants as cell
+use Rattle.art_cell.specs.declared.cells.Link.TheVariants.{Leaf as leaf, Node as node}
+use Rattle.art_cell.specs.declared.cells.Node.{Node}
+use Rattle.art_step.specs.declared.views.Answer.TheVariants.{Inserted, Present, Removed, Absent}
+use Rattle.art_step.specs.declared.views.Asked.TheVariants.{Insert, Remove}
+use Rattle.art_step.specs.declared.views.Sizes.{Sizes}
+use Rattle.art_step.specs.declared.views.View.{View}
+use Rattle.art_step.specs.declared.views.What.{What}
+use Rattle.art_step.specs.declared.views.What.TheVariants.{Done}
+use Rattle.art_tree.specs.Changes.{IsUnlinked}
+use Rattle.art_commit.specs.CommitLaws.{HasLeaf, HasNode}
+use Rattle.art_tree.specs.Heaps.{Cells, heap_of}
+use Rattle.art_step.specs.Histories.{by_value, IsAnswered, becomes}
+use Rattle.art_step.specs.Knowledge.{IsLeafCell}
+use Rattle.art_cell.specs.Leaves.{leaf_key, IsLeaf}
+use Rattle.art_tree.specs.Rows.{ByteMap, HasRows, IsAbsent}
+use Rattle.art_step.specs.StepRows.{Knows}
+use Rattle.art_tree.specs.Tree.{Heap, At, Row}
+
+-- ---- rows
+
+-- the map answers as the event says, and the rows are those after it
+abbrev pub RowsBy : Heap → Heap → What → Type 0
+RowsBy h h' what = (m : ByteMap) → HasRows h m → IsAnswered m what × HasRows h' (becomes m what)
+
+-- an absent key is not in the map
+absent_get : (h : Heap) (m : ByteMap) (k : List ℕ) → HasRows h m → IsAbsent h k → get m k ≡ None
+absent_get h m k rows absent = each (get m k) refl
+  where
+    each : (o : Option ℕ) → get m k ≡ o → get m k ≡ None
+    each None e = e
+    each (Some u) e = absurd (absent u ((rows k u).1 e))
+
+-- an absent key is inserted
+insert_rows : (h h' : Heap) (k : List ℕ) (value : ℕ) → IsAbsent h k → ((m : ByteMap) → HasRows h m → HasRows h' (insert m k value)) → RowsBy h h' (Done (Insert k value) Inserted)
+insert_rows h h' k value absent after m rows =
+    let none = absent_get h m k rows absent in
+    (ap (λ o. by_value o Present Inserted) (sym none), subst (λ o. HasRows h' (by_value o (λ _. m) (insert m k value))) (sym none) (after m rows))
+
+-- a linked leaf's row is removed
+pub remove_rows : (h h' : Heap) (l : ℕ) (p : List ℕ) → At h (leaf l) p → ((m : ByteMap) → HasRows h m → HasRows h' (remove m (h.key l))) → RowsBy h h' (Done (Remove (h.key l)) (Removed (h.value l)))
+remove_rows h h' l p at after m rows =
+    let o : Row h (h.key l) (h.value l) = record { number = l; path = p; at = at; key = refl; value = refl } in
+    let some = (rows (h.key l) (h.value l)).0 o in
+    (ap (λ o. by_value o Removed Absent) (sym some), subst (λ o. HasRows h' (by_value o (λ _. remove m (h.key l)) m)) (sym some) (after m rows))
+
+-- ---- the leaf in hand
+
+key_in_words : (s : Cells) (l : ℕ) (k : List ℕ) (value : ℕ) → IsLeaf (s (cell.Leaf l)) k value → length k ≤ 64 → (heap_of s).key l ≡ k
+unfolding heap_of
+key_in_words s l k value w short = ap (λ t. cond t [] (leaf_key (s (cell.Leaf l)))) (le-ltb 64 (s (cell.Leaf l) 1) (omega (arith, w.len, short))) ∙ w.key
+
+value_in_words : (s : Cells) (l : ℕ) (k : List ℕ) (value : ℕ) → IsLeaf (s (cell.Leaf l)) k value → (heap_of s).value l ≡ value
+unfolding heap_of
+value_in_words s l k value w = w.value
+
+module _ (z : Sizes) (v : View) (s : Cells) (l : ℕ) (k : List ℕ) (value : ℕ) (knows : Knows v s) (has : HasLeaf z v l k value) where
+  -- it has its words
+  leaf_words : IsLeaf (s (cell.Leaf l)) k value
+  leaf_words = subst (λ w. IsLeaf w k value) (sym (knows.leaves has.hand l has.has has.link)) has.words
+
+  -- which say its key and its value
+  pub leaf_has_key : (heap_of s).key l ≡ k
+  leaf_has_key = key_in_words s l k value leaf_words has.short
+
+  leaf_has_value : (heap_of s).value l ≡ value
+  leaf_has_value = value_in_words s l k value leaf_words
+
+  -- and it is not linked
+  pub leaf_unlinked : IsUnlinked (heap_of s) (leaf l)
+  leaf_unlinked = subst (IsUnlinked (heap_of s)) has.link (knows.hand has.hand has.has)
+
+  -- it is inserted, where its key is absent
+  pub inserted_rows : (h' : Heap) → IsAbsent (heap_of s) k → ((m : ByteMap) → HasRows (heap_of s) m → HasRows h' (insert m ((heap_of s).key l) ((heap_of s).value l))) → RowsBy (heap_of s) h' (Done (Insert k value) Inserted)
+  inserted_rows h' absent rows = insert_rows (heap_of s) h' k value absent (λ m i. subst₂ (λ j u. HasRows h' (insert m j u)) leaf_has_key leaf_has_value (rows m i))
+
+  -- where it is not written it has the form of a leaf
+  pub leaf_formed : (s' : Cells) → s' (cell.Leaf l) ≡ s (cell.Leaf l) → IsLeafCell (s' (cell.Leaf l))
+  leaf_formed s' same = (k, value, subst (λ w. IsLeaf w k value) (sym same) leaf_words, has.short)
+
+-- nor is a node in hand
+pub node_unlinked : (z : Sizes) (v : View) (s : Cells) (m : Node) → Knows v s → HasNode z v m → IsUnlinked (heap_of s) (node m)
+node_unlinked z v s m knows has = subst (IsUnlinked (heap_of s)) has.link (knows.hand has.hand has.has)

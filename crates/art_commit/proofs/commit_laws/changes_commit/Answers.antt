@@ -1,0 +1,26 @@
+use Rattle.art_commit.proofs.ChangeCommits.{add_commits, drop_commits}
+use Rattle.art_commit.proofs.ChangeForks.{fork_commits}
+use Rattle.art_commit.proofs.ChangeMerges.{merge_commits}
+use Rattle.art_commit.proofs.ChangeWays.{grow_commits, shrink_commits, copy_commits}
+use Rattle.art_commit.proofs.commit_laws.changes_commit.Goals as goal
+
+pub returns-clause-add : goal.returns-clause-add
+returns-clause-add c = add_commits
+
+pub returns-clause-drop : goal.returns-clause-drop
+returns-clause-drop c = drop_commits
+
+pub returns-clause-grow : goal.returns-clause-grow
+returns-clause-grow c = grow_commits
+
+pub returns-clause-shrink : goal.returns-clause-shrink
+returns-clause-shrink c = shrink_commits
+
+pub returns-clause-copy : goal.returns-clause-copy
+returns-clause-copy c = copy_commits
+
+pub returns-clause-fork : goal.returns-clause-fork
+returns-clause-fork c = fork_commits
+
+pub returns-clause-merge : goal.returns-clause-merge
+returns-clause-merge c = merge_commits

@@ -1,0 +1,11 @@
+pub mod AnyStep
+pub mod Facts
+pub mod Histories
+pub mod Kept
+pub mod StepCommits
+pub mod StepLocks
+pub mod StepNotes
+pub mod StepNumbers
+pub mod StepOpens
+pub mod StepWrites
+pub mod Turns

@@ -1,0 +1,9 @@
+pub mod Histories
+pub mod Instants
+pub mod Knowledge
+pub mod Sound
+pub mod StepKinds
+pub mod StepLaws
+pub mod StepRows
+pub mod Views
+pub mod WordPlaces

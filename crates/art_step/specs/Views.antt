@@ -1,0 +1,89 @@
+-- The shared words as passes see them, and what passes know.
+use Rattle.std.specs.Prelude.{◌≡◌, ◌≢◌, ◌⊎◌, ℕ, ◌+◌, ◌*◌, ◌-◌, ◌%◌, ◌^◌, ◌<◌, ◌≤◌, List, [], ◌∷◌, get_or, Bool, Option, Some}
+use Rattle.art_cell.specs.declared.layouts.Layout.{Layout}
+use Rattle.art_cell.specs.declared.layouts.Layout.TheVariants.{Node4, Node16, Node48, Node256}
+use Rattle.art_cell.specs.declared.cells.Cell.{Cell}
+use Rattle.art_cell.specs.declared.cells.Cell.TheVariants as cell
+use Rattle.art_cell.specs.declared.cells.Link.{Link}
+use Rattle.art_cell.specs.declared.cells.Link.TheVariants.{Leaf as leaf, Node as node}
+use Rattle.art_step.specs.declared.views.Sizes.{Sizes}
+use Rattle.art_step.specs.declared.views.View.{View}
+use Rattle.art_tree.specs.Heaps.{Cells}
+use Rattle.art_cell.specs.Words.{Words, size}
+
+abbrev pub Member : {A : Type 0} → A → List A → Type 0
+Member x [] = ⊥
+Member x (y ∷ ys) = (x ≡ y) ⊎ Member x ys
+
+-- ---- the shared words
+
+-- the version word of each cell, its words after that, which numbers are free, the epoch, and the words of the passes.
+-- A leaf has no version word: it counts as obsolete, and its words begin at place 0
+pub record Memory : Type 0 where
+  pub version : Cell → ℕ
+  pub words : Cells
+  pub free : Link → Bool
+  pub epoch : ℕ
+  pub pass_word : ℕ → ℕ
+
+-- how many words a cell has, a version word included
+abbrev pub size_of : Cell → ℕ
+size_of cell.Anchor = 2
+size_of (cell.Leaf l) = 10
+size_of (cell.Node n) = size n.layout
+
+-- the words that a list has, by their places, and 0 elsewhere
+abbrev pub words_in : List ℕ → Words
+words_in ws place = get_or ws place 0
+
+-- ---- version words: bit 0 says obsolete, bit 1 locked, and the others are a counter
+
+abbrev pub IsClear : ℕ → Type 0
+IsClear x = x % 4 ≡ 0
+
+abbrev pub IsLocked : ℕ → Type 0
+IsLocked x = x % 4 ≡ 2
+
+abbrev pub IsObsolete : ℕ → Type 0
+IsObsolete x = x % 4 ≡ 1
+
+-- no cell is upgraded whose counter is this or more
+abbrev pub last_counter : ℕ
+last_counter = 2 ^ 62 - 8
+
+-- a version word: a counter goes on by at most one after the last upgrade
+pub record IsVersion (x : ℕ) : Type 0 where
+  pub form : IsClear x ⊎ (IsLocked x ⊎ IsObsolete x)
+  pub clear : IsClear x → x ≤ 4 * last_counter + 4
+  pub locked : IsLocked x → x ≤ 4 * last_counter + 2
+  pub obsolete : IsObsolete x → x ≤ 4 * last_counter + 1
+
+-- ---- numbers
+
+-- how many nodes of the layout there are
+abbrev pub nodes_of : Sizes → Layout → ℕ
+nodes_of z Node4 = z.n4
+nodes_of z Node16 = z.n16
+nodes_of z Node48 = z.n48
+nodes_of z Node256 = z.n256
+
+-- there is such a leaf, or such a node
+abbrev pub IsNumber : Sizes → Link → Type 0
+IsNumber z (leaf l) = l < z.leaves
+IsNumber z (node n) = n.number < nodes_of z n.layout
+
+-- the cell that the link names
+abbrev pub cell_named : Link → Cell
+cell_named (leaf l) = cell.Leaf l
+cell_named (node n) = cell.Node n
+
+-- ---- passes
+
+-- the views, by the numbers of their passes
+abbrev pub Views : Type 0
+Views = ℕ → Option View
+
+-- the view of the pass p became w, and no other changed
+pub record Turned (f : Views) (p : ℕ) (w : View) (g : Views) : Type 0 where
+  pub here : g p ≡ Some w
+  pub there : (q : ℕ) → q ≢ p → g q ≡ f q

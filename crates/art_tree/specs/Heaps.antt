@@ -1,0 +1,43 @@
+-- What the words of all cells mean: a heap.
+use Rattle.std.specs.Prelude.{◌≡◌, ℕ, List, [], nat_lt, if◌then◌else◌, Option, None}
+use Rattle.std.specs.Option.{option_and_then}
+use Rattle.art_cell.specs.declared.layouts.Layout.{Layout}
+use Rattle.art_cell.specs.declared.cells.Link.{Link}
+use Rattle.art_cell.specs.declared.cells.Cell.{Cell}
+use Rattle.art_cell.specs.declared.cells.Cell.TheVariants as cell
+use Rattle.art_cell.specs.Children.{link_of}
+use Rattle.art_cell.specs.Leaves.{leaf_key}
+use Rattle.art_tree.specs.Tree.{Heap}
+use Rattle.art_cell.specs.Words.{Words, prefix_len, prefix_of, child_of}
+
+-- the words of each cell, by their places
+abbrev pub Cells : Type 0
+Cells = Cell → Words
+
+-- the prefix of a node: none where the header says more than 64 bytes
+abbrev pub node_prefix : Words → List ℕ
+node_prefix w = if nat_lt 64 (prefix_len w) then [] else prefix_of w
+
+-- the child of a node at a byte: none where the word names no cell
+abbrev pub node_child : Layout → Words → ℕ → Option Link
+node_child k w b = if nat_lt b 256 then option_and_then link_of (child_of k w b) else None
+
+-- the key of a leaf: none where its length is over 64 bytes
+abbrev pub key_of : Words → List ℕ
+key_of w = if nat_lt 64 (w 1) then [] else leaf_key w
+
+-- what the cells mean, whatever their words
+unfoldable pub heap_of : Cells → Heap
+heap_of cells = record {
+  root = link_of (cells cell.Anchor 1);
+  prefix = λ n. node_prefix (cells (cell.Node n));
+  child = λ n b. node_child n.layout (cells (cell.Node n)) b;
+  key = λ l. key_of (cells (cell.Leaf l));
+  value = λ l. cells (cell.Leaf l) 0;
+}
+
+-- the words mean the same as those of the cell before
+abbrev pub MeansTheSame : Cell → Words → Words → Type 0
+MeansTheSame cell.Anchor w after = link_of (after 1) ≡ link_of (w 1)
+MeansTheSame (cell.Leaf l) w after = (key_of after ≡ key_of w) × (after 0 ≡ w 0)
+MeansTheSame (cell.Node n) w after = (node_prefix after ≡ node_prefix w) × ((b : ℕ) → node_child n.layout after b ≡ node_child n.layout w b)

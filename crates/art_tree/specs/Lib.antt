@@ -1,0 +1,9 @@
+pub mod Below
+pub mod Changes
+pub mod Descents
+pub mod Heaps
+pub mod Laws
+pub mod Looks
+pub mod Rows
+pub mod Tree
+pub mod WordChanges

@@ -1,0 +1,152 @@
+-- The words of a world that just opened: what stands at the places of cells, of free numbers, of the epoch and of the passes,
+-- and what all of them mean.
+use Rattle.std.proofs.Common.{◌≡◌, ◌≢◌, ℕ, ◌+◌, ◌-◌, ◌*◌, ◌/◌, ◌%◌, ◌<◌, ◌≤◌, ◌==◌, if◌then◌else◌, true, false, List, get_or, nat_lt, sym, refl, ap, ap₂, ◌∙◌, subst, ⊎_elim, arith, lt-ltb, ltb-false}
+use Rattle.std.proofs.lemmas.Bool.{cases_Bool, cases_lt, eqb-true, cond-true, cond-false, cond_both}
+use Rattle.std.proofs.lemmas.Bool.Decides.{nat_tests}
+use Rattle.std.proofs.lemmas.List.FromFn.{get_or-map-range_with_len}
+use Rattle.std.proofs.lemmas.Nat.Bits.{bit_at_ones, bit_at_ones_above}
+use Rattle.std.proofs.Math.Nat.{mul-mod_right}
+use Rattle.art_cell.specs.declared.layouts.Layout.{Layout}
+use Rattle.art_cell.specs.declared.layouts.Layout.TheVariants.{Node4, Node16, Node48, Node256}
+use Rattle.art_cell.specs.declared.layouts.Pool.{Pool}
+use Rattle.art_cell.specs.declared.layouts.Pool.TheVariants.{Leaves, N4, N16, N48, N256}
+use Rattle.art_cell.specs.declared.cells.Node.{Node}
+use Rattle.art_cell.specs.declared.cells.Cell.{Cell}
+use Rattle.art_cell.specs.declared.cells.Cell.TheVariants as cell
+use Rattle.art_cell.specs.declared.cells.Link.{Link}
+use Rattle.art_cell.specs.declared.cells.Link.TheVariants.{Node as node}
+use Rattle.art_step.specs.declared.views.Sizes.{Sizes}
+use Rattle.art_step.specs.declared.views.View.{View}
+use Rattle.art_world.specs.OpeningWords.{version_or_zero, first_bits, opening_word, opening_words, OpensAt}
+use Rattle.art_step.specs.StepLaws.{Opens}
+use Rattle.art_step.specs.Views.{IsNumber, last_counter}
+use Rattle.art_cell.specs.Children.{number_of}
+use Rattle.art_step.specs.WordPlaces.{pool_size, pool_of_layout, pool_of, words_each, first_cell, free_words, first_free_word, epoch_place, pass_place, word_count}
+use Rattle.art_world.specs.WorldWords.{newcomers}
+use Rattle.art_step.specs.WordPlaces.{is_inside, place_of}
+use Rattle.art_world.specs.WorldWords.{version_in, free_place, bit_of, is_free, memory_of, views_of}
+use Rattle.art_world.proofs.WorldFree.{free_has_bit, free_found}
+use Rattle.art_world.proofs.WorldMemory.{version_found, word_found, version_below}
+use Rattle.art_world.proofs.WorldPlaces.{HasBit, is_number, has_bit, is_inside_of, free_below}
+use Rattle.art_world.proofs.WorldViews.{newcomer_at}
+
+-- each place has its word
+pub opening_at : (z : Sizes) (k place : ℕ) → place < word_count z → get_or (opening_words z k) place 0 ≡ opening_word z k place
+opening_at z k place low = get_or-map-range_with_len (opening_word z k) 0 (word_count z) place place 0 low (omega arith)
+
+-- ---- the words of nodes
+
+-- the first word of each node has the version
+first_word : (each number version : ℕ) → version_or_zero (each * number) each version ≡ version
+first_word each number version = ap (λ (i : ℕ). if i == 0 then version else 0) (mul-mod_right each number)
+
+-- the nodes of a layout have their words from its first cell on
+node_word_at : (z : Sizes) (k number : ℕ) (l : Layout) → number < pool_size z (pool_of_layout l)
+    → opening_word z k (first_cell z (pool_of_layout l) + words_each (pool_of_layout l) * number)
+    ≡ version_or_zero (words_each (pool_of_layout l) * number) (words_each (pool_of_layout l)) (4 * k + 1)
+node_word_at z k number Node4 low = grind (arith, nat_tests)
+node_word_at z k number Node16 low = grind (arith, nat_tests)
+node_word_at z k number Node48 low = grind (arith, nat_tests)
+node_word_at z k number Node256 low = grind (arith, nat_tests)
+
+-- ---- the words of free numbers
+
+-- a word with its first n bits set has each of them, as far as its 64 go
+bit_at_first : (n i : ℕ) → i < n → i < 64 → bit_of (first_bits n) i ≡ 1
+bit_at_first n i low few = cond_both (nat_lt n 64) _ _ (λ (word : ℕ). bit_of word i ≡ 1) (λ _. bit_at_ones n i low) (λ _. bit_at_ones 64 i few)
+
+-- and no other
+no_bit_after : (n i : ℕ) → n ≤ i → i < 64 → bit_of (first_bits n) i ≡ 0
+no_bit_after n i high few = cond_both (nat_lt n 64) _ _ (λ (word : ℕ). bit_of word i ≡ 0) (λ _. bit_at_ones_above n i high) (λ e. let many = ltb-false n 64 e in absurd (omega arith))
+
+-- the numbers of a pool have their words from its first word on
+free_word_at : (z : Sizes) (k i : ℕ) (p : Pool) → i < free_words (pool_size z p) → opening_word z k (first_free_word z p + i) ≡ first_bits (pool_size z p - 64 * i)
+free_word_at z k i Leaves low = grind (arith, nat_tests)
+free_word_at z k i N4 low = grind (arith, nat_tests)
+free_word_at z k i N16 low = grind (arith, nat_tests)
+free_word_at z k i N48 low = grind (arith, nat_tests)
+free_word_at z k i N256 low = grind (arith, nat_tests)
+
+-- ---- the words after them
+
+-- the epoch's and those of the passes are 1
+late_word : (z : Sizes) (k place : ℕ) → epoch_place z ≤ place → opening_word z k place ≡ 1
+late_word z k place late = grind (arith, nat_tests)
+
+-- ---- what all of them mean
+
+module _ (z : Sizes) (k : ℕ) where
+  abbrev opened : List ℕ
+  opened = opening_words z k
+
+  found_late : (place : ℕ) → epoch_place z ≤ place → place < word_count z → get_or opened place 0 ≡ 1
+  found_late place late low = opening_at z k place low ∙ late_word z k place late
+
+  no_root : (memory_of z opened).words cell.Anchor 1 ≡ 0
+  no_root = word_found z opened cell.Anchor 1 tt (omega arith) (omega arith) ∙ (opening_at z k 1 (omega arith) ∙ grind (arith, nat_tests))
+
+  anchor_version : version_in z opened cell.Anchor ≡ 4 * k
+  anchor_version = opening_at z k 0 (omega arith)
+
+  node_version : (n : Node) → IsNumber z (node n) → version_in z opened (cell.Node n) ≡ 4 * k + 1
+  node_version n inside =
+      let below = version_below z (cell.Node n) inside in
+      version_found z opened (cell.Node n) inside (λ l e. cc)
+      ∙ (opening_at z k (place_of z (cell.Node n)) (omega arith)
+      ∙ (node_word_at z k n.number n.layout ((is_number z (node n)).0 inside) ∙ first_word (words_each (pool_of_layout n.layout)) n.number (4 * k + 1)))
+
+  -- a node that there is not counts as obsolete, as a leaf does
+  obsolete : k ≤ last_counter → (c : Cell) → c ≢ cell.Anchor → (j : ℕ) × (j ≤ last_counter) × (version_in z opened c ≡ 4 * j + 1)
+  obsolete low cell.Anchor other = absurd (other refl)
+  obsolete low (cell.Leaf l) other = (0, omega arith, refl)
+  obsolete low (cell.Node n) other = ⊎_elim
+      (λ (e : is_inside z (cell.Node n) ≡ true). (k, low, node_version n (is_inside_of z (cell.Node n) e)))
+      (λ (e : is_inside z (cell.Node n) ≡ false). (0, omega arith, cond-false _ _ 1 e))
+      (cases_Bool (is_inside z (cell.Node n)))
+
+  -- how many numbers the pool has from the first of the number's word on
+  abbrev rest : Link → ℕ
+  rest d = pool_size z (pool_of d) - 64 * (number_of d / 64)
+
+  -- so many bits of the word are set
+  word_of : (d : Link) → HasBit z d → get_or opened (free_place z d) 0 ≡ first_bits (rest d)
+  word_of d has =
+      let below = free_below z d has in
+      opening_at z k (free_place z d) (omega arith) ∙ free_word_at z k (number_of d / 64) (pool_of d) (omega arith)
+
+  all_free : (d : Link) → IsNumber z d → is_free z opened d ≡ true
+  all_free d inside =
+      let i : ℕ = number_of d in
+      let few = (is_number z d).0 inside in
+      let has = has_bit z d inside in
+      let bit = ap (λ (w : ℕ). bit_of w (i % 64)) (word_of d has) ∙ bit_at_first (rest d) (i % 64) (omega arith) (omega arith) in
+      free_found z opened d has ∙ ap (λ (b : ℕ). b == 1) bit
+
+  -- no bit above the pool's numbers is set
+  no_other_free : (d : Link) → is_free z opened d ≡ true → IsNumber z d
+  no_other_free d free =
+      let i : ℕ = number_of d in
+      let has = free_has_bit z opened d free in
+      let set = eqb-true _ 1 (sym (free_found z opened d has) ∙ free) in
+      ⊎_elim
+      (λ (few : i < pool_size z (pool_of d)). (is_number z d).1 few)
+      (λ (high : pool_size z (pool_of d) ≤ i). let clear = ap (λ (w : ℕ). bit_of w (i % 64)) (word_of d has) ∙ no_bit_after (rest d) (i % 64) (omega arith) (omega arith) in absurd (omega arith))
+      (cases_lt i (pool_size z (pool_of d)))
+
+  -- so all is as at opening
+  pub opens : k ≤ last_counter → Opens z (memory_of z opened) (views_of (newcomers 0 z.passes))
+  opens low = record {
+    root = no_root;
+    anchor = (k, low, anchor_version);
+    cells = obsolete low;
+    free = λ d. (no_other_free d, all_free d);
+    epoch = found_late (epoch_place z) (omega arith) (omega arith);
+    pass_word = λ p few. cond-true _ _ 0 (lt-ltb p z.passes few) ∙ found_late (pass_place z p) (omega arith) (omega arith);
+    views = newcomer_at z.passes;
+  }
+
+  -- a world with these words and newcomers has just opened
+  pub opens_at : k ≤ last_counter → (ws : List ℕ) (vs : List View) → ws ≡ opened → vs ≡ newcomers 0 z.passes → OpensAt z k (record { sizes = z; words = ws; views = vs })
+  opens_at low ws vs words views =
+      let same = ap₂ (λ (us : List ℕ) (fs : List View). record { sizes = z; words = us; views = fs }) (sym words) (sym views) in
+      subst (OpensAt z k) same (record { sizes = refl; words = refl; views = refl; opens = opens low; anchor = anchor_version; nodes = node_version })

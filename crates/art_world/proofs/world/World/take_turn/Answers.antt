@@ -1,0 +1,34 @@
+use Rattle.std.proofs.Common.{◌<◌, ◌∙◌, arith, inl, inr, length, refl, sym}
+use Rattle.std.proofs.lemmas.List.{set-get_or}
+use Rattle.std.proofs.lemmas.Option.{slice_get-get_or}
+use Rattle.art_world.proofs.TakenTurns.{fits_on}
+use Rattle.art_world.proofs.world.World.take_turn.Goals as goal
+
+pub returns-then-ended-clause-is_turn : goal.returns-then-ended-clause-is_turn
+returns-then-ended-clause-is_turn g c =
+    let d = c.index-actors-pass.result in
+    let inside : c.args.pass < length c.args.actors.now = omega (arith, c.if-pass-actors.false) in
+    inl (inr (_, slice_get-get_or c.args.actors.now c.args.pass d inside, sym c.ended.ensures ∙ c.if-ended.true), refl, set-get_or c.args.actors.now c.args.pass d)
+
+pub lend_to-requires-clause-fits : goal.lend_to-requires-clause-fits
+lend_to-requires-clause-fits g c = c.requires.fits c.args.pass _ (slice_get-get_or c.args.actors.now c.args.pass c.index-actors-pass.result (omega (arith, c.if-pass-actors.false)))
+
+pub returns-clause-is_turn : goal.returns-clause-is_turn
+returns-clause-is_turn g c =
+    let e = c.lend_to.ensures in
+    inr (record {
+      before = _;
+      now = c.lend_to.new.actor;
+      named = slice_get-get_or c.args.actors.now c.args.pass c.index-actors-pass.result (omega (arith, c.if-pass-actors.false));
+      goes_on = sym c.ended.ensures ∙ c.if-ended.false;
+      turn = e.after;
+      actors = refl;
+      only = e.only;
+      step = e.step;
+      sound = e.sound;
+    })
+
+pub returns-clause-fits : goal.returns-clause-fits
+returns-clause-fits g c =
+    let e = c.lend_to.ensures in
+    fits_on g.T.Actor.fits c.args.self.now c.lend_to.new.self c.args.actors.now c.args.pass c.lend_to.new.actor (omega (arith, c.if-pass-actors.false)) e.only e.fits c.requires.fits

@@ -1,0 +1,27 @@
+-- What a deed says, as an event does.
+use Rattle.std.specs.Option.{option_map}
+use Rattle.art_key.specs.declared.bounds.Bound.{Bound as KeyBound}
+use Rattle.art_key.specs.declared.bounds.Bound.TheVariants as key_bound
+use Rattle.art_world.specs.declared.deeds.Act.{Act}
+use Rattle.art_world.specs.declared.deeds.Act.TheVariants as act
+use Rattle.art_world.specs.declared.deeds.Deed.{Deed}
+use Rattle.art_world.specs.declared.deeds.Deed.TheVariants as deed
+use Rattle.art_step.specs.declared.views.Asked.{Asked}
+use Rattle.art_step.specs.declared.views.Asked.TheVariants.{Insert, Remove, Get}
+use Rattle.art_tree.specs.declared.bounds.Bound.{Bound}
+use Rattle.art_tree.specs.declared.bounds.Bound.TheVariants.{To, End}
+use Rattle.art_step.specs.declared.views.What.{What}
+use Rattle.art_step.specs.declared.views.What.TheVariants.{Done, Look}
+
+abbrev pub asked_of : Act → Asked
+asked_of (act.Insert k v) = Insert k.items v
+asked_of (act.Remove k) = Remove k.items
+asked_of (act.Get k) = Get k.items
+
+abbrev pub bound_of : KeyBound → Bound
+bound_of (key_bound.At k) = To k.items
+bound_of key_bound.End = End
+
+abbrev pub what_of : Deed → What
+what_of (deed.Done a r) = Done (asked_of a) r
+what_of (deed.Look lo hi row) = Look lo.items (bound_of hi) (option_map (λ r. (r.0.items, r.1)) row)

@@ -1,0 +1,58 @@
+-- The words of a world at its opening, place by place.
+use Rattle.std.specs.Prelude.{◌≡◌, ℕ, ◌+◌, ◌-◌, ◌*◌, ◌%◌, ◌^◌, ◌==◌, List, map, nat_lt, if◌then◌else◌}
+use Rattle.std.specs.List.{range_with_len}
+use Rattle.art_cell.specs.declared.layouts.Pool.TheVariants.{Leaves, N4, N16, N48, N256}
+use Rattle.art_cell.specs.declared.cells.Node.{Node}
+use Rattle.art_cell.specs.declared.cells.Cell.TheVariants as cell
+use Rattle.art_cell.specs.declared.cells.Link.TheVariants.{Node as node}
+use Rattle.art_step.specs.declared.views.Sizes.{Sizes}
+use Rattle.art_step.specs.StepLaws.{Opens}
+use Rattle.art_step.specs.Views.{IsNumber}
+use Rattle.art_step.specs.WordPlaces.{cells_end, epoch_place, first_cell, first_free_word, word_count}
+use Rattle.art_world.specs.WorldWords.{memory_now, newcomers, views_of, Kept}
+
+-- the first word of each cell of so many words has this version, and the others are 0
+abbrev pub version_or_zero : ℕ → ℕ → ℕ → ℕ
+version_or_zero i each version = if i % each == 0 then version else 0
+
+-- a word with its first bits set, so many of them
+abbrev pub first_bits : ℕ → ℕ
+first_bits n = if nat_lt n 64 then 2 ^ n - 1 else 2 ^ 64 - 1
+
+-- the words of nodes: obsolete, with a counter that begins at k
+abbrev pub opening_node_word : Sizes → ℕ → ℕ → ℕ
+opening_node_word z k place =
+    if nat_lt place (first_cell z N16) then version_or_zero (place - first_cell z N4) 15 (4 * k + 1)
+    else if nat_lt place (first_cell z N48) then version_or_zero (place - first_cell z N16) 28 (4 * k + 1)
+    else if nat_lt place (first_cell z N256) then version_or_zero (place - first_cell z N48) 90 (4 * k + 1)
+    else version_or_zero (place - first_cell z N256) 266 (4 * k + 1)
+
+-- the words of free numbers: all are free
+abbrev pub opening_free_word : Sizes → ℕ → ℕ
+opening_free_word z place =
+    if nat_lt place (first_free_word z N4) then first_bits (z.leaves - 64 * (place - first_free_word z Leaves))
+    else if nat_lt place (first_free_word z N16) then first_bits (z.n4 - 64 * (place - first_free_word z N4))
+    else if nat_lt place (first_free_word z N48) then first_bits (z.n16 - 64 * (place - first_free_word z N16))
+    else if nat_lt place (first_free_word z N256) then first_bits (z.n48 - 64 * (place - first_free_word z N48))
+    else first_bits (z.n256 - 64 * (place - first_free_word z N256))
+
+-- the anchor, which is clear and names no root; leaves of zeros; nodes; free numbers; the epoch and the words of the passes, all 1
+abbrev pub opening_word : Sizes → ℕ → ℕ → ℕ
+opening_word z k place =
+    if place == 0 then 4 * k
+    else if nat_lt place (first_cell z N4) then 0
+    else if nat_lt place (cells_end z) then opening_node_word z k place
+    else if nat_lt place (epoch_place z) then opening_free_word z place
+    else 1
+
+abbrev pub opening_words : Sizes → ℕ → List ℕ
+opening_words z k = map (opening_word z k) (range_with_len 0 (word_count z))
+
+-- a world that just opened: each pass knows nothing, and the counters of the anchor and of all nodes are at k
+pub record OpensAt (z : Sizes) (k : ℕ) (w : Kept) : Type 0 where
+  pub sizes : w.sizes ≡ z
+  pub words : w.words ≡ opening_words z k
+  pub views : w.views ≡ newcomers 0 z.passes
+  pub opens : Opens z (memory_now w) (views_of w.views)
+  pub anchor : (memory_now w).version cell.Anchor ≡ 4 * k
+  pub nodes : (n : Node) → IsNumber z (node n) → (memory_now w).version (cell.Node n) ≡ 4 * k + 1

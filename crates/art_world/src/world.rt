@@ -1,0 +1,91 @@
+//! The words of all cells in one row, with what each pass knows.
+ghost use Rattle.std.specs.Prelude.{◌≡◌, ◌<◌, ◌≤◌, length};
+ghost use Rattle.art_step.specs.Sound.{IsSound};
+ghost use Rattle.art_step.specs.WordPlaces.{IsInside, first_place, word_count};
+ghost use Rattle.art_world.specs.WorldWords.{memory_now, views_of};
+ghost use Rattle.art_step.specs.Views.{size_of};
+
+use art_cell::Cell;
+use art_ghosts::Ghost;
+use art_step::{Sizes, View};
+use std::collections::LinkedList;
+use std::marker::Model;
+
+/// All words, and, for proofs alone, the view of each pass.
+///
+/// Between any two steps there is a legal history whose replay the tree of the cells shows, each cell has one holder at
+/// most, unchanged stamps vouch for what was noted under them, each number is in one place, and words have their forms: that
+/// is the invariant of this type.
+#[derive(Drop)]
+pub struct World {
+    pub(crate) sizes: Sizes,
+    pub(crate) words: Vec<u64>,
+    pub(crate) views: Ghost<LinkedList<View>>,
+}
+
+/// A world, in which one pass makes its steps.
+#[derive(Drop)]
+pub struct At<'a> {
+    pub world: &'a mut World,
+    pub(crate) pass: usize,
+    ghost inside: { pass < length world.now.views },
+}
+
+impl Model for World {
+    ghost use Rattle.std.specs.Prelude.{◌≡◌, length};
+    ghost use Rattle.art_step.specs.Sound.{IsSound};
+    ghost use Rattle.art_step.specs.WordPlaces.{word_count};
+    ghost use Rattle.art_world.specs.WorldWords.{Kept, memory_of, views_of};
+
+    ghost Value = { Kept };
+
+    ghost view = { λ w. record { sizes = w.sizes; words = w.words.items; views = w.views.value } };
+
+    ghost invariant = { λ w. (length w.words.items ≡ word_count w.sizes) × (length w.views.value ≡ w.sizes.passes) × IsSound w.sizes (memory_of w.sizes w.words.items) (views_of w.views.value) };
+}
+
+impl World {
+    /// What always holds of a world, between any two steps.
+    pub fn stays_sound(&self)
+        ensures words { length self.now.words ≡ word_count self.now.sizes }
+        ensures passes { length self.now.views ≡ self.now.sizes.passes }
+        ensures sound { IsSound self.now.sizes (memory_now self.now) (views_of self.now.views) }
+    {
+        let _ = &self.sizes;
+    }
+
+    /// How many numbers each pool has, and how many passes there are.
+    pub fn sizes(&self) -> Sizes
+        ensures { result ≡ self.now.sizes }
+    {
+        self.sizes
+    }
+
+    /// All words, in their order.
+    pub fn words(&self) -> &[u64]
+        ensures { result.now ≡ self.now.words }
+    {
+        self.words.as_slice()
+    }
+
+    /// The version word of a cell. A leaf has none, and counts as obsolete.
+    pub fn version(&self, cell: Cell) -> u64
+        requires { IsInside self.now.sizes cell }
+        ensures { result ≡ (memory_now self.now).version cell }
+    {
+        match cell {
+            Cell::Leaf(_) => 1,
+            _ => self.words[self.sizes.place_of(cell)],
+        }
+    }
+
+    /// The word at a place of a cell that is no version word.
+    pub fn word(&self, cell: Cell, place: usize) -> u64
+        requires inside { IsInside self.now.sizes cell }
+        requires first { first_place cell ≤ place }
+        requires place { place < size_of cell }
+        ensures { result ≡ (memory_now self.now).words cell place }
+    {
+        self.words[self.sizes.place_of(cell) + place]
+    }
+}

@@ -1,0 +1,119 @@
+//! Releases of a world: the first one of a change, which is its commit, and later ones.
+ghost use Rattle.std.specs.Prelude.{◌≡◌, ◌<◌, ◌≤◌, length, map, filter_map};
+ghost use Rattle.std.specs.Option.{option_and_then, option_map};
+ghost use Rattle.std.specs.List.{slice_get};
+ghost use Rattle.art_step.specs.declared.views.Holding.{Holding as HoldingOf};
+ghost use Rattle.art_cell.specs.Children.{child_word, link_of};
+ghost use Rattle.art_world.specs.Deeds.{what_of};
+ghost use Rattle.art_step.specs.Instants.{Unlocks};
+ghost use Rattle.art_world.specs.FirstReleases.{UnlocksFirst};
+ghost use Rattle.art_world.specs.Shown.{Committed, IsHolding, Released, coming, link_of_number, links_of};
+ghost use Rattle.art_step.specs.StepRows.{MayBeFirst, MayCommit, MayRelease, released_word};
+ghost use Rattle.art_step.specs.WordPlaces.{IsInside};
+ghost use Rattle.art_world.specs.WorldWords.{MakesStep, OnlyStepsOf, view_at};
+
+use crate::made_steps::{Commits, Releases, copied};
+use crate::{Deed, Held, Number, Unlinked, World};
+use art_cell::Link;
+
+/// What a release makes of a version word.
+fn released(word: u64, obsolete: bool) -> u64
+    requires { word < 18446744073709551613 }
+    ensures { result ≡ released_word word obsolete }
+{
+    if obsolete { word + 3 } else { word + 2 }
+}
+
+/// The leaf whose number is spent.
+fn spent(number: Option<Number>) -> Option<Link>
+    ensures { result ≡ option_map link_of_number number }
+{
+    let number = number?;
+    let link = number.link();
+    let Number { pool: _, number: _ } = number;
+    Some(link)
+}
+
+/// The numbers that these child words name.
+fn numbers_of(words: &[u64]) -> Unlinked
+    requires { length words.now ≤ 3 }
+    ensures { filter_map (option_map link_of_number) result ≡ links_of words.now }
+{
+    [
+        number_at(words, 0),
+        number_at(words, 1),
+        number_at(words, 2),
+    ]
+}
+
+fn number_at(words: &[u64], index: usize) -> Option<Number>
+    ensures { option_map link_of_number result ≡ option_and_then link_of (slice_get words.now index) }
+{
+    let link = Link::named_by(*words.get(index)?)?;
+    Some(Number::of(link))
+}
+
+impl World {
+    pub(crate) fn commit(
+        &mut self,
+        pass: usize,
+        held: Held,
+        obsolete: bool,
+        deed: &Deed,
+        leaf: Option<Number>,
+        unlinked: &[u64],
+    ) -> Unlinked
+        requires pass { pass < length self.old.views }
+        requires inside { IsInside self.old.sizes held.cell }
+        requires words { map child_word (links_of unlinked.now) ≡ unlinked.now }
+        requires few { length unlinked.now ≤ 3 }
+        requires first { (h : HoldingOf) × (h.cell ≡ held.cell) × MayBeFirst (view_at self.old.views pass) (links_of unlinked.now) h obsolete }
+        requires may { MayCommit self.old.sizes (view_at self.old.views pass) (what_of deed.now) (links_of unlinked.now) (coming (view_at self.old.views pass) (option_map link_of_number leaf)) }
+        ensures only { OnlyStepsOf self.old self.new pass }
+        ensures at_once { MakesStep pass self.old self.new (UnlocksFirst (view_at self.old.views pass) held.cell obsolete) }
+        ensures numbers { filter_map (option_map link_of_number) result ≡ links_of unlinked.now }
+        ensures row { (h : HoldingOf) → IsHolding (view_at self.old.views pass) held.cell h → Committed (view_at self.old.views pass) (view_at self.new.views pass) (what_of deed.now) (links_of unlinked.now) (coming (view_at self.old.views pass) (option_map link_of_number leaf)) h }
+    {
+        let Held { cell } = held;
+        let leaf = spent(leaf);
+        let found = self.version(cell);
+        let place = self.sizes.place_of(cell);
+        let turn = Commits {
+            sizes: self.sizes,
+            pass,
+            cell,
+            deed,
+            leaf,
+            unlinked,
+            before: copied(&self.words),
+        };
+        self.words[place] = released(found, obsolete);
+        self.views = self
+            .views
+            .changed::<Vec<u64>, Commits<'_>, Commits<'_>>(&self.words, &turn);
+        numbers_of(unlinked)
+    }
+
+    pub(crate) fn release(&mut self, pass: usize, held: Held, obsolete: bool)
+        requires pass { pass < length self.old.views }
+        requires inside { IsInside self.old.sizes held.cell }
+        requires may { (h : HoldingOf) × (h.cell ≡ held.cell) × MayRelease (view_at self.old.views pass) h obsolete }
+        ensures only { OnlyStepsOf self.old self.new pass }
+        ensures at_once { MakesStep pass self.old self.new (Unlocks held.cell obsolete) }
+        ensures row { (h : HoldingOf) → IsHolding (view_at self.old.views pass) held.cell h → Released (view_at self.old.views pass) (view_at self.new.views pass) h }
+    {
+        let Held { cell } = held;
+        let found = self.version(cell);
+        let place = self.sizes.place_of(cell);
+        let turn = Releases {
+            sizes: self.sizes,
+            pass,
+            cell,
+            before: copied(&self.words),
+        };
+        self.words[place] = released(found, obsolete);
+        self.views = self
+            .views
+            .changed::<Vec<u64>, Releases, Releases>(&self.words, &turn);
+    }
+}
