@@ -1,11 +1,6 @@
 pub mod Bodies
 pub mod Children
-pub mod Empty
-pub mod Entries
-pub mod Headers
-pub mod LeafWords
 pub mod Leaves
-pub mod Packed
-pub mod ReadWords
+pub mod Lemmas
 pub mod Reads
 pub mod Words

@@ -4,7 +4,7 @@ use Rattle.std.proofs.lemmas.Bool.{cases_eq}
 use Rattle.art_cell.specs.declared.cells.Cell.{Cell}
 use Rattle.art_cell.specs.declared.cells.Cell.TheVariants as cell
 use Rattle.art_cell.specs.declared.cells.Link.TheVariants.{Leaf as leaf}
-use Rattle.art_world.specs.declared.steps.Held.{Held}
+use Rattle.art_step.specs.declared.steps.Held.{Held}
 use Rattle.art_step.specs.declared.views.Fact.TheVariants.{Word, LeafWord}
 use Rattle.art_step.specs.declared.views.Note.{Note}
 use Rattle.art_step.specs.declared.views.Sizes.{Sizes}
@@ -14,7 +14,7 @@ use Rattle.art_cell.specs.Children.{child_word, link_of}
 use Rattle.art_step.specs.Knowledge.{Names}
 use Rattle.art_cell.specs.Leaves.{leaf_word}
 use Rattle.art_cell_uses.specs.NodeLives.{IsNoted, OnlyLearns, StampsAnchor}
-use Rattle.art_world.specs.Shown.{MayReadCell}
+use Rattle.art_step.specs.Shown.{MayReadCell}
 use Rattle.art_step.specs.StepRows.{MayReadLeaf, stamp_of}
 use Rattle.art_step.specs.Views.{Member, size_of}
 use Rattle.art_cell_uses.specs.Visits.{IsAway, IsIdle, HoldsWord, Locks, NotesLeaf}

@@ -4,8 +4,8 @@ use Rattle.std.specs.List.{cons_option}
 use Rattle.art_cell.specs.declared.cells.Cell.TheVariants as cell
 use Rattle.art_cell.specs.declared.cells.Link.{Link}
 use Rattle.art_cell.specs.declared.cells.Link.TheVariants.{Leaf as leaf}
-use Rattle.art_world.specs.declared.numbers.Number.{Number}
-use Rattle.art_world.specs.declared.steps.Held.{Held}
+use Rattle.art_step.specs.declared.numbers.Number.{Number}
+use Rattle.art_step.specs.declared.steps.Held.{Held}
 use Rattle.art_step.specs.declared.views.Answer.TheVariants.{Inserted, Removed}
 use Rattle.art_step.specs.declared.views.Asked.TheVariants.{Insert, Remove}
 use Rattle.art_step.specs.declared.views.Fact.TheVariants.{LeafWord}
@@ -21,7 +21,7 @@ use Rattle.art_commit.specs.CommitLaws.{HoldsJust, ClaimedAmong}
 use Rattle.art_tree.specs.Heaps.{Cells, heap_of}
 use Rattle.art_cell.specs.Leaves.{leaf_word}
 use Rattle.art_cell_uses.specs.NodeLives.{anchor_held}
-use Rattle.art_world.specs.Shown.{Committed, Freed, IsHolding, Wrote, claimed_nodes, coming, link_of_number, links_of}
+use Rattle.art_step.specs.Shown.{Committed, Freed, IsHolding, Wrote, claimed_nodes, coming, link_of_number, links_of}
 use Rattle.art_step.specs.StepRows.{AllNew, Commits, IsInLimbo, Knows, LetsGo, MayBeFirst, MayCommit, MayFree, MayWrite, note_of, all_retired, retired, stamp_of}
 use Rattle.art_tree.specs.Tree.{Top}
 use Rattle.art_step.specs.Views.{Member}
@@ -30,7 +30,7 @@ use Rattle.art_cell.specs.Words.{Words}
 use Rattle.art_commit.proofs.ChangeCommits.{add_commits, drop_commits}
 use Rattle.art_tree.proofs.ChildWords.{link_back}
 use Rattle.art_cell_uses.proofs.Few.{no_members, none_left}
-use Rattle.art_world.proofs.Gathered.{left_over}
+use Rattle.art_step.proofs.Gathered.{left_over}
 use Rattle.art_cell_uses.proofs.IdlePasses.{still_away, still_empty}
 use Rattle.art_cell_uses.proofs.LeavesInHand.{first_words, has_leaf, leaf_link}
 use Rattle.art_cell_uses.proofs.NodeLives.{claimed_is, key_is_one}

@@ -3,7 +3,7 @@ use Rattle.std.proofs.Common.{◌≡◌, ℕ, ◌+◌, ◌%◌, true, false, con
 use Rattle.std.specs.Prelude.{MatchResult, Result, Ok, Err}
 use Rattle.art_cell.specs.declared.cells.Cell.{Cell}
 use Rattle.art_cell.specs.declared.cells.Cell.TheVariants as cell
-use Rattle.art_world.specs.declared.steps.Held.{Held}
+use Rattle.art_step.specs.declared.steps.Held.{Held}
 use Rattle.art_step.specs.declared.faults.UpgradeFault.{UpgradeFault}
 use Rattle.art_step.specs.declared.faults.UpgradeFault.TheVariants as fault
 use Rattle.art_step.specs.declared.views.Holding.{Holding}
@@ -11,7 +11,7 @@ use Rattle.art_step.specs.declared.views.InHand.{InHand}
 use Rattle.art_step.specs.declared.views.Stamp.{Stamp}
 use Rattle.art_step.specs.declared.views.View.{View}
 use Rattle.art_cell_uses.specs.NodeLives.{StampsAnchor, anchor_held}
-use Rattle.art_world.specs.Shown.{Failed, FailedUpgrade, IsHolding, Released, Upgraded}
+use Rattle.art_step.specs.Shown.{Failed, FailedUpgrade, IsHolding, Released, Upgraded}
 use Rattle.art_step.specs.StepRows.{MayLock, MayRelease, begun}
 use Rattle.art_step.specs.Views.{size_of}
 use Rattle.art_cell_uses.specs.Visits.{HasNone, HasJust, IsAway, IsIdle, HoldsUnchanged, Locks}

@@ -10,7 +10,7 @@ use Rattle.art_cell.specs.declared.layouts.Layout.{Layout}
 use Rattle.art_cell.specs.declared.layouts.Layout.TheVariants.{Node4, Node16, Node48, Node256}
 use Rattle.art_cell.specs.Bodies.{IsSorted}
 use Rattle.art_cell.specs.Children.{child_word, code_of, code_of_layout}
-use Rattle.art_cell.specs.Entries.{nonzero_some, same_listed}
+use Rattle.art_cell.specs.Lemmas.Entries.{nonzero_some, same_listed}
 use Rattle.art_cell_uses.specs.NodeLives.{IsPair, IsWholePair}
 use Rattle.art_tree.specs.WordChanges.{FitsWord, WritesNode, two_children}
 use Rattle.art_cell.specs.Words.{Words, byte_of, packed, key_byte, count_of, nonzero, child_of, entries}

@@ -4,7 +4,7 @@ use Rattle.std.proofs.lemmas.Bool.{cases_eq}
 use Rattle.std.proofs.lemmas.List.{length-set}
 use Rattle.art_cell.specs.declared.cells.Link.{Link}
 use Rattle.art_cell.specs.declared.cells.Link.TheVariants.{Leaf as leaf}
-use Rattle.art_world.specs.declared.numbers.Number.{Number}
+use Rattle.art_step.specs.declared.numbers.Number.{Number}
 use Rattle.art_cell.specs.declared.layouts.Pool.{Pool}
 use Rattle.art_cell.specs.declared.layouts.Pool.TheVariants.{Leaves}
 use Rattle.art_step.specs.declared.views.InHand.{InHand}
@@ -14,8 +14,8 @@ use Rattle.art_cell.specs.Children.{link_in_pool}
 use Rattle.art_commit.specs.CommitLaws.{HasLeaf}
 use Rattle.art_world.specs.FreeNumbers.{IsLeastFree}
 use Rattle.art_cell.specs.Leaves.{leaf_word}
-use Rattle.art_cell.specs.LeafWords.{words_mean_leaf}
-use Rattle.art_world.specs.Shown.{IsInHand, Took, WroteLeaf, link_of_number}
+use Rattle.art_cell.specs.Lemmas.LeafWords.{words_mean_leaf}
+use Rattle.art_step.specs.Shown.{IsInHand, Took, WroteLeaf, link_of_number}
 use Rattle.art_step.specs.StepRows.{IsTaken, MayWriteLeaf}
 use Rattle.art_step.specs.Views.{IsNumber, Member, Memory, words_in}
 use Rattle.art_cell_uses.specs.Visits.{HasNone, HasJust, IsAway, IsIdle, Fills, leaf_in_hand}

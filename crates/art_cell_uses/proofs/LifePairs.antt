@@ -10,7 +10,7 @@ use Rattle.art_cell.specs.declared.cells.Link.TheVariants.{Leaf as leaf, Node as
 use Rattle.art_cell.specs.declared.cells.Node.{Node}
 use Rattle.art_cell.specs.declared.layouts.Layout.{Layout}
 use Rattle.art_cell.specs.declared.layouts.Layout.TheVariants.{Node4}
-use Rattle.art_world.specs.declared.numbers.Number.{Number}
+use Rattle.art_step.specs.declared.numbers.Number.{Number}
 use Rattle.art_cell.specs.declared.layouts.Pool.{Pool}
 use Rattle.art_cell.specs.declared.layouts.Pool.TheVariants.{N4}
 use Rattle.art_step.specs.declared.views.Fact.TheVariants.{Starts, Word, LeafWord}
@@ -27,14 +27,15 @@ use Rattle.art_world.specs.FreeNumbers.{IsLeastFree}
 use Rattle.art_tree.specs.Heaps.{heap_of}
 use Rattle.art_step.specs.Knowledge.{CellAt, NamesLeaf, Leads, Names}
 use Rattle.art_cell_uses.specs.NodeLives.{IsNoted, OnlyLearns, IsStampAt, NotesRoot, NotesKey, key_of_one, HoldsTwo, anchor_held, stamped_holding, IsPair, HoldsPair, NotesPair, HasMerged}
-use Rattle.art_world.specs.Shown.{Freed, Took, link_of_number, links_of, IsHolding, MayReadCell, Passed, Upgraded, Wrote, Committed, Released}
+use Rattle.art_step.specs.Shown.{Freed, Took, link_of_number, links_of, IsHolding, MayReadCell, Passed, Upgraded, Wrote, Committed, Released}
 use Rattle.art_step.specs.StepRows.{HasClaimedNone, MayFree, MayBeFirst, MayRelease, MayWrite, Drops, with_word, begun, note_of, stamp_of, IsInLimbo}
 use Rattle.art_tree.specs.Tree.{top}
 use Rattle.art_step.specs.Views.{IsClear, IsNumber, Member, Memory, size_of, words_in}
 use Rattle.art_cell_uses.specs.Visits.{Fills, HasNone, IsIdle}
 use Rattle.art_tree.specs.WordChanges.{FitsWord, two_children}
 use Rattle.art_cell.specs.Words.{size, child_of}
-use Rattle.art_world.specs.WorldWords.{Kept, view_at}
+use Rattle.art_world.specs.WorldWords.{Kept}
+use Rattle.art_step.specs.WordRows.{view_at}
 use Rattle.art_cell_uses.proofs.AnchorRows.{without_link}
 use Rattle.art_tree.proofs.ChildWords.{link_back, link_exact}
 use Rattle.art_cell_uses.proofs.LeafPair.{pair_child}

@@ -23,7 +23,7 @@ use Rattle.art_commit.specs.CommitLaws.{HasLeaf, HasNode}
 use Rattle.art_tree.specs.Heaps.{heap_of}
 use Rattle.art_step.specs.Knowledge.{NamesLeaf, Names}
 use Rattle.art_cell_uses.specs.NodeLives.{IsNoted, OnlyLearns, IsStampAt, StampsAnchor, NotesRoot, NotesKey, key_of_one, HoldsTwo, anchor_held, claimed_holding, HoldsLeafRoot, HasClaimed, IsWholePair, HasForked}
-use Rattle.art_world.specs.Shown.{claimed_nodes, coming, Claimed, IsHolding, Passed, Upgraded, Wrote, Committed, Released}
+use Rattle.art_step.specs.Shown.{claimed_nodes, coming, Claimed, IsHolding, Passed, Upgraded, Wrote, Committed, Released}
 use Rattle.art_step.specs.StepRows.{MayBeFirst, MayClaim, MayRelease, Puts, with_word, MayWrite, Drops, has_read, note_of, stamp_of, MayReadLeaf, IsNotHeld}
 use Rattle.art_step.specs.Views.{Member, size_of, words_in}
 use Rattle.art_cell_uses.specs.Visits.{HasNone}

@@ -22,9 +22,9 @@ use Rattle.art_commit.specs.CommitLaws.{IsItsNode, ForkCommits, MergeCommits}
 use Rattle.art_tree.specs.Heaps.{Cells, key_of, heap_of}
 use Rattle.art_step.specs.Knowledge.{IsShape}
 use Rattle.art_cell_uses.specs.NodeLives.{IsNoted, NotesKey, key_of_one, anchor_held, stamped_holding, claimed_holding, IsPair, HasForked, HasMerged}
-use Rattle.art_world.specs.Shown.{claimed_nodes, claimed_node, coming}
+use Rattle.art_step.specs.Shown.{claimed_nodes, claimed_node, coming}
 use Rattle.art_step.specs.StepRows.{Knows, AllNew, IsLinked, Commits, MayCommit, note_of, stamp_of}
-use Rattle.art_tree.specs.Tree.{Top, Slot, held}
+use Rattle.art_tree.specs.Tree.{Top, Slot, child_at_place}
 use Rattle.art_step.specs.Views.{Member, words_in}
 use Rattle.art_tree.specs.WordChanges.{WritesNode, two_children}
 use Rattle.art_cell.specs.Words.{Words, byte_of, packed, child_of}
@@ -58,7 +58,7 @@ module _ (z : Sizes) (v : View) (m : Node) (a l value : ℕ) (r : HasForked z v 
   made = claimed_holding m r.unused r.body
 
   module _ (s s' : Cells) (shape : IsShape z s) (knows : Knows v s) (new : AllNew v.held s s') where
-    root : held (heap_of s) Top ≡ Some (leaf a)
+    root : child_at_place (heap_of s) Top ≡ Some (leaf a)
     unfolding heap_of
     root = ap (λ (w : Words). link_of (w 1)) (knows.old anchor r.held.one) ∙ r.was
 
@@ -96,7 +96,7 @@ module _ (z : Sizes) (v : View) (n : Node) (a b value : ℕ) (r : HasMerged v n 
   below = stamped_holding (stamp_of (cell.Node n) r.second) r.body r.body
 
   module _ (s s' : Cells) (shape : IsShape z s) (knows : Knows v s) (new : AllNew v.held s s') where
-    named : held (heap_of s) Top ≡ Some (node n)
+    named : child_at_place (heap_of s) Top ≡ Some (node n)
     unfolding heap_of
     named = ap (λ (w : Words). link_of (w 1)) (knows.old above r.held.one) ∙ r.was
 
@@ -109,13 +109,13 @@ module _ (z : Sizes) (v : View) (n : Node) (a b value : ℕ) (r : HasMerged v n 
     children : (e : ℕ) → child_of n.layout (s (cell.Node n)) e ≡ two_children 97 (leaf a) 98 (leaf b) e
     children e = subst (λ (k : Layout). child_of k (s (cell.Node n)) e ≡ two_children 97 (leaf a) 98 (leaf b) e) (sym r.layout) (pair_child (s (cell.Node n)) (leaf a) (leaf b) pair e)
 
-    one : held (heap_of s) (Slot n 97) ≡ Some (leaf a)
+    one : child_at_place (heap_of s) (Slot n 97) ≡ Some (leaf a)
     one = child_is s n 97 ∙ child_named (child_of n.layout (s (cell.Node n))) 97 (leaf a) (omega arith) r.pair.fits_first (children 97)
 
-    two : held (heap_of s) (Slot n 98) ≡ Some (leaf b)
+    two : child_at_place (heap_of s) (Slot n 98) ≡ Some (leaf b)
     two = child_is s n 98 ∙ child_named (child_of n.layout (s (cell.Node n))) 98 (leaf b) (omega arith) r.pair.fits_second (children 98)
 
-    none : (e : ℕ) → e ≢ 97 → e ≢ 98 → held (heap_of s) (Slot n e) ≡ None
+    none : (e : ℕ) → e ≢ 97 → e ≢ 98 → child_at_place (heap_of s) (Slot n e) ≡ None
     none e first second =
         let nothing : two_children 97 (leaf a) 98 (leaf b) e ≡ None = simp (ne_eqb e 97 first, ne_eqb e 98 second) in
         child_is s n e ∙ no_child (child_of n.layout (s (cell.Node n))) e (children e ∙ nothing)

@@ -4,9 +4,9 @@ use Rattle.std.proofs.Common.{add_assoc, ap, sym, ◌∙◌}
 use Rattle.std.proofs.Math.Nat.{add-zero, mod-add-mod}
 use Rattle.art_cell.specs.declared.cells.Cell.TheVariants as cell
 use Rattle.art_cell.specs.declared.cells.Link.TheVariants.{Leaf as leaf}
-use Rattle.art_world.specs.declared.numbers.Number.{Number}
+use Rattle.art_step.specs.declared.numbers.Number.{Number}
 use Rattle.art_cell.specs.declared.layouts.Pool.TheVariants.{Leaves}
-use Rattle.art_world.specs.declared.steps.Held.{Held}
+use Rattle.art_step.specs.declared.steps.Held.{Held}
 use Rattle.art_step.specs.declared.views.Fact.TheVariants.{Word, LeafWord}
 use Rattle.art_step.specs.declared.views.InHand.{InHand}
 use Rattle.art_step.specs.declared.views.Sizes.{Sizes}
@@ -21,7 +21,7 @@ use Rattle.art_cell_uses.specs.declared.visits.Visit.TheVariants as visit
 use Rattle.art_cell.specs.Children.{child_word}
 use Rattle.art_cell.specs.Leaves.{leaf_word}
 use Rattle.art_cell_uses.specs.NodeLives.{IsNoted, StampsAnchor, anchor_held}
-use Rattle.art_world.specs.Shown.{AgreesWithNotes}
+use Rattle.art_step.specs.Shown.{AgreesWithNotes}
 use Rattle.art_step.specs.StepRows.{stamp_of}
 use Rattle.art_step.specs.Views.{Member, words_in}
 

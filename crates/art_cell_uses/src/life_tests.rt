@@ -12,13 +12,13 @@ ghost use Rattle.art_commit.specs.CommitLaws.{HasLeaf, HasNode};
 ghost use Rattle.art_step.specs.Knowledge.{Names};
 ghost use Rattle.art_world.specs.Lent.{OnlyStepped, lent, sizes_lent, view_lent};
 ghost use Rattle.art_cell_uses.specs.NodeLives.{HasClaimed, HoldsLeafRoot, HoldsPair, IsNoted, IsStampAt, NotesKey, NotesPair, NotesRoot, OnlyLearns, StampsAnchor};
-ghost use Rattle.art_world.specs.Shown.{link_of_number};
+ghost use Rattle.art_step.specs.Shown.{link_of_number};
 ghost use Rattle.art_step.specs.StepRows.{IsInLimbo, IsNotHeld};
 ghost use Rattle.art_step.specs.Views.{Member};
 ghost use Rattle.art_cell_uses.specs.Visits.{Fills, HasNone, IsAway, IsIdle, Visits};
 ghost use Rattle.art_tree.specs.WordChanges.{FitsWord};
 ghost use Rattle.art_step.specs.WordPlaces.{IsInside};
-ghost use Rattle.art_world.specs.WorldWords.{view_at};
+ghost use Rattle.art_step.specs.WordRows.{view_at};
 
 use crate::actor_tests::{Task, Visitor};
 use crate::anchor_steps::{

@@ -21,7 +21,7 @@ use Rattle.art_step.specs.Knowledge.{IsNodeCell, IsShape}
 use Rattle.art_tree.specs.Laws.{Does, EditTouched, EditPaths}
 use Rattle.art_tree.specs.Rows.{ByteMap}
 use Rattle.art_step.specs.StepRows.{IsNotHeld, IsLinked, IsOnce, Commits}
-use Rattle.art_tree.specs.Tree.{Place, Slot, Heap, held, At, PlaceAt, Begins, HasTwo}
+use Rattle.art_tree.specs.Tree.{Place, Slot, Heap, child_at_place, StandsAt, PlaceAt, Begins, HasTwo}
 use Rattle.art_step.specs.Views.{Member, IsNumber}
 use Rattle.art_tree.specs.WordChanges.{WritesPlace, cell_of, WritesOnly}
 use Rattle.art_commit.proofs.ChangeRows.{RowsBy, remove_rows, inserted_rows, leaf_has_key, leaf_unlinked, leaf_formed}
@@ -83,7 +83,7 @@ module _ (z : Sizes) (v : View) (s s' : Cells) (P : Cell → Type 0) (b : Before
       (touches : Touches v us ls s T E) (forms : Forms z ls s s' P) (Q : Node → Type 0) (among : ClaimedAmong v Q) (claims : (n : Node) → Q n → Member (node n) ls) where
     -- what is linked after comes, or was linked
     linked_after : (d : Link) → IsLinked s' d → Member d ls ⊎ IsLinked s d
-    linked_after d o = ⊎_elim (λ (a : T d × E d o.0). touches.linked d o.0 a.1) (λ (a : (T d → ⊥) × At (heap_of s) d o.0). inr (o.0, a.1)) (moves.linked d o.0 o.1)
+    linked_after d o = ⊎_elim (λ (a : T d × E d o.0). touches.linked d o.0 a.1) (λ (a : (T d → ⊥) × StandsAt (heap_of s) d o.0). inr (o.0, a.1)) (moves.linked d o.0 o.1)
 
     -- what was linked has its form
     old_formed : (d : Link) → IsLinked s d → IsFormed s' d
@@ -112,7 +112,7 @@ module _ (z : Sizes) (v : View) (s s' : Cells) (P : Cell → Type 0) (b : Before
       rows = rows;
       others = λ n p free at. moves.others (node n) p (λ t. let a = touches.held n (p, at) t in free a.0 a.1 a.2) at;
       leaves = λ d i. let a = touches.leaves d i in
-          (a.1, λ o. ⊎_elim (λ (e : T d × E d o.0). a.2 o.0 e.1) (λ (e : (T d → ⊥) × At (heap_of s) d o.0). e.0 a.0) (moves.linked d o.0 o.1));
+          (a.1, λ o. ⊎_elim (λ (e : T d × E d o.0). a.2 o.0 e.1) (λ (e : (T d → ⊥) × StandsAt (heap_of s) d o.0). e.0 a.0) (moves.linked d o.0 o.1));
       comes = λ d i. let a = touches.comes d i in ((a.0.0, moves.touched d a.0.0 a.0.1), a.1);
       once = once;
       stays = λ d o. ⊎_elim
@@ -150,14 +150,14 @@ module _ (z : Sizes) (v : View) (s s' : Cells) (x : Place) (r : List ℕ) (l : �
     new = new;
   }
 
-  module _ (k : List ℕ) (value : ℕ) (has : HasLeaf z v l k value) (put : WritesPlace s s' x (Some (leaf l))) (free : held h x ≡ None) (begins : Begins r k) where
+  module _ (k : List ℕ) (value : ℕ) (has : HasLeaf z v l k value) (put : WritesPlace s s' x (Some (leaf l))) (free : child_at_place h x ≡ None) (begins : Begins r k) where
     new : IsUnlinked h (leaf l)
     new = leaf_unlinked z v s l k value b.knows has
 
     key : h.key l ≡ k
     key = leaf_has_key z v s l k value b.knows has
 
-    edits : Edits h h' x l × (held h' x ≡ Some (leaf l))
+    edits : Edits h h' x l × (child_at_place h' x ≡ Some (leaf l))
     edits = add_by_words s s' x l (record { put = put; rest = place_rest }) has.fits free new
 
     add_does : (f : ByteMap) → Does h h' (EditTouched l) (EditPaths h' x l r) f (insert f (h.key l) (h.value l))
@@ -167,7 +167,7 @@ module _ (z : Sizes) (v : View) (s s' : Cells) (x : Place) (r : List ℕ) (l : �
     add_touches = record {
       leaves = λ d i. absurd i;
       comes = λ d i. ⊎_elim (λ (e : d ≡ leaf l). ((r, (e, refl, edits.1)), in_hand v (leaf l) d e (has.hand, has.has, has.link))) (λ (i : ⊥). absurd i) i;
-      stays = λ d o. inl (λ t. new o.0 (subst (λ y. At h y o.0) t o.1));
+      stays = λ d o. inl (λ t. new o.0 (subst (λ y. StandsAt h y o.0) t o.1));
       linked = λ d q e. inl (inl e.0);
       held = λ n o t. absurd (cc);
     }
@@ -182,20 +182,20 @@ module _ (z : Sizes) (v : View) (s s' : Cells) (x : Place) (r : List ℕ) (l : �
     added among = commits_by z v s s' Written b just (Done (Insert k value) Inserted) [] (leaf l ∷ []) (EditTouched l) (EditPaths h' x l r) (add_does empty).moves
         (inserted_rows z v s l k value b.knows has h' (absent_free h x r k b.shape.tree at free begins) (λ m rows. (add_does m).rows rows)) add_touches add_forms (λ n. ⊥) among (λ n i. absurd i) tt
 
-  module _ (put : WritesPlace s s' x None) (was : held h x ≡ Some (leaf l)) (two : (n : Node) (c : ℕ) → x ≡ Slot n c → HasTwo h' n) where
-    drop_edits : Edits h h' x l × (held h' x ≡ None)
+  module _ (put : WritesPlace s s' x None) (was : child_at_place h x ≡ Some (leaf l)) (two : (n : Node) (c : ℕ) → x ≡ Slot n c → HasTwo h' n) where
+    drop_edits : Edits h h' x l × (child_at_place h' x ≡ None)
     drop_edits = drop_by_words s s' x l r (record { put = put; rest = place_rest }) b.shape.tree.once at was
 
     drop_does : (f : ByteMap) → Does h h' (EditTouched l) (EditPaths h' x l r) f (remove f (h.key l))
     drop_does f = drop_law h h' x l r f b.shape.tree at drop_edits.0 was drop_edits.1 two
 
-    linked_leaf : At h (leaf l) r
+    linked_leaf : StandsAt h (leaf l) r
     linked_leaf = at_place h x (leaf l) r at was
 
     drop_touches : Touches v (leaf l ∷ []) [] s (EditTouched l) (EditPaths h' x l r)
     drop_touches = record {
       leaves = λ d i. ⊎_elim
-          (λ (e : d ≡ leaf l). (e, (r, subst (λ y. At h y r) (sym e) linked_leaf), λ q p. let gone = drop_edits.1 in let here = p.2 in absurd (cc)))
+          (λ (e : d ≡ leaf l). (e, (r, subst (λ y. StandsAt h y r) (sym e) linked_leaf), λ q p. let gone = drop_edits.1 in let here = p.2 in absurd (cc)))
           (λ (i : ⊥). absurd i) i;
       comes = λ d i. absurd i;
       stays = λ d o. ⊎_elim (λ (e : d ≡ leaf l). inr (inl (inl e))) (λ (f : d ≢ leaf l). inl f) (same_link d (leaf l));

@@ -18,7 +18,7 @@ use Rattle.art_step.specs.Knowledge.{IsNodeCell}
 use Rattle.art_tree.specs.Laws.{Does, ForkTouched, ForkPaths}
 use Rattle.art_tree.specs.Rows.{ByteMap}
 use Rattle.art_step.specs.StepRows.{Commits}
-use Rattle.art_tree.specs.Tree.{Place, Heap, held, past, At, PlaceAt, Begins}
+use Rattle.art_tree.specs.Tree.{Place, Heap, child_at_place, path_past, StandsAt, PlaceAt, Begins}
 use Rattle.art_step.specs.Views.{IsNumber}
 use Rattle.art_tree.specs.WordChanges.{FitsWord, WritesPlace, WritesNode, two_children, cell_of, KeepsChildren}
 use Rattle.art_commit.proofs.ChangeCommits.{Touches, Forms, in_hand, same_words, only_written, commits_by}
@@ -34,7 +34,7 @@ module _ (z : Sizes) (v : View) (s s' : Cells) (x : Place) (r : List ℕ) (c : L
     (just : HoldsJust v (λ d. (d ≡ cell.Node m) ⊎ ((d ≡ cell_of x) ⊎ IsItsNode c d))) (among : ClaimedAmong v (λ i. i ≡ m))
     (put : WritesPlace s s' x (Some (node m))) (made : WritesNode m.layout (s' (cell.Node m)) q (two_children a c b (leaf l)))
     (cut : KeepsChildren s s' c (λ n p. node_prefix (s (cell.Node n)) ≡ q ++ a ∷ p))
-    (at : PlaceAt (heap_of s) x r) (was : held (heap_of s) x ≡ Some c) (a-low : a < 256) (b-low : b < 256) (apart : a ≢ b)
+    (at : PlaceAt (heap_of s) x r) (was : child_at_place (heap_of s) x ≡ Some c) (a-low : a < 256) (b-low : b < 256) (apart : a ≢ b)
     (begins_c : (i : ℕ) → c ≡ leaf i → Begins (r ++ q ++ a ∷ []) ((heap_of s).key i)) (begins : Begins (r ++ q ++ b ∷ []) k) where
   abbrev h : Heap
   h = heap_of s
@@ -60,38 +60,38 @@ module _ (z : Sizes) (v : View) (s s' : Cells) (x : Place) (r : List ℕ) (c : L
   fits : FitsWord c
   fits = held_fits s x c was
 
-  at_c : At h c r
+  at_c : StandsAt h c r
   at_c = at_place h x c r at was
 
   forks : Forks h h' x c m l a b × (h'.prefix m ≡ q)
   forks = fork_by_words s s' x r c m l a b q (record { put = put; made = made; cut = cut; rest = only_written s s' Written same }) before.shape.tree.once at was fresh new a-low b-low apart fits hand.fits has.fits
 
-  above_c : (i : ℕ) → c ≡ leaf i → Begins (past h' m r a) (h.key i)
+  above_c : (i : ℕ) → c ≡ leaf i → Begins (path_past h' m r a) (h.key i)
   above_c i e = subst (λ p. Begins (r ++ p ++ a ∷ []) (h.key i)) (sym forks.1) (begins_c i e)
 
-  above_l : Begins (past h' m r b) k
+  above_l : Begins (path_past h' m r b) k
   above_l = subst (λ p. Begins (r ++ p ++ b ∷ []) k) (sym forks.1) begins
 
   fork_does : (f : ByteMap) → Does h h' (ForkTouched c m l) (ForkPaths h' c m l a b r) f (insert f (h.key l) (h.value l))
   fork_does f = fork_law h h' x c m l a b r f before.shape.tree at forks.0
-      above_c (subst (Begins (past h' m r b)) (sym key) above_l) (subst (λ j. length j ≤ 64) (sym key) has.short)
+      above_c (subst (Begins (path_past h' m r b)) (sym key) above_l) (subst (λ j. length j ≤ 64) (sym key) has.short)
 
   fork_touches : Touches v [] (leaf l ∷ node m ∷ []) s (ForkTouched c m l) (ForkPaths h' c m l a b r)
   fork_touches = record {
     leaves = λ d i. absurd i;
     comes = λ d i. ⊎_elim
-        (λ (e : d ≡ leaf l). ((past h' m r b, inr (inr (e, refl))), in_hand v (leaf l) d e (has.hand, has.has, has.link)))
+        (λ (e : d ≡ leaf l). ((path_past h' m r b, inr (inr (e, refl))), in_hand v (leaf l) d e (has.hand, has.has, has.link)))
         (⊎_elim (λ (e : d ≡ node m). ((r, inr (inl (e, refl))), in_hand v (node m) d e (hand.hand, hand.has, hand.link))) (λ (i : ⊥). absurd i)) i;
     stays = λ d o. ⊎_elim
-        (λ (e : d ≡ c). inr (inr (past h' m r a, inl (e, refl))))
-        (λ (f : d ≢ c). inl (λ t. ⊎_elim f (⊎_elim (λ (e : d ≡ node m). fresh o.0 (subst (λ y. At h y o.0) e o.1)) (λ (e : d ≡ leaf l). new o.0 (subst (λ y. At h y o.0) e o.1))) t))
+        (λ (e : d ≡ c). inr (inr (path_past h' m r a, inl (e, refl))))
+        (λ (f : d ≢ c). inl (λ t. ⊎_elim f (⊎_elim (λ (e : d ≡ node m). fresh o.0 (subst (λ y. StandsAt h y o.0) e o.1)) (λ (e : d ≡ leaf l). new o.0 (subst (λ y. StandsAt h y o.0) e o.1))) t))
         (same_link d c);
     linked = λ d p e. ⊎_elim
-        (λ (f : (d ≡ c) × (p ≡ past h' m r a)). inr (r, subst (λ y. At h y r) (sym f.0) at_c))
-        (⊎_elim (λ (f : (d ≡ node m) × (p ≡ r)). inl (inr (inl f.0))) (λ (f : (d ≡ leaf l) × (p ≡ past h' m r b)). inl (inl f.0))) e;
+        (λ (f : (d ≡ c) × (p ≡ path_past h' m r a)). inr (r, subst (λ y. StandsAt h y r) (sym f.0) at_c))
+        (⊎_elim (λ (f : (d ≡ node m) × (p ≡ r)). inl (inr (inl f.0))) (λ (f : (d ≡ leaf l) × (p ≡ path_past h' m r b)). inl (inl f.0))) e;
     held = λ n o t. ⊎_elim
         (λ (e : node n ≡ c). just.each (cell.Node n) (inr (inr (n, sym e, refl))))
-        (⊎_elim (λ (e : node n ≡ node m). absurd (fresh o.0 (subst (λ y. At h y o.0) e o.1))) (λ (e : node n ≡ leaf l). absurd (cc))) t;
+        (⊎_elim (λ (e : node n ≡ node m). absurd (fresh o.0 (subst (λ y. StandsAt h y o.0) e o.1))) (λ (e : node n ≡ leaf l). absurd (cc))) t;
   }
 
   m_formed : IsNodeCell m (s' (cell.Node m))

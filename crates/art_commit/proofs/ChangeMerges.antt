@@ -18,7 +18,7 @@ use Rattle.art_step.specs.Knowledge.{IsNodeCell}
 use Rattle.art_tree.specs.Laws.{Does, MergeTouched, MergePaths}
 use Rattle.art_tree.specs.Rows.{ByteMap}
 use Rattle.art_step.specs.StepRows.{Commits}
-use Rattle.art_tree.specs.Tree.{Place, Slot, Heap, held, past, At, down, PlaceAt}
+use Rattle.art_tree.specs.Tree.{Place, Slot, Heap, child_at_place, path_past, StandsAt, down, PlaceAt}
 use Rattle.art_tree.specs.WordChanges.{FitsWord, WritesPlace, cell_of, KeepsChildren}
 use Rattle.art_commit.proofs.ChangeCommits.{Touches, Forms, same_words, only_written, once_two, commits_by}
 use Rattle.art_commit.proofs.ChangeRows.{remove_rows}
@@ -33,8 +33,8 @@ module _ (z : Sizes) (v : View) (s s' : Cells) (x : Place) (r : List ℕ) (c : L
     (just : HoldsJust v (λ d. (d ≡ cell.Node n) ⊎ ((d ≡ cell_of x) ⊎ IsItsNode c d))) (among : ClaimedAmong v (λ i. ⊥))
     (old : s' (cell.Node n) ≡ s (cell.Node n)) (put : WritesPlace s s' x (Some c))
     (gains : KeepsChildren s s' c (λ i p. p ≡ node_prefix (s (cell.Node n)) ++ a ∷ node_prefix (s (cell.Node i))))
-    (at : PlaceAt (heap_of s) x r) (was : held (heap_of s) x ≡ Some (node n)) (one : held (heap_of s) (Slot n a) ≡ Some c) (two : held (heap_of s) (Slot n b) ≡ Some (leaf l)) (apart : a ≢ b)
-    (none : (e : ℕ) → e ≢ a → e ≢ b → held (heap_of s) (Slot n e) ≡ None) where
+    (at : PlaceAt (heap_of s) x r) (was : child_at_place (heap_of s) x ≡ Some (node n)) (one : child_at_place (heap_of s) (Slot n a) ≡ Some c) (two : child_at_place (heap_of s) (Slot n b) ≡ Some (leaf l)) (apart : a ≢ b)
+    (none : (e : ℕ) → e ≢ a → e ≢ b → child_at_place (heap_of s) (Slot n e) ≡ None) where
   abbrev h : Heap
   h = heap_of s
 
@@ -54,13 +54,13 @@ module _ (z : Sizes) (v : View) (s s' : Cells) (x : Place) (r : List ℕ) (c : L
   fits : FitsWord c
   fits = held_fits s (Slot n a) c one
 
-  at_n : At h (node n) r
+  at_n : StandsAt h (node n) r
   at_n = at_place h x (node n) r at was
 
-  at_c : At h c (past h n r a)
+  at_c : StandsAt h c (path_past h n r a)
   at_c = down a at_n one refl
 
-  at_l : At h (leaf l) (past h n r b)
+  at_l : StandsAt h (leaf l) (path_past h n r b)
   at_l = down b at_n two refl
 
   merges : Merges h h' x c n l a b
@@ -70,18 +70,18 @@ module _ (z : Sizes) (v : View) (s s' : Cells) (x : Place) (r : List ℕ) (c : L
   merge_does f = merge_law h h' x c n l a b r f before.shape.tree at merges
 
   c_not_n : c ≢ node n
-  c_not_n e = deeper h (node n) n r a before.shape.tree.once at_n (subst (λ y. At h y (past h n r a)) e at_c)
+  c_not_n e = deeper h (node n) n r a before.shape.tree.once at_n (subst (λ y. StandsAt h y (path_past h n r a)) e at_c)
 
   c_not_l : c ≢ leaf l
   c_not_l e =
-      let place : Slot n a ≡ Slot n b = before.shape.tree.once (Slot n a) (Slot n b) (past h n r a) (past h n r b) c (r, at_n, refl) (r, at_n, refl) one (two ∙ ap Some (sym e)) in
+      let place : Slot n a ≡ Slot n b = before.shape.tree.once (Slot n a) (Slot n b) (path_past h n r a) (path_past h n r b) c (r, at_n, refl) (r, at_n, refl) one (two ∙ ap Some (sym e)) in
       let byte : a ≡ b = cc in apart byte
 
   merge_touches : Touches v (node n ∷ leaf l ∷ []) [] s (MergeTouched c n l) (MergePaths c r)
   merge_touches = record {
     leaves = λ d i. ⊎_elim
-        (λ (e : d ≡ node n). (inl e, (r, subst (λ y. At h y r) (sym e) at_n), λ p f. c_not_n (sym f.0 ∙ e)))
-        (⊎_elim (λ (e : d ≡ leaf l). (inr (inl e), (past h n r b, subst (λ y. At h y (past h n r b)) (sym e) at_l), λ p f. c_not_l (sym f.0 ∙ e))) (λ (i : ⊥). absurd i)) i;
+        (λ (e : d ≡ node n). (inl e, (r, subst (λ y. StandsAt h y r) (sym e) at_n), λ p f. c_not_n (sym f.0 ∙ e)))
+        (⊎_elim (λ (e : d ≡ leaf l). (inr (inl e), (path_past h n r b, subst (λ y. StandsAt h y (path_past h n r b)) (sym e) at_l), λ p f. c_not_l (sym f.0 ∙ e))) (λ (i : ⊥). absurd i)) i;
     comes = λ d i. absurd i;
     stays = λ d o. ⊎_elim
         (λ (e : d ≡ node n). inr (inl (inl e)))
@@ -90,7 +90,7 @@ module _ (z : Sizes) (v : View) (s s' : Cells) (x : Place) (r : List ℕ) (c : L
         (λ (g : d ≢ leaf l). ⊎_elim (λ (e : d ≡ c). inr (inr (r, (e, refl)))) (λ (i : d ≢ c). inl (λ t. ⊎_elim f (⊎_elim g i) t)) (same_link d c))
         (same_link d (leaf l)))
         (same_link d (node n));
-    linked = λ d p e. inr (past h n r a, subst (λ y. At h y (past h n r a)) (sym e.0) at_c);
+    linked = λ d p e. inr (path_past h n r a, subst (λ y. StandsAt h y (path_past h n r a)) (sym e.0) at_c);
     held = λ i o t. ⊎_elim
         (λ (e : node i ≡ node n). let is : i ≡ n = cc in just.each (cell.Node i) (inl (ap cell.Node is)))
         (⊎_elim (λ (e : node i ≡ leaf l). absurd (cc)) (λ (e : node i ≡ c). just.each (cell.Node i) (inr (inr (i, sym e, refl))))) t;
@@ -111,7 +111,7 @@ module _ (z : Sizes) (v : View) (s s' : Cells) (x : Place) (r : List ℕ) (c : L
 
   merged : Commits z v (Done (Remove (h.key l)) (Removed (h.value l))) (node n ∷ leaf l ∷ []) [] s s'
   merged = commits_by z v s s' Written before just (Done (Remove (h.key l)) (Removed (h.value l))) (node n ∷ leaf l ∷ []) [] (MergeTouched c n l) (MergePaths c r) (merge_does empty).moves
-      (remove_rows h h' l (past h n r b) at_l (λ f rows. (merge_does f).rows rows)) merge_touches merge_forms (λ i. ⊥) among (λ i e. absurd e) (once_two n l)
+      (remove_rows h h' l (path_past h n r b) at_l (λ f rows. (merge_does f).rows rows)) merge_touches merge_forms (λ i. ⊥) among (λ i e. absurd e) (once_two n l)
 
 pub merge_commits : MergeCommits
 merge_commits = merged

@@ -19,7 +19,7 @@ use Rattle.art_step.specs.Knowledge.{IsLeafCell}
 use Rattle.art_cell.specs.Leaves.{leaf_key, IsLeaf}
 use Rattle.art_tree.specs.Rows.{ByteMap, HasRows, IsAbsent}
 use Rattle.art_step.specs.StepRows.{Knows}
-use Rattle.art_tree.specs.Tree.{Heap, At, Row}
+use Rattle.art_tree.specs.Tree.{Heap, StandsAt, Row}
 
 -- ---- rows
 
@@ -42,7 +42,7 @@ insert_rows h h' k value absent after m rows =
     (ap (λ o. by_value o Present Inserted) (sym none), subst (λ o. HasRows h' (by_value o (λ _. m) (insert m k value))) (sym none) (after m rows))
 
 -- a linked leaf's row is removed
-pub remove_rows : (h h' : Heap) (l : ℕ) (p : List ℕ) → At h (leaf l) p → ((m : ByteMap) → HasRows h m → HasRows h' (remove m (h.key l))) → RowsBy h h' (Done (Remove (h.key l)) (Removed (h.value l)))
+pub remove_rows : (h h' : Heap) (l : ℕ) (p : List ℕ) → StandsAt h (leaf l) p → ((m : ByteMap) → HasRows h m → HasRows h' (remove m (h.key l))) → RowsBy h h' (Done (Remove (h.key l)) (Removed (h.value l)))
 remove_rows h h' l p at after m rows =
     let o : Row h (h.key l) (h.value l) = record { number = l; path = p; at = at; key = refl; value = refl } in
     let some = (rows (h.key l) (h.value l)).0 o in

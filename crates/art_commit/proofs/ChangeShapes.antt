@@ -13,7 +13,7 @@ use Rattle.art_cell.specs.Children.{child_word, link_of}
 use Rattle.art_tree.specs.Heaps.{Cells, node_prefix, node_child, key_of, heap_of, MeansTheSame}
 use Rattle.art_step.specs.Knowledge.{NamesCell, IsNodeCell, IsLeafCell, IsShape}
 use Rattle.art_cell.specs.Reads.{with_child, without_child}
-use Rattle.art_tree.specs.Tree.{Place, Top, Slot, held, PlaceAt}
+use Rattle.art_tree.specs.Tree.{Place, Top, Slot, child_at_place, PlaceAt}
 use Rattle.art_tree.specs.WordChanges.{FitsWord, at_byte, WritesPlace, WritesNode, two_children, cell_of, KeepsChildren}
 use Rattle.art_cell.specs.Words.{Words, child_of}
 use Rattle.art_tree.proofs.ChildWords.{link_back, link_exact}
@@ -34,7 +34,7 @@ word_fits None c e = absurd (cc)
 word_fits (Some word) c e = (link_exact word c e).1
 
 -- the number of a link that a place holds takes 32 bits
-pub held_fits : (s : Cells) (x : Place) (c : Link) → held (heap_of s) x ≡ Some c → FitsWord c
+pub held_fits : (s : Cells) (x : Place) (c : Link) → child_at_place (heap_of s) x ≡ Some c → FitsWord c
 unfolding heap_of
 held_fits s Top c e = (link_exact (s cell.Anchor 1) c e).1
 held_fits s (Slot n b) c e = ⊎_elim

@@ -20,7 +20,7 @@ use Rattle.art_step.specs.Knowledge.{IsNodeCell}
 use Rattle.art_tree.specs.Laws.{Does, RenewTouched, RenewPaths, CopyTouched, CopyPaths}
 use Rattle.art_tree.specs.Rows.{ByteMap, HasRows}
 use Rattle.art_step.specs.StepRows.{IsLinked, Commits}
-use Rattle.art_tree.specs.Tree.{Place, Slot, Heap, held, past, At, down, PlaceAt, Begins, HasTwo}
+use Rattle.art_tree.specs.Tree.{Place, Slot, Heap, child_at_place, path_past, StandsAt, down, PlaceAt, Begins, HasTwo}
 use Rattle.art_step.specs.Views.{Member, IsNumber}
 use Rattle.art_tree.specs.WordChanges.{at_byte, WritesPlace, WritesNode, cell_of, WayByWords, WayPremises}
 use Rattle.art_cell.specs.Words.{child_of}
@@ -37,7 +37,7 @@ use Rattle.art_tree.proofs.WordChanges.{grow_by_words, shrink_by_words, copy_by_
 
 module _ (z : Sizes) (v : View) (s s' : Cells) (x : Place) (r : List ℕ) (n m : Node) (before : Before z v s s') (hand : HasNode z v m)
     (just : HoldsJust v (λ c. (c ≡ cell.Node n) ⊎ ((c ≡ cell.Node m) ⊎ (c ≡ cell_of x)))) (old : s' (cell.Node n) ≡ s (cell.Node n)) (put : WritesPlace s s' x (Some (node m)))
-    (at : PlaceAt (heap_of s) x r) (was : held (heap_of s) x ≡ Some (node n)) where
+    (at : PlaceAt (heap_of s) x r) (was : child_at_place (heap_of s) x ≡ Some (node n)) where
   abbrev h : Heap
   h = heap_of s
 
@@ -60,12 +60,12 @@ module _ (z : Sizes) (v : View) (s s' : Cells) (x : Place) (r : List ℕ) (n m :
   fresh : IsUnlinked h (node m)
   fresh = node_unlinked z v s m before.knows hand
 
-  at_n : At h (node n) r
+  at_n : StandsAt h (node n) r
   at_n = at_place h x (node n) r at was
 
   -- they are two nodes
   apart : node n ≢ node m
-  apart e = fresh r (subst (λ y. At h y r) e at_n)
+  apart e = fresh r (subst (λ y. StandsAt h y r) e at_n)
 
   premises : WayPremises s x r n m
   premises = (before.shape.tree.once, at, was, fresh, hand.fits)
@@ -77,7 +77,7 @@ module _ (z : Sizes) (v : View) (s s' : Cells) (x : Place) (r : List ℕ) (n m :
   way_held : (i : Node) → IsLinked s (node i) → (node i ≡ node n) ⊎ (node i ≡ node m) → IsHeld v (cell.Node i)
   way_held i o t = ⊎_elim
       (λ (e : node i ≡ node n). let is : i ≡ n = cc in just.each (cell.Node i) (inl (ap cell.Node is)))
-      (λ (e : node i ≡ node m). absurd (fresh o.0 (subst (λ y. At h y o.0) e o.1))) t
+      (λ (e : node i ≡ node m). absurd (fresh o.0 (subst (λ y. StandsAt h y o.0) e o.1))) t
 
   module _ (child : ℕ → Option ℕ) (made : WritesNode m.layout (s' (cell.Node m)) (node_prefix (s (cell.Node n))) child) where
     way : WayByWords s s' x n m child
@@ -105,10 +105,10 @@ module _ (z : Sizes) (v : View) (s s' : Cells) (x : Place) (r : List ℕ) (n m :
 
   -- the node that goes was linked, and is not the other
   n_goes : (d : Link) → d ≡ node n → IsLinked s d × (d ≢ node m)
-  n_goes d e = ((r, subst (λ y. At h y r) (sym e) at_n), λ f. apart (sym e ∙ f))
+  n_goes d e = ((r, subst (λ y. StandsAt h y r) (sym e) at_n), λ f. apart (sym e ∙ f))
 
   m_unlinked : (d : Link) → IsLinked s d → d ≢ node m
-  m_unlinked d o e = fresh o.0 (subst (λ y. At h y o.0) e o.1)
+  m_unlinked d o e = fresh o.0 (subst (λ y. StandsAt h y o.0) e o.1)
 
   -- ---- with the same children
 
@@ -153,13 +153,13 @@ module _ (z : Sizes) (v : View) (s s' : Cells) (x : Place) (r : List ℕ) (n m :
       (n_goes d e).0,
       λ p f. ⊎_elim
           (λ (g : (d ≡ node m) × (p ≡ r)). (n_goes d e).1 g.0)
-          (λ (g : (d ≡ leaf l) × (p ≡ past h n r b) × (h'.child m b ≡ Some (leaf l))). let is = g.0 in absurd (cc)) f,
+          (λ (g : (d ≡ leaf l) × (p ≡ path_past h n r b) × (h'.child m b ≡ Some (leaf l))). let is = g.0 in absurd (cc)) f,
     )
 
     -- ---- with a leaf more
 
     module _ (k : List ℕ) (value : ℕ) (has : HasLeaf z v l k value) (made : WritesNode m.layout (s' (cell.Node m)) (node_prefix (s (cell.Node n))) (at_byte (child_of n.layout (s (cell.Node n))) b (Some (leaf l))))
-        (low : b < 256) (free : held h (Slot n b) ≡ None) (begins : Begins (past h n r b) k) where
+        (low : b < 256) (free : child_at_place h (Slot n b) ≡ None) (begins : Begins (path_past h n r b) k) where
       abbrev grown : ℕ → Option ℕ
       grown = at_byte (child_of n.layout (s (cell.Node n))) b (Some (leaf l))
 
@@ -169,12 +169,12 @@ module _ (z : Sizes) (v : View) (s s' : Cells) (x : Place) (r : List ℕ) (n m :
       key : h.key l ≡ k
       key = leaf_has_key z v s l k value before.knows has
 
-      grows : Renews h h' x n m b l × (held h' (Slot m b) ≡ Some (leaf l))
+      grows : Renews h h' x n m b l × (child_at_place h' (Slot m b) ≡ Some (leaf l))
       grows = grow_by_words s s' x r n m b l (way grown made) premises low has.fits new_leaf free
 
       grow_does : (f : ByteMap) → Does h h' T E f (insert f (h.key l) (h.value l))
       grow_does f = grow_law h h' x n m b l r f before.shape.tree at grows.0 grows.1 new_leaf
-          (subst (Begins (past h n r b)) (sym key) begins)
+          (subst (Begins (path_past h n r b)) (sym key) begins)
 
       grow_touches : Touches v (node n ∷ []) (leaf l ∷ node m ∷ []) s T E
       grow_touches = record {
@@ -182,15 +182,15 @@ module _ (z : Sizes) (v : View) (s s' : Cells) (x : Place) (r : List ℕ) (n m :
             (n_gone d)
             (λ (i : ⊥). absurd i) i;
         comes = λ d i. ⊎_elim
-            (λ (e : d ≡ leaf l). ((past h n r b, inr (e, refl, grows.1)), in_hand v (leaf l) d e (has.hand, has.has, has.link)))
+            (λ (e : d ≡ leaf l). ((path_past h n r b, inr (e, refl, grows.1)), in_hand v (leaf l) d e (has.hand, has.has, has.link)))
             (⊎_elim (λ (e : d ≡ node m). ((r, inl (e, refl)), m_in_hand d e)) (λ (i : ⊥). absurd i)) i;
         stays = λ d o. ⊎_elim
             (λ (e : d ≡ node n). inr (inl (inl e)))
-            (λ (f : d ≢ node n). inl (λ t. ⊎_elim f (⊎_elim (m_unlinked d o) (λ (e : d ≡ leaf l). new_leaf o.0 (subst (λ y. At h y o.0) e o.1))) t))
+            (λ (f : d ≢ node n). inl (λ t. ⊎_elim f (⊎_elim (m_unlinked d o) (λ (e : d ≡ leaf l). new_leaf o.0 (subst (λ y. StandsAt h y o.0) e o.1))) t))
             (same_link d (node n));
         linked = λ d p e. ⊎_elim
             (λ (f : (d ≡ node m) × (p ≡ r)). inl (inr (inl f.0)))
-            (λ (f : (d ≡ leaf l) × (p ≡ past h n r b) × (h'.child m b ≡ Some (leaf l))). inl (inl f.0)) e;
+            (λ (f : (d ≡ leaf l) × (p ≡ path_past h n r b) × (h'.child m b ≡ Some (leaf l))). inl (inl f.0)) e;
         held = renew_held;
       }
 
@@ -198,7 +198,7 @@ module _ (z : Sizes) (v : View) (s s' : Cells) (x : Place) (r : List ℕ) (n m :
       grew among =
           let named = names b (Some (leaf l)) has.fits in
           commits_by z v s s' Written before just (Done (Insert k value) Inserted) (node n ∷ []) (leaf l ∷ node m ∷ []) T E (grow_does empty).moves
-          (inserted_rows z v s l k value before.knows has h' (absent_free h (Slot n b) (past h n r b) k before.shape.tree (r, at_n, refl) free begins) (λ f rows. (grow_does f).rows rows))
+          (inserted_rows z v s l k value before.knows has h' (absent_free h (Slot n b) (path_past h n r b) k before.shape.tree (r, at_n, refl) free begins) (λ f rows. (grow_does f).rows rows))
           grow_touches
           (way_forms grown made named (leaf l ∷ node m ∷ []) (λ d i. ⊎_elim
           (λ (e : d ≡ leaf l). subst (λ y. IsNumber z y × IsFormed s' y) (sym e) (has.number, leaf_formed z v s l k value before.knows has s' (same_leaf l)))
@@ -208,14 +208,14 @@ module _ (z : Sizes) (v : View) (s s' : Cells) (x : Place) (r : List ℕ) (n m :
     -- ---- with a leaf less
 
     module _ (made : WritesNode m.layout (s' (cell.Node m)) (node_prefix (s (cell.Node n))) (at_byte (child_of n.layout (s (cell.Node n))) b None))
-        (had : held h (Slot n b) ≡ Some (leaf l)) (two : HasTwo h' m) where
+        (had : child_at_place h (Slot n b) ≡ Some (leaf l)) (two : HasTwo h' m) where
       abbrev shrunk : ℕ → Option ℕ
       shrunk = at_byte (child_of n.layout (s (cell.Node n))) b None
 
-      at_l : At h (leaf l) (past h n r b)
+      at_l : StandsAt h (leaf l) (path_past h n r b)
       at_l = down b at_n had refl
 
-      shrinks : Renews h h' x n m b l × (held h' (Slot m b) ≡ None)
+      shrinks : Renews h h' x n m b l × (child_at_place h' (Slot m b) ≡ None)
       shrinks = shrink_by_words s s' x r n m b l (way shrunk made) premises had
 
       shrink_does : (f : ByteMap) → Does h h' T E f (remove f (h.key l))
@@ -228,10 +228,10 @@ module _ (z : Sizes) (v : View) (s s' : Cells) (x : Place) (r : List ℕ) (n m :
             (⊎_elim
             (λ (e : d ≡ leaf l). (
               inr (inr e),
-              (past h n r b, subst (λ y. At h y (past h n r b)) (sym e) at_l),
+              (path_past h n r b, subst (λ y. StandsAt h y (path_past h n r b)) (sym e) at_l),
               λ p f. ⊎_elim
                   (λ (g : (d ≡ node m) × (p ≡ r)). let is = g.0 in absurd (cc))
-                  (λ (g : (d ≡ leaf l) × (p ≡ past h n r b) × (h'.child m b ≡ Some (leaf l))). let some = g.2 in let none = shrinks.1 in absurd (cc)) f,
+                  (λ (g : (d ≡ leaf l) × (p ≡ path_past h n r b) × (h'.child m b ≡ Some (leaf l))). let some = g.2 in let none = shrinks.1 in absurd (cc)) f,
             ))
             (λ (i : ⊥). absurd i)) i;
         comes = λ d i. ⊎_elim (λ (e : d ≡ node m). ((r, inl (e, refl)), m_in_hand d e)) (λ (i : ⊥). absurd i) i;
@@ -241,7 +241,7 @@ module _ (z : Sizes) (v : View) (s s' : Cells) (x : Place) (r : List ℕ) (n m :
             (same_link d (node n));
         linked = λ d p e. ⊎_elim
             (λ (f : (d ≡ node m) × (p ≡ r)). inl (inl f.0))
-            (λ (f : (d ≡ leaf l) × (p ≡ past h n r b) × (h'.child m b ≡ Some (leaf l))). let some = f.2 in let none = shrinks.1 in absurd (cc)) e;
+            (λ (f : (d ≡ leaf l) × (p ≡ path_past h n r b) × (h'.child m b ≡ Some (leaf l))). let some = f.2 in let none = shrinks.1 in absurd (cc)) e;
         held = renew_held;
       }
 
@@ -249,7 +249,7 @@ module _ (z : Sizes) (v : View) (s s' : Cells) (x : Place) (r : List ℕ) (n m :
       shrank among =
           let named = names b None tt in
           commits_by z v s s' Written before just (Done (Remove (h.key l)) (Removed (h.value l))) (node n ∷ leaf l ∷ []) (node m ∷ []) T E (shrink_does empty).moves
-          (remove_rows h h' l (past h n r b) at_l (λ f rows. (shrink_does f).rows rows))
+          (remove_rows h h' l (path_past h n r b) at_l (λ f rows. (shrink_does f).rows rows))
           shrink_touches
           (way_forms shrunk made named (node m ∷ []) (λ d i. ⊎_elim (m_new shrunk made named d) (λ (i : ⊥). absurd i) i))
           (λ i. i ≡ m) among (λ i e. inl (ap node e)) (once_two n l)

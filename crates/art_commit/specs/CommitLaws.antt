@@ -20,7 +20,7 @@ use Rattle.art_step.specs.Knowledge.{IsShape}
 use Rattle.art_cell.specs.Leaves.{IsLeaf}
 use Rattle.art_tree.specs.Rows.{ByteMap, HasRows}
 use Rattle.art_step.specs.StepRows.{Knows, AllNew, Commits}
-use Rattle.art_tree.specs.Tree.{Place, Slot, held, past, PlaceAt, Begins, HasTwo}
+use Rattle.art_tree.specs.Tree.{Place, Slot, child_at_place, path_past, PlaceAt, Begins, HasTwo}
 use Rattle.art_step.specs.Views.{Member, IsNumber, words_in}
 use Rattle.art_tree.specs.WordChanges.{FitsWord, at_byte, WritesPlace, WritesNode, two_children, cell_of, KeepsChildren}
 use Rattle.art_cell.specs.Words.{child_of}
@@ -70,14 +70,14 @@ IsItsNode c d = (k : Node) × (c ≡ node k) × (d ≡ cell.Node k)
 abbrev pub AddCommits : Type 0
 AddCommits = (z : Sizes) (v : View) (s s' : Cells) (x : Place) (r : List ℕ) (l : ℕ) (k : List ℕ) (value : ℕ) → Before z v s s' →
     HasLeaf z v l k value → HoldsJust v (λ c. c ≡ cell_of x) → ClaimedAmong v (λ n. ⊥) →
-    WritesPlace s s' x (Some (leaf l)) → PlaceAt (heap_of s) x r → held (heap_of s) x ≡ None → Begins r k →
+    WritesPlace s s' x (Some (leaf l)) → PlaceAt (heap_of s) x r → child_at_place (heap_of s) x ≡ None → Begins r k →
     Commits z v (Done (Insert k value) Inserted) [] (leaf l ∷ []) s s'
 
 -- a leaf goes from the anchor, or from a node that keeps two children
 abbrev pub DropCommits : Type 0
 DropCommits = (z : Sizes) (v : View) (s s' : Cells) (x : Place) (r : List ℕ) (l : ℕ) → Before z v s s' →
     HoldsJust v (λ c. c ≡ cell_of x) → ClaimedAmong v (λ n. ⊥) →
-    WritesPlace s s' x None → PlaceAt (heap_of s) x r → held (heap_of s) x ≡ Some (leaf l) →
+    WritesPlace s s' x None → PlaceAt (heap_of s) x r → child_at_place (heap_of s) x ≡ Some (leaf l) →
     ((n : Node) (b : ℕ) → x ≡ Slot n b → HasTwo (heap_of s') n) →
     Commits z v (Done (Remove ((heap_of s).key l)) (Removed ((heap_of s).value l))) (leaf l ∷ []) [] s s'
 
@@ -87,7 +87,7 @@ GrowCommits = (z : Sizes) (v : View) (s s' : Cells) (x : Place) (r : List ℕ) (
     HasLeaf z v l k value → HasNode z v m → HoldsJust v (λ c. (c ≡ cell.Node n) ⊎ ((c ≡ cell.Node m) ⊎ (c ≡ cell_of x))) → ClaimedAmong v (λ i. i ≡ m) →
     s' (cell.Node n) ≡ s (cell.Node n) → WritesPlace s s' x (Some (node m)) →
     WritesNode m.layout (s' (cell.Node m)) (node_prefix (s (cell.Node n))) (at_byte (child_of n.layout (s (cell.Node n))) b (Some (leaf l))) →
-    PlaceAt (heap_of s) x r → held (heap_of s) x ≡ Some (node n) → b < 256 → held (heap_of s) (Slot n b) ≡ None → Begins (past (heap_of s) n r b) k →
+    PlaceAt (heap_of s) x r → child_at_place (heap_of s) x ≡ Some (node n) → b < 256 → child_at_place (heap_of s) (Slot n b) ≡ None → Begins (path_past (heap_of s) n r b) k →
     Commits z v (Done (Insert k value) Inserted) (node n ∷ []) (leaf l ∷ node m ∷ []) s s'
 
 -- node n at x gives way to m, which has its children but for one leaf, and two still
@@ -96,7 +96,7 @@ ShrinkCommits = (z : Sizes) (v : View) (s s' : Cells) (x : Place) (r : List ℕ)
     HasNode z v m → HoldsJust v (λ c. (c ≡ cell.Node n) ⊎ ((c ≡ cell.Node m) ⊎ (c ≡ cell_of x))) → ClaimedAmong v (λ i. i ≡ m) →
     s' (cell.Node n) ≡ s (cell.Node n) → WritesPlace s s' x (Some (node m)) →
     WritesNode m.layout (s' (cell.Node m)) (node_prefix (s (cell.Node n))) (at_byte (child_of n.layout (s (cell.Node n))) b None) →
-    PlaceAt (heap_of s) x r → held (heap_of s) x ≡ Some (node n) → held (heap_of s) (Slot n b) ≡ Some (leaf l) → HasTwo (heap_of s') m →
+    PlaceAt (heap_of s) x r → child_at_place (heap_of s) x ≡ Some (node n) → child_at_place (heap_of s) (Slot n b) ≡ Some (leaf l) → HasTwo (heap_of s') m →
     Commits z v (Done (Remove ((heap_of s).key l)) (Removed ((heap_of s).value l))) (node n ∷ leaf l ∷ []) (node m ∷ []) s s'
 
 -- node n at x gives way to m, which has its children: the rows stay, so the event is one that changes no row
@@ -105,7 +105,7 @@ CopyCommits = (z : Sizes) (v : View) (s s' : Cells) (x : Place) (r : List ℕ) (
     HasNode z v m → HoldsJust v (λ c. (c ≡ cell.Node n) ⊎ ((c ≡ cell.Node m) ⊎ (c ≡ cell_of x))) → ClaimedAmong v (λ i. i ≡ m) →
     s' (cell.Node n) ≡ s (cell.Node n) → WritesPlace s s' x (Some (node m)) →
     WritesNode m.layout (s' (cell.Node m)) (node_prefix (s (cell.Node n))) (child_of n.layout (s (cell.Node n))) →
-    PlaceAt (heap_of s) x r → held (heap_of s) x ≡ Some (node n) →
+    PlaceAt (heap_of s) x r → child_at_place (heap_of s) x ≡ Some (node n) →
     ((f : ByteMap) → HasRows (heap_of s) f → IsAnswered f what × (becomes f what ≡ f)) →
     Commits z v what (node n ∷ []) (node m ∷ []) s s'
 
@@ -115,7 +115,7 @@ ForkCommits = (z : Sizes) (v : View) (s s' : Cells) (x : Place) (r : List ℕ) (
     HasLeaf z v l k value → HasNode z v m → HoldsJust v (λ d. (d ≡ cell.Node m) ⊎ ((d ≡ cell_of x) ⊎ IsItsNode c d)) → ClaimedAmong v (λ i. i ≡ m) →
     WritesPlace s s' x (Some (node m)) → WritesNode m.layout (s' (cell.Node m)) q (two_children a c b (leaf l)) →
     KeepsChildren s s' c (λ n p. node_prefix (s (cell.Node n)) ≡ q ++ a ∷ p) →
-    PlaceAt (heap_of s) x r → held (heap_of s) x ≡ Some c → a < 256 → b < 256 → a ≢ b →
+    PlaceAt (heap_of s) x r → child_at_place (heap_of s) x ≡ Some c → a < 256 → b < 256 → a ≢ b →
     ((i : ℕ) → c ≡ leaf i → Begins (r ++ q ++ a ∷ []) ((heap_of s).key i)) → Begins (r ++ q ++ b ∷ []) k →
     Commits z v (Done (Insert k value) Inserted) [] (leaf l ∷ node m ∷ []) s s'
 
@@ -125,6 +125,6 @@ MergeCommits = (z : Sizes) (v : View) (s s' : Cells) (x : Place) (r : List ℕ) 
     HoldsJust v (λ d. (d ≡ cell.Node n) ⊎ ((d ≡ cell_of x) ⊎ IsItsNode c d)) → ClaimedAmong v (λ i. ⊥) →
     s' (cell.Node n) ≡ s (cell.Node n) → WritesPlace s s' x (Some c) →
     KeepsChildren s s' c (λ i p. p ≡ node_prefix (s (cell.Node n)) ++ a ∷ node_prefix (s (cell.Node i))) →
-    PlaceAt (heap_of s) x r → held (heap_of s) x ≡ Some (node n) → held (heap_of s) (Slot n a) ≡ Some c → held (heap_of s) (Slot n b) ≡ Some (leaf l) → a ≢ b →
-    ((e : ℕ) → e ≢ a → e ≢ b → held (heap_of s) (Slot n e) ≡ None) →
+    PlaceAt (heap_of s) x r → child_at_place (heap_of s) x ≡ Some (node n) → child_at_place (heap_of s) (Slot n a) ≡ Some c → child_at_place (heap_of s) (Slot n b) ≡ Some (leaf l) → a ≢ b →
+    ((e : ℕ) → e ≢ a → e ≢ b → child_at_place (heap_of s) (Slot n e) ≡ None) →
     Commits z v (Done (Remove ((heap_of s).key l)) (Removed ((heap_of s).value l))) (node n ∷ leaf l ∷ []) [] s s'

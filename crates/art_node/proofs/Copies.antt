@@ -6,8 +6,8 @@ use Rattle.art_cell.specs.declared.node_kinds.Entry.{Entry}
 use Rattle.art_cell.specs.Words.{Words, count_of, places, prefix_of, child_of, listed, entries}
 use Rattle.art_cell.specs.Bodies.{IsBody, IsFull, Becomes, IsRelaid}
 use Rattle.art_cell.specs.Reads.{with_child}
-use Rattle.art_cell.specs.Empty.{IsEmpty, no_child, empty_body, empty_prefix}
-use Rattle.art_cell.specs.Entries.{one_more_listed, same_listed}
+use Rattle.art_cell.specs.Lemmas.Empty.{IsEmpty, no_child, empty_body, empty_prefix}
+use Rattle.art_cell.specs.Lemmas.Entries.{one_more_listed, same_listed}
 use Rattle.art_node.proofs.Lookups.{child_in, child_listed, IsNext, next_listed, one_more_in, child_some}
 
 -- the node has the first i children, and the prefix

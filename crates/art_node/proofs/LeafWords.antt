@@ -5,7 +5,7 @@ use Rattle.std.specs.List.{range_with_len}
 use Rattle.std.specs.Option.{IfSome, option_map, option_and_then}
 use Rattle.arrayvec.specs.ArrayVec.{ArrayVec}
 use Rattle.art_cell.specs.Words.{Words, byte_of, packed, prefix_of}
-use Rattle.art_cell.specs.LeafWords.{words_mean_leaf}
+use Rattle.art_cell.specs.Lemmas.LeafWords.{words_mean_leaf}
 use Rattle.art_cell.specs.Reads.{word_read, Agrees, written}
 use Rattle.art_cell.specs.Leaves.{IsLeaf, leaf_word, leaf_writes, key_byte_read, key_read, key_of_length, leaf_read, MeansLeaf}
 

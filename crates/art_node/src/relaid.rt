@@ -2,7 +2,7 @@
 ghost use Rattle.std.specs.Prelude.{◌≡◌, ◌≤◌};
 ghost use Rattle.art_cell.specs.Words.{count_of, places};
 ghost use Rattle.art_cell.specs.Bodies.{IsRelaid};
-ghost use Rattle.art_cell.specs.Empty.{IsEmpty};
+ghost use Rattle.art_cell.specs.Lemmas.Empty.{IsEmpty};
 ghost use Rattle.art_cell.specs.Reads.{word_of, IsBodyOf};
 
 use art_cell::{Body, Layout, NodeKind};

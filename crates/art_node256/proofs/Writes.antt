@@ -5,8 +5,8 @@ use Rattle.art_cell.specs.declared.layouts.Layout.TheVariants.{Node256}
 use Rattle.art_cell.specs.Words.{Words, nonzero, child_of}
 use Rattle.art_cell.specs.Bodies.{IsBody, Becomes}
 use Rattle.art_cell.specs.Reads.{with_child, without_child}
-use Rattle.art_cell.specs.Headers.{KeepsRest, count_more, count_less, prefix_len_kept, header_below}
-use Rattle.art_cell.specs.Entries.{Changed, listed_room, listed_some, nonzero_some, becomes_with, becomes_other, becomes_without}
+use Rattle.art_cell.specs.Lemmas.Headers.{KeepsRest, count_more, count_less, prefix_len_kept, header_below}
+use Rattle.art_cell.specs.Lemmas.Entries.{Changed, listed_room, listed_some, nonzero_some, becomes_with, becomes_other, becomes_without}
 
 -- the child word of a byte and the header were written, and no other word
 pub record IsWritten (w after : Words) (byte c header : ℕ) : Type 0 where

@@ -3,7 +3,7 @@ use Rattle.std.proofs.Common.{◌≡◌, ◌≢◌, ◌⊎◌, ℕ, ◌+◌, ◌
 use Rattle.std.proofs.lemmas.Bool.{cases_lt}
 use Rattle.art_cell.specs.declared.layouts.Layout.TheVariants.{Node48}
 use Rattle.art_cell.specs.declared.node_kinds.Entry.{Entry}
-use Rattle.art_cell.specs.Entries.{listed_with, listed_without}
+use Rattle.art_cell.specs.Lemmas.Entries.{listed_with, listed_without}
 use Rattle.art_cell.specs.Words.{Words, byte_of, packed, key_byte, nonzero, indexed_child, listed}
 use Rattle.art_cell.specs.Bodies.{IsBody}
 use Rattle.art_cell.specs.Reads.{word_read, Agrees, NoneFrom}

@@ -5,8 +5,8 @@ use Rattle.std.proofs.lemmas.Nat.{one_shl}
 use Rattle.art_cell.specs.declared.layouts.Layout.TheVariants.{Node48}
 use Rattle.art_cell.specs.Words.{Words, count_of, is_used, key_byte, nonzero, indexed_child}
 use Rattle.art_cell.specs.Bodies.{used_count, IsIndexed, IsBody, Becomes}
-use Rattle.art_cell.specs.Entries.{listed_some, becomes_with, becomes_other, becomes_without}
-use Rattle.art_cell.specs.Headers.{UsesPlace, uses_place, frees_place, bit_more_below, bit_at_least, count_less, used_kept}
+use Rattle.art_cell.specs.Lemmas.Entries.{listed_some, becomes_with, becomes_other, becomes_without}
+use Rattle.art_cell.specs.Lemmas.Headers.{UsesPlace, uses_place, frees_place, bit_more_below, bit_at_least, count_less, used_kept}
 use Rattle.art_cell.specs.Reads.{with_child, without_child}
 use Rattle.art_node48.specs.Changes.{Wrote, IsLowestFree}
 use Rattle.art_node48.proofs.Index.{no_child_at_none, child_at_entry, nonzero_some}

@@ -3,7 +3,7 @@ use Rattle.std.proofs.Common.{◌≡◌, ◌≢◌, ℕ, ◌+◌, ◌/◌, ◌%�
 use Rattle.std.proofs.lemmas.Bool.{cases_eq}
 use Rattle.std.proofs.lemmas.List.{length-set}
 use Rattle.art_cell.specs.Words.{Words, byte_of, key_byte}
-use Rattle.art_cell.specs.Packed.{with_byte, with_byte_below, byte_of-with_byte_here, byte_of-with_byte_elsewhere}
+use Rattle.art_cell.specs.Lemmas.Packed.{with_byte, with_byte_below, byte_of-with_byte_here, byte_of-with_byte_elsewhere}
 use Rattle.art_node48.specs.Changes.{Wrote}
 use Rattle.art_node48.proofs.Index.{key_byte_is}
 

@@ -6,7 +6,7 @@ use Rattle.std.proofs.lemmas.Bool.{cases_eq, cases_lt}
 use Rattle.art_cell.specs.declared.node_kinds.Entry.{Entry}
 use Rattle.art_cell.specs.Words.{entry_at, listed}
 use Rattle.art_cell.specs.Reads.{with_child, without_child}
-use Rattle.art_cell.specs.Entries.{same_listed}
+use Rattle.art_cell.specs.Lemmas.Entries.{same_listed}
 use Rattle.art_sorted.specs.Sorted.{entry_or_none}
 
 -- the bytes ascend from one on, and each has a child

@@ -11,13 +11,13 @@ use Rattle.art_cell.specs.declared.layouts.Layout.{Layout}
 use Rattle.art_cell.specs.declared.node_kinds.Entry.{Entry}
 use Rattle.art_cell.specs.Words.{Words, size, places, first_child, count_of, prefix_len, prefix_of, packed, key_byte, nonzero, sorted_child, child_of, entries}
 use Rattle.art_cell.specs.Bodies.{HasPrefix, IsSorted, HasForm, IsBody, Becomes}
-use Rattle.art_cell.specs.Entries.{same_listed}
+use Rattle.art_cell.specs.Lemmas.Entries.{same_listed}
 use Rattle.art_cell.specs.Reads.{Agrees, word_read, NoneFrom, SameOutside, with_child, without_child}
-use Rattle.art_cell.specs.Packed.{packed_below, packed_same}
+use Rattle.art_cell.specs.Lemmas.Packed.{packed_below, packed_same}
 use Rattle.art_sorted.specs.declared.layouts.Sorted.{Sorted}
 use Rattle.art_sorted.specs.declared.layouts.Sorted.TheVariants.{Four, Sixteen}
 use Rattle.art_sorted.specs.Sorted.{layout_of, BelowAll, IsFirstFrom, no_entry, entry_or_none, IsPosition, Holds}
-use Rattle.art_cell.specs.Headers.{with_count, count-with_count, prefix_len-with_count, with_count_below}
+use Rattle.art_cell.specs.Lemmas.Headers.{with_count, count-with_count, prefix_len-with_count, with_count_below}
 use Rattle.art_sorted.proofs.Ascending.{Ascends, lookup, listed-lookup, ascends_at, some_at, lookup_at, lookup_none, found_at, lookup-insert, Ascends-insert, lookup-set, Ascends-set, lookup-remove, Ascends-remove}
 
 -- ---- the two layouts

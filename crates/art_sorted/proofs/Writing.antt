@@ -4,10 +4,10 @@ use Rattle.std.specs.Prelude.{set, replicate}
 use Rattle.std.proofs.lemmas.Bool.{cases_lt}
 use Rattle.art_cell.specs.declared.node_kinds.Entry.{Entry}
 use Rattle.art_cell.specs.Words.{Words, places, first_child, byte_of, key_byte}
-use Rattle.art_cell.specs.Packed.{IsEight, packed_is, packed_same}
+use Rattle.art_cell.specs.Lemmas.Packed.{IsEight, packed_is, packed_same}
 use Rattle.art_sorted.specs.declared.layouts.Sorted.{Sorted}
 use Rattle.art_sorted.specs.Sorted.{layout_of, entry_or_none, Holds}
-use Rattle.art_cell.specs.Headers.{with_count}
+use Rattle.art_cell.specs.Lemmas.Headers.{with_count}
 use Rattle.art_sorted.proofs.NodeWords.{fits}
 
 pub eight_zeros : IsEight (replicate 8 0)

@@ -9,7 +9,7 @@ use Rattle.art_sorted.specs.declared.layouts.Sorted.{Sorted}
 use Rattle.art_sorted.specs.declared.layouts.Sorted.TheVariants.{Four, Sixteen}
 use Rattle.art_sorted.specs.declared.searches.Search.{Search}
 use Rattle.art_sorted.specs.declared.searches.Search.TheVariants.{Need, At, Nothing}
-use Rattle.art_cell.specs.Headers.{with_count}
+use Rattle.art_cell.specs.Lemmas.Headers.{with_count}
 
 -- the layout of so many positions
 abbrev pub layout_of : Sorted → Layout

@@ -13,7 +13,7 @@ use Rattle.art_cell.specs.Children.{link_of}
 use Rattle.art_tree.specs.Heaps.{Cells, node_child, heap_of}
 use Rattle.art_step.specs.Knowledge.{CellAt, child_at, Holds, HoldsAll}
 use Rattle.art_step.specs.Sound.{Vouched}
-use Rattle.art_tree.specs.Tree.{past, At, top, down}
+use Rattle.art_tree.specs.Tree.{path_past, StandsAt, top, down}
 use Rattle.art_step.specs.Views.{Memory}
 use Rattle.art_cell.specs.Words.{Words}
 
@@ -25,14 +25,14 @@ same_child s s' (cell.Leaf l) b e = refl
 same_child s s' (cell.Node n) b e = ap (λ (w : Words). node_child n.layout w b) e
 
 -- a child of a cell that a path leads to is linked
-pub child_linked : (s : Cells) (c : Cell) (p : List ℕ) (b : ℕ) (d : Link) → CellAt s c p → child_at (heap_of s) c b ≡ Some d → (r : List ℕ) × At (heap_of s) d r
+pub child_linked : (s : Cells) (c : Cell) (p : List ℕ) (b : ℕ) (d : Link) → CellAt s c p → child_at (heap_of s) c b ≡ Some d → (r : List ℕ) × StandsAt (heap_of s) d r
 child_linked s cell.Anchor p b d at is = ([], top is refl)
 child_linked s (cell.Leaf l) p b d at is = absurd (cc)
-child_linked s (cell.Node n) p b d at is = (past (heap_of s) n p b, down b at is refl)
+child_linked s (cell.Node n) p b d at is = (path_past (heap_of s) n p b, down b at is refl)
 
 -- the leaves that are linked have the same words
 abbrev pub SameLeafWords : Cells → Cells → Type 0
-SameLeafWords s s' = (l : ℕ) (r : List ℕ) → At (heap_of s) (leaf l) r → s' (cell.Leaf l) ≡ s (cell.Leaf l)
+SameLeafWords s s' = (l : ℕ) (r : List ℕ) → StandsAt (heap_of s) (leaf l) r → s' (cell.Leaf l) ≡ s (cell.Leaf l)
 
 -- a cell whose words and path stay keeps the facts of it
 pub holds_on : (s s' : Cells) (c : Cell) (x : Fact) → s' c ≡ s c → ((p : List ℕ) → CellAt s c p → CellAt s' c p) → SameLeafWords s s' → Holds s c x → Holds s' c x

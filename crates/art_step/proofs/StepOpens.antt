@@ -11,7 +11,7 @@ use Rattle.art_cell.specs.Children.{link_of}
 use Rattle.art_tree.specs.Heaps.{heap_of}
 use Rattle.art_step.specs.Sound.{Tells, HoldsEach, Vouched, Whereabouts, InTree, IsFree, InHandOf, InLimboOf, Nowhere, Accounts, IsPinned, early_of, early_notes, IsSound}
 use Rattle.art_step.specs.StepLaws.{newcomer, Opens, OpenLaw}
-use Rattle.art_tree.specs.Tree.{At}
+use Rattle.art_tree.specs.Tree.{StandsAt}
 use Rattle.art_step.specs.Views.{Member, Memory, IsLocked, IsObsolete, last_counter, IsVersion, cell_named, Views}
 use Rattle.art_tree.proofs.Places.{same_cell}
 use Rattle.art_tree.proofs.Frame.{opened_unlinked, opened_sound, opened_rows}
@@ -59,7 +59,7 @@ module _ (z : Sizes) (m : Memory) (f : Views) (o : Opens z m f) where
   unfolding heap_of
   no_root = ap link_of o.root
 
-  no_path : (d : Link) (r : List ℕ) → At (heap_of m.words) d r → ⊥
+  no_path : (d : Link) (r : List ℕ) → StandsAt (heap_of m.words) d r → ⊥
   no_path d r at = opened_unlinked (heap_of m.words) d no_root r at
 
   -- what holds of newcomers holds of each view

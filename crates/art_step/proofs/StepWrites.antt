@@ -19,7 +19,7 @@ use Rattle.art_step.specs.Knowledge.{IsLeafCell, CellAt, Holds}
 use Rattle.art_step.specs.Sound.{ShowsReplay, Keeps, HoldsEach, OneHolder, StampsVouch, Whereabouts, InTree, IsFree, InHandOf, HeldAt, Accounts, NumbersAccounted, IsSound}
 use Rattle.art_step.specs.StepLaws.{WriteLaw, WriteLeafLaw}
 use Rattle.art_step.specs.StepRows.{SetsWord, Puts, MayWrite, with_word, writing, MayWriteLeaf, with_leaf_word, handing}
-use Rattle.art_tree.specs.Tree.{At}
+use Rattle.art_tree.specs.Tree.{StandsAt}
 use Rattle.art_step.specs.Views.{Member, Memory, words_in, IsLocked, IsObsolete, Views, Turned}
 use Rattle.art_tree.specs.WordChanges.{SameByWords}
 use Rattle.art_cell.specs.Words.{Words}
@@ -204,7 +204,7 @@ module _ (z : Sizes) (m : Memory) (f : Views) (p : ℕ) (v : View) (is : f p ≡
   tree : SameTree (heap_of r.logical) (heap_of after)
   tree = same_tree r.logical after same
 
-  paths : (d : Link) (q : List ℕ) → At (heap_of r.logical) d q ↔ At (heap_of after) d q
+  paths : (d : Link) (q : List ℕ) → StandsAt (heap_of r.logical) d q ↔ StandsAt (heap_of after) d q
   paths = frame_paths (heap_of r.logical) (heap_of after) tree
 
   shows : ShowsReplay z r.log after

@@ -18,7 +18,7 @@ use Rattle.art_tree.specs.Heaps.{Cells, heap_of}
 use Rattle.art_step.specs.Histories.{IsAnswered, becomes}
 use Rattle.art_cell.specs.Leaves.{IsLeaf}
 use Rattle.art_tree.specs.Rows.{ByteMap, HasRows}
-use Rattle.art_tree.specs.Tree.{Heap, At, IsTree}
+use Rattle.art_tree.specs.Tree.{Heap, StandsAt, IsTree}
 use Rattle.art_step.specs.Views.{Member, IsNumber}
 use Rattle.art_cell.specs.Words.{Words, child_of}
 
@@ -39,17 +39,17 @@ IsLeafCell w = (k : List ℕ) × (v : ℕ) × IsLeaf w k v × (length k ≤ 64)
 pub record IsShape (z : Sizes) (s : Cells) : Type 0 where
   pub tree : IsTree (heap_of s)
   pub anchor : (s cell.Anchor 1 ≡ 0) ⊎ NamesCell (s cell.Anchor 1)
-  pub nodes : (n : Node) (p : List ℕ) → At (heap_of s) (node n) p → IsNodeCell n (s (cell.Node n))
-  pub leaves : (l : ℕ) (p : List ℕ) → At (heap_of s) (leaf l) p → IsLeafCell (s (cell.Leaf l))
-  pub numbers : (d : Link) (p : List ℕ) → At (heap_of s) d p → IsNumber z d
+  pub nodes : (n : Node) (p : List ℕ) → StandsAt (heap_of s) (node n) p → IsNodeCell n (s (cell.Node n))
+  pub leaves : (l : ℕ) (p : List ℕ) → StandsAt (heap_of s) (leaf l) p → IsLeafCell (s (cell.Leaf l))
+  pub numbers : (d : Link) (p : List ℕ) → StandsAt (heap_of s) d p → IsNumber z d
 
 -- ---- facts
 
 -- the path p leads to the cell; the empty one leads to the anchor
 abbrev pub CellAt : Cells → Cell → List ℕ → Type 0
 CellAt s cell.Anchor p = p ≡ []
-CellAt s (cell.Leaf l) p = At (heap_of s) (leaf l) p
-CellAt s (cell.Node n) p = At (heap_of s) (node n) p
+CellAt s (cell.Leaf l) p = StandsAt (heap_of s) (leaf l) p
+CellAt s (cell.Node n) p = StandsAt (heap_of s) (node n) p
 
 -- the child of a cell at a byte; of the anchor at any
 abbrev pub child_at : Heap → Cell → ℕ → Option Link

@@ -18,7 +18,7 @@ use Rattle.art_tree.specs.Heaps.{Cells, heap_of}
 use Rattle.art_step.specs.Histories.{replay, IsLegal, places, StartsWith}
 use Rattle.art_step.specs.Knowledge.{IsShape, Holds}
 use Rattle.art_tree.specs.Rows.{HasRows}
-use Rattle.art_tree.specs.Tree.{At}
+use Rattle.art_tree.specs.Tree.{StandsAt}
 use Rattle.art_step.specs.Views.{Member, Memory, size_of, words_in, IsClear, IsLocked, IsObsolete, last_counter, IsVersion, IsNumber, cell_named, Views}
 
 -- ---- one history
@@ -124,7 +124,7 @@ pub record Accounts (m : Memory) (at : Link → Whereabouts) (p : ℕ) (v : View
 
 -- each number of each pool is in exactly one place
 pub record NumbersAccounted (z : Sizes) (m : Memory) (f : Views) (s : Cells) (at : Link → Whereabouts) : Type 0 where
-  pub tree : (d : Link) → (at d ≡ InTree) ↔ ((r : List ℕ) × At (heap_of s) d r)
+  pub tree : (d : Link) → (at d ≡ InTree) ↔ ((r : List ℕ) × StandsAt (heap_of s) d r)
   pub free : (d : Link) → (at d ≡ IsFree) ↔ (m.free d ≡ true)
   pub numbers : (d : Link) → (at d ≢ Nowhere) ↔ IsNumber z d
   pub accounts : (p : ℕ) (v : View) → f p ≡ Some v → Accounts m at p v

@@ -1,6 +1,6 @@
 -- Each kind of step: where it is allowed, and what changes in the shared words and in the view of the pass that makes it. Nothing
 -- else changes.
-use Rattle.std.specs.Prelude.{◌≡◌, ◌≢◌, ℕ, List, ◌++◌, Bool, true, false, Option, Some}
+use Rattle.std.specs.Prelude.{◌≡◌, ◌≢◌, ℕ, List, ◌++◌, Bool, true, false, Option, Some, ⊤}
 use Rattle.art_cell.specs.declared.cells.Node.{Node}
 use Rattle.art_cell.specs.declared.cells.Cell.{Cell}
 use Rattle.art_cell.specs.declared.cells.Cell.TheVariants as cell
@@ -19,7 +19,7 @@ use Rattle.art_step.specs.declared.views.Stamp.{Stamp}
 use Rattle.art_step.specs.declared.views.View.{View}
 use Rattle.art_step.specs.declared.views.What.{What}
 use Rattle.art_tree.specs.Heaps.{Cells}
-use Rattle.art_step.specs.Instants.{AtSome, FindsVersion, Instant, LocksClaimed, LocksStamped, PutsWord, Unlocks}
+use Rattle.art_step.specs.Instants.{FindsVersion, Instant, LocksClaimed, LocksStamped, PutsWord, Unlocks}
 use Rattle.art_step.specs.Sound.{IsSound}
 use Rattle.art_step.specs.StepRows.{AreStanding, ArePaths, Drops, HandsOver, IsCopy, IsTaken, MayBeFirst, MayClaim, MayCommit, MayFree, MayGive, MayPass, MayRead, MayReadLeaf, MayRelease, MayUpgrade, MayWrite, MayWriteLeaf, Puts, SetsFree, Without, all_retired, begun, claimed, committed, failed, forgetting, freed, gave, handing, has_read, passed, telling, took, upgraded, with_leaf_word, with_word, writing}
 use Rattle.art_step.specs.Views.{Member, Memory, Views, Turned}
@@ -228,4 +228,4 @@ pub record AtStep (z : Sizes) (v w : View) (instants so : Instant) : Type 0 wher
 -- an upgrade that locks nothing: another version word is found, or the stamped one is at its counter's end and nothing happens
 abbrev pub LocksNothing : Sizes → View → View → Instant → Stamp → UpgradeFault → Type 0
 LocksNothing z v w instants x (fault.Changed c) = AtStep z v w instants (FindsVersion x.cell c.found)
-LocksNothing z v w instants x (fault.Exhausted c) = AtSome instants (λ m f n g. (n ≡ m) × (g ≡ f))
+LocksNothing z v w instants x (fault.Exhausted c) = ⊤

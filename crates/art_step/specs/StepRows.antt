@@ -25,7 +25,7 @@ use Rattle.art_step.specs.Histories.{event, IsAnswered, becomes}
 use Rattle.art_step.specs.Knowledge.{IsShape, CellAt, Holds, Settles, Names}
 use Rattle.art_tree.specs.Rows.{ByteMap, HasRows}
 use Rattle.art_step.specs.Sound.{IsStamped}
-use Rattle.art_tree.specs.Tree.{At}
+use Rattle.art_tree.specs.Tree.{StandsAt}
 use Rattle.art_step.specs.Views.{Member, Memory, size_of, words_in, last_counter, Views}
 
 -- ---- the shared words
@@ -221,7 +221,7 @@ pub record AllNew (hs : List Holding) (s s' : Cells) : Type 0 where
   pub there : (c : Cell) → IsNotHeld hs c → s' c ≡ s c
 
 abbrev pub IsLinked : Cells → Link → Type 0
-IsLinked s d = (r : List ℕ) × At (heap_of s) d r
+IsLinked s d = (r : List ℕ) × StandsAt (heap_of s) d r
 
 -- no number twice
 abbrev pub IsOnce : List Link → Type 0
@@ -235,7 +235,7 @@ IsOnce (d ∷ ds) = (Member d ds → ⊥) × IsOnce ds
 pub record Commits (z : Sizes) (v : View) (what : What) (us ls : List Link) (s s' : Cells) : Type 0 where
   pub shape : IsShape z s'
   pub rows : (m : ByteMap) → HasRows (heap_of s) m → IsAnswered m what × HasRows (heap_of s') (becomes m what)
-  pub others : (n : Node) (p : List ℕ) → IsNotHeld v.held (cell.Node n) → At (heap_of s) (node n) p → At (heap_of s') (node n) p
+  pub others : (n : Node) (p : List ℕ) → IsNotHeld v.held (cell.Node n) → StandsAt (heap_of s) (node n) p → StandsAt (heap_of s') (node n) p
   pub leaves : (d : Link) → Member d us → IsLinked s d × (IsLinked s' d → ⊥)
   pub comes : (d : Link) → Member d ls → IsLinked s' d × ((x : InHand) × Member x v.hand × (x.link ≡ d))
   pub once : IsOnce us

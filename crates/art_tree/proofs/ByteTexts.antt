@@ -10,8 +10,8 @@ use Rattle.art_cell.specs.declared.cells.Cell.TheVariants as cell
 use Rattle.art_cell.specs.Children.{link_of}
 use Rattle.art_tree.specs.Heaps.{Cells, heap_of}
 use Rattle.art_tree.specs.Looks.{AreBytes}
-use Rattle.art_cell.specs.Packed.{packed_below}
-use Rattle.art_tree.specs.Tree.{At, top, down}
+use Rattle.art_cell.specs.Lemmas.Packed.{packed_below}
+use Rattle.art_tree.specs.Tree.{StandsAt, top, down}
 use Rattle.art_cell.specs.Words.{Words, packed, child_of}
 
 -- bytes packed from a place on, or none where there are too many
@@ -48,7 +48,7 @@ append_bytes [] q first second = second
 append_bytes (a ∷ p) q first second = (first.0, append_bytes p q first.1 second)
 
 -- the paths of cells
-pub path_bytes : (cells : Cells) (c : Link) (p : List ℕ) → At (heap_of cells) c p → AreBytes p
+pub path_bytes : (cells : Cells) (c : Link) (p : List ℕ) → StandsAt (heap_of cells) c p → AreBytes p
 path_bytes cells c p (top e ep) = subst AreBytes (sym ep) tt
 path_bytes cells c p (down {n = n} {p = q} b up e ep) =
     let h = heap_of cells in

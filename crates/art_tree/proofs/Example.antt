@@ -7,7 +7,7 @@ use Rattle.art_cell.specs.declared.cells.Link.{Link}
 use Rattle.art_cell.specs.declared.cells.Link.TheVariants.{Leaf as leaf, Node as node}
 use Rattle.art_cell.specs.declared.layouts.Layout.{Layout}
 use Rattle.art_cell.specs.declared.layouts.Layout.TheVariants.{Node4, Node16, Node48, Node256}
-use Rattle.art_tree.specs.Tree.{Place, Top, Slot, Heap, held, At, top, down, PlaceAt, Begins, HasTwo}
+use Rattle.art_tree.specs.Tree.{Place, Top, Slot, Heap, child_at_place, StandsAt, top, down, PlaceAt, Begins, HasTwo}
 use Rattle.art_tree.specs.Rows.{ByteMap, HasRows}
 use Rattle.art_tree.specs.Changes.{IsUnlinked, SameLeaves, NamedOnlyAt, Edits, GivesWay, Moves}
 use Rattle.art_tree.specs.Laws.{Does, EditTouched, EditPaths, ReplaceTouched, ReplacePaths, RenewTouched, RenewPaths, CopyTouched, CopyPaths, ForkTouched, ForkPaths, MergeTouched, MergePaths}
@@ -171,7 +171,7 @@ at_nine b f = simp (ne_eqb b 9 f)
 
 -- shapes that differ at one place have heaps that do
 elsewhere : (s t : Shape) (x : Place) → (Top ≢ x → t.root ≡ s.root) → (Slot first_node 7 ≢ x → t.of_first ≡ s.of_first) → (Slot copy_node 7 ≢ x → t.of_copy ≡ s.of_copy) →
-    (y : Place) → y ≢ x → held (heap t) y ≡ held (heap s) y
+    (y : Place) → y ≢ x → child_at_place (heap t) y ≡ child_at_place (heap s) y
 elsewhere s t x f g i Top other = f other
 elsewhere s t x f g i (Slot n b) other = slot n.layout n.number other
   where
@@ -185,7 +185,7 @@ elsewhere s t x f g i (Slot n b) other = slot n.layout n.number other
     slot Node256 k other = refl
 
 -- shapes that differ at the root alone
-root_alone : (s t : Shape) → t.of_first ≡ s.of_first → t.of_copy ≡ s.of_copy → (y : Place) → y ≢ Top → held (heap t) y ≡ held (heap s) y
+root_alone : (s t : Shape) → t.of_first ≡ s.of_first → t.of_copy ≡ s.of_copy → (y : Place) → y ≢ Top → child_at_place (heap t) y ≡ child_at_place (heap s) y
 root_alone s t first copy = elsewhere s t Top (λ f. absurd (f refl)) (λ f. first) (λ f. copy)
 
 -- no prefix differs but the copy's
@@ -203,8 +203,8 @@ same_prefix s t n = of n.layout n.number
 
 -- a leaf comes or goes
 edits : (s t : Shape) (x : Place) (l : ℕ) →
-    ((d : Link) → held (heap s) x ≡ Some d → d ≡ leaf l) → ((d : Link) → held (heap t) x ≡ Some d → d ≡ leaf l) →
-    ((y : Place) → y ≢ x → held (heap t) y ≡ held (heap s) y) → t.prefix ≡ s.prefix → NamedOnlyAt (heap s) (leaf l) x → Edits (heap s) (heap t) x l
+    ((d : Link) → child_at_place (heap s) x ≡ Some d → d ≡ leaf l) → ((d : Link) → child_at_place (heap t) x ≡ Some d → d ≡ leaf l) →
+    ((y : Place) → y ≢ x → child_at_place (heap t) y ≡ child_at_place (heap s) y) → t.prefix ≡ s.prefix → NamedOnlyAt (heap s) (leaf l) x → Edits (heap s) (heap t) x l
 edits s t x l old new rest front only = record { old = old; new = new; rest = rest; prefixes = λ n. same_prefix s t n (λ e. front); leaves = same_leaves s t; only = only }
 
 -- the root n gives way to m
@@ -260,7 +260,7 @@ by_latest (d ∷ e ∷ ds) c one = ⊎_elim (λ (f : c ≡ d). let g = ap step_o
 
 -- nothing is linked but what came by the step
 abbrev LinkedBy : ℕ → Shape → Type 0
-LinkedBy i s = (c : Link) (r : List ℕ) → At (heap s) c r → step_of c ≤ i
+LinkedBy i s = (c : Link) (r : List ℕ) → StandsAt (heap s) c r → step_of c ≤ i
 
 -- and after the next step, which touches no cell that comes later
 linked_by : {E : Link → List ℕ → Type 0} (s t : Shape) (i : ℕ) (ds : List Link) → Moves (heap s) (heap t) (OneOf ds) E → latest ds ≤ suc i → LinkedBy i s → LinkedBy (suc i) t

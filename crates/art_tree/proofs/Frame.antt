@@ -6,24 +6,24 @@ use Rattle.std.proofs.lemmas.Cmp.{nat_list_cmp_total}
 use Rattle.std.specs.Ordering.{nat_cmp}
 use Rattle.art_cell.specs.declared.cells.Link.{Link}
 use Rattle.art_cell.specs.declared.cells.Link.TheVariants.{Leaf as leaf, Node as node}
-use Rattle.art_tree.specs.Tree.{Place, Top, Slot, Heap, held, At, top, down, PathBy, PlaceAt, Begins, NamesOnce, IsTree}
+use Rattle.art_tree.specs.Tree.{Place, Top, Slot, Heap, child_at_place, StandsAt, top, down, PathBy, PlaceAt, Begins, NamesOnce, IsTree}
 use Rattle.art_tree.specs.Rows.{ByteMap, HasRows}
 use Rattle.art_tree.specs.Changes.{IsUnlinked, NamedOnlyAt, SameTree}
 use Rattle.art_tree.proofs.Places.{least, at_place, one_path}
 use Rattle.art_tree.proofs.Patch.{names_once}
 
 module _ (h h' : Heap) (w : SameTree h h') where
-  frame_on : (d : Link) (r : List ℕ) → At h d r → At h' d r
+  frame_on : (d : Link) (r : List ℕ) → StandsAt h d r → StandsAt h' d r
   frame_on d r (top e ep) = top (w.root ∙ e) ep
   frame_on d r (down {n = n} {p = p} b up e ep) = down b (frame_on (node n) p up) (w.child n p b up ∙ e) (ep ∙ sym (ap (λ q. p ++ q ++ b ∷ []) (w.prefix n p up)))
 
-  frame_back : (d : Link) (r : List ℕ) → At h' d r → At h d r
+  frame_back : (d : Link) (r : List ℕ) → StandsAt h' d r → StandsAt h d r
   frame_back d r (top e ep) = top (sym w.root ∙ e) ep
   frame_back d r (down {n = n} {p = p} b up e ep) =
       let was = frame_back (node n) p up in
       down b was (sym (w.child n p b was) ∙ e) (ep ∙ ap (λ q. p ++ q ++ b ∷ []) (w.prefix n p was))
 
-  pub frame_paths : (d : Link) (r : List ℕ) → At h d r ↔ At h' d r
+  pub frame_paths : (d : Link) (r : List ℕ) → StandsAt h d r ↔ StandsAt h' d r
   frame_paths d r = (frame_on d r, frame_back d r)
 
   pub frame_sound : IsTree h → IsTree h'
@@ -44,10 +44,10 @@ module _ (h h' : Heap) (w : SameTree h h') where
   )
 
 -- at opening
-no_cell : (h : Heap) → h.root ≡ None → (c : Link) (r : List ℕ) → At h c r → ⊥
+no_cell : (h : Heap) → h.root ≡ None → (c : Link) (r : List ℕ) → StandsAt h c r → ⊥
 no_cell h empty = least h (λ c r. ⊥) step
   where
-    step : (y : Place) (d : Link) (r : List ℕ) → PathBy h (λ c r. ⊥) y r → held h y ≡ Some d → ⊥
+    step : (y : Place) (d : Link) (r : List ℕ) → PathBy h (λ c r. ⊥) y r → child_at_place h y ≡ Some d → ⊥
     step Top d r i e = cc
     step (Slot n b) d r i e = i.1
 
@@ -75,7 +75,7 @@ one_map h m n a b = same_map nat_list_cmp_total (slice_cmp-IsAntisymmetric nat_c
     each k (Some v) y e f = let g = (b k v).0 ((a k v).1 e) in cc
 
 -- what a place of the tree holds, no other names; nor what is not linked
-pub only_held : (h : Heap) (x : Place) (r : List ℕ) (c : Link) → NamesOnce h → PlaceAt h x r → held h x ≡ Some c → NamedOnlyAt h c x
+pub only_held : (h : Heap) (x : Place) (r : List ℕ) (c : Link) → NamesOnce h → PlaceAt h x r → child_at_place h x ≡ Some c → NamedOnlyAt h c x
 only_held h x r c once at was y s i e = once y x s r c i at e was
 
 pub only_unlinked : (h : Heap) (x : Place) (c : Link) → IsUnlinked h c → NamedOnlyAt h c x

@@ -3,7 +3,7 @@ use Rattle.std.proofs.Common.{◌≡◌, ◌⊎◌, ℕ, ◌<◌, ◌≤◌, Lis
 use Rattle.std.proofs.lemmas.Bool.{cases_order, cases_lt}
 use Rattle.art_cell.specs.declared.cells.Node.{Node}
 use Rattle.art_cell.specs.declared.cells.Link.TheVariants.{Leaf as leaf, Node as node}
-use Rattle.art_tree.specs.Tree.{Heap, past, At, top, down, Begins, Row, IsTree}
+use Rattle.art_tree.specs.Tree.{Heap, path_past, StandsAt, top, down, Begins, Row, IsTree}
 use Rattle.art_tree.specs.declared.bounds.Bound.{Bound}
 use Rattle.art_tree.specs.declared.bounds.Bound.TheVariants.{To}
 use Rattle.art_tree.specs.Looks.{Before, NoneIn, OnlyIn, Caps}
@@ -21,17 +21,17 @@ seen_alone h lo hi i s alone k v o _ =
 
 -- no key from lo on stands at a byte of n below b
 abbrev pub StartsAt : Heap → Node → List ℕ → List ℕ → ℕ → Type 0
-StartsAt h n r lo b = (e : ℕ) (k : List ℕ) → Begins (past h n r e) k → (Before k lo → ⊥) → b ≤ e
+StartsAt h n r lo b = (e : ℕ) (k : List ℕ) → Begins (path_past h n r e) k → (Before k lo → ⊥) → b ≤ e
 
-pub starts_at_byte : (h : Heap) (n : Node) (r lo : List ℕ) (b : ℕ) → Begins (past h n r b) lo → StartsAt h n r lo b
+pub starts_at_byte : (h : Heap) (n : Node) (r lo : List ℕ) (b : ℕ) → Begins (path_past h n r b) lo → StartsAt h n r lo b
 starts_at_byte h n r lo b f e k g low = ⊎_elim (λ (lt : e < b). absurd (low (before_byte (r ++ h.prefix n) k lo e b g f lt))) (λ (ge : b ≤ e). ge) (cases_lt e b)
 
 pub starts_at_zero : (h : Heap) (n : Node) (r lo : List ℕ) → StartsAt h n r lo 0
 starts_at_zero h n r lo e k g low = zero-le
 
-module _ (h : Heap) (n : Node) (r lo : List ℕ) (s : IsTree h) (at : At h (node n) r) (front : Begins r lo) where
-  past_begins : (c : ℕ) → Begins r (past h n r c)
-  past_begins c = begins_more r (h.prefix n) (past h n r c) (c ∷ [], refl)
+module _ (h : Heap) (n : Node) (r lo : List ℕ) (s : IsTree h) (at : StandsAt h (node n) r) (front : Begins r lo) where
+  past_begins : (c : ℕ) → Begins r (path_past h n r c)
+  past_begins c = begins_more r (h.prefix n) (path_past h n r c) (c ∷ [], refl)
 
   -- the node's whole path is before lo and does not begin it
   pub seen_short : (hi : Bound) → Before (r ++ h.prefix n) lo → (Begins (r ++ h.prefix n) lo → ⊥) → Caps h r hi → NoneIn h lo hi
@@ -51,31 +51,31 @@ module _ (h : Heap) (n : Node) (r lo : List ℕ) (s : IsTree h) (at : At h (node
       cc
 
   -- the child at c is the least from byte b on: a key from lo on, and not after what begins with its path, is below it
-  way_to : (b c : ℕ) → StartsAt h n r lo b → ((e : ℕ) → b ≤ e → e < c → h.child n e ≡ None) → (k : List ℕ) (v : ℕ) → Row h k v → (Before k lo → ⊥) → Before k (past h n r c) ⊎ Begins (past h n r c) k → Begins (past h n r c) k
+  way_to : (b c : ℕ) → StartsAt h n r lo b → ((e : ℕ) → b ≤ e → e < c → h.child n e ≡ None) → (k : List ℕ) (v : ℕ) → Row h k v → (Before k lo → ⊥) → Before k (path_past h n r c) ⊎ Begins (path_past h n r c) k → Begins (path_past h n r c) k
   way_to b c starts none k v o low high =
       ⊎_elim
-      (λ (e : Before k (past h n r c)).
-      let f : Begins r k = between r lo k (past h n r c) front (past_begins c) low (λ g. before_not k (past h n r c) e g) in
+      (λ (e : Before k (path_past h n r c)).
+      let f : Begins r k = between r lo k (path_past h n r c) front (past_begins c) low (λ g. before_not k (path_past h n r c) e g) in
       let on = row_at_node h n r k v s at f o in
       let some = on.2 in
       ⊎_elim
       (λ (lt : on.0 < c). let free = none on.0 (starts on.0 k on.3 low) lt in absurd (cc))
       (λ (ge : c ≤ on.0). ⊎_elim
-      (λ (same : on.0 ≡ c). subst (λ y. Begins (past h n r y) k) same on.3)
+      (λ (same : on.0 ≡ c). subst (λ y. Begins (path_past h n r y) k) same on.3)
       (⊎_elim
       (λ (lt : on.0 < c). absurd (omega arith))
-      (λ (gt : c < on.0). absurd (before_not k (past h n r c) e (before_byte (r ++ h.prefix n) (past h n r c) k c on.0 ([], append-nil _) on.3 gt))))
+      (λ (gt : c < on.0). absurd (before_not k (path_past h n r c) e (before_byte (r ++ h.prefix n) (path_past h n r c) k c on.0 ([], append-nil _) on.3 gt))))
       (cases_order on.0 c))
       (cases_lt on.0 c))
-      (λ (e : Begins (past h n r c) k). e)
+      (λ (e : Begins (path_past h n r c) k). e)
       high
 
-  pub seen_leaf : (hi : Bound) (b c i : ℕ) → StartsAt h n r lo b → h.child n c ≡ Some (leaf i) → ((e : ℕ) → b ≤ e → e < c → h.child n e ≡ None) → Caps h (past h n r c) hi → OnlyIn h lo hi (h.key i) (h.value i)
+  pub seen_leaf : (hi : Bound) (b c i : ℕ) → StartsAt h n r lo b → h.child n c ≡ Some (leaf i) → ((e : ℕ) → b ≤ e → e < c → h.child n e ≡ None) → Caps h (path_past h n r c) hi → OnlyIn h lo hi (h.key i) (h.value i)
   seen_leaf hi b c i starts child none caps k v o range =
       let f = way_to b c starts none k v o range.0 (caps k v o range.1) in
-      let same = row_at_leaf h i (past h n r c) k v s (down c at child refl) f o in
+      let same = row_at_leaf h i (path_past h n r c) k v s (down c at child refl) f o in
       (sym o.key ∙ ap h.key same, sym o.value ∙ ap h.value same)
 
-  pub seen_before : (b c : ℕ) → StartsAt h n r lo b → ((e : ℕ) → b ≤ e → e < c → h.child n e ≡ None) → NoneIn h lo (To (past h n r c))
+  pub seen_before : (b c : ℕ) → StartsAt h n r lo b → ((e : ℕ) → b ≤ e → e < c → h.child n e ≡ None) → NoneIn h lo (To (path_past h n r c))
   seen_before b c starts none k v o range =
-      not_before_front (past h n r c) k (way_to b c starts none k v o range.0 (inl range.1)) range.1
+      not_before_front (path_past h n r c) k (way_to b c starts none k v o range.0 (inl range.1)) range.1

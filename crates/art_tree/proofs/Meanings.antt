@@ -12,10 +12,10 @@ use Rattle.art_cell.specs.declared.cells.Cell.TheVariants as cell
 use Rattle.art_cell.specs.Bodies.{Becomes}
 use Rattle.art_tree.specs.Changes.{SameLeaves, SameTree}
 use Rattle.art_cell.specs.Children.{child_word, link_of}
-use Rattle.art_cell.specs.Entries.{with_here, without_here}
+use Rattle.art_cell.specs.Lemmas.Entries.{with_here, without_here}
 use Rattle.art_tree.specs.Heaps.{Cells, node_prefix, heap_of, MeansTheSame}
 use Rattle.art_cell.specs.Reads.{with_child, without_child}
-use Rattle.art_tree.specs.Tree.{Place, Top, Slot, held}
+use Rattle.art_tree.specs.Tree.{Place, Top, Slot, child_at_place}
 use Rattle.art_tree.specs.WordChanges.{FitsWord, at_byte, WritesPlace, WritesNode, cell_of, WritesOnly, KeepsChildren, SameByWords}
 use Rattle.art_cell.specs.Words.{Words, prefix_len, packed, prefix_of, child_of}
 use Rattle.art_tree.proofs.ChildWords.{link_back}
@@ -24,7 +24,7 @@ use Rattle.art_tree.proofs.Places.{same_cell, same_link}
 -- ---- cells that mean the same
 
 -- a place of such a cell holds what it held
-pub held_same : (cells after : Cells) (y : Place) → MeansTheSame (cell_of y) (cells (cell_of y)) (after (cell_of y)) → held (heap_of after) y ≡ held (heap_of cells) y
+pub held_same : (cells after : Cells) (y : Place) → MeansTheSame (cell_of y) (cells (cell_of y)) (after (cell_of y)) → child_at_place (heap_of after) y ≡ child_at_place (heap_of cells) y
 unfolding heap_of
 held_same cells after Top same = same
 held_same cells after (Slot n b) same = same.1 b
@@ -164,8 +164,8 @@ kept_prefix cells after c P k kept is =
     subst (P k) (sym (written_prefix after k w.0 (child_of k.layout (cells (cell.Node k))) w.2)) w.1
 
 -- and the children that it had, as all nodes have where those of other cells do
-pub kept_rest : (cells after : Cells) (c : Link) (P : Node → List ℕ → Type 0) (y : Place) → KeepsChildren cells after c P → ((IsNodeOf c (cell_of y) → ⊥) → held (heap_of after) y ≡ held (heap_of cells) y)
-    → held (heap_of after) y ≡ held (heap_of cells) y
+pub kept_rest : (cells after : Cells) (c : Link) (P : Node → List ℕ → Type 0) (y : Place) → KeepsChildren cells after c P → ((IsNodeOf c (cell_of y) → ⊥) → child_at_place (heap_of after) y ≡ child_at_place (heap_of cells) y)
+    → child_at_place (heap_of after) y ≡ child_at_place (heap_of cells) y
 kept_rest cells after c P Top kept rest = rest (λ i. let e = i.2 in cc)
 kept_rest cells after c P (Slot k e) kept rest = ⊎_elim
     (λ (is : c ≡ node k).
@@ -182,13 +182,13 @@ no_leaf Top l e = cc
 no_leaf (Slot n b) l e = cc
 
 -- the place that is written holds what was written
-pub held_put : (cells after : Cells) (x : Place) (o : Option Link) → WritesPlace cells after x o → Fits o → held (heap_of after) x ≡ o
+pub held_put : (cells after : Cells) (x : Place) (o : Option Link) → WritesPlace cells after x o → Fits o → child_at_place (heap_of after) x ≡ o
 held_put cells after Top (Some c) put fits = root_is after ∙ ap link_of put ∙ link_back c fits
 held_put cells after Top None put fits = root_is after ∙ ap link_of put
 held_put cells after (Slot n b) o put fits = byte_put after n _ (child_of n.layout (cells (cell.Node n))) b o put.0 fits (becomes_writes n.layout (cells (cell.Node n)) (after (cell.Node n)) _ put.1)
 
 -- another place of its cell holds what it held
-held_beside : (cells after : Cells) (x y : Place) (o : Option Link) → WritesPlace cells after x o → y ≢ x → cell_of y ≡ cell_of x → held (heap_of after) y ≡ held (heap_of cells) y
+held_beside : (cells after : Cells) (x y : Place) (o : Option Link) → WritesPlace cells after x o → y ≢ x → cell_of y ≡ cell_of x → child_at_place (heap_of after) y ≡ child_at_place (heap_of cells) y
 held_beside cells after Top Top o put other same = absurd (other refl)
 held_beside cells after Top (Slot k e) o put other same = absurd (cc)
 held_beside cells after (Slot n b) Top o put other same = absurd (cc)
@@ -206,7 +206,7 @@ prefix_beside cells after (Slot n b) k o put same =
     (written_prefix after n _ _ (becomes_writes n.layout (cells (cell.Node n)) (after (cell.Node n)) _ put.1) ∙ sym (prefix_is cells n))
 
 -- so each other place holds what it held, where those of other cells do
-pub held_rest : (cells after : Cells) (x y : Place) (o : Option Link) → WritesPlace cells after x o → y ≢ x → (cell_of y ≢ cell_of x → held (heap_of after) y ≡ held (heap_of cells) y) → held (heap_of after) y ≡ held (heap_of cells) y
+pub held_rest : (cells after : Cells) (x y : Place) (o : Option Link) → WritesPlace cells after x o → y ≢ x → (cell_of y ≢ cell_of x → child_at_place (heap_of after) y ≡ child_at_place (heap_of cells) y) → child_at_place (heap_of after) y ≡ child_at_place (heap_of cells) y
 held_rest cells after x y o put other rest = ⊎_elim (held_beside cells after x y o put other) rest (same_cell (cell_of y) (cell_of x))
 
 -- and the prefixes are as they were, where those of other cells are

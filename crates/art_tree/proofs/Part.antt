@@ -4,7 +4,7 @@ use Rattle.std.proofs.lemmas.Bool.{cases_eq}
 use Rattle.std.proofs.lemmas.List.{take_at, take-append-drop}
 use Rattle.art_cell.specs.declared.cells.Node.{Node}
 use Rattle.art_cell.specs.declared.cells.Link.TheVariants.{Node as node}
-use Rattle.art_tree.specs.Tree.{Heap, At, Begins, Row, IsTree}
+use Rattle.art_tree.specs.Tree.{Heap, StandsAt, Begins, Row, IsTree}
 use Rattle.art_tree.specs.Descents.{Parted}
 use Rattle.art_tree.proofs.Full.{no_end_within}
 
@@ -34,7 +34,7 @@ pub begins_part : (r q xs k : List ℕ) (b : ℕ) → k ≡ r ++ (q ++ b ∷ xs)
 begins_part r q xs k b e = (xs, append_assoc (r ++ q) (b ∷ []) xs ∙ (append_assoc r q (b ∷ xs) ∙ sym e))
 
 -- where a node's prefix differs from the key, they part
-pub node_parts : (h : Heap) (n : Node) (r k : List ℕ) → IsTree h → At h (node n) r → (f : Begins r k) → ((j : List ℕ) (v : ℕ) → Row h j v → Begins k j → ⊥) → (Begins (r ++ h.prefix n) k → ⊥) → Parted (h.prefix n) f.0
+pub node_parts : (h : Heap) (n : Node) (r k : List ℕ) → IsTree h → StandsAt h (node n) r → (f : Begins r k) → ((j : List ℕ) (v : ℕ) → Row h j v → Begins k j → ⊥) → (Begins (r ++ h.prefix n) k → ⊥) → Parted (h.prefix n) f.0
 node_parts h n r k s at f apart differs = ⊎_elim
     (λ (g : Begins (h.prefix n) f.0). absurd (differs (g.0, append_assoc r (h.prefix n) g.0 ∙ (ap (λ z. r ++ z) g.1 ∙ f.1))))
     (⊎_elim

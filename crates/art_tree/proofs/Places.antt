@@ -8,23 +8,23 @@ use Rattle.art_cell.specs.declared.cells.Link.{Link}
 use Rattle.art_cell.specs.declared.cells.Link.TheVariants.{Leaf as leaf, Node as node}
 use Rattle.art_cell.specs.declared.layouts.Layout.{Layout}
 use Rattle.art_cell.specs.declared.layouts.Layout.TheVariants.{Node4, Node16, Node48, Node256}
-use Rattle.art_tree.specs.Tree.{Place, Top, Slot, Heap, held, past, At, top, down, PathBy, PlaceAt, NamesOnce}
+use Rattle.art_tree.specs.Tree.{Place, Top, Slot, Heap, child_at_place, path_past, StandsAt, top, down, PathBy, PlaceAt, NamesOnce}
 
 -- what holds of the child of each place, where it holds of the node of the place, holds of each linked cell
-pub least : (h : Heap) (S : Link → List ℕ → Type 0) → ((y : Place) (d : Link) (r : List ℕ) → PathBy h S y r → held h y ≡ Some d → S d r) → (d : Link) (r : List ℕ) → At h d r → S d r
+pub least : (h : Heap) (S : Link → List ℕ → Type 0) → ((y : Place) (d : Link) (r : List ℕ) → PathBy h S y r → child_at_place h y ≡ Some d → S d r) → (d : Link) (r : List ℕ) → StandsAt h d r → S d r
 least h S step d r (top e ep) = step Top d r ep e
 least h S step d r (down {n = n} {p = p} b up e ep) = step (Slot n b) d r (p, least h S step (node n) p up, ep) e
 
-pub at_place : (h : Heap) (x : Place) (c : Link) (r : List ℕ) → PlaceAt h x r → held h x ≡ Some c → At h c r
+pub at_place : (h : Heap) (x : Place) (c : Link) (r : List ℕ) → PlaceAt h x r → child_at_place h x ≡ Some c → StandsAt h c r
 at_place h Top c r is e = top e is
 at_place h (Slot n b) c r is e = down b is.1 e is.2
 
 pub record PlaceOf (h : Heap) (c : Link) (r : List ℕ) : Type 0 where
   pub place : Place
   pub is : PlaceAt h place r
-  pub holds : held h place ≡ Some c
+  pub holds : child_at_place h place ≡ Some c
 
-pub place_of : (h : Heap) (c : Link) (r : List ℕ) → At h c r → PlaceOf h c r
+pub place_of : (h : Heap) (c : Link) (r : List ℕ) → StandsAt h c r → PlaceOf h c r
 place_of h c r (top e ep) = record { place = Top; is = ep; holds = e }
 place_of h c r (down {n = n} {p = p} b up e ep) = record { place = Slot n b; is = (p, up, ep); holds = e }
 
@@ -81,20 +81,20 @@ same_place (Slot m a) (Slot n b) =
     (same_node m n)
 
 -- the path of a place is that of its node, a text and a byte
-pub path_of_place : (h : Heap) (x y : Place) (r s : List ℕ) → ((n : Node) (p q : List ℕ) → At h (node n) p → At h (node n) q → p ≡ q) → x ≡ y → PlaceAt h x r → PlaceAt h y s → r ≡ s
+pub path_of_place : (h : Heap) (x y : Place) (r s : List ℕ) → ((n : Node) (p q : List ℕ) → StandsAt h (node n) p → StandsAt h (node n) q → p ≡ q) → x ≡ y → PlaceAt h x r → PlaceAt h y s → r ≡ s
 path_of_place h Top Top r s one e i j = i ∙ sym j
 path_of_place h Top (Slot n b) r s one e i j = absurd (cc)
 path_of_place h (Slot n b) Top r s one e i j = absurd (cc)
 path_of_place h (Slot m a) (Slot n b) r s one e i j =
     let em : m ≡ n = cc in
     let ea : a ≡ b = cc in
-    let ep : i.0 ≡ j.0 = one n i.0 j.0 (subst (λ x. At h (node x) i.0) em i.1) j.1 in
+    let ep : i.0 ≡ j.0 = one n i.0 j.0 (subst (λ x. StandsAt h (node x) i.0) em i.1) j.1 in
     let ir = i.2 in
     let jr = j.2 in
     cc
 
 -- the paths of one linked cell are one
-pub one_path : (h : Heap) (c : Link) (p r : List ℕ) → NamesOnce h → At h c p → At h c r → p ≡ r
+pub one_path : (h : Heap) (c : Link) (p r : List ℕ) → NamesOnce h → StandsAt h c p → StandsAt h c r → p ≡ r
 one_path h c p r once (top e ep) at =
     let w = place_of h c r at in
     let same : Top ≡ w.place = once Top w.place p r c ep w.is e w.holds in
@@ -104,4 +104,4 @@ one_path h c p r once (down {n = n} {p = q} b up e ep) at =
     let same : Slot n b ≡ w.place = once (Slot n b) w.place p r c (q, up, ep) w.is e w.holds in
     let i : PlaceAt h (Slot n b) r = subst (λ y. PlaceAt h y r) (sym same) w.is in
     let s : q ≡ i.0 = one_path h (node n) q i.0 once up i.1 in
-    ep ∙ (ap (λ x. past h n x b) s ∙ sym i.2)
+    ep ∙ (ap (λ x. path_past h n x b) s ∙ sym i.2)

@@ -7,7 +7,7 @@ use Rattle.std.proofs.Common.{false}
 use Rattle.art_cell.specs.declared.cells.Node.{Node}
 use Rattle.art_cell.specs.declared.cells.Link.{Link}
 use Rattle.art_cell.specs.declared.cells.Link.TheVariants.{Leaf as leaf, Node as node}
-use Rattle.art_tree.specs.Tree.{Place, Heap, At, PlaceAt, Begins, Row, IsTree}
+use Rattle.art_tree.specs.Tree.{Place, Heap, StandsAt, PlaceAt, Begins, Row, IsTree}
 use Rattle.art_tree.specs.Rows.{ByteMap, HasRows}
 use Rattle.art_tree.specs.Changes.{Replaces, Moves}
 use Rattle.art_tree.proofs.Places.{at_place, same_link}
@@ -35,17 +35,17 @@ module _ (h h' : Heap) (x : Place) (l i : ℕ) (r₀ : List ℕ) (w : Replaces h
     prefixes = λ n _. w.prefixes n;
     only = λ y r d other _ j e t. ⊎_elim
         (λ (f : d ≡ leaf l). other (s.once y x r r₀ (leaf l) j at (e ∙ ap Some f) w.was))
-        (λ (f : d ≡ leaf i). w.new r (subst (λ z. At h z r) f (at_place h y d r j e))) t;
+        (λ (f : d ≡ leaf i). w.new r (subst (λ z. StandsAt h z r) f (at_place h y d r j e))) t;
     inside = λ n b p d t _ e. absurd (no_node n t);
     exits = λ n b p d t _ e _ _. absurd (no_node n t);
-    there = λ d r e j. (inr e.0, subst₂ (At h') (sym e.0) (sym e.1) (at_place h' x (leaf i) r₀ j w.now));
+    there = λ d r e j. (inr e.0, subst₂ (StandsAt h') (sym e.0) (sym e.1) (at_place h' x (leaf i) r₀ j w.now));
     keys = w.leaves.keys;
     values = w.leaves.values;
     one = λ d r s e f. e.1 ∙ sym f.1;
   }
 
   module _ (same : h.key i ≡ h.key l) where
-    at_l : At h (leaf l) r₀
+    at_l : StandsAt h (leaf l) r₀
     at_l = at_place h x (leaf l) r₀ at w.was
 
     pub replace_moves : Moves h h' ReplaceT ReplaceE
@@ -75,7 +75,7 @@ module _ (h h' : Heap) (x : Place) (l i : ℕ) (r₀ : List ℕ) (w : Replaces h
           (λ e. let o = (rows j u).1 (sym has ∙ e) in
               row_on h h' x r₀ ReplaceT ReplaceE replace_patch s j u o (λ t. ⊎_elim
               (λ (f : leaf o.number ≡ leaf l). let nl : o.number ≡ l = cc (f) in other.0 (sym o.key ∙ (ap h.key nl ∙ sym same)))
-              (λ (f : leaf o.number ≡ leaf i). w.new o.path (subst (λ z. At h z o.path) f o.at)) t)),
+              (λ (f : leaf o.number ≡ leaf i). w.new o.path (subst (λ z. StandsAt h z o.path) f o.at)) t)),
         ))
         (key_test j (h.key i))
       where

@@ -8,7 +8,7 @@ use Rattle.art_cell.specs.declared.cells.Cell.{Cell}
 use Rattle.art_cell.specs.declared.cells.Cell.TheVariants as cell
 use Rattle.art_cell.specs.Children.{link_of}
 use Rattle.art_tree.specs.Heaps.{MeansTheSame}
-use Rattle.art_cell.specs.Packed.{packed_same}
+use Rattle.art_cell.specs.Lemmas.Packed.{packed_same}
 use Rattle.art_tree.specs.WordChanges.{SameBody}
 use Rattle.art_cell.specs.Words.{Words, count_of, prefix_len, packed, key_byte, nonzero, sorted_child, indexed_child, child_of}
 

@@ -9,7 +9,7 @@ use Rattle.std.specs.FinMap.{get, insert, remove, get-insert, get-remove, slice_
 use Rattle.art_cell.specs.declared.cells.Node.{Node}
 use Rattle.art_cell.specs.declared.cells.Link.{Link}
 use Rattle.art_cell.specs.declared.cells.Link.TheVariants.{Leaf as leaf, Node as node}
-use Rattle.art_tree.specs.Tree.{Place, Top, Slot, Heap, held, At, Begins, Row, HasTwo, IsTree}
+use Rattle.art_tree.specs.Tree.{Place, Top, Slot, Heap, child_at_place, StandsAt, Begins, Row, HasTwo, IsTree}
 use Rattle.art_tree.specs.Rows.{ByteMap, HasRows}
 use Rattle.art_tree.specs.Changes.{Moves}
 use Rattle.art_tree.proofs.Places.{same_node, same_place}
@@ -21,12 +21,12 @@ slot_of Top n = inr (λ b e. cc)
 slot_of (Slot m a) n = ⊎_elim (λ (e : m ≡ n). inl (a, cc)) (λ (f : m ≢ n). inr (λ b e. f (cc))) (same_node m n)
 
 module _ (h h' : Heap) (x : Place) (r₀ : List ℕ) (T : Link → Type 0) (E : Link → List ℕ → Type 0) (w : Patch h h' x r₀ T E) (s : IsTree h) where
-  now : (d : Link) (r : List ℕ) → At h' d r → Now h h' x r₀ T E w s.once d r
+  now : (d : Link) (r : List ℕ) → StandsAt h' d r → Now h h' x r₀ T E w s.once d r
   now = patch_back h h' x r₀ T E w s.once
 
   pub patch_sound :
       ((n : Node) (p : List ℕ) → T (node n) → E (node n) p → HasTwo h' n) →
-      ((n : Node) (b : ℕ) (p : List ℕ) → x ≡ Slot n b → At h (node n) p → HasTwo h' n) →
+      ((n : Node) (b : ℕ) (p : List ℕ) → x ≡ Slot n b → StandsAt h (node n) p → HasTwo h' n) →
       ((n : Node) (p : List ℕ) → T (node n) → E (node n) p → length p + length (h'.prefix n) < 64) →
       ((n : ℕ) (p : List ℕ) → T (leaf n) → E (leaf n) p → Begins p (h.key n)) →
       IsTree h'
@@ -35,7 +35,7 @@ module _ (h h' : Heap) (x : Place) (r₀ : List ℕ) (T : Link → Type 0) (E : 
     splits = λ n p at.
         ⊎_elim
         (λ (f : T (node n) × E (node n) p). two n p f.0 f.1)
-        (λ (f : (T (node n) → ⊥) × At h (node n) p).
+        (λ (f : (T (node n) → ⊥) × StandsAt h (node n) p).
         ⊎_elim
         (λ (g : (b : ℕ) × (x ≡ Slot n b)). two_x n g.0 p g.1 f.1)
         (λ (g : (b : ℕ) → x ≢ Slot n b).
@@ -53,12 +53,12 @@ module _ (h h' : Heap) (x : Place) (r₀ : List ℕ) (T : Link → Type 0) (E : 
     short = λ n p at.
         ⊎_elim
         (λ (f : T (node n) × E (node n) p). short n p f.0 f.1)
-        (λ (f : (T (node n) → ⊥) × At h (node n) p). subst (λ q. length p + length q < 64) (sym (w.prefixes n f.0)) (s.short n p f.1))
+        (λ (f : (T (node n) → ⊥) × StandsAt h (node n) p). subst (λ q. length p + length q < 64) (sym (w.prefixes n f.0)) (s.short n p f.1))
         (now (node n) p at);
     spelled = λ n p at. subst (Begins p) (sym (w.keys n))
         (⊎_elim
         (λ (f : T (leaf n) × E (leaf n) p). spelled n p f.0 f.1)
-        (λ (f : (T (leaf n) → ⊥) × At h (leaf n) p). s.spelled n p f.1)
+        (λ (f : (T (leaf n) → ⊥) × StandsAt h (leaf n) p). s.spelled n p f.1)
         (now (leaf n) p at));
   }
 
@@ -67,7 +67,7 @@ module _ (h h' : Heap) (x : Place) (r₀ : List ℕ) (T : Link → Type 0) (E : 
   row_back k v o =
       ⊎_elim
       (λ (f : T (leaf o.number) × E (leaf o.number) o.path). inl (o.number, o.path, f.1, sym (w.keys o.number) ∙ o.key, sym (w.values o.number) ∙ o.value))
-      (λ (f : (T (leaf o.number) → ⊥) × At h (leaf o.number) o.path).
+      (λ (f : (T (leaf o.number) → ⊥) × StandsAt h (leaf o.number) o.path).
       inr (record { number = o.number; path = o.path; at = f.1; key = sym (w.keys o.number) ∙ o.key; value = sym (w.values o.number) ∙ o.value }, f.0))
       (now (leaf o.number) o.path o.at)
 
@@ -150,7 +150,7 @@ pub moves_as : (h h' : Heap) (T : Link → Type 0) (E F : Link → List ℕ → 
 moves_as h h' T E F w on back = record {
   sound = w.sound;
   others = w.others;
-  linked = λ d r i. ⊎_elim (λ (f : T d × E d r). inl (f.0, on d r f.1)) (λ (f : (T d → ⊥) × At h d r). inr f) (w.linked d r i);
+  linked = λ d r i. ⊎_elim (λ (f : T d × E d r). inl (f.0, on d r f.1)) (λ (f : (T d → ⊥) × StandsAt h d r). inr f) (w.linked d r i);
   touched = λ d r f. w.touched d r (back d r f);
 }
 
@@ -170,13 +170,13 @@ no_nodes T f Top = tt
 no_nodes T f (Slot n b) = f n
 
 -- a node whose place stays filled keeps its two children
-pub stays_two : (h h' : Heap) (x : Place) (r₀ : List ℕ) (T : Link → Type 0) (E : Link → List ℕ → Type 0) (w : Patch h h' x r₀ T E) (c : Link) → held h' x ≡ Some c → (k : Node) (b : ℕ) → x ≡ Slot k b → HasTwo h k → HasTwo h' k
+pub stays_two : (h h' : Heap) (x : Place) (r₀ : List ℕ) (T : Link → Type 0) (E : Link → List ℕ → Type 0) (w : Patch h h' x r₀ T E) (c : Link) → child_at_place h' x ≡ Some c → (k : Node) (b : ℕ) → x ≡ Slot k b → HasTwo h k → HasTwo h' k
 stays_two h h' x r₀ T E w c now k b is = two_filled h h' k (λ a d e.
     ⊎_elim
-    (λ (same : Slot k a ≡ x). (c, subst (λ z. held h' z ≡ Some c) (sym same) now))
+    (λ (same : Slot k a ≡ x). (c, subst (λ z. child_at_place h' z ≡ Some c) (sym same) now))
     (λ (other : Slot k a ≢ x). (d, w.rest (Slot k a) other (subst (Outside T) is w.outside) ∙ e))
     (same_place (Slot k a) x))
 
 -- the row of a linked leaf's key is that leaf
-pub row_of_leaf : (h : Heap) (l : ℕ) (p : List ℕ) → IsTree h → At h (leaf l) p → (u : ℕ) (o : Row h (h.key l) u) → o.number ≡ l
+pub row_of_leaf : (h : Heap) (l : ℕ) (p : List ℕ) → IsTree h → StandsAt h (leaf l) p → (u : ℕ) (o : Row h (h.key l) u) → o.number ≡ l
 row_of_leaf h l p s at u o = row_at_leaf h l p (h.key l) u s at (s.spelled l p at) o

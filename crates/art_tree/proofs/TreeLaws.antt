@@ -2,7 +2,7 @@
 use Rattle.std.proofs.Common.{◌≡◌, ℕ, List, [], ◌∷◌, ◌++◌, Some, refl, ◌∙◌, subst}
 use Rattle.art_cell.specs.declared.cells.Node.{Node}
 use Rattle.art_cell.specs.declared.cells.Link.TheVariants.{Leaf as leaf, Node as node}
-use Rattle.art_tree.specs.Tree.{Slot, Heap, held, At, Begins, Row, IsTree}
+use Rattle.art_tree.specs.Tree.{Slot, Heap, child_at_place, StandsAt, Begins, Row, IsTree}
 use Rattle.art_tree.specs.Below.{RowsStandBelow}
 use Rattle.art_tree.specs.Changes.{SameTree}
 use Rattle.art_tree.specs.Descents.{BeginsNone, Descends, Parts}
@@ -54,7 +54,7 @@ parts h k s none = record {
 pub looks_at_anchor : (h : Heap) (lo : List ℕ) (hi : Bound) → IsTree h → LooksAtAnchor h lo hi
 looks_at_anchor h lo hi s = record { empty = seen_empty h lo hi; alone = λ l is. seen_alone h lo hi l s is }
 
-pub looks_at_node : (h : Heap) (n : Node) (r lo : List ℕ) → IsTree h → At h (node n) r → Begins r lo → LooksAtNode h n r lo
+pub looks_at_node : (h : Heap) (n : Node) (r lo : List ℕ) → IsTree h → StandsAt h (node n) r → Begins r lo → LooksAtNode h n r lo
 looks_at_node h n r lo s at front = record {
   short = λ hi. seen_short h n r lo s at front hi;
   none = λ hi b f. seen_none h n r lo s at front hi b (starts_at_byte h n r lo b f) (begins_more (r ++ h.prefix n) (b ∷ []) lo f);
@@ -67,7 +67,7 @@ looks_at_node h n r lo s at front = record {
 pub add_law : AddLaw
 add_law h h' x l r f s at w free hung new begins = record {
   moves = edit_moves h h' x l r w at s
-      (λ n b is. two_filled h h' n (λ a d e. (d, w.rest (Slot n a) (λ same. let e' : held h x ≡ Some d = subst (λ z. held h z ≡ Some d) same e in cc) ∙ e)))
+      (λ n b is. two_filled h h' n (λ a d e. (d, w.rest (Slot n a) (λ same. let e' : child_at_place h x ≡ Some d = subst (λ z. child_at_place h z ≡ Some d) same e in cc) ∙ e)))
       begins;
   rows = λ rows. hang_rows h h' x l r w at s f rows (absent_free h x r (h.key l) s at free begins) new hung;
 }

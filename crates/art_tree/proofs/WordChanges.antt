@@ -6,7 +6,7 @@ use Rattle.art_cell.specs.declared.cells.Link.TheVariants.{Leaf as leaf, Node as
 use Rattle.art_cell.specs.declared.cells.Cell.TheVariants as cell
 use Rattle.art_tree.specs.Changes.{NamedOnlyAt, Edits, GivesWay, Renews}
 use Rattle.art_tree.specs.Heaps.{Cells, node_prefix, heap_of}
-use Rattle.art_tree.specs.Tree.{Place, Top, Slot, held, past}
+use Rattle.art_tree.specs.Tree.{Place, Top, Slot, child_at_place, path_past}
 use Rattle.art_tree.specs.WordChanges.{at_byte, two_children, cell_of, PlaceByWords, WayByWords, AddByWords, DropByWords, ReplaceByWords, WayPremises, GrowByWords, ShrinkByWords, CopyByWords, ForkedByWords, MergedByWords}
 use Rattle.art_cell.specs.Words.{child_of}
 use Rattle.art_tree.proofs.ByteTexts.{child_byte}
@@ -18,15 +18,15 @@ use Rattle.art_tree.proofs.Meanings.{held_same, prefix_same, same_leaves, child_
 
 -- all else stays as it was
 module _ (cells after : Cells) (x : Place) (o : Option Link) (w : PlaceByWords cells after x o) where
-  place_rest : (y : Place) → y ≢ x → held (heap_of after) y ≡ held (heap_of cells) y
+  place_rest : (y : Place) → y ≢ x → child_at_place (heap_of after) y ≡ child_at_place (heap_of cells) y
   place_rest y other = held_rest cells after x y o w.put other (λ elsewhere. held_same cells after y (w.rest (cell_of y) elsewhere))
 
   place_prefix : (k : Node) → (heap_of after).prefix k ≡ (heap_of cells).prefix k
   place_prefix k = prefix_rest cells after x k o w.put (λ elsewhere. prefix_same cells after k (w.rest (cell.Node k) elsewhere))
 
   -- a leaf, or none, comes to the place
-  place_edits : (l : ℕ) → Fits o → ((d : Link) → held (heap_of cells) x ≡ Some d → d ≡ leaf l) → ((d : Link) → o ≡ Some d → d ≡ leaf l) → NamedOnlyAt (heap_of cells) (leaf l) x
-      → Edits (heap_of cells) (heap_of after) x l × (held (heap_of after) x ≡ o)
+  place_edits : (l : ℕ) → Fits o → ((d : Link) → child_at_place (heap_of cells) x ≡ Some d → d ≡ leaf l) → ((d : Link) → o ≡ Some d → d ≡ leaf l) → NamedOnlyAt (heap_of cells) (leaf l) x
+      → Edits (heap_of cells) (heap_of after) x l × (child_at_place (heap_of after) x ≡ o)
   place_edits l fits old new only =
       let now = held_put cells after x o w.put fits in (
         record {
@@ -109,7 +109,7 @@ pub shrink_by_words : ShrinkByWords
 shrink_by_words cells after x r n m b l w is was =
     let h = heap_of cells in
     way_renews cells after x r n m b l None w is (child_byte cells n b (leaf l) was) tt (λ d e. cc) (λ d e. absurd (cc))
-    (only_held h (Slot n b) (past h n r b) (leaf l) is.0 (r, at_place h x (node n) r is.1 is.2, refl) was)
+    (only_held h (Slot n b) (path_past h n r b) (leaf l) is.0 (r, at_place h x (node n) r is.1 is.2, refl) was)
 
 -- a node gives way to one with the same children
 pub copy_by_words : CopyByWords

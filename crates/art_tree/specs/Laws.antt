@@ -7,7 +7,7 @@ use Rattle.std.specs.Prelude.{T}
 use Rattle.art_cell.specs.declared.cells.Node.{Node}
 use Rattle.art_cell.specs.declared.cells.Link.{Link}
 use Rattle.art_cell.specs.declared.cells.Link.TheVariants.{Leaf as leaf, Node as node}
-use Rattle.art_tree.specs.Tree.{Place, Slot, Heap, held, past, At, PlaceAt, Begins, Row, HasTwo, IsTree}
+use Rattle.art_tree.specs.Tree.{Place, Slot, Heap, child_at_place, path_past, StandsAt, PlaceAt, Begins, Row, HasTwo, IsTree}
 use Rattle.art_tree.specs.Rows.{ByteMap, HasRows}
 use Rattle.art_tree.specs.Changes.{IsUnlinked, Edits, Replaces, Renews, Copies, Forks, Merges, Moves}
 
@@ -23,7 +23,7 @@ abbrev pub EditTouched : ℕ → Link → Type 0
 EditTouched l d = d ≡ leaf l
 
 abbrev pub EditPaths : Heap → Place → ℕ → List ℕ → Link → List ℕ → Type 0
-EditPaths h' x l r d s = (d ≡ leaf l) × (s ≡ r) × (held h' x ≡ Some (leaf l))
+EditPaths h' x l r d s = (d ≡ leaf l) × (s ≡ r) × (child_at_place h' x ≡ Some (leaf l))
 
 abbrev pub ReplaceTouched : ℕ → ℕ → Link → Type 0
 ReplaceTouched l i d = (d ≡ leaf l) ⊎ (d ≡ leaf i)
@@ -35,7 +35,7 @@ abbrev pub RenewTouched : Node → Node → ℕ → Link → Type 0
 RenewTouched n m l d = (d ≡ node n) ⊎ ((d ≡ node m) ⊎ (d ≡ leaf l))
 
 abbrev pub RenewPaths : Heap → Heap → Node → Node → ℕ → ℕ → List ℕ → Link → List ℕ → Type 0
-RenewPaths h h' n m b l r d s = ((d ≡ node m) × (s ≡ r)) ⊎ ((d ≡ leaf l) × (s ≡ past h n r b) × (h'.child m b ≡ Some (leaf l)))
+RenewPaths h h' n m b l r d s = ((d ≡ node m) × (s ≡ r)) ⊎ ((d ≡ leaf l) × (s ≡ path_past h n r b) × (h'.child m b ≡ Some (leaf l)))
 
 abbrev pub CopyTouched : Node → Node → Link → Type 0
 CopyTouched n m d = (d ≡ node n) ⊎ (d ≡ node m)
@@ -47,7 +47,7 @@ abbrev pub ForkTouched : Link → Node → ℕ → Link → Type 0
 ForkTouched c m l d = (d ≡ c) ⊎ ((d ≡ node m) ⊎ (d ≡ leaf l))
 
 abbrev pub ForkPaths : Heap → Link → Node → ℕ → ℕ → ℕ → List ℕ → Link → List ℕ → Type 0
-ForkPaths h' c m l a b r d s = ((d ≡ c) × (s ≡ past h' m r a)) ⊎ (((d ≡ node m) × (s ≡ r)) ⊎ ((d ≡ leaf l) × (s ≡ past h' m r b)))
+ForkPaths h' c m l a b r d s = ((d ≡ c) × (s ≡ path_past h' m r a)) ⊎ (((d ≡ node m) × (s ≡ r)) ⊎ ((d ≡ leaf l) × (s ≡ path_past h' m r b)))
 
 abbrev pub MergeTouched : Link → Node → ℕ → Link → Type 0
 MergeTouched c n l d = (d ≡ node n) ⊎ ((d ≡ leaf l) ⊎ (d ≡ c))
@@ -60,13 +60,13 @@ MergePaths c r d s = (d ≡ c) × (s ≡ r)
 -- a leaf comes to a free place, or to the empty anchor
 abbrev pub AddLaw : Type 0
 AddLaw = (h h' : Heap) (x : Place) (l : ℕ) (r : List ℕ) (f : ByteMap) → IsTree h → PlaceAt h x r → Edits h h' x l →
-    held h x ≡ None → held h' x ≡ Some (leaf l) → IsUnlinked h (leaf l) → Begins r (h.key l) →
+    child_at_place h x ≡ None → child_at_place h' x ≡ Some (leaf l) → IsUnlinked h (leaf l) → Begins r (h.key l) →
     Does h h' (EditTouched l) (EditPaths h' x l r) f (insert f (h.key l) (h.value l))
 
 -- a leaf goes from the anchor, or from a node that keeps two children
 abbrev pub DropLaw : Type 0
 DropLaw = (h h' : Heap) (x : Place) (l : ℕ) (r : List ℕ) (f : ByteMap) → IsTree h → PlaceAt h x r → Edits h h' x l →
-    held h x ≡ Some (leaf l) → held h' x ≡ None → ((n : Node) (b : ℕ) → x ≡ Slot n b → HasTwo h' n) →
+    child_at_place h x ≡ Some (leaf l) → child_at_place h' x ≡ None → ((n : Node) (b : ℕ) → x ≡ Slot n b → HasTwo h' n) →
     Does h h' (EditTouched l) (EditPaths h' x l r) f (remove f (h.key l))
 
 -- a leaf gives way to another with its key
@@ -78,7 +78,7 @@ ReplaceLaw = (h h' : Heap) (x : Place) (l i : ℕ) (r : List ℕ) (f : ByteMap) 
 -- a node gives way to a copy that has a leaf more
 abbrev pub GrowLaw : Type 0
 GrowLaw = (h h' : Heap) (x : Place) (n m : Node) (b l : ℕ) (r : List ℕ) (f : ByteMap) → IsTree h → PlaceAt h x r → Renews h h' x n m b l →
-    h'.child m b ≡ Some (leaf l) → IsUnlinked h (leaf l) → Begins (past h n r b) (h.key l) →
+    h'.child m b ≡ Some (leaf l) → IsUnlinked h (leaf l) → Begins (path_past h n r b) (h.key l) →
     Does h h' (RenewTouched n m l) (RenewPaths h h' n m b l r) f (insert f (h.key l) (h.value l))
 
 -- a node gives way to a copy that has a leaf less, and two children still
@@ -95,7 +95,7 @@ CopyLaw = (h h' : Heap) (x : Place) (n m : Node) (r : List ℕ) (f : ByteMap) �
 -- a node comes between a place and what it held, a leaf or a node
 abbrev pub ForkLaw : Type 0
 ForkLaw = (h h' : Heap) (x : Place) (c : Link) (m : Node) (l a b : ℕ) (r : List ℕ) (f : ByteMap) → IsTree h → PlaceAt h x r → Forks h h' x c m l a b →
-    ((k : ℕ) → c ≡ leaf k → Begins (past h' m r a) (h.key k)) → Begins (past h' m r b) (h.key l) → length (h.key l) ≤ 64 →
+    ((k : ℕ) → c ≡ leaf k → Begins (path_past h' m r a) (h.key k)) → Begins (path_past h' m r b) (h.key l) → length (h.key l) ≤ 64 →
     Does h h' (ForkTouched c m l) (ForkPaths h' c m l a b r) f (insert f (h.key l) (h.value l))
 
 -- a node that would come down to one child gives way to it
@@ -107,7 +107,7 @@ MergeLaw = (h h' : Heap) (x : Place) (c : Link) (n : Node) (l a b : ℕ) (r : Li
 
 -- what is not linked does not matter
 pub record FrameLaw (h h' : Heap) : Type 0 where
-  pub paths : (c : Link) (r : List ℕ) → At h c r ↔ At h' c r
+  pub paths : (c : Link) (r : List ℕ) → StandsAt h c r ↔ StandsAt h' c r
   pub sound : IsTree h → IsTree h'
   pub rows : (m : ByteMap) → HasRows h m → HasRows h' m
 

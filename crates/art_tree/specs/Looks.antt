@@ -7,7 +7,7 @@ use Rattle.art_cell.specs.declared.cells.Node.{Node}
 use Rattle.art_cell.specs.declared.cells.Link.TheVariants.{Leaf as leaf}
 use Rattle.art_tree.specs.declared.bounds.Bound.{Bound}
 use Rattle.art_tree.specs.declared.bounds.Bound.TheVariants.{To, End}
-use Rattle.art_tree.specs.Tree.{Heap, past, Begins, Row}
+use Rattle.art_tree.specs.Tree.{Heap, path_past, Begins, Row}
 
 abbrev pub Before : List ℕ → List ℕ → Type 0
 Before j k = slice_cmp nat_cmp j k ≡ Less
@@ -76,8 +76,8 @@ pub record LooksAtAnchor (h : Heap) (lo : List ℕ) (hi : Bound) : Type 0 where
 -- within the whole path or is before it
 pub record LooksAtNode (h : Heap) (n : Node) (r lo : List ℕ) : Type 0 where
   pub short : (hi : Bound) → Before (r ++ h.prefix n) lo → (Begins (r ++ h.prefix n) lo → ⊥) → Caps h r hi → NoneIn h lo hi
-  pub none : (hi : Bound) (b : ℕ) → Begins (past h n r b) lo → ((e : ℕ) → b ≤ e → h.child n e ≡ None) → Caps h (r ++ h.prefix n) hi → NoneIn h lo hi
-  pub a_leaf : (hi : Bound) (b c l : ℕ) → Begins (past h n r b) lo → h.child n c ≡ Some (leaf l) → NoChildFrom h n b c → Caps h (past h n r c) hi → OnlyIn h lo hi (h.key l) (h.value l)
-  pub a_node : (b c : ℕ) → Begins (past h n r b) lo → NoChildFrom h n b c → NoneIn h lo (To (past h n r c))
-  pub first_leaf : (hi : Bound) (c l : ℕ) → h.child n c ≡ Some (leaf l) → NoChildFrom h n 0 c → Caps h (past h n r c) hi → OnlyIn h lo hi (h.key l) (h.value l)
-  pub first_node : (c : ℕ) → NoChildFrom h n 0 c → NoneIn h lo (To (past h n r c))
+  pub none : (hi : Bound) (b : ℕ) → Begins (path_past h n r b) lo → ((e : ℕ) → b ≤ e → h.child n e ≡ None) → Caps h (r ++ h.prefix n) hi → NoneIn h lo hi
+  pub a_leaf : (hi : Bound) (b c l : ℕ) → Begins (path_past h n r b) lo → h.child n c ≡ Some (leaf l) → NoChildFrom h n b c → Caps h (path_past h n r c) hi → OnlyIn h lo hi (h.key l) (h.value l)
+  pub a_node : (b c : ℕ) → Begins (path_past h n r b) lo → NoChildFrom h n b c → NoneIn h lo (To (path_past h n r c))
+  pub first_leaf : (hi : Bound) (c l : ℕ) → h.child n c ≡ Some (leaf l) → NoChildFrom h n 0 c → Caps h (path_past h n r c) hi → OnlyIn h lo hi (h.key l) (h.value l)
+  pub first_node : (c : ℕ) → NoChildFrom h n 0 c → NoneIn h lo (To (path_past h n r c))

@@ -4,7 +4,7 @@ use Rattle.std.specs.Ordering.{nat_cmp}
 use Rattle.std.specs.Cmp.Lexicographic.{slice_cmp}
 use Rattle.std.specs.FinMap.{FinMap, get}
 use Rattle.art_cell.specs.declared.cells.Link.{Link}
-use Rattle.art_tree.specs.Tree.{Heap, At, Row}
+use Rattle.art_tree.specs.Tree.{Heap, StandsAt, Row}
 
 -- byte keys in ascending order, each with its value
 abbrev pub ByteMap : Type 0
@@ -21,5 +21,5 @@ IsAbsent h k = (v : ℕ) → Row h k v → ⊥
 -- a path has one cell, and a cell one path
 abbrev pub IsOneToOne : Heap → Type 0
 IsOneToOne h =
-    ((c d : Link) (p : List ℕ) → At h c p → At h d p → c ≡ d)
-    × ((c : Link) (p r : List ℕ) → At h c p → At h c r → p ≡ r)
+    ((c d : Link) (p : List ℕ) → StandsAt h c p → StandsAt h d p → c ≡ d)
+    × ((c : Link) (p r : List ℕ) → StandsAt h c p → StandsAt h c r → p ≡ r)

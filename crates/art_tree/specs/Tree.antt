@@ -18,27 +18,27 @@ pub record Heap : Type 0 where
   pub value : ℕ → ℕ
 
 -- the child at a place
-abbrev pub held : Heap → Place → Option Link
-held h Top = h.root
-held h (Slot n b) = h.child n b
+abbrev pub child_at_place : Heap → Place → Option Link
+child_at_place h Top = h.root
+child_at_place h (Slot n b) = h.child n b
 
 -- the path of what node n, at path p, has at byte b: p, then n's prefix, then b
-abbrev pub past : Heap → Node → List ℕ → ℕ → List ℕ
-past h n p b = p ++ h.prefix n ++ b ∷ []
+abbrev pub path_past : Heap → Node → List ℕ → ℕ → List ℕ
+path_past h n p b = p ++ h.prefix n ++ b ∷ []
 
 -- the cell c is linked, and the path r leads to it
-pub data At (h : Heap) : Link → List ℕ → Type 0 where
-  top : {c : Link} {r : List ℕ} → h.root ≡ Some c → r ≡ [] → At h c r
-  down : {n : Node} {p : List ℕ} {c : Link} {r : List ℕ} (b : ℕ) → At h (node n) p → h.child n b ≡ Some c → r ≡ past h n p b → At h c r
+pub data StandsAt (h : Heap) : Link → List ℕ → Type 0 where
+  top : {c : Link} {r : List ℕ} → h.root ≡ Some c → r ≡ [] → StandsAt h c r
+  down : {n : Node} {p : List ℕ} {c : Link} {r : List ℕ} (b : ℕ) → StandsAt h (node n) p → h.child n b ≡ Some c → r ≡ path_past h n p b → StandsAt h c r
 
 -- the path of a place, where S says at which paths its node may stand
 abbrev pub PathBy : Heap → (Link → List ℕ → Type 0) → Place → List ℕ → Type 0
 PathBy h S Top r = r ≡ []
-PathBy h S (Slot n b) r = (p : List ℕ) × S (node n) p × (r ≡ past h n p b)
+PathBy h S (Slot n b) r = (p : List ℕ) × S (node n) p × (r ≡ path_past h n p b)
 
 -- the place is in the tree, and the path r leads to it
 abbrev pub PlaceAt : Heap → Place → List ℕ → Type 0
-PlaceAt h x r = PathBy h (At h) x r
+PlaceAt h x r = PathBy h (StandsAt h) x r
 
 -- p begins k
 abbrev pub Begins : List ℕ → List ℕ → Type 0
@@ -48,7 +48,7 @@ Begins p k = (rest : List ℕ) × (p ++ rest ≡ k)
 pub record Row (h : Heap) (k : List ℕ) (v : ℕ) : Type 0 where
   pub number : ℕ
   pub path : List ℕ
-  pub at : At h (leaf number) path
+  pub at : StandsAt h (leaf number) path
   pub key : h.key number ≡ k
   pub value : h.value number ≡ v
 
@@ -58,12 +58,12 @@ HasTwo h n = (a b : ℕ) × (c d : Link) × (a < b) × (h.child n a ≡ Some c) 
 
 -- two places of the tree that hold one cell are one place
 abbrev pub NamesOnce : Heap → Type 0
-NamesOnce h = (x y : Place) (r s : List ℕ) (c : Link) → PlaceAt h x r → PlaceAt h y s → held h x ≡ Some c → held h y ≡ Some c → x ≡ y
+NamesOnce h = (x y : Place) (r s : List ℕ) (c : Link) → PlaceAt h x r → PlaceAt h y s → child_at_place h x ≡ Some c → child_at_place h y ≡ Some c → x ≡ y
 
 -- what holds of every tree: each linked cell is named once, each linked node has two children, its path with its prefix
 -- is shorter than a key can be, and the path of each linked leaf begins its key
 pub record IsTree (h : Heap) : Type 0 where
   pub once : NamesOnce h
-  pub splits : (n : Node) (p : List ℕ) → At h (node n) p → HasTwo h n
-  pub short : (n : Node) (p : List ℕ) → At h (node n) p → length p + length (h.prefix n) < 64
-  pub spelled : (l : ℕ) (p : List ℕ) → At h (leaf l) p → Begins p (h.key l)
+  pub splits : (n : Node) (p : List ℕ) → StandsAt h (node n) p → HasTwo h n
+  pub short : (n : Node) (p : List ℕ) → StandsAt h (node n) p → length p + length (h.prefix n) < 64
+  pub spelled : (l : ℕ) (p : List ℕ) → StandsAt h (leaf l) p → Begins p (h.key l)

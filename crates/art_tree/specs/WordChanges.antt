@@ -11,7 +11,7 @@ use Rattle.art_tree.specs.Changes.{IsUnlinked, Edits, Replaces, Renews, Copies, 
 use Rattle.art_cell.specs.Children.{child_word, number_of}
 use Rattle.art_tree.specs.Heaps.{Cells, node_prefix, heap_of, MeansTheSame}
 use Rattle.art_cell.specs.Reads.{with_child, without_child}
-use Rattle.art_tree.specs.Tree.{Place, Top, Slot, held, At, PlaceAt, NamesOnce}
+use Rattle.art_tree.specs.Tree.{Place, Top, Slot, child_at_place, StandsAt, PlaceAt, NamesOnce}
 use Rattle.art_cell.specs.Words.{Words, prefix_of, child_of}
 
 -- ---- what is written
@@ -89,34 +89,34 @@ pub record MergeByWords (cells after : Cells) (x : Place) (c : Link) (n : Node) 
 
 abbrev pub AddByWords : Type 0
 AddByWords = (cells after : Cells) (x : Place) (l : ℕ) → PlaceByWords cells after x (Some (leaf l)) → FitsWord (leaf l) →
-    held (heap_of cells) x ≡ None → IsUnlinked (heap_of cells) (leaf l) →
-    Edits (heap_of cells) (heap_of after) x l × (held (heap_of after) x ≡ Some (leaf l))
+    child_at_place (heap_of cells) x ≡ None → IsUnlinked (heap_of cells) (leaf l) →
+    Edits (heap_of cells) (heap_of after) x l × (child_at_place (heap_of after) x ≡ Some (leaf l))
 
 abbrev pub DropByWords : Type 0
 DropByWords = (cells after : Cells) (x : Place) (l : ℕ) (r : List ℕ) → PlaceByWords cells after x None →
-    NamesOnce (heap_of cells) → PlaceAt (heap_of cells) x r → held (heap_of cells) x ≡ Some (leaf l) →
-    Edits (heap_of cells) (heap_of after) x l × (held (heap_of after) x ≡ None)
+    NamesOnce (heap_of cells) → PlaceAt (heap_of cells) x r → child_at_place (heap_of cells) x ≡ Some (leaf l) →
+    Edits (heap_of cells) (heap_of after) x l × (child_at_place (heap_of after) x ≡ None)
 
 abbrev pub ReplaceByWords : Type 0
 ReplaceByWords = (cells after : Cells) (x : Place) (l i : ℕ) → PlaceByWords cells after x (Some (leaf i)) → FitsWord (leaf i) →
-    held (heap_of cells) x ≡ Some (leaf l) → IsUnlinked (heap_of cells) (leaf i) →
+    child_at_place (heap_of cells) x ≡ Some (leaf l) → IsUnlinked (heap_of cells) (leaf i) →
     Replaces (heap_of cells) (heap_of after) x l i
 
 -- what is asked of a node that gives way to another
 abbrev pub WayPremises : Cells → Place → List ℕ → Node → Node → Type 0
-WayPremises cells x r n m = NamesOnce (heap_of cells) × PlaceAt (heap_of cells) x r × (held (heap_of cells) x ≡ Some (node n)) × IsUnlinked (heap_of cells) (node m) × FitsWord (node m)
+WayPremises cells x r n m = NamesOnce (heap_of cells) × PlaceAt (heap_of cells) x r × (child_at_place (heap_of cells) x ≡ Some (node n)) × IsUnlinked (heap_of cells) (node m) × FitsWord (node m)
 
 abbrev pub GrowByWords : Type 0
 GrowByWords = (cells after : Cells) (x : Place) (r : List ℕ) (n m : Node) (b l : ℕ) →
     WayByWords cells after x n m (at_byte (child_of n.layout (cells (cell.Node n))) b (Some (leaf l))) → WayPremises cells x r n m →
-    b < 256 → FitsWord (leaf l) → IsUnlinked (heap_of cells) (leaf l) → held (heap_of cells) (Slot n b) ≡ None →
-    Renews (heap_of cells) (heap_of after) x n m b l × (held (heap_of after) (Slot m b) ≡ Some (leaf l))
+    b < 256 → FitsWord (leaf l) → IsUnlinked (heap_of cells) (leaf l) → child_at_place (heap_of cells) (Slot n b) ≡ None →
+    Renews (heap_of cells) (heap_of after) x n m b l × (child_at_place (heap_of after) (Slot m b) ≡ Some (leaf l))
 
 abbrev pub ShrinkByWords : Type 0
 ShrinkByWords = (cells after : Cells) (x : Place) (r : List ℕ) (n m : Node) (b l : ℕ) →
     WayByWords cells after x n m (at_byte (child_of n.layout (cells (cell.Node n))) b None) → WayPremises cells x r n m →
-    held (heap_of cells) (Slot n b) ≡ Some (leaf l) →
-    Renews (heap_of cells) (heap_of after) x n m b l × (held (heap_of after) (Slot m b) ≡ None)
+    child_at_place (heap_of cells) (Slot n b) ≡ Some (leaf l) →
+    Renews (heap_of cells) (heap_of after) x n m b l × (child_at_place (heap_of after) (Slot m b) ≡ None)
 
 abbrev pub CopyByWords : Type 0
 CopyByWords = (cells after : Cells) (x : Place) (r : List ℕ) (n m : Node) →
@@ -126,23 +126,23 @@ CopyByWords = (cells after : Cells) (x : Place) (r : List ℕ) (n m : Node) →
 -- the new node's prefix is q
 abbrev pub ForkedByWords : Type 0
 ForkedByWords = (cells after : Cells) (x : Place) (r : List ℕ) (c : Link) (m : Node) (l a b : ℕ) (q : List ℕ) →
-    ForkByWords cells after x c m l a b q → NamesOnce (heap_of cells) → PlaceAt (heap_of cells) x r → held (heap_of cells) x ≡ Some c →
+    ForkByWords cells after x c m l a b q → NamesOnce (heap_of cells) → PlaceAt (heap_of cells) x r → child_at_place (heap_of cells) x ≡ Some c →
     IsUnlinked (heap_of cells) (node m) → IsUnlinked (heap_of cells) (leaf l) → a < 256 → b < 256 → a ≢ b →
     FitsWord c → FitsWord (node m) → FitsWord (leaf l) →
     Forks (heap_of cells) (heap_of after) x c m l a b × ((heap_of after).prefix m ≡ q)
 
 abbrev pub MergedByWords : Type 0
 MergedByWords = (cells after : Cells) (x : Place) (r : List ℕ) (c : Link) (n : Node) (l a b : ℕ) →
-    MergeByWords cells after x c n a → NamesOnce (heap_of cells) → PlaceAt (heap_of cells) x r → held (heap_of cells) x ≡ Some (node n) →
-    held (heap_of cells) (Slot n a) ≡ Some c → held (heap_of cells) (Slot n b) ≡ Some (leaf l) → a ≢ b →
-    ((e : ℕ) → e ≢ a → e ≢ b → held (heap_of cells) (Slot n e) ≡ None) → FitsWord c →
+    MergeByWords cells after x c n a → NamesOnce (heap_of cells) → PlaceAt (heap_of cells) x r → child_at_place (heap_of cells) x ≡ Some (node n) →
+    child_at_place (heap_of cells) (Slot n a) ≡ Some c → child_at_place (heap_of cells) (Slot n b) ≡ Some (leaf l) → a ≢ b →
+    ((e : ℕ) → e ≢ a → e ≢ b → child_at_place (heap_of cells) (Slot n e) ≡ None) → FitsWord c →
     Merges (heap_of cells) (heap_of after) x c n l a b
 
 -- linked cells that mean what they meant are the same tree
 pub record SameByWords (cells after : Cells) : Type 0 where
   pub anchor : MeansTheSame cell.Anchor (cells cell.Anchor) (after cell.Anchor)
-  pub leaves : (l : ℕ) (p : List ℕ) → At (heap_of cells) (leaf l) p → MeansTheSame (cell.Leaf l) (cells (cell.Leaf l)) (after (cell.Leaf l))
-  pub nodes : (n : Node) (p : List ℕ) → At (heap_of cells) (node n) p → MeansTheSame (cell.Node n) (cells (cell.Node n)) (after (cell.Node n))
+  pub leaves : (l : ℕ) (p : List ℕ) → StandsAt (heap_of cells) (leaf l) p → MeansTheSame (cell.Leaf l) (cells (cell.Leaf l)) (after (cell.Leaf l))
+  pub nodes : (n : Node) (p : List ℕ) → StandsAt (heap_of cells) (node n) p → MeansTheSame (cell.Node n) (cells (cell.Node n)) (after (cell.Node n))
 
 -- words that are the same after the version mean the same: a leaf has no version
 abbrev pub SameBody : Cell → Words → Words → Type 0

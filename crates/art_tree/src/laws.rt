@@ -15,7 +15,7 @@ ghost use Rattle.art_tree.specs.Heaps.{Cells, heap_of, MeansTheSame};
 ghost use Rattle.art_tree.specs.Laws.{AddLaw, CopyLaw, DropLaw, ForkLaw, FrameLaw, GrowLaw, IsAscending, ListsRows, MergeLaw, ReplaceLaw, RowFrom, ShrinkLaw};
 ghost use Rattle.art_tree.specs.Looks.{AfterCaps, AfterIsExact, AfterIsLeast, AreBytes, LooksAtAnchor, LooksAtNode};
 ghost use Rattle.art_tree.specs.Rows.{ByteMap, HasRows, IsOneToOne};
-ghost use Rattle.art_tree.specs.Tree.{At, Begins, Heap, IsTree};
+ghost use Rattle.art_tree.specs.Tree.{StandsAt, Begins, Heap, IsTree};
 ghost use Rattle.art_tree.specs.WordChanges.{AddByWords, CopyByWords, DropByWords, ForkedByWords, GrowByWords, MergedByWords, ReplaceByWords, SameBody, SameByWords, ShrinkByWords};
 ghost use Rattle.art_cell.specs.Words.{Words};
 
@@ -33,7 +33,7 @@ pub fn rows_stand_below_the_root()
 
 /// Each linked cell has a row whose key begins with the cell's path.
 pub fn cells_lead_to_rows()
-    ensures { (h : Heap) (c : LinkOf) (p : List ℕ) → IsTree h → At h c p → RowFrom h p }
+    ensures { (h : Heap) (c : LinkOf) (p : List ℕ) → IsTree h → StandsAt h c p → RowFrom h p }
 {}
 
 /// A heap has the rows of one map alone, and an ascending list of its rows is that of the map's entries.
@@ -75,7 +75,7 @@ pub fn new_keys_part()
 /// What the anchor, and a node on the way of the first key that is asked for, show of a range.
 pub fn looks_show()
     ensures anchor { (h : Heap) (lo : List ℕ) (hi : BoundOf) → IsTree h → LooksAtAnchor h lo hi }
-    ensures node { (h : Heap) (n : NodeOf) (r lo : List ℕ) → IsTree h → At h (node n) r → Begins r lo → LooksAtNode h n r lo }
+    ensures node { (h : Heap) (n : NodeOf) (r lo : List ℕ) → IsTree h → StandsAt h (node n) r → Begins r lo → LooksAtNode h n r lo }
 {}
 
 /// The bound just above a text is exact, and the least such.
@@ -152,5 +152,5 @@ pub fn same_words_are_the_same_tree()
 pub fn words_mean_bytes()
     ensures keys { (cells : Cells) (l : ℕ) → AreBytes ((heap_of cells).key l) }
     ensures prefixes { (cells : Cells) (n : NodeOf) → AreBytes ((heap_of cells).prefix n) }
-    ensures paths { (cells : Cells) (c : LinkOf) (p : List ℕ) → At (heap_of cells) c p → AreBytes p }
+    ensures paths { (cells : Cells) (c : LinkOf) (p : List ℕ) → StandsAt (heap_of cells) c p → AreBytes p }
 {}

@@ -7,7 +7,8 @@ use Rattle.std.specs.List.{slice_get}
 use Rattle.art_step.specs.declared.views.Sizes.{Sizes}
 use Rattle.art_step.specs.declared.views.View.{View}
 use Rattle.art_world.specs.Turns.{IsRun, IsTurn, NamesNobody, TakesTurn}
-use Rattle.art_world.specs.WorldWords.{Kept, OnlyStepsOf, view_at}
+use Rattle.art_world.specs.WorldWords.{Kept, OnlyStepsOf}
+use Rattle.art_step.specs.WordRows.{view_at}
 
 -- ---- an actor in its place
 

@@ -12,17 +12,18 @@ use Rattle.art_step.specs.declared.views.Retired.{Retired}
 use Rattle.art_step.specs.declared.views.Sizes.{Sizes}
 use Rattle.art_step.specs.declared.views.View.{View}
 use Rattle.art_cell.specs.Children.{link_in_pool, number_of}
-use Rattle.art_cell.specs.Headers.{bit_at_least, bit_more_below}
-use Rattle.art_world.specs.Shown.{Freed, Gave, Took}
+use Rattle.art_cell.specs.Lemmas.Headers.{bit_at_least, bit_more_below}
+use Rattle.art_step.specs.Shown.{Freed, Gave, Took}
 use Rattle.art_step.specs.Sound.{Whereabouts, InHandOf, InLimboOf, Nowhere, IsFree, IsSound}
 use Rattle.art_step.specs.StepKinds.{Take, Give, Free}
 use Rattle.art_step.specs.StepRows.{SetsFree, MayFree, MayGive, freed, gave, took}
 use Rattle.art_step.specs.Views.{Memory, IsNumber}
 use Rattle.art_step.specs.WordPlaces.{first_free_word, word_count}
-use Rattle.art_world.specs.WorldWords.{free_place, bit_of, is_free, memory_of, Kept, memory_now, views_of, view_at}
-use Rattle.art_world.proofs.WorldFree.{frees_number, takes_number, free_has_bit, free_found}
-use Rattle.art_world.proofs.WorldMemory.{words_taken, is_taken, taken_again}
-use Rattle.art_world.proofs.WorldPlaces.{HasBit, has_bit, free_below}
+use Rattle.art_world.specs.WorldWords.{Kept, memory_now}
+use Rattle.art_step.specs.WordRows.{free_place, bit_of, is_free, memory_of, views_of, view_at}
+use Rattle.art_step.proofs.FreeBits.{frees_number, takes_number, free_has_bit, free_found}
+use Rattle.art_step.proofs.WordRows.{words_taken, is_taken, taken_again}
+use Rattle.art_step.proofs.WordPlaces.{HasBit, has_bit, free_below}
 use Rattle.art_world.proofs.WorldTurns.{IsKept, Next, turned}
 use Rattle.art_world.proofs.WorldViews.{at_view}
 

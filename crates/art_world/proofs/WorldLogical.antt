@@ -10,12 +10,13 @@ use Rattle.art_step.specs.declared.views.View.{View}
 use Rattle.art_step.specs.declared.views.What.{What}
 use Rattle.art_tree.specs.Heaps.{Cells}
 use Rattle.art_step.specs.Instants.{FindsUnchanged, Unlocks}
-use Rattle.art_world.specs.FirstReleases.{RetiresPinned, UnlocksFirst}
-use Rattle.art_world.specs.Shown.{IsHolding, Committed, coming}
+use Rattle.art_step.specs.FirstReleases.{RetiresPinned, UnlocksFirst}
+use Rattle.art_step.specs.Shown.{IsHolding, Committed, coming}
 use Rattle.art_step.specs.Sound.{Keeps, Holder, OneHolder}
 use Rattle.art_step.specs.StepRows.{SetsVersion, IsNotHeld, AllNew, Drops, released_word}
 use Rattle.art_step.specs.Views.{Member, Memory, words_in, IsLocked, Views, Turned}
-use Rattle.art_world.specs.WorldWords.{Kept, memory_now, memory_of, views_of, view_at, StepBy}
+use Rattle.art_world.specs.WorldWords.{Kept, memory_now, StepBy}
+use Rattle.art_step.specs.WordRows.{memory_of, views_of, view_at}
 use Rattle.art_tree.proofs.Places.{same_cell}
 use Rattle.art_step.proofs.Facts.{holds_all}
 use Rattle.art_step.proofs.Turns.{one_view}

@@ -15,22 +15,24 @@ use Rattle.art_step.specs.declared.views.View.{View}
 use Rattle.art_step.specs.declared.views.What.{What}
 use Rattle.art_step.specs.Histories.{event, IsAnswered, becomes, run, replay, IsLegalFrom, IsLegal}
 use Rattle.art_tree.specs.Rows.{ByteMap}
-use Rattle.art_world.specs.Shown.{IsHolding, Released, Committed, coming}
+use Rattle.art_step.specs.Shown.{IsHolding, Released, Committed, coming}
 use Rattle.art_step.specs.Sound.{IsOneHistory, HoldsEach, IsSound}
 use Rattle.art_step.specs.StepKinds.{OfAKind, Commit, Release}
 use Rattle.art_step.specs.StepRows.{SetsVersion, Drops, HandsOver, AreStanding, all_retired, released_word, MayRelease, MayBeFirst, MayCommit, writing, committed}
-use Rattle.art_world.specs.FirstReleases.{RetiresPinned}
+use Rattle.art_step.specs.FirstReleases.{RetiresPinned}
 use Rattle.art_step.specs.Views.{Member, Memory, IsLocked, Views, Turned}
 use Rattle.art_step.specs.WordPlaces.{IsInside, place_of, word_count}
-use Rattle.art_world.specs.WorldWords.{Kept, memory_of, memory_now, views_of, view_at}
+use Rattle.art_world.specs.WorldWords.{Kept, memory_now}
+use Rattle.art_step.specs.WordRows.{memory_of, views_of, view_at}
 use Rattle.art_step.proofs.AnyStep.{kind_sound}
 use Rattle.art_tree.proofs.Places.{same_cell}
-use Rattle.art_world.proofs.Gathered.{Gathered, gathered, left_over}
+use Rattle.art_step.proofs.Gathered.{Gathered, gathered, left_over}
 use Rattle.art_step.proofs.StepCommits.{either_member, retired_of}
 use Rattle.art_step.proofs.StepLocks.{no_leaf}
 use Rattle.art_step.proofs.Turns.{member_append}
-use Rattle.art_world.proofs.WorldMemory.{puts_version}
-use Rattle.art_world.proofs.WorldTurns.{IsKept, Next, makes, turned}
+use Rattle.art_step.proofs.WordRows.{puts_version}
+use Rattle.art_step.proofs.Moves.{makes}
+use Rattle.art_world.proofs.WorldTurns.{IsKept, Next, turned}
 use Rattle.art_world.proofs.WorldViews.{at_view, turned_view}
 
 -- ---- what a pass keeps

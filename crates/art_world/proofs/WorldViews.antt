@@ -5,7 +5,8 @@ use Rattle.art_step.specs.declared.views.View.{View}
 use Rattle.art_step.specs.Instants.{Instant}
 use Rattle.art_step.specs.StepLaws.{newcomer}
 use Rattle.art_step.specs.Views.{Turned}
-use Rattle.art_world.specs.WorldWords.{Kept, MakesStep, OnlyStepsOf, StepBy, memory_now, memory_of, views_of, view_at, newcomers}
+use Rattle.art_world.specs.WorldWords.{Kept, MakesStep, OnlyStepsOf, StepBy, memory_now}
+use Rattle.art_step.specs.WordRows.{memory_of, views_of, view_at, newcomers}
 
 -- the view of each pass that there is
 pub at_view : (vs : List View) (p : ℕ) → p < length vs → views_of vs p ≡ Some (view_at vs p)

@@ -4,7 +4,8 @@ use Rattle.std.proofs.Common.{◌∙◌}
 use Rattle.art_world.specs.declared.world.At.{At}
 use Rattle.art_step.specs.declared.views.Sizes.{Sizes}
 use Rattle.art_step.specs.declared.views.View.{View}
-use Rattle.art_world.specs.WorldWords.{Kept, OnlyStepsOf, only_no_steps, only_steps_then, view_at}
+use Rattle.art_world.specs.WorldWords.{Kept, OnlyStepsOf, only_no_steps, only_steps_then}
+use Rattle.art_step.specs.WordRows.{view_at}
 
 -- the borrow of the world
 abbrev pub lender : At → ℕ

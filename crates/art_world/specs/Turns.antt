@@ -2,7 +2,8 @@
 use Rattle.std.specs.Prelude.{◌≡◌, ◌⊎◌, ℕ, suc, ◌+◌, ◌≤◌, ◌==◌, List, [], ◌∷◌, Bool, true, false, None, Some, slice_set, if◌then◌else◌}
 use Rattle.std.specs.List.{slice_get}
 use Rattle.art_step.specs.Sound.{IsSound}
-use Rattle.art_world.specs.WorldWords.{Kept, OnlyStepsOf, memory_now, view_at, views_of}
+use Rattle.art_world.specs.WorldWords.{Kept, OnlyStepsOf, memory_now}
+use Rattle.art_step.specs.WordRows.{view_at, views_of}
 
 -- how many of the turns name the pass
 abbrev pub turns_of : ℕ → List ℕ → ℕ

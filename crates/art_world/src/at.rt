@@ -4,11 +4,12 @@ ghost use Rattle.art_step.specs.declared.views.InHand.{InHand as NumberInHand};
 ghost use Rattle.art_step.specs.declared.views.Retired.{Retired as RetiredNumber};
 ghost use Rattle.art_world.specs.FreeNumbers.{HasNoneFree, IsLeastFree};
 ghost use Rattle.art_world.specs.Lent.{OnlyStepped, lent, only_same, only_then, pass_of, sizes_lent, view_lent};
-ghost use Rattle.art_world.specs.Shown.{Freed, Gave, Took, link_of_number};
+ghost use Rattle.art_step.specs.Shown.{Freed, Gave, Took, link_of_number};
 ghost use Rattle.art_step.specs.Sound.{IsSound};
 ghost use Rattle.art_step.specs.StepRows.{MayFree, MayGive, SetsFree};
 ghost use Rattle.art_step.specs.WordPlaces.{word_count};
-ghost use Rattle.art_world.specs.WorldWords.{IsAround, memory_now, views_of};
+ghost use Rattle.art_world.specs.WorldWords.{IsAround, memory_now};
+ghost use Rattle.art_step.specs.WordRows.{views_of};
 
 use crate::{At, Deed, Held, Number, Steps, Unlinked};
 use art_cell::{Cell, Pool};

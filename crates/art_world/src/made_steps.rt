@@ -62,7 +62,7 @@ pub(crate) struct Reads {
 
 impl Change<Vec<u64>, Reads, LinkedList<View>> for Reads {
     ghost use Rattle.std.specs.Prelude.{◌≡◌};
-    ghost use Rattle.art_world.specs.Shown.{fact_read};
+    ghost use Rattle.art_step.specs.Shown.{fact_read};
     ghost use Rattle.art_step.specs.StepRows.{has_read};
     ghost use Rattle.art_world.specs.WorldWords.{StepBy};
 
@@ -80,8 +80,8 @@ pub(crate) struct Passes<'a> {
 
 impl<'a> Change<Vec<u64>, Passes<'a>, LinkedList<View>> for Passes<'a> {
     ghost use Rattle.std.specs.Option.{option_map};
-    ghost use Rattle.art_world.specs.Deeds.{what_of};
-    ghost use Rattle.art_world.specs.Shown.{Passed};
+    ghost use Rattle.art_step.specs.Deeds.{what_of};
+    ghost use Rattle.art_step.specs.Shown.{Passed};
     ghost use Rattle.art_world.specs.WorldWords.{StepBy};
 
     ghost then = { λ ws t old new. StepBy t.sizes ws.items ws.items t.pass (λ v w. Passed t.sizes v w t.stamp (option_map (λ d. what_of d.now) t.deed)) old new };
@@ -97,7 +97,7 @@ pub(crate) struct Fails {
 }
 
 impl Change<Vec<u64>, Fails, LinkedList<View>> for Fails {
-    ghost use Rattle.art_world.specs.Shown.{Failed};
+    ghost use Rattle.art_step.specs.Shown.{Failed};
     ghost use Rattle.art_world.specs.WorldWords.{StepBy};
 
     ghost then = { λ ws t old new. StepBy t.sizes ws.items ws.items t.pass (λ v w. Failed v w t.stamp t.found) old new };
@@ -113,7 +113,7 @@ pub(crate) struct Upgrades {
 }
 
 impl Change<Vec<u64>, Upgrades, LinkedList<View>> for Upgrades {
-    ghost use Rattle.art_world.specs.Shown.{Upgraded};
+    ghost use Rattle.art_step.specs.Shown.{Upgraded};
     ghost use Rattle.art_world.specs.WorldWords.{StepBy};
 
     ghost then = { λ ws t old new. StepBy t.sizes t.before.value ws.items t.pass (λ v w. Upgraded v w t.stamp) old new };
@@ -129,7 +129,7 @@ pub(crate) struct Claims {
 }
 
 impl Change<Vec<u64>, Claims, LinkedList<View>> for Claims {
-    ghost use Rattle.art_world.specs.Shown.{Claimed};
+    ghost use Rattle.art_step.specs.Shown.{Claimed};
     ghost use Rattle.art_world.specs.WorldWords.{StepBy};
 
     ghost then = { λ ws t old new. StepBy t.sizes t.before.value ws.items t.pass (λ v w. Claimed v w t.node) old new };
@@ -148,7 +148,7 @@ pub(crate) struct Writes {
 
 impl Change<Vec<u64>, Writes, LinkedList<View>> for Writes {
     ghost use Rattle.art_step.specs.declared.views.Holding.{Holding};
-    ghost use Rattle.art_world.specs.Shown.{IsHolding, Wrote};
+    ghost use Rattle.art_step.specs.Shown.{IsHolding, Wrote};
     ghost use Rattle.art_world.specs.WorldWords.{StepBy};
 
     ghost then = { λ ws t old new. StepBy t.sizes t.before.value ws.items t.pass (λ v w. (h : Holding) → IsHolding v t.cell h → Wrote v w h t.place t.value) old new };
@@ -167,7 +167,7 @@ pub(crate) struct WritesLeaf {
 
 impl Change<Vec<u64>, WritesLeaf, LinkedList<View>> for WritesLeaf {
     ghost use Rattle.art_step.specs.declared.views.InHand.{InHand};
-    ghost use Rattle.art_world.specs.Shown.{IsInHand, WroteLeaf};
+    ghost use Rattle.art_step.specs.Shown.{IsInHand, WroteLeaf};
     ghost use Rattle.art_world.specs.WorldWords.{StepBy};
 
     ghost then = { λ ws t old new. StepBy t.sizes t.before.value ws.items t.pass (λ v w. (y : InHand) → IsInHand v t.link y → WroteLeaf v w y t.place t.value) old new };
@@ -187,10 +187,11 @@ pub(crate) struct Commits<'a> {
 
 impl<'a> Change<Vec<u64>, Commits<'a>, LinkedList<View>> for Commits<'a> {
     ghost use Rattle.art_step.specs.declared.views.Holding.{Holding};
-    ghost use Rattle.art_world.specs.Deeds.{what_of};
-    ghost use Rattle.art_world.specs.Shown.{Committed, IsHolding, coming, links_of};
-    ghost use Rattle.art_world.specs.FirstReleases.{RetiresPinned};
-    ghost use Rattle.art_world.specs.WorldWords.{StepBy, views_of};
+    ghost use Rattle.art_step.specs.Deeds.{what_of};
+    ghost use Rattle.art_step.specs.Shown.{Committed, IsHolding, coming, links_of};
+    ghost use Rattle.art_step.specs.FirstReleases.{RetiresPinned};
+    ghost use Rattle.art_world.specs.WorldWords.{StepBy};
+    ghost use Rattle.art_step.specs.WordRows.{views_of, memory_of};
 
     ghost then = { λ ws t old new. StepBy t.sizes t.before.value ws.items t.pass (λ v w. (h : Holding) → IsHolding v t.cell h → Committed v w (what_of t.deed.now) (links_of t.unlinked.now) (coming v t.leaf) h × RetiresPinned (views_of old) v w) old new };
 }
@@ -206,7 +207,7 @@ pub(crate) struct Releases {
 
 impl Change<Vec<u64>, Releases, LinkedList<View>> for Releases {
     ghost use Rattle.art_step.specs.declared.views.Holding.{Holding};
-    ghost use Rattle.art_world.specs.Shown.{IsHolding, Released};
+    ghost use Rattle.art_step.specs.Shown.{IsHolding, Released};
     ghost use Rattle.art_world.specs.WorldWords.{StepBy};
 
     ghost then = { λ ws t old new. StepBy t.sizes t.before.value ws.items t.pass (λ v w. (h : Holding) → IsHolding v t.cell h → Released v w h) old new };
@@ -222,8 +223,8 @@ pub(crate) struct Takes {
 }
 
 impl Change<Vec<u64>, Takes, LinkedList<View>> for Takes {
-    ghost use Rattle.art_world.specs.Shown.{Took};
-    ghost use Rattle.art_world.specs.WorldWords.{StepBy, memory_of};
+    ghost use Rattle.art_step.specs.Shown.{Took};
+    ghost use Rattle.art_world.specs.WorldWords.{StepBy};
 
     ghost then = { λ ws t old new. StepBy t.sizes t.before.value ws.items t.pass (λ v w. Took (memory_of t.sizes ws.items) v w t.link) old new };
 }
@@ -238,7 +239,7 @@ pub(crate) struct Gives {
 }
 
 impl Change<Vec<u64>, Gives, LinkedList<View>> for Gives {
-    ghost use Rattle.art_world.specs.Shown.{Gave};
+    ghost use Rattle.art_step.specs.Shown.{Gave};
     ghost use Rattle.art_world.specs.WorldWords.{StepBy};
 
     ghost then = { λ ws t old new. StepBy t.sizes t.before.value ws.items t.pass (λ v w. Gave v w t.link) old new };
@@ -254,7 +255,7 @@ pub(crate) struct Frees {
 }
 
 impl Change<Vec<u64>, Frees, LinkedList<View>> for Frees {
-    ghost use Rattle.art_world.specs.Shown.{Freed};
+    ghost use Rattle.art_step.specs.Shown.{Freed};
     ghost use Rattle.art_world.specs.WorldWords.{StepBy};
 
     ghost then = { λ ws t old new. StepBy t.sizes t.before.value ws.items t.pass (λ v w. Freed v w t.link) old new };

@@ -1,9 +1,10 @@
 //! A world at its opening.
 ghost use Rattle.std.specs.Prelude.{◌≡◌, ◌+◌, ◌*◌, ◌<◌, ◌≤◌, IfOk};
-ghost use Rattle.art_world.specs.OpeningWords.{OpensAt, first_bits, opening_free_word, opening_node_word, opening_word, version_or_zero};
+ghost use Rattle.art_step.specs.OpeningWords.{first_bits, opening_free_word, opening_node_word, opening_word, version_or_zero};
+ghost use Rattle.art_world.specs.Opening.{OpensAt};
 ghost use Rattle.art_step.specs.Views.{last_counter};
 ghost use Rattle.art_step.specs.WordPlaces.{cells_end, epoch_place, first_cell, first_free_word};
-ghost use Rattle.art_world.specs.WorldWords.{newcomers};
+ghost use Rattle.art_step.specs.WordRows.{newcomers};
 ghost use Rattle.art_cell.specs.declared.layouts.Pool.TheVariants.{Leaves as leaf_pool, N4 as n4_pool};
 
 use crate::World;
@@ -31,7 +32,7 @@ struct Newcomers<K> {
 }
 
 impl<K: PassCount> Choice<LinkedList<View>> for Newcomers<K> {
-    ghost use Rattle.art_world.specs.WorldWords.{newcomers};
+    ghost use Rattle.art_step.specs.WordRows.{newcomers};
 
     ghost value = { newcomers 0 K.passes };
 }
@@ -88,7 +89,7 @@ fn free_word(sizes: Sizes, place: usize) -> u64
 }
 
 /// The word at a place at opening.
-fn opening_word(sizes: Sizes, counter_start: u64, place: usize) -> u64
+pub fn opening_word(sizes: Sizes, counter_start: u64, place: usize) -> u64
     requires { counter_start ≤ last_counter }
     ensures { result ≡ opening_word sizes counter_start place }
 {

@@ -4,7 +4,8 @@ ghost use Rattle.std.specs.List.{slice_get};
 ghost use Rattle.art_world.specs.Lent.{OnlyStepped, lender, lent, pass_of, sizes_lent, view_lent};
 ghost use Rattle.art_step.specs.Sound.{IsSound};
 ghost use Rattle.art_world.specs.Turns.{IsRun, IsTurn, turns_of};
-ghost use Rattle.art_world.specs.WorldWords.{OnlyStepsOf, memory_now, view_at, views_of};
+ghost use Rattle.art_world.specs.WorldWords.{OnlyStepsOf, memory_now};
+ghost use Rattle.art_step.specs.WordRows.{view_at, views_of};
 
 use crate::{At, World};
 

@@ -2,7 +2,8 @@
 ghost use Rattle.std.specs.Prelude.{◌≡◌, ◌<◌, ◌≤◌, length};
 ghost use Rattle.art_step.specs.Sound.{IsSound};
 ghost use Rattle.art_step.specs.WordPlaces.{IsInside, first_place, word_count};
-ghost use Rattle.art_world.specs.WorldWords.{memory_now, views_of};
+ghost use Rattle.art_world.specs.WorldWords.{memory_now};
+ghost use Rattle.art_step.specs.WordRows.{views_of};
 ghost use Rattle.art_step.specs.Views.{size_of};
 
 use art_cell::Cell;
@@ -35,7 +36,8 @@ impl Model for World {
     ghost use Rattle.std.specs.Prelude.{◌≡◌, length};
     ghost use Rattle.art_step.specs.Sound.{IsSound};
     ghost use Rattle.art_step.specs.WordPlaces.{word_count};
-    ghost use Rattle.art_world.specs.WorldWords.{Kept, memory_of, views_of};
+    ghost use Rattle.art_world.specs.WorldWords.{Kept};
+    ghost use Rattle.art_step.specs.WordRows.{memory_of, views_of};
 
     ghost Value = { Kept };
 

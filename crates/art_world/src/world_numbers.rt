@@ -4,11 +4,12 @@ ghost use Rattle.art_step.specs.declared.views.InHand.{InHand as NumberInHand};
 ghost use Rattle.art_step.specs.declared.views.Retired.{Retired as RetiredNumber};
 ghost use Rattle.art_cell.specs.Children.{link_in_pool};
 ghost use Rattle.art_world.specs.FreeNumbers.{HasNoneFree, IsLeastFree};
-ghost use Rattle.art_world.specs.Shown.{Freed, Gave, Took, link_of_number};
+ghost use Rattle.art_step.specs.Shown.{Freed, Gave, Took, link_of_number};
 ghost use Rattle.art_step.specs.StepRows.{MayFree, MayGive, SetsFree};
 ghost use Rattle.art_step.specs.Views.{IsNumber};
 ghost use Rattle.art_step.specs.WordPlaces.{pool_size, word_count};
-ghost use Rattle.art_world.specs.WorldWords.{OnlyStepsOf, is_free, memory_now, memory_of, view_at};
+ghost use Rattle.art_world.specs.WorldWords.{OnlyStepsOf, memory_now};
+ghost use Rattle.art_step.specs.WordRows.{is_free, memory_of, view_at};
 
 use crate::made_steps::{Frees, Gives, Takes, copied};
 use crate::{Number, World};

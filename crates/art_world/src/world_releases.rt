@@ -4,13 +4,14 @@ ghost use Rattle.std.specs.Option.{option_and_then, option_map};
 ghost use Rattle.std.specs.List.{slice_get};
 ghost use Rattle.art_step.specs.declared.views.Holding.{Holding as HoldingOf};
 ghost use Rattle.art_cell.specs.Children.{child_word, link_of};
-ghost use Rattle.art_world.specs.Deeds.{what_of};
+ghost use Rattle.art_step.specs.Deeds.{what_of};
 ghost use Rattle.art_step.specs.Instants.{Unlocks};
-ghost use Rattle.art_world.specs.FirstReleases.{UnlocksFirst};
-ghost use Rattle.art_world.specs.Shown.{Committed, IsHolding, Released, coming, link_of_number, links_of};
+ghost use Rattle.art_step.specs.FirstReleases.{UnlocksFirst};
+ghost use Rattle.art_step.specs.Shown.{Committed, IsHolding, Released, coming, link_of_number, links_of};
 ghost use Rattle.art_step.specs.StepRows.{MayBeFirst, MayCommit, MayRelease, released_word};
 ghost use Rattle.art_step.specs.WordPlaces.{IsInside};
-ghost use Rattle.art_world.specs.WorldWords.{MakesStep, OnlyStepsOf, view_at};
+ghost use Rattle.art_world.specs.WorldWords.{MakesStep, OnlyStepsOf};
+ghost use Rattle.art_step.specs.WordRows.{view_at};
 
 use crate::made_steps::{Commits, Releases, copied};
 use crate::{Deed, Held, Number, Unlinked, World};
@@ -25,7 +26,7 @@ fn released(word: u64, obsolete: bool) -> u64
 }
 
 /// The leaf whose number is spent.
-fn spent(number: Option<Number>) -> Option<Link>
+pub fn spent(number: Option<Number>) -> Option<Link>
     ensures { result ≡ option_map link_of_number number }
 {
     let number = number?;
@@ -35,7 +36,7 @@ fn spent(number: Option<Number>) -> Option<Link>
 }
 
 /// The numbers that these child words name.
-fn numbers_of(words: &[u64]) -> Unlinked
+pub fn numbers_of(words: &[u64]) -> Unlinked
     requires { length words.now ≤ 3 }
     ensures { filter_map (option_map link_of_number) result ≡ links_of words.now }
 {

@@ -7,14 +7,15 @@ ghost use Rattle.art_cell.specs.declared.cells.Node.{Node as NodeOf};
 ghost use Rattle.art_step.specs.declared.views.Fact.TheVariants.{Starts};
 ghost use Rattle.art_step.specs.declared.views.Holding.{Holding as HoldingOf};
 ghost use Rattle.art_step.specs.declared.views.InHand.{InHand as NumberInHand};
-ghost use Rattle.art_world.specs.Deeds.{what_of};
+ghost use Rattle.art_step.specs.Deeds.{what_of};
 ghost use Rattle.art_step.specs.Instants.{FindsUnchanged, FindsVersion, FindsWord, LocksClaimed, LocksStamped, PutsWord};
-ghost use Rattle.art_world.specs.Shown.{Claimed, FailedUpgrade, Failed, IsHolding, IsInHand, MayReadCell, Passed, Upgraded, Wrote, WroteLeaf, fact_read, link_of_number};
+ghost use Rattle.art_step.specs.Shown.{Claimed, FailedUpgrade, Failed, IsHolding, IsInHand, MayReadCell, Passed, Upgraded, Wrote, WroteLeaf, fact_read, link_of_number};
 ghost use Rattle.art_step.specs.StepKinds.{LocksNothing};
 ghost use Rattle.art_step.specs.StepRows.{HasClaimedNone, MayClaim, MayLock, MayPass, MayWrite, MayWriteLeaf, begun, has_read, note_of};
 ghost use Rattle.art_step.specs.Views.{IsClear, Member};
 ghost use Rattle.art_step.specs.WordPlaces.{IsInside};
-ghost use Rattle.art_world.specs.WorldWords.{IsAround, MakesStep, OnlyStepsOf, memory_now, view_at};
+ghost use Rattle.art_world.specs.WorldWords.{IsAround, MakesStep, OnlyStepsOf, memory_now};
+ghost use Rattle.art_step.specs.WordRows.{view_at};
 
 use crate::made_steps::{
     Begins, Claims, Fails, Passes, Reads, Upgrades, Writes, WritesLeaf, copied,

@@ -3,7 +3,7 @@ use Rattle.std.specs.List.{slice_get}
 use Rattle.art_cell_uses.specs.declared.anchor_steps.TheConstants.{KEY, VALUE}
 use Rattle.art_cell_uses.specs.declared.actor_tests.Visitor.{Visitor}
 use Rattle.art_cell_uses.specs.Visits.{Visits}
-use Rattle.art_world.specs.WorldWords.{view_at}
+use Rattle.art_step.specs.WordRows.{view_at}
 use Rattle.art_cell_uses.proofs.actor_tests.visitors_take_turns.Given as goal
 
 abbrev pub invariant-loop : goal.invariant-loop

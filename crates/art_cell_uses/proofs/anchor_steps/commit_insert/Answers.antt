@@ -3,7 +3,7 @@ use Rattle.art_cell_uses.specs.declared.anchor_steps.TheConstants.{KEY, VALUE}
 use Rattle.art_step.specs.declared.views.Answer.TheVariants.{Inserted}
 use Rattle.art_step.specs.declared.views.Asked.TheVariants.{Insert}
 use Rattle.art_step.specs.declared.views.What.TheVariants.{Done}
-use Rattle.art_world.specs.Shown.{coming, link_of_number}
+use Rattle.art_step.specs.Shown.{coming, link_of_number}
 use Rattle.art_step.specs.StepRows.{MayCommit}
 use Rattle.art_cell_uses.proofs.AnchorRows.{added_idle, anchor_first, committed_steps, may_add}
 use Rattle.art_cell_uses.proofs.anchor_steps.commit_insert.Goals as goal

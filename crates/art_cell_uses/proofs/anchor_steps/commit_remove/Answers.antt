@@ -4,7 +4,7 @@ use Rattle.art_cell.specs.declared.cells.Link.{Link}
 use Rattle.art_step.specs.declared.views.Answer.TheVariants.{Removed}
 use Rattle.art_step.specs.declared.views.Asked.TheVariants.{Remove}
 use Rattle.art_step.specs.declared.views.What.TheVariants.{Done}
-use Rattle.art_world.specs.Shown.{coming}
+use Rattle.art_step.specs.Shown.{coming}
 use Rattle.art_step.specs.StepRows.{MayCommit}
 use Rattle.art_cell_uses.proofs.AnchorRows.{anchor_first, committed_steps, may_remove, one_link, removed_idle, removed_limbo}
 use Rattle.art_cell_uses.proofs.anchor_steps.commit_remove.Goals as goal

@@ -1,5 +1,5 @@
 use Rattle.std.proofs.Common.{[], ◌∷◌, ◌+◌, arith, subst, sym}
-use Rattle.art_world.specs.declared.numbers.Number.{Number}
+use Rattle.art_step.specs.declared.numbers.Number.{Number}
 use Rattle.art_step.specs.declared.views.Sizes.{Sizes}
 use Rattle.art_cell_uses.specs.Visits.{Fills}
 use Rattle.art_cell_uses.proofs.LeavesInHand.{filled_away, filled_more, fills_hand, may_fill}

@@ -1,5 +1,5 @@
 use Rattle.std.proofs.Common.{arith, subst, sym}
-use Rattle.art_world.specs.declared.steps.Held.{Held}
+use Rattle.art_step.specs.declared.steps.Held.{Held}
 use Rattle.art_cell_uses.specs.Visits.{ChangesWord}
 use Rattle.art_cell_uses.proofs.AnchorRows.{child_hand, child_notes, child_steps, child_written, may_write_child}
 use Rattle.art_cell_uses.proofs.anchor_steps.write_child.Goals as goal

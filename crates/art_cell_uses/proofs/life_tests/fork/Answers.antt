@@ -3,13 +3,13 @@ use Rattle.std.proofs.Common.{List, Some, subst₂, ◌≡◌}
 use Rattle.art_cell.specs.declared.cells.Cell.TheVariants as cell
 use Rattle.art_cell.specs.declared.cells.Link.{Link}
 use Rattle.art_cell.specs.declared.layouts.Pool.{Pool}
-use Rattle.art_world.specs.declared.steps.Held.{Held}
+use Rattle.art_step.specs.declared.steps.Held.{Held}
 use Rattle.art_step.specs.declared.views.Answer.TheVariants.{Inserted}
 use Rattle.art_step.specs.declared.views.Asked.TheVariants.{Insert}
 use Rattle.art_step.specs.declared.views.Sizes.{Sizes}
 use Rattle.art_step.specs.declared.views.What.TheVariants.{Done}
 use Rattle.art_cell.specs.Children.{link_in_pool}
-use Rattle.art_world.specs.Shown.{coming}
+use Rattle.art_step.specs.Shown.{coming}
 use Rattle.art_step.specs.StepRows.{MayCommit}
 use Rattle.art_commit.specs.CommitLaws.{HasLeaf}
 use Rattle.art_cell_uses.specs.NodeLives.{HasClaimed, HasForked}

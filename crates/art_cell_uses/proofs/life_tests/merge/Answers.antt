@@ -2,12 +2,12 @@ use Rattle.std.proofs.Common.{List, None, [], ap, false, subst, substâ‚‚, sym, â
 use Rattle.art_cell.specs.declared.cells.Cell.TheVariants as cell
 use Rattle.art_cell.specs.declared.cells.Link.{Link}
 use Rattle.art_cell.specs.declared.cells.Link.TheVariants.{Leaf as leaf, Node as node}
-use Rattle.art_world.specs.declared.steps.Held.{Held}
+use Rattle.art_step.specs.declared.steps.Held.{Held}
 use Rattle.art_step.specs.declared.views.Answer.TheVariants.{Removed}
 use Rattle.art_step.specs.declared.views.Asked.TheVariants.{Remove}
 use Rattle.art_step.specs.declared.views.What.TheVariants.{Done}
 use Rattle.art_cell_uses.specs.NodeLives.{HasMerged}
-use Rattle.art_world.specs.Shown.{coming, links_of}
+use Rattle.art_step.specs.Shown.{coming, links_of}
 use Rattle.art_step.specs.StepRows.{MayBeFirst, MayCommit}
 use Rattle.art_step.specs.Views.{Member}
 use Rattle.art_commit.proofs.ChangeMerges.{merge_commits}

@@ -1,7 +1,7 @@
 use Rattle.std.proofs.Common.{◌≡◌, ◌%◌, ◌<◌, Some, ◌∙◌, ap, sym, arith, get_or}
 use Rattle.std.specs.Option.{option_map}
 use Rattle.art_cell.specs.Words.{byte_of}
-use Rattle.art_cell.specs.Packed.{byte_of-to_be_bytes}
+use Rattle.art_cell.specs.Lemmas.Packed.{byte_of-to_be_bytes}
 use Rattle.art_cell.specs.Leaves.{key_byte_read, key_read}
 use Rattle.art_node.proofs.KeyBytes.{goes_on}
 use Rattle.art_node.proofs.leaves.key_in.Goals as goal

@@ -1,4 +1,4 @@
-use Rattle.art_cell.specs.Empty.{zero_body, no_words}
+use Rattle.art_cell.specs.Lemmas.Empty.{zero_body, no_words}
 use Rattle.art_node.proofs.tests.empty.Goals as goal
 
 pub returns-clause-body : goal.returns-clause-body

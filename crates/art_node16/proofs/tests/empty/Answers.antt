@@ -1,6 +1,6 @@
 use Rattle.std.proofs.Common.{refl, arith}
 use Rattle.art_cell.specs.declared.layouts.Layout.TheVariants.{Node16}
-use Rattle.art_cell.specs.Empty.{one_byte_body}
+use Rattle.art_cell.specs.Lemmas.Empty.{one_byte_body}
 use Rattle.art_node16.proofs.tests.empty.Goals as goal
 
 pub returns : goal.returns

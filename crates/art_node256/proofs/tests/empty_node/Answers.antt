@@ -1,6 +1,6 @@
 use Rattle.std.proofs.Common.{refl, lit<, arith}
 use Rattle.art_cell.specs.declared.layouts.Layout.TheVariants.{Node256}
-use Rattle.art_cell.specs.Empty.{short_prefix_words_body}
+use Rattle.art_cell.specs.Lemmas.Empty.{short_prefix_words_body}
 use Rattle.art_node256.proofs.tests.empty_node.Goals as goal
 
 pub returns : goal.returns

@@ -1,5 +1,5 @@
 use Rattle.std.proofs.Common.{get_or, arith}
-use Rattle.art_cell.specs.Entries.{nonzero_some}
+use Rattle.art_cell.specs.Lemmas.Entries.{nonzero_some}
 use Rattle.art_node256.proofs.tests.plans_write_the_words_that_differ.Goals as goal
 
 pub plan_set-requires-clause-there : goal.plan_set-requires-clause-there

@@ -1,5 +1,5 @@
 use Rattle.std.proofs.Common.{◌+◌, get_or, ap, arith}
-use Rattle.art_cell.specs.Entries.{nonzero_some}
+use Rattle.art_cell.specs.Lemmas.Entries.{nonzero_some}
 use Rattle.art_node256.proofs.tests.take_from.Goals as goal
 
 pub take-requires-clause-there : goal.take-requires-clause-there

@@ -1,7 +1,7 @@
 use Rattle.std.proofs.Common.{refl, sym, subst}
 use Rattle.std.specs.Prelude.{List, Option, ℕ}
 use Rattle.art_cell.specs.Reads.{Agrees, word_of}
-use Rattle.art_cell.specs.ReadWords.{none_read, one_read}
+use Rattle.art_cell.specs.Lemmas.ReadWords.{none_read, one_read}
 use Rattle.art_node4.proofs.tests.all_read.Goals as goal
 
 pub loop-place-init : goal.loop-place-init

@@ -1,6 +1,6 @@
 use Rattle.std.proofs.Common.{refl}
 use Rattle.art_cell.specs.declared.layouts.Layout.TheVariants.{Node48}
-use Rattle.art_cell.specs.Empty.{zero_body, no_words}
+use Rattle.art_cell.specs.Lemmas.Empty.{zero_body, no_words}
 use Rattle.art_node48.proofs.tests.empty.Goals as goal
 
 pub returns : goal.returns

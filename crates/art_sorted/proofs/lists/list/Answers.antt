@@ -4,7 +4,7 @@ use Rattle.std.proofs.lemmas.List.FromFn.{length-map-range_with_len}
 use Rattle.art_cell.specs.declared.node_kinds.Entry.{Entry}
 use Rattle.art_cell.specs.Words.{first_child, count_of}
 use Rattle.art_cell.specs.Reads.{word_of}
-use Rattle.art_cell.specs.Packed.{packed_is}
+use Rattle.art_cell.specs.Lemmas.Packed.{packed_is}
 use Rattle.art_sorted.specs.Sorted.{layout_of}
 use Rattle.art_sorted.proofs.NodeWords.{fits, form_is, entry_here, entries_is, list_more}
 use Rattle.art_sorted.proofs.lists.list.Goals as goal

@@ -1,5 +1,5 @@
 use Rattle.std.proofs.Common.{sym, ◌∙◌, arith, below_more}
-use Rattle.art_cell.specs.Packed.{packed_is}
+use Rattle.art_cell.specs.Lemmas.Packed.{packed_is}
 use Rattle.art_sorted.proofs.searches.first_from.Goals as goal
 
 pub returns-then-found-byte-clause-tells : goal.returns-then-found-byte-clause-tells

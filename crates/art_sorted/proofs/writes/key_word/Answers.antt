@@ -1,6 +1,6 @@
 use Rattle.std.proofs.Common.{ℕ, ap, ◌∙◌, arith, below_more, get_or-set_other, get_or-set_same}
 use Rattle.art_cell.specs.Words.{byte_of}
-use Rattle.art_cell.specs.Packed.{eight-set, byte_of-from_be_bytes}
+use Rattle.art_cell.specs.Lemmas.Packed.{eight-set, byte_of-from_be_bytes}
 use Rattle.art_sorted.proofs.Writing.{eight_zeros}
 use Rattle.art_sorted.proofs.writes.key_word.Goals as goal
 

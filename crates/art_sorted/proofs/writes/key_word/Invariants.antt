@@ -1,5 +1,5 @@
 use Rattle.std.proofs.Common.{◌≡◌, ℕ, ◌<◌, ◌+◌, get_or}
-use Rattle.art_cell.specs.Packed.{IsEight}
+use Rattle.art_cell.specs.Lemmas.Packed.{IsEight}
 use Rattle.art_sorted.specs.Sorted.{entry_or_none}
 use Rattle.art_sorted.proofs.writes.key_word.Given as goal
 

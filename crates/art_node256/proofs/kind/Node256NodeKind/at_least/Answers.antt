@@ -1,7 +1,7 @@
 use Rattle.std.proofs.Common.{◌+◌, arith}
 use Rattle.art_cell.specs.declared.layouts.Layout.TheVariants.{Node256}
 use Rattle.art_cell.specs.Words.{child_of}
-use Rattle.art_cell.specs.Entries.{none_from_more}
+use Rattle.art_cell.specs.Lemmas.Entries.{none_from_more}
 use Rattle.art_node256.proofs.kind.Node256NodeKind.at_least.Goals as goal
 
 pub returns-in-Child-clause-tells : goal.returns-in-Child-clause-tells

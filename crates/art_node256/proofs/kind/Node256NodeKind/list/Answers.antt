@@ -3,7 +3,7 @@ use Rattle.art_cell.specs.declared.layouts.Layout.TheVariants.{Node256}
 use Rattle.art_cell.specs.declared.node_kinds.Entry.{Entry}
 use Rattle.art_cell.specs.Words.{Words, nonzero, child_of, listed}
 use Rattle.art_cell.specs.Reads.{word_of}
-use Rattle.art_cell.specs.Entries.{listed_at_most, listed_with, listed_without, nonzero_some}
+use Rattle.art_cell.specs.Lemmas.Entries.{listed_at_most, listed_with, listed_without, nonzero_some}
 use Rattle.art_node256.proofs.kind.Node256NodeKind.list.Goals as goal
 use Rattle.art_node256.proofs.kind.Node256NodeKind.list.Goals.{then-child-ne0, else-child-ne0}
 

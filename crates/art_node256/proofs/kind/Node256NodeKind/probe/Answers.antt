@@ -1,6 +1,6 @@
 use Rattle.std.proofs.Common.{◌∙◌, sym, ap, arith}
 use Rattle.art_cell.specs.Words.{nonzero}
-use Rattle.art_cell.specs.Entries.{nonzero_some}
+use Rattle.art_cell.specs.Lemmas.Entries.{nonzero_some}
 use Rattle.art_node256.proofs.kind.Node256NodeKind.probe.Goals as goal
 
 pub returns-in-Some-eq0-clause-tells : goal.returns-in-Some-eq0-clause-tells

@@ -3,8 +3,8 @@ use Rattle.std.proofs.Common.{◌∙◌, ap, sym, subst, refl}
 use Rattle.std.specs.Prelude.{Option}
 use Rattle.std.specs.Option.{option_map}
 use Rattle.art_step.specs.declared.views.What.{What}
-use Rattle.art_world.specs.Deeds.{what_of}
-use Rattle.art_world.specs.Shown.{Passed}
+use Rattle.art_step.specs.Deeds.{what_of}
+use Rattle.art_step.specs.Shown.{Passed}
 use Rattle.art_world.specs.WorldWords.{Kept, memory_now}
 use Rattle.art_world.proofs.WorldLogical.{stands}
 use Rattle.art_world.proofs.WorldTurns.{IsKept, Next, turn_passes}

@@ -3,10 +3,11 @@ use Rattle.std.proofs.Common.{◌≡◌, ℕ, ◌+◌, set, sym, ap, subst, ◌�
 use Rattle.art_cell.specs.declared.cells.Node.{Node}
 use Rattle.art_cell.specs.declared.cells.Cell.TheVariants as cell
 use Rattle.art_cell.specs.declared.cells.Link.TheVariants.{Node as node}
-use Rattle.art_world.specs.Shown.{Claimed, link_of_number}
+use Rattle.art_step.specs.Shown.{Claimed, link_of_number}
 use Rattle.art_step.specs.StepRows.{SetsVersion}
 use Rattle.art_step.specs.WordPlaces.{place_of}
-use Rattle.art_world.specs.WorldWords.{Kept, memory_now, memory_of, view_at}
+use Rattle.art_world.specs.WorldWords.{Kept, memory_now}
+use Rattle.art_step.specs.WordRows.{memory_of, view_at}
 use Rattle.art_world.proofs.WorldTurns.{IsKept, Next, claim_named, claim_fits, claim_sets, turn_claims}
 use Rattle.art_world.proofs.WorldViews.{at_step, only_steps_of}
 use Rattle.art_world.proofs.world.World.claim.Goals as goal

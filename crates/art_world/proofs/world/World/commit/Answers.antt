@@ -5,12 +5,13 @@ use Rattle.art_cell.specs.declared.cells.Cell.{Cell}
 use Rattle.art_cell.specs.declared.cells.Link.{Link}
 use Rattle.art_step.specs.declared.views.Holding.{Holding}
 use Rattle.art_step.specs.declared.views.What.{What}
-use Rattle.art_world.specs.Deeds.{what_of}
-use Rattle.art_world.specs.Shown.{IsHolding, Committed, coming, links_of}
+use Rattle.art_step.specs.Deeds.{what_of}
+use Rattle.art_step.specs.Shown.{IsHolding, Committed, coming, links_of}
 use Rattle.art_step.specs.StepRows.{MayCommit, released_word}
-use Rattle.art_world.specs.FirstReleases.{RetiresPinned}
+use Rattle.art_step.specs.FirstReleases.{RetiresPinned}
 use Rattle.art_step.specs.WordPlaces.{place_of}
-use Rattle.art_world.specs.WorldWords.{Kept, view_at, views_of}
+use Rattle.art_world.specs.WorldWords.{Kept}
+use Rattle.art_step.specs.WordRows.{view_at, views_of}
 use Rattle.art_world.proofs.WorldLogical.{unlocks_first}
 use Rattle.art_world.proofs.WorldReleases.{found_fits, found_sets, turn_commits}
 use Rattle.art_world.proofs.WorldTurns.{IsKept, Next}

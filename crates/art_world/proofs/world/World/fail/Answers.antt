@@ -1,6 +1,6 @@
 -- A changed version word is found: the stamp goes.
 use Rattle.std.proofs.Common.{ap, sym, subst, refl}
-use Rattle.art_world.specs.Shown.{Failed}
+use Rattle.art_step.specs.Shown.{Failed}
 use Rattle.art_world.specs.WorldWords.{Kept, memory_now}
 use Rattle.art_world.proofs.WorldTurns.{IsKept, Next, turn_fails}
 use Rattle.art_world.proofs.WorldViews.{at_step, only_steps_of}

@@ -3,8 +3,9 @@ use Rattle.std.proofs.Common.{rules, ◌≡◌, ℕ, ◌+◌, ◌/◌, ◌<◌, 
 use Rattle.art_cell.specs.declared.layouts.Pool.{Pool}
 use Rattle.art_cell.specs.Children.{link_in_pool}
 use Rattle.art_step.specs.WordPlaces.{first_free_word}
-use Rattle.art_world.specs.WorldWords.{Kept, memory_now, views_of}
-use Rattle.art_world.proofs.WorldFree.{free_is_number}
+use Rattle.art_world.specs.WorldWords.{Kept, memory_now}
+use Rattle.art_step.specs.WordRows.{views_of}
+use Rattle.art_step.proofs.FreeBits.{free_is_number}
 use Rattle.art_world.proofs.WorldFreeing.{WordWithBit, bit_within, takes_bit, seen_before, word_with_bit, turn_takes}
 use Rattle.art_world.proofs.WorldTurns.{IsKept}
 use Rattle.art_world.proofs.WorldViews.{only_steps_of}

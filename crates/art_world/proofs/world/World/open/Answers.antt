@@ -2,10 +2,11 @@
 use Rattle.std.proofs.Common.{◌≡◌, ℕ, List, [], ◌∷◌, ◌++◌, length, map, sym, ap, ap₂, ◌∙◌, arith}
 use Rattle.std.specs.List.{range_with_len}
 use Rattle.std.proofs.lemmas.List.FromFn.{map-range_with_len_more, length-map-range_with_len}
-use Rattle.art_world.specs.OpeningWords.{opening_word, OpensAt}
+use Rattle.art_step.specs.OpeningWords.{opening_word}
+use Rattle.art_world.specs.Opening.{OpensAt}
 use Rattle.art_step.specs.WordPlaces.{word_count}
 use Rattle.art_step.proofs.StepOpens.{open_law}
-use Rattle.art_world.proofs.WorldOpens.{opens_at}
+use Rattle.art_step.proofs.OpeningWords.{opens_at}
 use Rattle.art_world.proofs.WorldViews.{length_newcomers}
 use Rattle.art_world.proofs.world.World.open.Goals.{After-first_views}
 use Rattle.art_world.proofs.world.World.open.Goals as goal

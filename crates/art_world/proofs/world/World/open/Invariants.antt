@@ -1,7 +1,7 @@
 -- At each step the words so far are those of the places so far, and there are as many newcomers as passes.
 use Rattle.std.proofs.Common.{◌≡◌, map}
 use Rattle.std.specs.List.{range_with_len}
-use Rattle.art_world.specs.OpeningWords.{opening_word}
+use Rattle.art_step.specs.OpeningWords.{opening_word}
 use Rattle.art_world.proofs.world.World.open.Given as goal
 
 abbrev pub invariant-loop-place : goal.invariant-loop-place

@@ -1,6 +1,6 @@
 -- A word of a stamped cell is read, or of a leaf that it names.
 use Rattle.std.proofs.Common.{ap, ◌≡◌, sym, subst, refl}
-use Rattle.art_world.specs.Shown.{fact_read}
+use Rattle.art_step.specs.Shown.{fact_read}
 use Rattle.art_step.specs.StepRows.{has_read}
 use Rattle.art_world.specs.WorldWords.{Kept, memory_now}
 use Rattle.art_world.proofs.WorldTurns.{IsKept, Next, turn_reads}

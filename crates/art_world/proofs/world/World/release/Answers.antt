@@ -2,7 +2,7 @@
 use Rattle.std.proofs.Common.{◌∙◌, ℕ, slice_set, sym, subst, ap}
 use Rattle.art_cell.specs.declared.cells.Cell.{Cell}
 use Rattle.art_step.specs.declared.views.Holding.{Holding}
-use Rattle.art_world.specs.Shown.{IsHolding, Released}
+use Rattle.art_step.specs.Shown.{IsHolding, Released}
 use Rattle.art_step.specs.StepRows.{released_word}
 use Rattle.art_step.specs.WordPlaces.{place_of}
 use Rattle.art_world.specs.WorldWords.{Kept}

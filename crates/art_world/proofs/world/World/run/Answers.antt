@@ -1,6 +1,6 @@
 use Rattle.std.proofs.Common.{◌≤◌, ◌+◌, ℕ, List, ap, sym, ◌∙◌, subst}
 use Rattle.art_step.specs.declared.views.View.{View}
-use Rattle.art_world.specs.WorldWords.{view_at}
+use Rattle.art_step.specs.WordRows.{view_at}
 use Rattle.art_world.proofs.RunTurns.{idle_turn, steps_counted, turn_taken}
 use Rattle.art_world.proofs.TakenTurns.{run_more, turn_actors, turn_ended, turn_makes, turn_nobody, turn_others, turn_passes, turn_past, turn_same, turn_sizes, turn_step}
 use Rattle.art_world.proofs.world.World.run.Goals as goal

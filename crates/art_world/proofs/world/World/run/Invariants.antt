@@ -1,7 +1,7 @@
 use Rattle.std.proofs.Common.{◌≡◌, ◌≤◌, ◌+◌, ℕ, false, length, take, Some}
 use Rattle.std.specs.List.{slice_get}
 use Rattle.art_world.specs.Turns.{IsRun, turns_of}
-use Rattle.art_world.specs.WorldWords.{view_at}
+use Rattle.art_step.specs.WordRows.{view_at}
 use Rattle.art_world.proofs.world.World.run.Given as goal
 
 abbrev pub invariant-loop-turn : goal.invariant-loop-turn

@@ -1,6 +1,7 @@
 use Rattle.std.proofs.Common.{subst}
 use Rattle.art_step.specs.Sound.{IsSound}
-use Rattle.art_world.specs.WorldWords.{Kept, memory_now, views_of}
+use Rattle.art_world.specs.WorldWords.{Kept, memory_now}
+use Rattle.art_step.specs.WordRows.{views_of}
 use Rattle.art_world.proofs.world.World.stays_sound.Goals as goal
 
 pub returns-clause-sound : goal.returns-clause-sound

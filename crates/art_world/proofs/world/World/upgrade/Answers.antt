@@ -1,10 +1,11 @@
 -- A stamped cell is locked.
 use Rattle.std.proofs.Common.{◌≡◌, ◌∙◌, ℕ, ◌+◌, set, sym, subst, arith}
 use Rattle.art_step.specs.declared.views.Stamp.{Stamp}
-use Rattle.art_world.specs.Shown.{Upgraded}
+use Rattle.art_step.specs.Shown.{Upgraded}
 use Rattle.art_step.specs.StepRows.{SetsVersion}
 use Rattle.art_step.specs.WordPlaces.{place_of}
-use Rattle.art_world.specs.WorldWords.{Kept, memory_now, memory_of}
+use Rattle.art_world.specs.WorldWords.{Kept, memory_now}
+use Rattle.art_step.specs.WordRows.{memory_of}
 use Rattle.art_world.proofs.WorldTurns.{IsKept, Next, turn_upgrades, upgrade_sets}
 use Rattle.art_world.proofs.WorldViews.{at_step, only_steps_of}
 use Rattle.art_world.proofs.world.World.upgrade.Goals as goal

@@ -2,10 +2,11 @@
 use Rattle.std.proofs.Common.{◌≡◌, ℕ, ◌+◌, set, sym, subst}
 use Rattle.art_cell.specs.declared.cells.Cell.{Cell}
 use Rattle.art_step.specs.declared.views.Holding.{Holding}
-use Rattle.art_world.specs.Shown.{IsHolding, Wrote}
+use Rattle.art_step.specs.Shown.{IsHolding, Wrote}
 use Rattle.art_step.specs.StepRows.{SetsWord}
 use Rattle.art_step.specs.WordPlaces.{place_of}
-use Rattle.art_world.specs.WorldWords.{Kept, memory_now, memory_of}
+use Rattle.art_world.specs.WorldWords.{Kept, memory_now}
+use Rattle.art_step.specs.WordRows.{memory_of}
 use Rattle.art_world.proofs.WorldTurns.{IsKept, Next, turn_writes, write_sets}
 use Rattle.art_world.proofs.WorldViews.{at_step, only_steps_of}
 use Rattle.art_world.proofs.world.World.write.Goals as goal

@@ -3,11 +3,12 @@ use Rattle.std.proofs.Common.{◌≡◌, ℕ, ◌+◌, ◌<◌, set, sym, ap, su
 use Rattle.art_cell.specs.declared.cells.Cell.TheVariants as cell
 use Rattle.art_cell.specs.declared.cells.Link.TheVariants.{Leaf as leaf}
 use Rattle.art_step.specs.declared.views.InHand.{InHand}
-use Rattle.art_world.specs.Shown.{IsInHand, WroteLeaf}
+use Rattle.art_step.specs.Shown.{IsInHand, WroteLeaf}
 use Rattle.art_step.specs.StepRows.{MayWriteLeaf, SetsWord}
 use Rattle.art_step.specs.WordPlaces.{place_of}
-use Rattle.art_world.specs.WorldWords.{Kept, memory_now, memory_of, view_at}
-use Rattle.art_world.proofs.WorldMemory.{puts_word}
+use Rattle.art_world.specs.WorldWords.{Kept, memory_now}
+use Rattle.art_step.specs.WordRows.{memory_of, view_at}
+use Rattle.art_step.proofs.WordRows.{puts_word}
 use Rattle.art_world.proofs.WorldTurns.{IsKept, Next, turn_writes_leaf}
 use Rattle.art_world.proofs.WorldViews.{at_step, only_steps_of}
 use Rattle.art_world.proofs.world.World.write_leaf.Goals as goal

@@ -5,7 +5,7 @@ use Rattle.std.proofs.lemmas.List.{get_or_past}
 use Rattle.std.proofs.lemmas.List.FromFn.{get_or-map-range_with_len, fill_by_all}
 use Rattle.std.specs.List.{range_with_len}
 use Rattle.art_cell.specs.Leaves.{IsLeaf, leaf_word}
-use Rattle.art_cell.specs.Packed.{IsEight, byte_of-from_be_bytes}
+use Rattle.art_cell.specs.Lemmas.Packed.{IsEight, byte_of-from_be_bytes}
 use Rattle.art_cell.specs.Words.{Words, byte_of, packed}
 
 module _ (w : Words) (key : List ℕ) (value : ℕ) (words : (i : ℕ) → i < 10 → w i ≡ leaf_word key value i) (bytes : (i : ℕ) → get_or key i 0 < 256) where

@@ -14,7 +14,7 @@ use Rattle.art_cell.specs.Words.{size}
 use Rattle.art_cell.specs.Children.{number_of}
 use Rattle.art_step.specs.WordPlaces.{pool_size, pool_of_layout, pool_of, words_each, IsInside, is_inside}
 use Rattle.art_step.specs.WordPlaces.{first_cell, cells_end, free_words, first_free_word, epoch_place, word_count, place_of}
-use Rattle.art_world.specs.WorldWords.{free_place}
+use Rattle.art_step.specs.WordRows.{free_place}
 
 -- ---- numbers inside
 

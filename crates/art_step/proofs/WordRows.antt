@@ -17,8 +17,8 @@ use Rattle.art_step.specs.Views.{Memory, size_of, words_in}
 use Rattle.art_cell.specs.Words.{Words, size}
 use Rattle.art_cell.specs.Children.{number_of}
 use Rattle.art_step.specs.WordPlaces.{pool_size, pool_of, cells_end, free_words, epoch_place, pass_place, word_count, IsInside, is_inside, place_of, first_place}
-use Rattle.art_world.specs.WorldWords.{version_in, word_in, free_place, bit_of, is_free, pass_word_in, memory_of}
-use Rattle.art_world.proofs.WorldPlaces.{HasBit, is_inside_true, is_inside_of, cell_below, free_below, places_apart}
+use Rattle.art_step.specs.WordRows.{version_in, word_in, free_place, bit_of, is_free, pass_word_in, memory_of}
+use Rattle.art_step.proofs.WordPlaces.{HasBit, is_inside_true, is_inside_of, cell_below, free_below, places_apart}
 
 -- ---- choices
 
@@ -35,6 +35,17 @@ else_same false x y other h = h refl
 -- the cell is the anchor or a node, so that it has a version word
 abbrev pub IsNoLeaf : Cell → Type 0
 IsNoLeaf c = (l : ℕ) → c ≢ cell.Leaf l
+
+-- a cell with a version word is one that there is, and no leaf
+pub inside_of : (z : Sizes) (c : Cell) → HasVersion z c → IsInside z c
+inside_of z cell.Anchor h = tt
+inside_of z (cell.Leaf l) h = absurd h
+inside_of z (cell.Node n) h = h
+
+pub plain_of : (z : Sizes) (c : Cell) → HasVersion z c → IsNoLeaf c
+plain_of z cell.Anchor h l e = cc
+plain_of z (cell.Leaf k) h l e = absurd h
+plain_of z (cell.Node n) h l e = cc
 
 module _ (z : Sizes) (ws us : List ℕ) where
   -- a version word is the first word of an anchor or node that there is, and else does not hang on the words

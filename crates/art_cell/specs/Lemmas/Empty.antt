@@ -6,8 +6,8 @@ use Rattle.art_cell.specs.declared.layouts.Layout.{Layout}
 use Rattle.art_cell.specs.declared.layouts.Layout.TheVariants.{Node4, Node16, Node48, Node256}
 use Rattle.art_cell.specs.Words.{Words, count_of, prefix_len, is_used, byte_of, packed, prefix_of, key_byte, child_of, sorted_child}
 use Rattle.art_cell.specs.Bodies.{HasPrefix, IsSorted, used_count, IsIndexed, HasForm, IsBody}
-use Rattle.art_cell.specs.Headers.{SamePrefix, prefix_kept, same_prefix_of}
-use Rattle.art_cell.specs.Entries.{listed_none}
+use Rattle.art_cell.specs.Lemmas.Headers.{SamePrefix, prefix_kept, same_prefix_of}
+use Rattle.art_cell.specs.Lemmas.Entries.{listed_none}
 
 -- the prefix of a node, and 0 in all other words after the version
 pub record IsEmpty (w after : Words) : Type 0 where

@@ -5,8 +5,8 @@ use Rattle.art_cell.specs.declared.cells.Cell.{Cell}
 use Rattle.art_cell.specs.declared.cells.Cell.TheVariants as cell
 use Rattle.art_cell.specs.declared.cells.Link.{Link}
 use Rattle.art_cell.specs.declared.cells.Link.TheVariants.{Node as node}
-use Rattle.art_world.specs.declared.numbers.Number.{Number}
-use Rattle.art_world.specs.declared.steps.Held.{Held}
+use Rattle.art_step.specs.declared.numbers.Number.{Number}
+use Rattle.art_step.specs.declared.steps.Held.{Held}
 use Rattle.art_step.specs.declared.faults.UpgradeFault.{UpgradeFault}
 use Rattle.art_step.specs.declared.faults.UpgradeFault.TheVariants as fault
 use Rattle.art_step.specs.declared.views.Event.{Event}

@@ -8,10 +8,10 @@ ghost use Rattle.art_step.specs.declared.views.Fact.TheVariants.{Starts};
 ghost use Rattle.art_step.specs.declared.views.Holding.{Holding as HoldingOf};
 ghost use Rattle.art_step.specs.declared.views.InHand.{InHand as NumberInHand};
 ghost use Rattle.art_cell.specs.Children.{child_word};
-ghost use Rattle.art_world.specs.Deeds.{what_of};
+ghost use Rattle.art_step.specs.Deeds.{what_of};
 ghost use Rattle.art_step.specs.Instants.{FindsUnchanged, FindsVersion, FindsWord, LocksClaimed, LocksStamped, PutsWord, Unlocks};
-ghost use Rattle.art_world.specs.FirstReleases.{UnlocksFirst};
-ghost use Rattle.art_world.specs.Shown.{Claimed, Committed, FailedUpgrade, Failed, IsHolding, IsInHand, MayReadCell, Passed, Released, Upgraded, Wrote, WroteLeaf, cell_held, coming, fact_read, link_of_number, links_of};
+ghost use Rattle.art_step.specs.FirstReleases.{UnlocksFirst};
+ghost use Rattle.art_step.specs.Shown.{Claimed, Committed, FailedUpgrade, Failed, IsHolding, IsInHand, MayReadCell, Passed, Released, Upgraded, Wrote, WroteLeaf, cell_held, coming, fact_read, link_of_number, links_of};
 ghost use Rattle.art_step.specs.StepKinds.{AtStep, LocksNothing};
 ghost use Rattle.art_step.specs.StepRows.{HasClaimedNone, MayBeFirst, MayClaim, MayCommit, MayLock, MayPass, MayRelease, MayWrite, MayWriteLeaf, begun, has_read, note_of};
 ghost use Rattle.art_step.specs.Views.{IsClear, Member};
@@ -62,7 +62,7 @@ pub trait Steps {
 
     /// The version word of the anchor or of a node. A clear one gives a stamp.
     fn begin(&mut self, cell: Cell) -> Result<Stamp, Locked>
-        requires inside { IsInside (sizes self.old) cell }
+        requires inside { HasVersion (sizes self.old) cell }
         requires pinned { (view self.old).pin ≢ 0 }
         ensures sizes { sizes self.new ≡ sizes self.old }
         ensures only { only self.old self.new }
@@ -81,7 +81,7 @@ pub trait Steps {
     /// Whether the stamp's version word is unchanged: then what was read under the stamp is what the cell says at this
     /// step, and the deed is done at it.
     fn check(&mut self, stamp: &Stamp, deed: Option<&Deed>) -> Result<(), Changed>
-        requires inside { IsInside (sizes self.old) stamp.now.cell }
+        requires inside { HasVersion (sizes self.old) stamp.now.cell }
         requires may { MayPass (sizes self.old) (view self.old) stamp.now (option_map (λ d. what_of d.now) deed) }
         ensures sizes { sizes self.new ≡ sizes self.old }
         ensures only { only self.old self.new }
@@ -90,7 +90,7 @@ pub trait Steps {
 
     /// Locks the stamp's cell, whose path is known, if its version word is unchanged.
     fn upgrade(&mut self, stamp: Stamp) -> Result<Held, UpgradeFault>
-        requires inside { IsInside (sizes self.old) stamp.cell }
+        requires inside { HasVersion (sizes self.old) stamp.cell }
         requires stamp { Member stamp (view self.old).stamps }
         requires path { (q : List ℕ) × Member (note_of stamp (Starts q)) (view self.old).notes }
         requires early { MayLock (view self.old) }

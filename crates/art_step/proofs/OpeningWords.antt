@@ -17,17 +17,17 @@ use Rattle.art_cell.specs.declared.cells.Link.{Link}
 use Rattle.art_cell.specs.declared.cells.Link.TheVariants.{Node as node}
 use Rattle.art_step.specs.declared.views.Sizes.{Sizes}
 use Rattle.art_step.specs.declared.views.View.{View}
-use Rattle.art_world.specs.OpeningWords.{version_or_zero, first_bits, opening_word, opening_words, OpensAt}
+use Rattle.art_step.specs.OpeningWords.{version_or_zero, first_bits, opening_word, opening_words}
+use Rattle.art_world.specs.Opening.{OpensAt}
 use Rattle.art_step.specs.StepLaws.{Opens}
 use Rattle.art_step.specs.Views.{IsNumber, last_counter}
 use Rattle.art_cell.specs.Children.{number_of}
 use Rattle.art_step.specs.WordPlaces.{pool_size, pool_of_layout, pool_of, words_each, first_cell, free_words, first_free_word, epoch_place, pass_place, word_count}
-use Rattle.art_world.specs.WorldWords.{newcomers}
+use Rattle.art_step.specs.WordRows.{newcomers, version_in, free_place, bit_of, is_free, memory_of, views_of}
 use Rattle.art_step.specs.WordPlaces.{is_inside, place_of}
-use Rattle.art_world.specs.WorldWords.{version_in, free_place, bit_of, is_free, memory_of, views_of}
-use Rattle.art_world.proofs.WorldFree.{free_has_bit, free_found}
-use Rattle.art_world.proofs.WorldMemory.{version_found, word_found, version_below}
-use Rattle.art_world.proofs.WorldPlaces.{HasBit, is_number, has_bit, is_inside_of, free_below}
+use Rattle.art_step.proofs.FreeBits.{free_has_bit, free_found}
+use Rattle.art_step.proofs.WordRows.{version_found, word_found, version_below}
+use Rattle.art_step.proofs.WordPlaces.{HasBit, is_number, has_bit, is_inside_of, free_below}
 use Rattle.art_world.proofs.WorldViews.{newcomer_at}
 
 -- each place has its word

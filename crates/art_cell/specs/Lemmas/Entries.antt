@@ -7,7 +7,7 @@ use Rattle.art_cell.specs.declared.layouts.Layout.{Layout}
 use Rattle.art_cell.specs.declared.node_kinds.Entry.{Entry}
 use Rattle.art_cell.specs.Words.{Words, count_of, nonzero, child_of, entry_at, listed}
 use Rattle.art_cell.specs.Bodies.{HasForm, IsBody, Becomes}
-use Rattle.art_cell.specs.Headers.{SamePrefix, prefix_kept, same_prefix_of}
+use Rattle.art_cell.specs.Lemmas.Headers.{SamePrefix, prefix_kept, same_prefix_of}
 use Rattle.art_cell.specs.Reads.{NoneFrom, with_child, without_child}
 
 -- the same child for each of the bytes

@@ -9,7 +9,8 @@ use Rattle.art_step.specs.declared.views.Sizes.{Sizes}
 use Rattle.art_step.specs.StepLaws.{Opens}
 use Rattle.art_step.specs.Views.{IsNumber}
 use Rattle.art_step.specs.WordPlaces.{cells_end, epoch_place, first_cell, first_free_word, word_count}
-use Rattle.art_world.specs.WorldWords.{memory_now, newcomers, views_of, Kept}
+use Rattle.art_world.specs.WorldWords.{memory_now, Kept}
+use Rattle.art_step.specs.WordRows.{newcomers, views_of}
 
 -- the first word of each cell of so many words has this version, and the others are 0
 abbrev pub version_or_zero : ℕ → ℕ → ℕ → ℕ

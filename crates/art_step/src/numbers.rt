@@ -13,7 +13,7 @@ pub struct Number {
 
 impl Number {
     ghost use Rattle.art_cell.specs.Children.{number_of};
-    ghost use Rattle.art_world.specs.Shown.{link_of_number};
+    ghost use Rattle.art_step.specs.Shown.{link_of_number};
     ghost use Rattle.art_step.specs.WordPlaces.{pool_of};
 
     pub fn pool(&self) -> Pool

@@ -3,15 +3,15 @@ use Rattle.std.proofs.Common.{◌≡◌, ◌≢◌, ℕ, ◌+◌, ◌-◌, ◌*�
 use Rattle.std.proofs.lemmas.Bool.{cases_eq, cases_Bool, cond-true, cond-false, eqb-true, eqb-false}
 use Rattle.art_cell.specs.declared.cells.Link.{Link}
 use Rattle.art_step.specs.declared.views.Sizes.{Sizes}
-use Rattle.art_cell.specs.Headers.{bit_more, bit_more_elsewhere, bit_less, bit_at_least}
+use Rattle.art_cell.specs.Lemmas.Headers.{bit_more, bit_more_elsewhere, bit_less, bit_at_least}
 use Rattle.art_step.specs.Sound.{IsSound}
 use Rattle.art_step.specs.StepRows.{SetsFree}
 use Rattle.art_step.specs.Views.{Memory, Views, IsNumber}
 use Rattle.art_cell.specs.Children.{number_of}
 use Rattle.art_step.specs.WordPlaces.{pool_size, pool_of, free_words, word_count}
-use Rattle.art_world.specs.WorldWords.{free_place, bit_of, is_free, memory_of}
-use Rattle.art_world.proofs.WorldMemory.{same_free, versions_stay, words_stay, epoch_stays, pass_words_stay}
-use Rattle.art_world.proofs.WorldPlaces.{HasBit, free_below, bits_apart}
+use Rattle.art_step.specs.WordRows.{free_place, bit_of, is_free, memory_of}
+use Rattle.art_step.proofs.WordRows.{same_free, versions_stay, words_stay, epoch_stays, pass_words_stay}
+use Rattle.art_step.proofs.WordPlaces.{HasBit, free_below, bits_apart}
 
 -- what is free is a number that there is, where all is sound
 pub free_is_number : (z : Sizes) (m : Memory) (f : Views) (d : Link) → IsSound z m f → m.free d ≡ true → IsNumber z d

@@ -2,10 +2,10 @@
 use Rattle.std.specs.Option.{option_map}
 use Rattle.art_key.specs.declared.bounds.Bound.{Bound as KeyBound}
 use Rattle.art_key.specs.declared.bounds.Bound.TheVariants as key_bound
-use Rattle.art_world.specs.declared.deeds.Act.{Act}
-use Rattle.art_world.specs.declared.deeds.Act.TheVariants as act
-use Rattle.art_world.specs.declared.deeds.Deed.{Deed}
-use Rattle.art_world.specs.declared.deeds.Deed.TheVariants as deed
+use Rattle.art_step.specs.declared.deeds.Act.{Act}
+use Rattle.art_step.specs.declared.deeds.Act.TheVariants as act
+use Rattle.art_step.specs.declared.deeds.Deed.{Deed}
+use Rattle.art_step.specs.declared.deeds.Deed.TheVariants as deed
 use Rattle.art_step.specs.declared.views.Asked.{Asked}
 use Rattle.art_step.specs.declared.views.Asked.TheVariants.{Insert, Remove, Get}
 use Rattle.art_tree.specs.declared.bounds.Bound.{Bound}
