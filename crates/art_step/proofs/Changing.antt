@@ -19,16 +19,16 @@ use Rattle.art_step.specs.declared.views.View.{View}
 use Rattle.art_step.specs.declared.views.What.{What}
 use Rattle.art_tree.specs.Heaps.{Cells}
 use Rattle.art_step.specs.Histories.{event, IsAnswered, becomes, run, replay, IsLegalFrom, IsLegal}
-use Rattle.art_step.specs.Instants.{LocksClaimed, LocksStamped, PutsWord, Unlocks, UnlocksFirst}
+use Rattle.art_step.specs.Instants.{LocksClaimed, LocksStamped, PutsWord, Unlocks}
 use Rattle.art_tree.specs.Rows.{ByteMap}
 use Rattle.art_step.specs.Shown.{IsHolding, IsInHand, Upgraded, Claimed, Wrote, WroteLeaf, Released, Committed, coming}
 use Rattle.art_step.specs.Sound.{IsOneHistory, HoldsEach, Holder, Keeps, OneHolder, IsSound}
 use Rattle.art_step.specs.StepKinds.{OfAKind, Upgrade, Claim, Commit, Release, Write, WriteLeaf}
 use Rattle.art_step.specs.StepRows.{SetsVersion, SetsWord, note_of, MayUpgrade, MayClaim, MayWrite, MayWriteLeaf, MayRelease, MayBeFirst, MayCommit, upgraded, claimed, with_word, writing, with_leaf_word, handing, committed, released_word}
-use Rattle.art_step.specs.StepRows.{AllNew, AreStanding, Drops, HandsOver, IsNotHeld, RetiresPinned, all_retired}
+use Rattle.art_step.specs.StepRows.{AllNew, AreStanding, Drops, HandsOver, IsNotHeld, all_retired}
 use Rattle.art_step.specs.Views.{Member, Memory, IsLocked, size_of, Views, Turned, words_in}
 use Rattle.art_cell.specs.Words.{Words}
-use Rattle.art_world.specs.WorldWords.{word_count, IsInside, place_of, first_place}
+use Rattle.art_step.specs.WordPlaces.{word_count, IsInside, place_of, first_place}
 use Rattle.art_step.specs.WordRows.{memory_of}
 use Rattle.art_step.proofs.AnyStep.{kind_sound}
 use Rattle.art_step.proofs.Kept.{one_entry}
@@ -38,6 +38,7 @@ use Rattle.art_step.proofs.StepCommits.{either_member, retired_of}
 use Rattle.art_step.proofs.StepLocks.{no_leaf, unclaimed_law}
 use Rattle.art_step.proofs.Turns.{member_append, one_view}
 use Rattle.art_step.proofs.WordRows.{IsNoLeaf, sets_version, sets_word, copy_of, is_copy, copy_version}
+use Rattle.art_step.specs.FirstReleases.{RetiresPinned, UnlocksFirst}
 
 use Rattle.art_step.proofs.Moves.{Moves, makes, moved, with_view, with_turned}
 

@@ -1,7 +1,12 @@
 pub mod AnyStep
+pub mod Changing
 pub mod Facts
+pub mod FreeBits
+pub mod Gathered
 pub mod Histories
 pub mod Kept
+pub mod Moves
+pub mod OpeningWords
 pub mod StepCommits
 pub mod StepLocks
 pub mod StepNotes
@@ -9,3 +14,5 @@ pub mod StepNumbers
 pub mod StepOpens
 pub mod StepWrites
 pub mod Turns
+pub mod WordPlaces
+pub mod WordRows

@@ -25,7 +25,7 @@ use Rattle.art_step.specs.StepRows.{note_of, MayRead, MayTell, MayPass, MayClaim
 use Rattle.art_step.specs.StepRows.{begun, has_read, passed, telling, failed}
 use Rattle.art_tree.specs.Tree.{StandsAt, IsTree}
 use Rattle.art_step.specs.Views.{Member, Memory, Views, Turned}
-use Rattle.art_world.specs.WorldWords.{word_count, IsInside, first_place}
+use Rattle.art_step.specs.WordPlaces.{word_count, IsInside, first_place}
 use Rattle.art_step.specs.WordRows.{memory_of}
 use Rattle.art_step.proofs.AnyStep.{kind_sound}
 use Rattle.art_step.proofs.Facts.{holds_all}

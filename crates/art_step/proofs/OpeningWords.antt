@@ -1,9 +1,10 @@
 -- The words of a world that just opened: what stands at the places of cells, of free numbers, of the epoch and of the passes,
 -- and what all of them mean.
-use Rattle.std.proofs.Common.{◌≡◌, ◌≢◌, ℕ, ◌+◌, ◌-◌, ◌*◌, ◌/◌, ◌%◌, ◌<◌, ◌≤◌, ◌==◌, if◌then◌else◌, true, false, List, get_or, nat_lt, sym, refl, ap, ap₂, ◌∙◌, subst, ⊎_elim, arith, lt-ltb, ltb-false}
+use Rattle.std.proofs.Common.{◌≡◌, ◌≢◌, ℕ, ◌+◌, ◌-◌, ◌*◌, ◌/◌, ◌%◌, ◌<◌, ◌≤◌, ◌==◌, if◌then◌else◌, true, false, List, [], ◌∷◌, Some, zero, suc, length, get_or, nat_lt, sym, refl, ap, ap₂, ◌∙◌, subst, ⊎_elim, arith, lt-ltb, ltb-false}
 use Rattle.std.proofs.lemmas.Bool.{cases_Bool, cases_lt, eqb-true, cond-true, cond-false, cond_both}
 use Rattle.std.proofs.lemmas.Bool.Decides.{nat_tests}
-use Rattle.std.proofs.lemmas.List.FromFn.{get_or-map-range_with_len}
+use Rattle.std.proofs.lemmas.List.FromFn.{get_or-map-range_with_len, length-map-range_with_len}
+use Rattle.std.proofs.lemmas.Option.{same_Some}
 use Rattle.std.proofs.lemmas.Nat.Bits.{bit_at_ones, bit_at_ones_above}
 use Rattle.std.proofs.Math.Nat.{mul-mod_right}
 use Rattle.art_cell.specs.declared.layouts.Layout.{Layout}
@@ -18,8 +19,7 @@ use Rattle.art_cell.specs.declared.cells.Link.TheVariants.{Node as node}
 use Rattle.art_step.specs.declared.views.Sizes.{Sizes}
 use Rattle.art_step.specs.declared.views.View.{View}
 use Rattle.art_step.specs.OpeningWords.{version_or_zero, first_bits, opening_word, opening_words}
-use Rattle.art_world.specs.Opening.{OpensAt}
-use Rattle.art_step.specs.StepLaws.{Opens}
+use Rattle.art_step.specs.StepLaws.{Opens, newcomer}
 use Rattle.art_step.specs.Views.{IsNumber, last_counter}
 use Rattle.art_cell.specs.Children.{number_of}
 use Rattle.art_step.specs.WordPlaces.{pool_size, pool_of_layout, pool_of, words_each, first_cell, free_words, first_free_word, epoch_place, pass_place, word_count}
@@ -28,10 +28,10 @@ use Rattle.art_step.specs.WordPlaces.{is_inside, place_of}
 use Rattle.art_step.proofs.FreeBits.{free_has_bit, free_found}
 use Rattle.art_step.proofs.WordRows.{version_found, word_found, version_below}
 use Rattle.art_step.proofs.WordPlaces.{HasBit, is_number, has_bit, is_inside_of, free_below}
-use Rattle.art_world.proofs.WorldViews.{newcomer_at}
 
 -- each place has its word
 pub opening_at : (z : Sizes) (k place : ℕ) → place < word_count z → get_or (opening_words z k) place 0 ≡ opening_word z k place
+unfolding opening_words
 opening_at z k place low = get_or-map-range_with_len (opening_word z k) 0 (word_count z) place place 0 low (omega arith)
 
 -- ---- the words of nodes
@@ -73,7 +73,28 @@ free_word_at z k i N256 low = grind (arith, nat_tests)
 late_word : (z : Sizes) (k place : ℕ) → epoch_place z ≤ place → opening_word z k place ≡ 1
 late_word z k place late = grind (arith, nat_tests)
 
+-- ---- passes that know nothing
+
+-- there are so many
+pub length_newcomers : (p n : ℕ) → length (newcomers p n) ≡ n
+length_newcomers p zero = refl
+length_newcomers p (suc n) = ap suc (length_newcomers (suc p) n)
+
+newcomer_from : (from n p : ℕ) (v : View) → views_of (newcomers from n) p ≡ Some v → (p < n) × (v ≡ newcomer (from + p))
+newcomer_from from zero p v e = absurd (cc)
+newcomer_from from (suc n) zero v e = (omega arith, sym (same_Some (newcomer from) v e) ∙ ap newcomer (omega arith))
+newcomer_from from (suc n) (suc p) v e = let rest = newcomer_from (suc from) n p v e in (omega (arith, rest.0), rest.1 ∙ ap newcomer (omega arith))
+
+-- each of the first n passes is one that knows nothing, and there are no others
+pub newcomer_at : (n p : ℕ) (v : View) → views_of (newcomers 0 n) p ≡ Some v → (p < n) × (v ≡ newcomer p)
+newcomer_at n p v e = let at = newcomer_from 0 n p v e in (at.0, at.1 ∙ ap newcomer (omega arith))
+
 -- ---- what all of them mean
+
+-- there is a word for each place
+pub length-opening_words : (z : Sizes) (k : ℕ) → length (opening_words z k) ≡ word_count z
+unfolding opening_words
+length-opening_words z k = length-map-range_with_len (opening_word z k) 0 (word_count z)
 
 module _ (z : Sizes) (k : ℕ) where
   abbrev opened : List ℕ
@@ -85,10 +106,10 @@ module _ (z : Sizes) (k : ℕ) where
   no_root : (memory_of z opened).words cell.Anchor 1 ≡ 0
   no_root = word_found z opened cell.Anchor 1 tt (omega arith) (omega arith) ∙ (opening_at z k 1 (omega arith) ∙ grind (arith, nat_tests))
 
-  anchor_version : version_in z opened cell.Anchor ≡ 4 * k
+  pub anchor_version : version_in z opened cell.Anchor ≡ 4 * k
   anchor_version = opening_at z k 0 (omega arith)
 
-  node_version : (n : Node) → IsNumber z (node n) → version_in z opened (cell.Node n) ≡ 4 * k + 1
+  pub node_version : (n : Node) → IsNumber z (node n) → version_in z opened (cell.Node n) ≡ 4 * k + 1
   node_version n inside =
       let below = version_below z (cell.Node n) inside in
       version_found z opened (cell.Node n) inside (λ l e. cc)
@@ -144,9 +165,3 @@ module _ (z : Sizes) (k : ℕ) where
     pass_word = λ p few. cond-true _ _ 0 (lt-ltb p z.passes few) ∙ found_late (pass_place z p) (omega arith) (omega arith);
     views = newcomer_at z.passes;
   }
-
-  -- a world with these words and newcomers has just opened
-  pub opens_at : k ≤ last_counter → (ws : List ℕ) (vs : List View) → ws ≡ opened → vs ≡ newcomers 0 z.passes → OpensAt z k (record { sizes = z; words = ws; views = vs })
-  opens_at low ws vs words views =
-      let same = ap₂ (λ (us : List ℕ) (fs : List View). record { sizes = z; words = us; views = fs }) (sym words) (sym views) in
-      subst (OpensAt z k) same (record { sizes = refl; words = refl; views = refl; opens = opens low; anchor = anchor_version; nodes = node_version })

@@ -16,7 +16,7 @@ use Rattle.art_step.specs.StepRows.{SetsVersion, SetsWord, IsCopy, IsTaken}
 use Rattle.art_step.specs.Views.{Memory, size_of, words_in}
 use Rattle.art_cell.specs.Words.{Words, size}
 use Rattle.art_cell.specs.Children.{number_of}
-use Rattle.art_step.specs.WordPlaces.{pool_size, pool_of, cells_end, free_words, epoch_place, pass_place, word_count, IsInside, is_inside, place_of, first_place}
+use Rattle.art_step.specs.WordPlaces.{pool_size, pool_of, cells_end, free_words, epoch_place, pass_place, word_count, HasVersion, IsInside, is_inside, place_of, first_place}
 use Rattle.art_step.specs.WordRows.{version_in, word_in, free_place, bit_of, is_free, pass_word_in, memory_of}
 use Rattle.art_step.proofs.WordPlaces.{HasBit, is_inside_true, is_inside_of, cell_below, free_below, places_apart}
 

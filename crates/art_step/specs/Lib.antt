@@ -1,9 +1,14 @@
+pub mod Deeds
+pub mod FirstReleases
 pub mod Histories
 pub mod Instants
 pub mod Knowledge
+pub mod OpeningWords
+pub mod Shown
 pub mod Sound
 pub mod StepKinds
 pub mod StepLaws
 pub mod StepRows
 pub mod Views
 pub mod WordPlaces
+pub mod WordRows

@@ -6,11 +6,8 @@ use Rattle.art_cell.specs.declared.cells.Node.{Node}
 use Rattle.art_cell.specs.declared.cells.Cell.TheVariants as cell
 use Rattle.art_cell.specs.declared.cells.Link.TheVariants.{Node as node}
 use Rattle.art_step.specs.declared.views.Sizes.{Sizes}
-use Rattle.art_step.specs.StepLaws.{Opens}
 use Rattle.art_step.specs.Views.{IsNumber}
 use Rattle.art_step.specs.WordPlaces.{cells_end, epoch_place, first_cell, first_free_word, word_count}
-use Rattle.art_world.specs.WorldWords.{memory_now, Kept}
-use Rattle.art_step.specs.WordRows.{newcomers, views_of}
 
 -- the first word of each cell of so many words has this version, and the others are 0
 abbrev pub version_or_zero : ℕ → ℕ → ℕ → ℕ
@@ -46,14 +43,5 @@ opening_word z k place =
     else if nat_lt place (epoch_place z) then opening_free_word z place
     else 1
 
-abbrev pub opening_words : Sizes → ℕ → List ℕ
+unfoldable pub opening_words : Sizes → ℕ → List ℕ
 opening_words z k = map (opening_word z k) (range_with_len 0 (word_count z))
-
--- a world that just opened: each pass knows nothing, and the counters of the anchor and of all nodes are at k
-pub record OpensAt (z : Sizes) (k : ℕ) (w : Kept) : Type 0 where
-  pub sizes : w.sizes ≡ z
-  pub words : w.words ≡ opening_words z k
-  pub views : w.views ≡ newcomers 0 z.passes
-  pub opens : Opens z (memory_now w) (views_of w.views)
-  pub anchor : (memory_now w).version cell.Anchor ≡ 4 * k
-  pub nodes : (n : Node) → IsNumber z (node n) → (memory_now w).version (cell.Node n) ≡ 4 * k + 1

@@ -81,6 +81,12 @@ IsInside z cell.Anchor = ⊤
 IsInside z (cell.Leaf l) = IsNumber z (leaf l)
 IsInside z (cell.Node n) = IsNumber z (node n)
 
+-- there is such a cell, and it has a version word
+abbrev pub HasVersion : Sizes → Cell → Type 0
+HasVersion z cell.Anchor = ⊤
+HasVersion z (cell.Leaf l) = ⊥
+HasVersion z (cell.Node n) = IsNumber z (node n)
+
 abbrev pub is_inside : Sizes → Cell → Bool
 is_inside z cell.Anchor = true
 is_inside z (cell.Leaf l) = nat_lt l z.leaves

@@ -15,28 +15,43 @@ ghost use Rattle.art_step.specs.Shown.{Claimed, Committed, FailedUpgrade, Failed
 ghost use Rattle.art_step.specs.StepKinds.{AtStep, LocksNothing};
 ghost use Rattle.art_step.specs.StepRows.{HasClaimedNone, MayBeFirst, MayClaim, MayCommit, MayLock, MayPass, MayRelease, MayWrite, MayWriteLeaf, begun, has_read, note_of};
 ghost use Rattle.art_step.specs.Views.{IsClear, Member};
-ghost use Rattle.art_step.specs.WordPlaces.{IsInside};
+ghost use Rattle.art_step.specs.WordPlaces.{HasVersion, IsInside};
 
-use crate::{Deed, Number};
+use crate::{Changed, Deed, Locked, Number, Stamp, Unlinked, UpgradeFault};
 use art_cell::Cell;
-use art_step::{Changed, Locked, Stamp, UpgradeFault};
+
+/// No counter that is this or more goes on by an upgrade.
+pub const LAST_COUNTER: u64 = (1 << 62) - 8;
 
 /// A cell that is held. It has to be committed or released.
 #[derive(Debug)]
 pub struct Held {
-    pub cell: Cell,
+    cell: Cell,
 }
 
 impl Held {
+    /// For carriers: what stands for a cell that was just locked. What the pass may do with it, its view decides, so that
+    /// one that is made for no locked cell serves nothing.
+    pub fn of(cell: Cell) -> Held
+        ensures { cell_held result ≡ cell }
+    {
+        Held { cell }
+    }
+
+    /// For carriers: the cell, which is about to be released.
+    pub fn spend(self) -> Cell
+        ensures { result ≡ cell_held self }
+    {
+        let Held { cell } = self;
+        cell
+    }
+
     pub fn cell(&self) -> Cell
         ensures { result ≡ cell_held self.now }
     {
         self.cell
     }
 }
-
-/// The numbers of what a commit unlinked, in the order of the words that it was given.
-pub type Unlinked = [Option<Number>; 3];
 
 /// The steps of one pass. Each call makes one atomic step, but for an upgrade that is refused as Exhausted, which makes
 /// none (DaMoN 2016).
@@ -71,7 +86,7 @@ pub trait Steps {
 
     /// A word of the stamp's cell, or of a leaf that its words name.
     fn read(&mut self, stamp: &Stamp, cell: Cell, place: usize) -> u64
-        requires inside { IsInside (sizes self.old) cell }
+        requires inside { HasVersion (sizes self.old) cell }
         requires may { MayReadCell (sizes self.old) (view self.old) stamp.now cell place }
         ensures sizes { sizes self.new ≡ sizes self.old }
         ensures only { only self.old self.new }
@@ -110,7 +125,7 @@ pub trait Steps {
 
     /// Writes a word of a held cell, before the commit.
     fn write(&mut self, held: &mut Held, place: usize, value: u64)
-        requires inside { IsInside (sizes self.old) (cell_held held.old) }
+        requires inside { HasVersion (sizes self.old) (cell_held held.old) }
         requires may { (h : HoldingOf) × (h.cell ≡ cell_held held.old) × MayWrite (view self.old) h place }
         ensures sizes { sizes self.new ≡ sizes self.old }
         ensures only { only self.old self.new }
@@ -137,7 +152,7 @@ pub trait Steps {
         leaf: Option<Number>,
         unlinked: &[u64],
     ) -> Unlinked
-        requires inside { IsInside (sizes self.old) (cell_held held) }
+        requires inside { HasVersion (sizes self.old) (cell_held held) }
         requires words { map child_word (links_of unlinked.now) ≡ unlinked.now }
         requires few { length unlinked.now ≤ 3 }
         requires first { (h : HoldingOf) × (h.cell ≡ cell_held held) × MayBeFirst (view self.old) (links_of unlinked.now) h obsolete }

@@ -1,12 +1,7 @@
-pub mod Gathered
 pub mod RunTurns
 pub mod TakenTurns
-pub mod WorldFree
 pub mod WorldFreeing
 pub mod WorldLogical
-pub mod WorldMemory
-pub mod WorldOpens
-pub mod WorldPlaces
 pub mod WorldReleases
 pub mod WorldTurns
 pub mod WorldViews

@@ -1,128 +1,34 @@
 -- The steps of a world, by their laws: one lemma for each kind of step, over plain words and views.
-use Rattle.std.proofs.Common.{◌≡◌, ◌≢◌, ◌⊎◌, ℕ, ◌+◌, ◌^◌, ◌<◌, ◌≤◌, List, [], ◌∷◌, ◌++◌, length, set, slice_set, inl, inr, ⊎_elim, sym, refl, ap, ap₂, ◌∙◌, subst, arith}
-use Rattle.std.proofs.lemmas.Bool.{cases_eq}
-use Rattle.std.specs.Prelude.{Option, Some, None}
+use Rattle.std.proofs.Common.{◌≡◌, ◌≢◌, ℕ, ◌+◌, ◌^◌, ◌<◌, ◌≤◌, List, length, set, slice_set, sym, refl, ap, ap₂, ◌∙◌, subst, arith}
+use Rattle.std.specs.Prelude.{Option, Some}
 use Rattle.art_cell.specs.declared.cells.Node.{Node}
 use Rattle.art_cell.specs.declared.cells.Cell.{Cell}
 use Rattle.art_cell.specs.declared.cells.Cell.TheVariants as cell
 use Rattle.art_cell.specs.declared.cells.Link.{Link}
 use Rattle.art_cell.specs.declared.cells.Link.TheVariants.{Leaf as leaf, Node as node}
-use Rattle.art_step.specs.declared.views.Event.{Event}
-use Rattle.art_step.specs.declared.views.Fact.TheVariants.{Starts, Word, LeafWord}
 use Rattle.art_step.specs.declared.views.Holding.{Holding}
 use Rattle.art_step.specs.declared.views.InHand.{InHand}
-use Rattle.art_step.specs.declared.views.Note.{Note}
 use Rattle.art_step.specs.declared.views.Sizes.{Sizes}
 use Rattle.art_step.specs.declared.views.Stamp.{Stamp}
 use Rattle.art_step.specs.declared.views.View.{View}
 use Rattle.art_step.specs.declared.views.What.{What}
-use Rattle.art_tree.specs.Heaps.{Cells, heap_of}
-use Rattle.art_step.specs.Histories.{event, replay, IsLegal, IsAnswered, places}
-use Rattle.art_step.specs.Knowledge.{CellAt, HoldsAll}
-use Rattle.art_step.specs.Shown.{MayReadCell, fact_read, Failed, Passed, Made, Told, IsHolding, IsInHand, Upgraded, Claimed, Wrote, WroteLeaf}
-use Rattle.art_step.specs.Sound.{IsOneHistory, Whereabouts, InTree, IsFree, InHandOf, InLimboOf, Nowhere, IsSound}
-use Rattle.art_step.specs.StepKinds.{OfAKind, Begin, Read, ReadLeaf, Pass, Fail, Upgrade, Claim, Write, WriteLeaf}
-use Rattle.art_step.specs.StepRows.{SetsVersion, SetsWord, note_of, MayRead, MayTell, MayPass, MayUpgrade, MayClaim, MayWrite, MayWriteLeaf, ArePaths, Without}
-use Rattle.art_step.specs.StepRows.{begun, has_read, passed, telling, failed, upgraded, claimed, with_word, writing, with_leaf_word, handing}
-use Rattle.art_tree.specs.Tree.{StandsAt, IsTree}
+use Rattle.art_step.specs.Instants.{FindsUnchanged, FindsVersion, FindsWord, Instant, LocksClaimed, LocksStamped, PutsWord}
+use Rattle.art_step.specs.Shown.{MayReadCell, fact_read, Failed, Passed, IsHolding, IsInHand, Upgraded, Claimed, Wrote, WroteLeaf}
+use Rattle.art_step.specs.Sound.{IsSound}
+use Rattle.art_step.specs.StepKinds.{OfAKind}
+use Rattle.art_step.specs.StepRows.{SetsVersion, SetsWord, MayPass, MayUpgrade, MayClaim, MayWrite, MayWriteLeaf}
+use Rattle.art_step.specs.StepRows.{begun, has_read}
 use Rattle.art_step.specs.Views.{Member, Memory, size_of, Views, Turned}
-use Rattle.art_cell.specs.Words.{Words}
 use Rattle.art_step.specs.WordPlaces.{word_count, IsInside, place_of, first_place}
-use Rattle.art_world.specs.WorldWords.{Kept, memory_now, StepBy}
 use Rattle.art_step.specs.WordRows.{memory_of, views_of, view_at}
+use Rattle.art_world.specs.WorldWords.{Kept, memory_now, StepBy}
 use Rattle.art_step.proofs.AnyStep.{kind_sound}
-use Rattle.art_step.proofs.Kept.{one_entry}
-use Rattle.art_step.proofs.Facts.{holds_all}
-use Rattle.art_step.proofs.Gathered.{Gathered, gathered, left_over, put}
-use Rattle.art_step.proofs.Histories.{history_grows}
-use Rattle.art_tree.proofs.Places.{one_path, same_cell, same_link}
-use Rattle.art_step.proofs.StepLocks.{no_leaf, unclaimed_law}
-use Rattle.art_step.proofs.WordRows.{IsNoLeaf, puts_version, puts_word, copy_of, is_copy, copy_version}
+use Rattle.art_step.proofs.StepLocks.{no_leaf}
+use Rattle.art_step.proofs.WordRows.{IsNoLeaf, puts_version, puts_word}
 use Rattle.art_world.proofs.WorldViews.{at_view, turned_view}
 
--- ---- the stamps and notes that stay where a stamp goes
-
-same_stamp : (x y : Stamp) → (x ≡ y) ⊎ (x ≢ y)
-same_stamp x y = ⊎_elim
-    (λ (e : x.cell ≡ y.cell). ⊎_elim
-    (λ (i : x.version ≡ y.version). inl (ap₂ (λ (c : Cell) (n : ℕ). record { cell = c; version = n }) e i))
-    (λ (other : x.version ≢ y.version). inr (λ i. other (ap (λ (a : Stamp). a.version) i)))
-    (cases_eq x.version y.version))
-    (λ (other : x.cell ≢ y.cell). inr (λ e. other (ap (λ (a : Stamp). a.cell) e)))
-    (same_cell x.cell y.cell)
-
-without : (v : View) (x : Stamp) → (xs : List Stamp) × (ys : List Note) × Without v x xs ys
-without v x =
-    let stamps = left_over (λ (a : Stamp). a ≡ x) v.stamps (λ a. same_stamp a x) in
-    let notes = left_over (λ (y : Note). y.stamp ≡ x) v.notes (λ y. same_stamp y.stamp x) in
-    (stamps.0, notes.0, record { stamps = stamps.1; notes = notes.1 })
-
--- ---- the paths of stamped cells
-
--- the paths of one cell are one
-one_way : (s : Cells) (c : Cell) (p q : List ℕ) → IsTree (heap_of s) → CellAt s c p → CellAt s c q → p ≡ q
-one_way s cell.Anchor p q tree a b = a ∙ sym b
-one_way s (cell.Leaf l) p q tree a b = one_path (heap_of s) (leaf l) p q tree.once a b
-one_way s (cell.Node n) p q tree a b = one_path (heap_of s) (node n) p q tree.once a b
-
-in_tree : (w : Whereabouts) → (w ≡ InTree) ⊎ (w ≢ InTree)
-in_tree InTree = inl refl
-in_tree IsFree = inr (λ e. cc)
-in_tree (InHandOf p) = inr (λ e. cc)
-in_tree (InLimboOf p) = inr (λ e. cc)
-in_tree Nowhere = inr (λ e. cc)
-
-module _ (z : Sizes) (m : Memory) (f : Views) (v : View) (r : IsSound z m f) where
-  abbrev Way : Cell → Type 0
-  Way c = (q : List ℕ) × CellAt r.logical c q
-
-  abbrev NoWay : Cell → Type 0
-  NoWay c = (q : List ℕ) → CellAt r.logical c q → ⊥
-
-  -- whether a path leads to a number is decided by where the number is
-  linked : (d : Link) → ((q : List ℕ) × StandsAt (heap_of r.logical) d q) ⊎ ((q : List ℕ) → StandsAt (heap_of r.logical) d q → ⊥)
-  linked d = let k = r.numbers.tree d in ⊎_elim (λ (e : r.at d ≡ InTree). inl (k.0 e)) (λ (other : r.at d ≢ InTree). inr (λ q a. other (k.1 (q, a)))) (in_tree (r.at d))
-
-  either_way : (c : Cell) → Way c ⊎ NoWay c
-  either_way cell.Anchor = inl ([], refl)
-  either_way (cell.Leaf l) = linked (leaf l)
-  either_way (cell.Node n) = linked (node n)
-
-  -- the note is of a path that leads to the stamp's cell
-  abbrev IsWay : Stamp → Note → Type 0
-  IsWay d y = (q : List ℕ) × (y ≡ note_of d (Starts q)) × CellAt r.logical d.cell q
-
-  ways : Gathered IsWay v.stamps
-  ways = gathered IsWay v.stamps (λ d i. ⊎_elim
-      (λ (k : Way d.cell). inl (note_of d (Starts k.0), (k.0, refl, k.1), λ y o. o.1 ∙ ap (λ (q : List ℕ). note_of d (Starts q)) (one_way r.logical d.cell o.0 k.0 r.shows.shape.tree o.2 k.1)))
-      (λ (k : NoWay d.cell). inr (λ y o. k o.0 o.2))
-      (either_way d.cell))
-
-  are_paths : ArePaths r.logical v ways.list
-  are_paths y i =
-      let o = ways.from y i in
-      subst (λ (n : Note). Member n.stamp v.stamps × ((q : List ℕ) × (n.fact ≡ Starts q) × CellAt r.logical n.stamp.cell q)) (sym o.2.1) (o.1, (o.2.0, refl, o.2.2))
-
--- ---- events
-
--- the pass makes an event after all of the history
-pub makes : (f g : Views) (p : ℕ) (v w : View) (log : List Event) (what : What) → f p ≡ Some v → Turned f p w g → IsOneHistory log f → w.pass ≡ v.pass
-    → IsAnswered (replay log) what → w.seen ≡ log ++ event v.pass what ∷ [] → w.own ≡ v.own ++ length log ∷ [] → Made v w what
-makes f g p v w log what at t history pass found seen own =
-    let mine = history.tells p v at in
-    let grown = history_grows f g p v w t at log history pass what found seen own in
-    record {
-      between = mine.starts.0;
-      seen = seen ∙ ap (λ (l : List Event). l ++ event v.pass what ∷ []) mine.starts.1;
-      own = own ∙ ap (λ (l : List Event). v.own ++ length l ∷ []) mine.starts.1;
-      legal = subst IsLegal (sym seen) grown.legal;
-      all = ap (λ (q : ℕ). places q w.seen) mine.pass ∙ (grown.tells p w t.here).all;
-    }
-
--- where an event is made or none, the history that the pass has seen and the places of its own events may change, and no more
-telling_is : (v : View) (log : List Event) (o : Option What) → telling v log o ≡ record v { seen = (telling v log o).seen; own = (telling v log o).own }
-telling_is v log None = refl
-telling_is v log (Some what) = refl
+use Rattle.art_step.proofs.Moves.{Moves, moves_begins, moves_fails, moves_passes, moves_reads}
+use Rattle.art_step.proofs.Changing.{claim_fits as fits, moves_claims, moves_upgrades, moves_writes, moves_writes_leaf}
 
 -- ---- cells and leaves that a pass writes
 

@@ -79,19 +79,3 @@ at_step {Row} I {k} {now} {before} {us} {p} {new} seen same inside t so =
     subst (λ (j : Kept). p < length j.views → I (memory_now j) (views_of j.views) (memory_of k.sizes us) (views_of new) → MakesStep p j l I) seen
     (λ inside so. at_step_by Row I k us p new inside (subst (λ (ws : List ℕ). StepBy k.sizes ws us p Row k.views new) same t) so)
     inside so
-
--- ---- passes that know nothing
-
--- there are so many
-pub length_newcomers : (p n : ℕ) → length (newcomers p n) ≡ n
-length_newcomers p zero = refl
-length_newcomers p (suc n) = ap suc (length_newcomers (suc p) n)
-
-newcomer_from : (from n p : ℕ) (v : View) → views_of (newcomers from n) p ≡ Some v → (p < n) × (v ≡ newcomer (from + p))
-newcomer_from from zero p v e = absurd (cc)
-newcomer_from from (suc n) zero v e = (omega arith, sym (same_Some (newcomer from) v e) ∙ ap newcomer (omega arith))
-newcomer_from from (suc n) (suc p) v e = let rest = newcomer_from (suc from) n p v e in (omega (arith, rest.0), rest.1 ∙ ap newcomer (omega arith))
-
--- each of the first n passes is one that knows nothing, and there are no others
-pub newcomer_at : (n p : ℕ) (v : View) → views_of (newcomers 0 n) p ≡ Some v → (p < n) × (v ≡ newcomer p)
-newcomer_at n p v e = let at = newcomer_from 0 n p v e in (at.0, at.1 ∙ ap newcomer (omega arith))

@@ -1,5 +1,4 @@
--- The words of a world, in a row: the anchor's, the leaves', the nodes' layout by layout, the words of free numbers pool by pool,
--- the epoch, and the words of the passes.
+-- What contracts see of a world, and steps that are made on it.
 use Rattle.std.specs.Prelude.{◌≡◌, ◌≢◌, ℕ, zero, suc, ◌+◌, ◌*◌, ◌/◌, ◌%◌, ◌^◌, ◌==◌, List, [], ◌∷◌, length, get_or, slice_index_or, slice_set, nat_lt, if◌then◌else◌, Bool, false, refl}
 use Rattle.std.specs.List.{slice_get}
 use Rattle.std.proofs.Common.{◌∙◌, subst}
@@ -14,53 +13,8 @@ use Rattle.art_step.specs.Sound.{IsSound}
 use Rattle.art_step.specs.StepKinds.{AtStep, OneStep}
 use Rattle.art_step.specs.StepLaws.{newcomer}
 use Rattle.art_step.specs.Views.{Memory, Views, size_of}
+use Rattle.art_step.specs.WordRows.{memory_of, view_at, views_of}
 use Rattle.art_step.specs.WordPlaces.{epoch_place, first_free_word, first_place, free_words, is_inside, pass_place, place_of, pool_of, pool_size}
-
-abbrev pub version_in : Sizes → List ℕ → Cell → ℕ
-version_in z ws cell.Anchor = get_or ws 0 0
-version_in z ws (cell.Leaf l) = 1
-version_in z ws (cell.Node n) = if is_inside z (cell.Node n) then get_or ws (place_of z (cell.Node n)) 0 else 1
-
--- the word at a place of the cell, and 0 at one that it does not have
-abbrev pub word_in : Sizes → List ℕ → Cell → ℕ → ℕ
-word_in z ws c i = if is_inside z c then (if nat_lt i (first_place c) then 0 else if nat_lt i (size_of c) then get_or ws (place_of z c + i) 0 else 0) else 0
-
--- the place of the word that has the number's bit
-abbrev pub free_place : Sizes → Link → ℕ
-free_place z d = first_free_word z (pool_of d) + number_of d / 64
-
-abbrev pub bit_of : ℕ → ℕ → ℕ
-bit_of word i = word / 2 ^ i % 2
-
--- whether the bit of the number is set. The words of a pool may have bits above its last number: these are looked at too, so that
--- one that is set there shows as free a number that there is not, which the invariant rules out
-abbrev pub is_free : Sizes → List ℕ → Link → Bool
-is_free z ws d = if nat_lt (number_of d) (64 * free_words (pool_size z (pool_of d))) then bit_of (get_or ws (free_place z d) 0) (number_of d % 64) == 1 else false
-
-abbrev pub pass_word_in : Sizes → List ℕ → ℕ → ℕ
-pass_word_in z ws p = if nat_lt p z.passes then get_or ws (pass_place z p) 0 else 0
-
-abbrev pub memory_of : Sizes → List ℕ → Memory
-memory_of z ws = record {
-  version = version_in z ws;
-  words = word_in z ws;
-  free = is_free z ws;
-  epoch = get_or ws (epoch_place z) 0;
-  pass_word = pass_word_in z ws;
-}
-
--- ---- views, in the order of their passes
-
-abbrev pub views_of : List View → Views
-views_of vs p = slice_get vs p
-
-abbrev pub view_at : List View → ℕ → View
-view_at vs p = slice_index_or vs p (newcomer p)
-
--- so many passes that know nothing, from a number on
-abbrev pub newcomers : ℕ → ℕ → List View
-newcomers p zero = []
-newcomers p (suc n) = newcomer p ∷ newcomers (suc p) n
 
 -- ---- what a contract sees of a world
 

@@ -11,9 +11,9 @@ ghost use Rattle.art_step.specs.WordPlaces.{word_count};
 ghost use Rattle.art_world.specs.WorldWords.{IsAround, memory_now};
 ghost use Rattle.art_step.specs.WordRows.{views_of};
 
-use crate::{At, Deed, Held, Number, Steps, Unlinked};
+use crate::At;
 use art_cell::{Cell, Pool};
-use art_step::{Changed, Locked, Stamp, UpgradeFault};
+use art_step::{Changed, Deed, Held, Locked, Number, Stamp, Steps, Unlinked, UpgradeFault};
 
 impl Steps for At<'_> {
     ghost view = { λ a. view_lent a };

@@ -2,10 +2,9 @@
 //! it changes one.
 ghost use Rattle.std.specs.Prelude.{◌≡◌};
 
-use crate::Deed;
 use art_cell::{Cell, Link, Node};
 use art_ghosts::{Change, Choice, Ghost};
-use art_step::{Sizes, Stamp, View};
+use art_step::{Deed, Sizes, Stamp, View};
 use std::collections::LinkedList;
 
 /// Copies words into the data that only proofs read.

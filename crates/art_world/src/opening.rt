@@ -1,17 +1,13 @@
 //! A world at its opening.
-ghost use Rattle.std.specs.Prelude.{◌≡◌, ◌+◌, ◌*◌, ◌<◌, ◌≤◌, IfOk};
-ghost use Rattle.art_step.specs.OpeningWords.{first_bits, opening_free_word, opening_node_word, opening_word, version_or_zero};
+ghost use Rattle.std.specs.Prelude.{◌≡◌, ◌≤◌, IfOk};
 ghost use Rattle.art_world.specs.Opening.{OpensAt};
 ghost use Rattle.art_step.specs.Views.{last_counter};
-ghost use Rattle.art_step.specs.WordPlaces.{cells_end, epoch_place, first_cell, first_free_word};
 ghost use Rattle.art_step.specs.WordRows.{newcomers};
-ghost use Rattle.art_cell.specs.declared.layouts.Pool.TheVariants.{Leaves as leaf_pool, N4 as n4_pool};
 
 use crate::World;
-use art_cell::Pool;
 use art_ghosts::{Choice, Ghost};
 use art_model::NoMemory;
-use art_step::{Sizes, View, pool_of_layout};
+use art_step::{Sizes, View, opening_words};
 use std::alloc::Global;
 use std::collections::LinkedList;
 use std::marker::{Brand, PhantomData};
@@ -45,67 +41,6 @@ fn first_views<K: PassCount>(passes: u32) -> Ghost<LinkedList<View>>
     Ghost::chosen::<Newcomers<K>>()
 }
 
-/// The version at the first word of each cell of so many words, and 0 at the others.
-fn version_or_zero(index: usize, each: usize, version: u64) -> u64
-    requires { 0 < each }
-    ensures { result ≡ version_or_zero index each version }
-{
-    if index % each == 0 { version } else { 0 }
-}
-
-/// A word with its first bits set, so many of them.
-fn first_bits(count: usize) -> u64
-    ensures { result ≡ first_bits count }
-{
-    if count < 64 {
-        (1 << count) - 1
-    } else {
-        u64::MAX
-    }
-}
-
-/// A word of the nodes.
-fn node_word(sizes: Sizes, counter_start: u64, place: usize) -> u64
-    requires counter { counter_start ≤ last_counter }
-    requires from { first_cell sizes n4_pool ≤ place }
-    requires before { place < cells_end sizes }
-    ensures { result ≡ opening_node_word sizes counter_start place }
-{
-    let version = 4 * counter_start + 1;
-    let layout = sizes.layout_of_place(place);
-    let first = sizes.first_cell(pool_of_layout(layout));
-    version_or_zero(place - first, layout.size(), version)
-}
-
-/// A word of free numbers.
-fn free_word(sizes: Sizes, place: usize) -> u64
-    requires from { first_free_word sizes leaf_pool ≤ place }
-    requires before { place < epoch_place sizes }
-    ensures { result ≡ opening_free_word sizes place }
-{
-    let pool = sizes.pool_of_free_place(place);
-    let before = 64 * (place - sizes.first_free_word(pool));
-    first_bits(sizes.pool_size(pool) as usize - before)
-}
-
-/// The word at a place at opening.
-pub fn opening_word(sizes: Sizes, counter_start: u64, place: usize) -> u64
-    requires { counter_start ≤ last_counter }
-    ensures { result ≡ opening_word sizes counter_start place }
-{
-    if place == 0 {
-        4 * counter_start
-    } else if place < sizes.first_cell(Pool::N4) {
-        0
-    } else if place < sizes.cells_end() {
-        node_word(sizes, counter_start, place)
-    } else if place < sizes.epoch_place() {
-        free_word(sizes, place)
-    } else {
-        1
-    }
-}
-
 impl World {
     /// Words for these cells and passes. The anchor names no root, its counter and those of all nodes begin at
     /// `counter_start`, all numbers are free, and each pass knows nothing.
@@ -114,10 +49,7 @@ impl World {
         ensures { IfOk result (λ w. OpensAt sizes.now counter_start w) }
     {
         let sizes = *sizes;
-        let mut words = Vec::with_capacity(alloc, sizes.word_count())?;
-        for place in 0..sizes.word_count() {
-            words.push(opening_word(sizes, counter_start, place))?;
-        }
+        let words = opening_words(alloc, sizes, counter_start)?;
         Ok(World {
             sizes,
             words,

@@ -12,9 +12,9 @@ ghost use Rattle.art_world.specs.WorldWords.{OnlyStepsOf, memory_now};
 ghost use Rattle.art_step.specs.WordRows.{is_free, memory_of, view_at};
 
 use crate::made_steps::{Frees, Gives, Takes, copied};
-use crate::{Number, World};
+use crate::World;
 use art_cell::Pool;
-use art_step::Sizes;
+use art_step::{Number, Sizes};
 
 impl World {
     /// The least free number of the pool, which comes into the hand of the pass. None where no number of the pool is free.
@@ -30,7 +30,7 @@ impl World {
         let place = self.sizes.first_free_word(pool) + number as usize / 64;
         let before = copied(&self.words);
         self.words[place] -= 1 << (number % 64);
-        let number = Number { pool, number };
+        let number = Number::in_pool(pool, number);
         let turn = Takes {
             sizes: self.sizes,
             pass,
@@ -107,7 +107,9 @@ fn set_bit(words: &mut Vec<u64>, sizes: Sizes, number: Number)
     ensures long { length words.new.items ≡ word_count sizes }
     ensures memory { SetsFree (memory_of sizes words.old.items) (link_of_number number) true (memory_of sizes words.new.items) }
 {
-    let Number { pool, number } = number;
-    let place = sizes.first_free_word(pool) + number as usize / 64;
-    words[place] += 1 << (number % 64);
+    let pool = number.pool();
+    let index = number.number();
+    number.spend();
+    let place = sizes.first_free_word(pool) + index as usize / 64;
+    words[place] += 1 << (index % 64);
 }

@@ -14,8 +14,8 @@ ghost use Rattle.art_world.specs.WorldWords.{MakesStep, OnlyStepsOf};
 ghost use Rattle.art_step.specs.WordRows.{view_at};
 
 use crate::made_steps::{Commits, Releases, copied};
-use crate::{Deed, Held, Number, Unlinked, World};
-use art_cell::Link;
+use crate::World;
+use art_step::{Deed, Held, Number, Unlinked, numbers_of, spent};
 
 /// What a release makes of a version word.
 fn released(word: u64, obsolete: bool) -> u64
@@ -23,35 +23,6 @@ fn released(word: u64, obsolete: bool) -> u64
     ensures { result ≡ released_word word obsolete }
 {
     if obsolete { word + 3 } else { word + 2 }
-}
-
-/// The leaf whose number is spent.
-pub fn spent(number: Option<Number>) -> Option<Link>
-    ensures { result ≡ option_map link_of_number number }
-{
-    let number = number?;
-    let link = number.link();
-    let Number { pool: _, number: _ } = number;
-    Some(link)
-}
-
-/// The numbers that these child words name.
-pub fn numbers_of(words: &[u64]) -> Unlinked
-    requires { length words.now ≤ 3 }
-    ensures { filter_map (option_map link_of_number) result ≡ links_of words.now }
-{
-    [
-        number_at(words, 0),
-        number_at(words, 1),
-        number_at(words, 2),
-    ]
-}
-
-fn number_at(words: &[u64], index: usize) -> Option<Number>
-    ensures { option_map link_of_number result ≡ option_and_then link_of (slice_get words.now index) }
-{
-    let link = Link::named_by(*words.get(index)?)?;
-    Some(Number::of(link))
 }
 
 impl World {
@@ -65,17 +36,17 @@ impl World {
         unlinked: &[u64],
     ) -> Unlinked
         requires pass { pass < length self.old.views }
-        requires inside { IsInside self.old.sizes held.cell }
+        requires inside { IsInside self.old.sizes (cell_held held) }
         requires words { map child_word (links_of unlinked.now) ≡ unlinked.now }
         requires few { length unlinked.now ≤ 3 }
-        requires first { (h : HoldingOf) × (h.cell ≡ held.cell) × MayBeFirst (view_at self.old.views pass) (links_of unlinked.now) h obsolete }
+        requires first { (h : HoldingOf) × (h.cell ≡ cell_held held) × MayBeFirst (view_at self.old.views pass) (links_of unlinked.now) h obsolete }
         requires may { MayCommit self.old.sizes (view_at self.old.views pass) (what_of deed.now) (links_of unlinked.now) (coming (view_at self.old.views pass) (option_map link_of_number leaf)) }
         ensures only { OnlyStepsOf self.old self.new pass }
-        ensures at_once { MakesStep pass self.old self.new (UnlocksFirst (view_at self.old.views pass) held.cell obsolete) }
+        ensures at_once { MakesStep pass self.old self.new (UnlocksFirst (view_at self.old.views pass) (cell_held held) obsolete) }
         ensures numbers { filter_map (option_map link_of_number) result ≡ links_of unlinked.now }
-        ensures row { (h : HoldingOf) → IsHolding (view_at self.old.views pass) held.cell h → Committed (view_at self.old.views pass) (view_at self.new.views pass) (what_of deed.now) (links_of unlinked.now) (coming (view_at self.old.views pass) (option_map link_of_number leaf)) h }
+        ensures row { (h : HoldingOf) → IsHolding (view_at self.old.views pass) (cell_held held) h → Committed (view_at self.old.views pass) (view_at self.new.views pass) (what_of deed.now) (links_of unlinked.now) (coming (view_at self.old.views pass) (option_map link_of_number leaf)) h }
     {
-        let Held { cell } = held;
+        let cell = held.spend();
         let leaf = spent(leaf);
         let found = self.version(cell);
         let place = self.sizes.place_of(cell);
@@ -97,13 +68,13 @@ impl World {
 
     pub(crate) fn release(&mut self, pass: usize, held: Held, obsolete: bool)
         requires pass { pass < length self.old.views }
-        requires inside { IsInside self.old.sizes held.cell }
-        requires may { (h : HoldingOf) × (h.cell ≡ held.cell) × MayRelease (view_at self.old.views pass) h obsolete }
+        requires inside { IsInside self.old.sizes (cell_held held) }
+        requires may { (h : HoldingOf) × (h.cell ≡ cell_held held) × MayRelease (view_at self.old.views pass) h obsolete }
         ensures only { OnlyStepsOf self.old self.new pass }
-        ensures at_once { MakesStep pass self.old self.new (Unlocks held.cell obsolete) }
-        ensures row { (h : HoldingOf) → IsHolding (view_at self.old.views pass) held.cell h → Released (view_at self.old.views pass) (view_at self.new.views pass) h }
+        ensures at_once { MakesStep pass self.old self.new (Unlocks (cell_held held) obsolete) }
+        ensures row { (h : HoldingOf) → IsHolding (view_at self.old.views pass) (cell_held held) h → Released (view_at self.old.views pass) (view_at self.new.views pass) h }
     {
-        let Held { cell } = held;
+        let cell = held.spend();
         let found = self.version(cell);
         let place = self.sizes.place_of(cell);
         let turn = Releases {

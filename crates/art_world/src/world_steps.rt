@@ -20,12 +20,9 @@ ghost use Rattle.art_step.specs.WordRows.{view_at};
 use crate::made_steps::{
     Begins, Claims, Fails, Passes, Reads, Upgrades, Writes, WritesLeaf, copied,
 };
-use crate::{Deed, Held, Number, World};
+use crate::World;
 use art_cell::{Cell, Link};
-use art_step::{Changed, Locked, Stamp, UpgradeFault};
-
-/// No counter that is this or more goes on by an upgrade.
-pub const LAST_COUNTER: u64 = (1 << 62) - 8;
+use art_step::{Changed, Deed, Held, LAST_COUNTER, Locked, Number, Stamp, UpgradeFault};
 
 impl World {
     pub(crate) fn begin(&mut self, pass: usize, cell: Cell) -> Result<Stamp, Locked>
@@ -144,7 +141,7 @@ impl World {
         requires unclaimed { HasClaimedNone (view_at self.old.views pass) }
         ensures only { OnlyStepsOf self.old self.new pass }
         ensures at_once { MatchResult result (λ _. MakesStep pass self.old self.new (LocksStamped stamp)) (λ e. LocksNothing self.old.sizes (view_at self.old.views pass) (view_at self.new.views pass) (IsAround self.old self.new) stamp e) }
-        ensures row { MatchResult result (λ h. (h.cell ≡ stamp.cell) × Upgraded (view_at self.old.views pass) (view_at self.new.views pass) stamp) (λ e. FailedUpgrade (view_at self.old.views pass) (view_at self.new.views pass) stamp e) }
+        ensures row { MatchResult result (λ h. (cell_held h ≡ stamp.cell) × Upgraded (view_at self.old.views pass) (view_at self.new.views pass) stamp) (λ e. FailedUpgrade (view_at self.old.views pass) (view_at self.new.views pass) stamp e) }
     {
         if stamp.version / 4 >= LAST_COUNTER {
             return Err(UpgradeFault::Exhausted(stamp.cell));
@@ -164,7 +161,7 @@ impl World {
         self.views = self
             .views
             .changed::<Vec<u64>, Upgrades, Upgrades>(&self.words, &turn);
-        Ok(Held { cell: stamp.cell })
+        Ok(Held::of(stamp.cell))
     }
 
     pub(crate) fn claim(&mut self, pass: usize, number: Number) -> Held
@@ -172,11 +169,9 @@ impl World {
         requires inside { (n : NodeOf) × (link_of_number number ≡ node n) × IsInside self.old.sizes (node_cell n) × MayClaim (view_at self.old.views pass) n }
         ensures only { OnlyStepsOf self.old self.new pass }
         ensures at_once { (n : NodeOf) → link_of_number number ≡ node n → MakesStep pass self.old self.new (LocksClaimed n) }
-        ensures row { (n : NodeOf) → link_of_number number ≡ node n → (result.cell ≡ node_cell n) × Claimed (view_at self.old.views pass) (view_at self.new.views pass) n }
+        ensures row { (n : NodeOf) → link_of_number number ≡ node n → (cell_held result ≡ node_cell n) × Claimed (view_at self.old.views pass) (view_at self.new.views pass) n }
     {
-        let link = number.link();
-        let Number { pool: _, number: _ } = number;
-        let Link::Node(node) = link else {
+        let Link::Node(node) = number.spend() else {
             unreachable!();
         };
         let cell = Cell::Node(node);
@@ -192,19 +187,19 @@ impl World {
         self.views = self
             .views
             .changed::<Vec<u64>, Claims, Claims>(&self.words, &turn);
-        Held { cell }
+        Held::of(cell)
     }
 
     pub(crate) fn write(&mut self, pass: usize, held: &mut Held, place: usize, value: u64)
         requires pass { pass < length self.old.views }
-        requires inside { IsInside self.old.sizes held.old.cell }
-        requires may { (h : HoldingOf) × (h.cell ≡ held.old.cell) × MayWrite (view_at self.old.views pass) h place }
+        requires inside { IsInside self.old.sizes (cell_held held.old) }
+        requires may { (h : HoldingOf) × (h.cell ≡ cell_held held.old) × MayWrite (view_at self.old.views pass) h place }
         ensures only { OnlyStepsOf self.old self.new pass }
-        ensures at_once { MakesStep pass self.old self.new (PutsWord held.old.cell place value) }
+        ensures at_once { MakesStep pass self.old self.new (PutsWord (cell_held held.old) place value) }
         ensures same { held.new ≡ held.old }
-        ensures row { (h : HoldingOf) → IsHolding (view_at self.old.views pass) held.old.cell h → Wrote (view_at self.old.views pass) (view_at self.new.views pass) h place value }
+        ensures row { (h : HoldingOf) → IsHolding (view_at self.old.views pass) (cell_held held.old) h → Wrote (view_at self.old.views pass) (view_at self.new.views pass) h place value }
     {
-        let cell = held.cell;
+        let cell = held.cell();
         let first = self.sizes.place_of(cell);
         let turn = Writes {
             sizes: self.sizes,

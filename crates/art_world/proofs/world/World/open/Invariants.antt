@@ -1,11 +1,5 @@
--- At each step the words so far are those of the places so far, and there are as many newcomers as passes.
-use Rattle.std.proofs.Common.{◌≡◌, map}
-use Rattle.std.specs.List.{range_with_len}
-use Rattle.art_step.specs.OpeningWords.{opening_word}
+-- There are as many newcomers as passes.
 use Rattle.art_world.proofs.world.World.open.Given as goal
-
-abbrev pub invariant-loop-place : goal.invariant-loop-place
-invariant-loop-place l = l.words.items ≡ map (opening_word l.sizes l.counter_start) (range_with_len 0 l.place)
 
 abbrev pub ghosts-first_views : goal.ghosts-first_views
 ghosts-first_views a = record { passes = a.passes }
