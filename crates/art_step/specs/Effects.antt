@@ -1,0 +1,92 @@
+-- What a step does to the words that all passes share, at the one instant at which it is made: m and f are the words and views
+-- before it, m' and f' those after it.
+use Rattle.std.specs.Prelude.{ℕ, ◌≡◌, ◌≢◌, Bool, ◌+◌, if◌then◌else◌}
+use Rattle.art_cell.specs.declared.cells.Cell.TheVariants as cell
+use Rattle.art_cell.specs.declared.cells.Cell.{Cell}
+use Rattle.art_cell.specs.declared.cells.Link.{Link}
+use Rattle.art_cell.specs.declared.cells.Node.{Node}
+use Rattle.art_step.specs.Knowledge.{IsShape, HoldsAll}
+use Rattle.art_step.specs.Sound.{OneHolder}
+use Rattle.art_step.specs.Views.{Memory, Views}
+use Rattle.art_step.specs.declared.views.Sizes.{Sizes}
+use Rattle.art_step.specs.declared.views.Stamp.{Stamp}
+use Rattle.art_step.specs.declared.views.View.{View}
+use Rattle.art_tree.specs.Heaps.{Cells}
+
+-- the words and the views just before the instant, and those just after it
+abbrev pub Instant : Type 1
+Instant = Memory → Views → Memory → Views → Type 0
+
+-- ---- what changes
+
+-- the version word of the cell becomes x, and nothing else changes
+pub record SetsVersion (m : Memory) (c : Cell) (x : ℕ) (m' : Memory) : Type 0 where
+  pub here : m'.version c ≡ x
+  pub there : (d : Cell) → d ≢ c → m'.version d ≡ m.version d
+  pub words : m'.words ≡ m.words
+  pub free : m'.free ≡ m.free
+  pub epoch : m'.epoch ≡ m.epoch
+  pub pass_word : m'.pass_word ≡ m.pass_word
+
+-- the word at a place of the cell becomes x, and nothing else changes
+pub record SetsWord (m : Memory) (c : Cell) (place x : ℕ) (m' : Memory) : Type 0 where
+  pub here : m'.words c place ≡ x
+  pub there : (i : ℕ) → i ≢ place → m'.words c i ≡ m.words c i
+  pub others : (d : Cell) → d ≢ c → m'.words d ≡ m.words d
+  pub version : m'.version ≡ m.version
+  pub free : m'.free ≡ m.free
+  pub epoch : m'.epoch ≡ m.epoch
+  pub pass_word : m'.pass_word ≡ m.pass_word
+
+-- the number becomes free, or is no longer, and nothing else changes
+pub record SetsFree (m : Memory) (d : Link) (b : Bool) (m' : Memory) : Type 0 where
+  pub here : m'.free d ≡ b
+  pub there : (e : Link) → e ≢ d → m'.free e ≡ m.free e
+  pub version : m'.version ≡ m.version
+  pub words : m'.words ≡ m.words
+  pub epoch : m'.epoch ≡ m.epoch
+  pub pass_word : m'.pass_word ≡ m.pass_word
+
+-- ---- what is found, where no word changes
+
+-- the version word of the cell is x
+pub record FindsVersion (c : Cell) (x : ℕ) (m : Memory) (f : Views) (m' : Memory) (f' : Views) : Type 0 where
+  pub found : x ≡ m.version c
+  pub same : m' ≡ m
+
+-- the word at the place of the cell is x
+pub record FindsWord (c : Cell) (place x : ℕ) (m : Memory) (f : Views) (m' : Memory) (f' : Views) : Type 0 where
+  pub found : x ≡ m.words c place
+  pub same : m' ≡ m
+
+-- the version word of the cell is the stamped one, and all that the view noted under the stamp holds of the logical words
+pub record FindsUnchanged (z : Sizes) (v : View) (x : Stamp) (m : Memory) (f : Views) (m' : Memory) (f' : Views) : Type 0 where
+  pub found : x.version ≡ m.version x.cell
+  pub same : m' ≡ m
+  pub logical : Cells
+  pub holder : OneHolder m f logical
+  pub shape : IsShape z logical
+  pub holds : HoldsAll v x logical
+
+-- ---- what is locked, written and unlocked
+
+-- the version word of the cell is the stamped one, and goes up by 2
+pub record LocksStamped (x : Stamp) (m : Memory) (f : Views) (m' : Memory) (f' : Views) : Type 0 where
+  pub found : x.version ≡ m.version x.cell
+  pub sets : SetsVersion m x.cell (x.version + 2) m'
+
+-- the version word of the node's cell goes up by 1
+abbrev pub LocksClaimed : Node → Instant
+LocksClaimed a m f m' f' = SetsVersion m (cell.Node a) (m.version (cell.Node a) + 1) m'
+
+-- the word at the place of the cell becomes x
+abbrev pub PutsWord : Cell → ℕ → ℕ → Instant
+PutsWord c place x m f m' f' = SetsWord m c place x m'
+
+-- a release adds 2, or 3 where the cell becomes obsolete
+abbrev pub released_word : ℕ → Bool → ℕ
+released_word x obsolete = if obsolete then x + 3 else x + 2
+
+-- the version word of the cell goes up by 2, or by 3 where the cell becomes obsolete
+abbrev pub Unlocks : Cell → Bool → Instant
+Unlocks c obsolete m f m' f' = SetsVersion m c (released_word (m.version c) obsolete) m'
