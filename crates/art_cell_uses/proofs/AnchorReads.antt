@@ -11,11 +11,11 @@ use Rattle.art_step.specs.declared.views.Sizes.{Sizes}
 use Rattle.art_step.specs.declared.views.Stamp.{Stamp}
 use Rattle.art_step.specs.declared.views.View.{View}
 use Rattle.art_cell.specs.Children.{child_word, link_of}
-use Rattle.art_step.specs.Knowledge.{Names}
+use Rattle.art_step.specs.Knowledge.{KnowsLeaf}
 use Rattle.art_cell.specs.Leaves.{leaf_word}
 use Rattle.art_cell_uses.specs.NodeLives.{IsNoted, OnlyLearns, StampsAnchor}
-use Rattle.art_step.specs.Shown.{MayReadCell}
-use Rattle.art_step.specs.StepRows.{MayReadLeaf, stamp_of}
+use Rattle.art_step.specs.Steps.Read as read
+use Rattle.art_step.specs.Views.{stamp_of}
 use Rattle.art_step.specs.Views.{Member, size_of}
 use Rattle.art_cell_uses.specs.Visits.{IsAway, IsIdle, HoldsWord, Locks, NotesLeaf}
 use Rattle.art_tree.proofs.ChildWords.{link_back, link_exact}
@@ -32,7 +32,7 @@ learns_idle v w more idle = record { away = learns_away v w more idle.away; hand
 
 -- ---- the anchor's child word
 
-pub may_read_anchor : (z : Sizes) (v : View) (x : Stamp) → IsAway v → StampsAnchor v x → MayReadCell z v x cell.Anchor 1
+pub may_read_anchor : (z : Sizes) (v : View) (x : Stamp) → IsAway v → StampsAnchor v x → read.MayReadCell z v x cell.Anchor 1
 may_read_anchor z v x away s = (
   s.cell,
   record {
@@ -55,7 +55,7 @@ leaf_named z v x l word k value inside names noted =
 
 -- ---- the leaf's words
 
-names_leaf : (z : Sizes) (v : View) (x : Stamp) (l : ℕ) (k : List ℕ) (value place : ℕ) → StampsAnchor v x → NotesLeaf z v x l k value place → Names z v x l
+names_leaf : (z : Sizes) (v : View) (x : Stamp) (l : ℕ) (k : List ℕ) (value place : ℕ) → StampsAnchor v x → NotesLeaf z v x l k value place → KnowsLeaf z v x l
 names_leaf z v x l k value place s n = root_names z v x l (leaf l) refl record {
   at = s;
   word = child_word (leaf l);
@@ -63,7 +63,7 @@ names_leaf z v x l k value place s n = root_names z v x l (leaf l) refl record {
   names = link_back (leaf l) n.small;
 }
 
-pub may_read_leaf : (z : Sizes) (v : View) (x : Stamp) (l : ℕ) (k : List ℕ) (value place : ℕ) → place < 10 → IsAway v → StampsAnchor v x → NotesLeaf z v x l k value place → MayReadLeaf z v x l place
+pub may_read_leaf : (z : Sizes) (v : View) (x : Stamp) (l : ℕ) (k : List ℕ) (value place : ℕ) → place < 10 → IsAway v → StampsAnchor v x → NotesLeaf z v x l k value place → read.MayLeaf z v x l place
 may_read_leaf z v x l k value place low away s n = record {
   stamp = s.stamp;
   free = λ h i e. away.held h i;

@@ -21,8 +21,13 @@ use Rattle.art_commit.specs.CommitLaws.{HoldsJust, ClaimedAmong}
 use Rattle.art_tree.specs.Heaps.{Cells, heap_of}
 use Rattle.art_cell.specs.Leaves.{leaf_word}
 use Rattle.art_cell_uses.specs.NodeLives.{anchor_held}
-use Rattle.art_step.specs.Shown.{Committed, Freed, IsHolding, Wrote, claimed_nodes, coming, link_of_number, links_of}
-use Rattle.art_step.specs.StepRows.{AllNew, Commits, IsInLimbo, Knows, LetsGo, MayBeFirst, MayCommit, MayFree, MayWrite, note_of, all_retired, retired, stamp_of}
+use Rattle.art_step.specs.Steps.Commit as commit
+use Rattle.art_step.specs.Steps.Give as give
+use Rattle.art_step.specs.Views.{IsHolding, IsInLimbo, note_of, stamp_of}
+use Rattle.art_step.specs.Steps.Write as write
+use Rattle.art_step.specs.Steps.Commit.{claimed_nodes, coming, AllNew, Commits, Knows, all_retired, retired}
+use Rattle.art_step.specs.Tokens.{link_of_number, links_of}
+use Rattle.art_step.specs.Steps.Give.{LetsGo, MayFree}
 use Rattle.art_tree.specs.Tree.{Top}
 use Rattle.art_step.specs.Views.{Member}
 use Rattle.art_cell_uses.specs.Visits.{HasNone, IsAway, IsIdle, HoldsAnchor, HoldsWord, ChangesWord, Fills, NotesLeaf}
@@ -47,7 +52,7 @@ module _ (w : View) (h : Held) (x : ℕ) (old new : List ℕ) (holds : HoldsAnch
   none_coming = no_members (claimed_nodes w.held) (λ d i. let k = claimed_is w.held d i in not_claimed k.0 k.2 k.4)
 
   -- it may be the first cell that is released
-  pub anchor_first : (us : List Link) → (k : Holding) × (k.cell ≡ h.cell) × MayBeFirst w us k false
+  pub anchor_first : (us : List Link) → (k : Holding) × (k.cell ≡ h.cell) × commit.MayBeFirst w us k false
   anchor_first us = (
     anchor_held x old new,
     sym holds.cell,
@@ -59,7 +64,7 @@ module _ (w : View) (h : Held) (x : ℕ) (old new : List ℕ) (holds : HoldsAnch
   )
 
   -- and then the pass is away
-  pub committed_away : (u : View) (what : What) (us ls : List Link) → ((k : Holding) → IsHolding w h.cell k → Committed w u what us ls k) → IsAway u
+  pub committed_away : (u : View) (what : What) (us ls : List Link) → ((k : Holding) → IsHolding w h.cell k → commit.Outcome w u what us ls k) → IsAway u
   committed_away u what us ls committed =
       let r = committed (anchor_held x old new) (holds.just.has, sym holds.cell) in
       record {
@@ -67,22 +72,22 @@ module _ (w : View) (h : Held) (x : ℕ) (old new : List ℕ) (holds : HoldsAnch
         held = subst (λ (hs : List Holding). HasNone hs) (sym (ap (λ (y : View). y.held) r.is)) (none_left w.held r.held _ cell.Anchor holds.just refl r.drops);
       }
 
-  pub committed_steps : (u : View) (what : What) (us ls : List Link) → ((k : Holding) → IsHolding w h.cell k → Committed w u what us ls k) → u.steps ≡ w.steps + 1
+  pub committed_steps : (u : View) (what : What) (us ls : List Link) → ((k : Holding) → IsHolding w h.cell k → commit.Outcome w u what us ls k) → u.steps ≡ w.steps + 1
   committed_steps u what us ls committed = ap (λ (y : View). y.steps) (committed (anchor_held x old new) (holds.just.has, sym holds.cell)).is
 
   -- nothing new is in hand
-  pub committed_hand : (u : View) (what : What) (us ls : List Link) → ((k : Holding) → IsHolding w h.cell k → Committed w u what us ls k) → (y : InHand) → Member y u.hand → Member y w.hand × (Member y.link ls → ⊥)
+  pub committed_hand : (u : View) (what : What) (us ls : List Link) → ((k : Holding) → IsHolding w h.cell k → commit.Outcome w u what us ls k) → (y : InHand) → Member y u.hand → Member y w.hand × (Member y.link ls → ⊥)
   committed_hand u what us ls committed y i =
       let r = committed (anchor_held x old new) (holds.just.has, sym holds.cell) in
       r.hands.was y (subst (Member y) (ap (λ (z : View). z.hand) r.is) i)
 
 -- ---- the child word is written
 
-pub may_write_child : (v : View) (h : Held) (x a : ℕ) → HoldsWord v h x a → (k : Holding) × (k.cell ≡ h.cell) × MayWrite v k 1
+pub may_write_child : (v : View) (h : Held) (x a : ℕ) → HoldsWord v h x a → (k : Holding) × (k.cell ≡ h.cell) × write.May v k 1
 may_write_child v h x a w = (anchor_held x w.words w.words, sym w.holds.cell, record { held = w.holds.just.has; early = w.holds.early; place = (omega arith, omega arith) })
 
-module _ (v w : View) (h : Held) (x a b : ℕ) (has : HoldsWord v h x a) (wrote : (k : Holding) → IsHolding v h.cell k → Wrote v w k 1 b) where
-  child_row : Wrote v w (anchor_held x has.words has.words) 1 b
+module _ (v w : View) (h : Held) (x a b : ℕ) (has : HoldsWord v h x a) (wrote : (k : Holding) → IsHolding v h.cell k → write.Outcome v w k 1 b) where
+  child_row : write.Outcome v w (anchor_held x has.words has.words) 1 b
   child_row = wrote (anchor_held x has.words has.words) (has.holds.just.has, sym has.holds.cell)
 
   pub child_written : ChangesWord w h x a b
@@ -144,7 +149,7 @@ module _ (z : Sizes) (v : View) (h : Held) (x a b : ℕ) (c : ChangesWord v h x 
 -- ---- a leaf is added where the anchor names nothing
 
 pub may_add : (z : Sizes) (v : View) (h : Held) (n : Number) (x byte value : ℕ) → byte < 256 → Fills z v.hand n (byte ∷ []) value 10 → ChangesWord v h x 0 (child_word (leaf n.number))
-    → MayCommit z v (Done (Insert (byte ∷ []) value) Inserted) [] (coming v (Some (link_of_number n)))
+    → commit.May z v (Done (Insert (byte ∷ []) value) Inserted) [] (coming v (Some (link_of_number n)))
 may_add z v h n x byte value small f c s s' shape knows turns =
     let empty = root_before z v h x 0 _ c s s' knows turns in
     subst (λ (ls : List Link). Commits z v (Done (Insert (byte ∷ []) value) Inserted) [] ls s s') (sym comes)
@@ -156,7 +161,7 @@ may_add z v h n x byte value small f c s s' shape knows turns =
 
 -- and then the pass is idle
 pub added_idle : (z : Sizes) (v w : View) (h : Held) (n : Number) (k : List ℕ) (value x a b : ℕ) (what : What) (us ls : List Link) → Fills z v.hand n k value 10 → ChangesWord v h x a b
-    → ((y : Holding) → IsHolding v h.cell y → Committed v w what us (link_of_number n ∷ ls) y) → IsIdle w
+    → ((y : Holding) → IsHolding v h.cell y → commit.Outcome v w what us (link_of_number n ∷ ls) y) → IsIdle w
 added_idle z v w h n k value x a b what us ls f c committed = record {
   away = committed_away v h x c.old c.new c.holds w what us (link_of_number n ∷ ls) committed;
   hand = λ y i.
@@ -180,7 +185,7 @@ module _ (z : Sizes) (v : View) (h : Held) (l x byte value b : ℕ) (n : NotesLe
   value_noted = word_of_leaf 0 (omega arith)
 
 pub may_remove : (z : Sizes) (v : View) (h : Held) (l x byte value : ℕ) → byte < 256 → NotesLeaf z v (stamp_of cell.Anchor x) l (byte ∷ []) value 3 → ChangesWord v h x (child_word (leaf l)) 0
-    → MayCommit z v (Done (Remove (byte ∷ [])) (Removed value)) (leaf l ∷ []) (coming v None)
+    → commit.May z v (Done (Remove (byte ∷ [])) (Removed value)) (leaf l ∷ []) (coming v None)
 may_remove z v h l x byte value small n c s s' shape knows turns =
     subst₂ (λ (k : List ℕ) (w : ℕ). Commits z v (Done (Remove k) (Removed w)) (leaf l ∷ []) (coming v None) s s') (key_noted z v h l x byte value 0 n c s knows small) (value_noted z v h l x byte value 0 n c s knows)
     (subst (λ (ls : List Link). Commits z v (Done (Remove ((heap_of s).key l)) (Removed ((heap_of s).value l))) (leaf l ∷ []) ls s s') (sym (none_coming v h x c.old c.new c.holds))
@@ -190,13 +195,13 @@ may_remove z v h l x byte value small n c s s' shape knows turns =
     (λ m b e. cc)))
 
 -- and then it is idle, with the leaf in limbo
-pub removed_idle : (v w : View) (h : Held) (x a b : ℕ) (what : What) (us ls : List Link) → HasNone v.hand → ChangesWord v h x a b → ((y : Holding) → IsHolding v h.cell y → Committed v w what us ls y) → IsIdle w
+pub removed_idle : (v w : View) (h : Held) (x a b : ℕ) (what : What) (us ls : List Link) → HasNone v.hand → ChangesWord v h x a b → ((y : Holding) → IsHolding v h.cell y → commit.Outcome v w what us ls y) → IsIdle w
 removed_idle v w h x a b what us ls none c committed = record {
   away = committed_away v h x c.old c.new c.holds w what us ls committed;
   hand = λ y i. none y (committed_hand v h x c.old c.new c.holds w what us ls committed y i).0;
 }
 
-pub removed_limbo : (v w : View) (h : Held) (x a b l : ℕ) (what : What) (us ls : List Link) → us ≡ leaf l ∷ [] → ChangesWord v h x a b → ((y : Holding) → IsHolding v h.cell y → Committed v w what us ls y) → IsInLimbo w (leaf l)
+pub removed_limbo : (v w : View) (h : Held) (x a b l : ℕ) (what : What) (us ls : List Link) → us ≡ leaf l ∷ [] → ChangesWord v h x a b → ((y : Holding) → IsHolding v h.cell y → commit.Outcome v w what us ls y) → IsInLimbo w (leaf l)
 removed_limbo v w h x a b l what us ls one c committed =
     let r = committed (anchor_held x c.old c.new) (c.holds.just.has, sym c.holds.cell) in
     let is : w.limbo ≡ retired r.pins (leaf l) ∷ v.limbo = ap (λ (y : View). y.limbo) r.is ∙ ap (λ (ds : List Link). all_retired r.pins ds ++ v.limbo) one in
@@ -227,7 +232,7 @@ may_give_back z v d l is limbo =
       }),
     )
 
-pub freed_idle : (v w : View) (d : Link) → IsIdle v → Freed v w d → IsIdle w
+pub freed_idle : (v w : View) (d : Link) → IsIdle v → give.FreeOutcome v w d → IsIdle w
 freed_idle v w d idle f = record {
   away = still_away v w (ap (λ (y : View). y.pin) f.is) (ap (λ (y : View). y.held) f.is) idle.away;
   hand = still_empty v w idle.hand (ap (λ (y : View). y.hand) f.is);

@@ -3,7 +3,7 @@ use Rattle.std.proofs.Common.{◌≡◌, ◌⊎◌, List, [], ◌∷◌, inl, �
 use Rattle.art_cell.specs.declared.cells.Cell.{Cell}
 use Rattle.art_step.specs.declared.views.Holding.{Holding}
 use Rattle.art_cell_uses.specs.NodeLives.{HoldsTwo}
-use Rattle.art_step.specs.StepRows.{Drops}
+use Rattle.art_step.specs.Steps.Release.{Drops}
 use Rattle.art_cell_uses.specs.Visits.{HasJust, HasNone}
 
 -- ---- lists with few members

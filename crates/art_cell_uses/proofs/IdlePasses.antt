@@ -11,8 +11,11 @@ use Rattle.art_step.specs.declared.views.InHand.{InHand}
 use Rattle.art_step.specs.declared.views.Stamp.{Stamp}
 use Rattle.art_step.specs.declared.views.View.{View}
 use Rattle.art_cell_uses.specs.NodeLives.{StampsAnchor, anchor_held}
-use Rattle.art_step.specs.Shown.{Failed, FailedUpgrade, IsHolding, Released, Upgraded}
-use Rattle.art_step.specs.StepRows.{MayLock, MayRelease, begun}
+use Rattle.art_step.specs.Steps.Check as check
+use Rattle.art_step.specs.Steps.Upgrade as upgrade
+use Rattle.art_step.specs.Views.{IsHolding, MayLock}
+use Rattle.art_step.specs.Steps.Release as release
+use Rattle.art_step.specs.Steps.Begin as begin
 use Rattle.art_step.specs.Views.{size_of}
 use Rattle.art_cell_uses.specs.Visits.{HasNone, HasJust, IsAway, IsIdle, HoldsUnchanged, Locks}
 use Rattle.art_cell_uses.proofs.Few.{just_one, no_members, none_left}
@@ -34,14 +37,14 @@ either_way true P v w a e f = e
 either_way false P v w a e f = f
 
 -- to begin changes neither what is held nor the pin
-begun_held : (v : View) (c : Cell) (x : ℕ) → (begun v c x).held ≡ v.held
+begun_held : (v : View) (c : Cell) (x : ℕ) → (begin.view_after v c x).held ≡ v.held
 begun_held v c x = either_way (eqb (x % 4) 0) (λ (u : View). u.held) _ _ v.held refl refl
 
-begun_pin : (v : View) (c : Cell) (x : ℕ) → (begun v c x).pin ≡ v.pin
+begun_pin : (v : View) (c : Cell) (x : ℕ) → (begin.view_after v c x).pin ≡ v.pin
 begun_pin v c x = either_way (eqb (x % 4) 0) (λ (u : View). u.pin) _ _ v.pin refl refl
 
-pub begun_away : (v : View) (c : Cell) (x : ℕ) → IsAway v → IsAway (begun v c x)
-begun_away v c x = still_away v (begun v c x) (begun_pin v c x) (begun_held v c x)
+pub begun_away : (v : View) (c : Cell) (x : ℕ) → IsAway v → IsAway (begin.view_after v c x)
+begun_away v c x = still_away v (begin.view_after v c x) (begun_pin v c x) (begun_held v c x)
 
 -- ---- upgrade
 
@@ -49,7 +52,7 @@ pub may_lock : (v : View) → IsAway v → MayLock v
 may_lock v away = inr (no_members v.held away.held)
 
 -- what an upgrade of a pass that held nothing made
-pub locks : (v w : View) (x : Stamp) (h : Held) → IsAway v → x.cell ≡ cell.Anchor → h.cell ≡ x.cell → Upgraded v w x → Locks v w x h
+pub locks : (v w : View) (x : Stamp) (h : Held) → IsAway v → x.cell ≡ cell.Anchor → h.cell ≡ x.cell → upgrade.Locked v w x → Locks v w x h
 locks v w x h away anchor is u = record {
   words = u.words;
   long = u.long ∙ ap size_of anchor;
@@ -68,21 +71,21 @@ locks v w x h away anchor is u = record {
         ∙ (ap (λ (hs : List Holding). record { cell = x.cell; stamped = Some x.version; old = u.words; new = u.words } ∷ hs) (no_members v.held away.held)
         ∙ ap (λ (c : Cell). record { cell = c; stamped = Some x.version; old = u.words; new = u.words } ∷ []) anchor)
 
-pub failed_away : (v w : View) (x : Stamp) (word : ℕ) → IsAway v → Failed v w x word → IsAway w
+pub failed_away : (v w : View) (x : Stamp) (word : ℕ) → IsAway v → check.IsChanged v w x word → IsAway w
 failed_away v w x word away f = still_away v w (ap (λ (y : View). y.pin) f.is) (ap (λ (y : View). y.held) f.is) away
 
-refused_away : (v w : View) (x : Stamp) (e : UpgradeFault) → IsAway v → FailedUpgrade v w x e → IsAway w
+refused_away : (v w : View) (x : Stamp) (e : UpgradeFault) → IsAway v → upgrade.Refused v w x e → IsAway w
 refused_away v w x (fault.Changed c) away f = failed_away v w x c.found away f.3
 refused_away v w x (fault.Exhausted c) away f = subst IsAway (sym f.2) away
 
-pub locks_or_away : (v w : View) (x : Stamp) (r : Result Held UpgradeFault) → IsAway v → StampsAnchor v x → MatchResult r (λ h. (h.cell ≡ x.cell) × Upgraded v w x) (λ e. FailedUpgrade v w x e) → MatchResult r (Locks v w x) (λ _. IsAway w)
+pub locks_or_away : (v w : View) (x : Stamp) (r : Result Held UpgradeFault) → IsAway v → StampsAnchor v x → MatchResult r (λ h. (h.cell ≡ x.cell) × upgrade.Locked v w x) (λ e. upgrade.Refused v w x e) → MatchResult r (Locks v w x) (λ _. IsAway w)
 locks_or_away v w x (Ok h) away stamps row = locks v w x h away stamps.cell row.0 row.1
 locks_or_away v w x (Err e) away stamps row = refused_away v w x e away row
 
 -- ---- release
 
 -- it may let the anchor go
-pub may_let_go : (w : View) (h : Held) → HoldsUnchanged w h → (k : Holding) × (k.cell ≡ h.cell) × MayRelease w k false
+pub may_let_go : (w : View) (h : Held) → HoldsUnchanged w h → (k : Holding) × (k.cell ≡ h.cell) × release.May w k false
 may_let_go w h holds =
     let x = holds.0 in
     let ws = holds.1 in
@@ -101,7 +104,7 @@ may_let_go w h holds =
     )
 
 abbrev IsReleased : View → View → Held → Type 0
-IsReleased w u h = (k : Holding) → IsHolding w h.cell k → Released w u k
+IsReleased w u h = (k : Holding) → IsHolding w h.cell k → release.Outcome w u k
 
 -- and then it is away
 pub let_go_away : (w u : View) (h : Held) → HoldsUnchanged w h → IsReleased w u h → IsAway u

@@ -15,8 +15,11 @@ use Rattle.art_commit.specs.CommitLaws.{HasLeaf}
 use Rattle.art_world.specs.FreeNumbers.{IsLeastFree}
 use Rattle.art_cell.specs.Leaves.{leaf_word}
 use Rattle.art_cell.specs.Lemmas.LeafWords.{words_mean_leaf}
-use Rattle.art_step.specs.Shown.{IsInHand, Took, WroteLeaf, link_of_number}
-use Rattle.art_step.specs.StepRows.{IsTaken, MayWriteLeaf}
+use Rattle.art_step.specs.Views.{IsInHand}
+use Rattle.art_step.specs.Steps.Take as take_free
+use Rattle.art_step.specs.Steps.Write as write
+use Rattle.art_step.specs.Tokens.{link_of_number}
+use Rattle.art_step.specs.Steps.Take.{IsTaken}
 use Rattle.art_step.specs.Views.{IsNumber, Member, Memory, words_in}
 use Rattle.art_cell_uses.specs.Visits.{HasNone, HasJust, IsAway, IsIdle, Fills, leaf_in_hand}
 use Rattle.art_tree.specs.WordChanges.{FitsWord}
@@ -37,7 +40,7 @@ leaf_link n e = ap (λ (p : Pool). link_in_pool p n.number) e
 
 -- a number that was just taken
 took_fills : (z : Sizes) (m : Memory) (v w : View) (n : Number) (k : List ℕ) (value : ℕ) → HasNone v.hand → n.pool ≡ Leaves → n.number < z.leaves → n.number < 2 ^ 32
-    → Took m v w (link_of_number n) → Fills z w.hand n k value 0
+    → take_free.Outcome m v w (link_of_number n) → Fills z w.hand n k value 0
 took_fills z m v w n k value none pool inside small t = record {
   pool = pool;
   inside = inside;
@@ -54,7 +57,7 @@ took_fills z m v w n k value none pool inside small t = record {
         ∙ ap (λ (d : Link). record { link = d; words = t.words } ∷ []) (leaf_link n pool))
 
 -- it is that of a leaf, none of whose words is written
-pub took_leaf : (a : Kept) (z : Sizes) (m : Memory) (v w : View) (n : Number) (k : List ℕ) (value : ℕ) → z ≡ a.sizes → IsIdle v → IsLeastFree a Leaves n → Took m v w (link_of_number n) → IsAway w × Fills z w.hand n k value 0
+pub took_leaf : (a : Kept) (z : Sizes) (m : Memory) (v w : View) (n : Number) (k : List ℕ) (value : ℕ) → z ≡ a.sizes → IsIdle v → IsLeastFree a Leaves n → take_free.Outcome m v w (link_of_number n) → IsAway w × Fills z w.hand n k value 0
 took_leaf a z m v w n k value same idle free t = (
   still_away v w (ap (λ (y : View). y.pin) t.is) (ap (λ (y : View). y.held) t.is) idle.away,
   took_fills z m v w n k value idle.hand free.pool inside (subst FitsWord (leaf_link n free.pool) free.fits) t,
@@ -65,12 +68,12 @@ took_leaf a z m v w n k value same idle free t = (
 
 -- the next word may be written
 pub may_fill : (z : Sizes) (v : View) (n : Number) (k : List ℕ) (value place : ℕ) → place < 10 → Fills z v.hand n k value place
-    → (l : ℕ) × (y : InHand) × (link_of_number n ≡ leaf l) × (l < z.leaves) × MayWriteLeaf v y l place
+    → (l : ℕ) × (y : InHand) × (link_of_number n ≡ leaf l) × (l < z.leaves) × write.MayLeaf v y l place
 may_fill z v n k value place low f = (n.number, leaf_in_hand n.number f.words, leaf_link n f.pool, f.inside, record { hand = f.just.has; leaf = refl; place = low })
 
 -- and then it is as the leaf has it
 pub filled_more : (z : Sizes) (v w : View) (n : Number) (k : List ℕ) (value place word : ℕ) → place < 10 → word ≡ leaf_word k value place → Fills z v.hand n k value place
-    → ((y : InHand) → IsInHand v (link_of_number n) y → WroteLeaf v w y place word) → Fills z w.hand n k value (place + 1)
+    → ((y : InHand) → IsInHand v (link_of_number n) y → write.LeafOutcome v w y place word) → Fills z w.hand n k value (place + 1)
 filled_more z v w n k value place word low is f wrote = record {
   pool = f.pool;
   inside = f.inside;
@@ -90,14 +93,14 @@ filled_more z v w n k value place word low is f wrote = record {
       (cases_eq i place);
 }
   where
-    row : WroteLeaf v w (leaf_in_hand n.number f.words) place word
+    row : write.LeafOutcome v w (leaf_in_hand n.number f.words) place word
     row = wrote (leaf_in_hand n.number f.words) (f.just.has, sym (leaf_link n f.pool))
 
     hand : w.hand ≡ row.hand
     hand = ap (λ (y : View). y.hand) row.is
 
 -- the pass stays away, one step later
-pub filled_away : (v w : View) (d : Link) (place word : ℕ) (y : InHand) → IsAway v → IsInHand v d y → ((x : InHand) → IsInHand v d x → WroteLeaf v w x place word) → IsAway w × (w.steps ≡ v.steps + 1)
+pub filled_away : (v w : View) (d : Link) (place word : ℕ) (y : InHand) → IsAway v → IsInHand v d y → ((x : InHand) → IsInHand v d x → write.LeafOutcome v w x place word) → IsAway w × (w.steps ≡ v.steps + 1)
 filled_away v w d place word y away has wrote =
     let is = (wrote y has).is in
     (still_away v w (ap (λ (x : View). x.pin) is) (ap (λ (x : View). x.held) is) away, ap (λ (x : View). x.steps) is)

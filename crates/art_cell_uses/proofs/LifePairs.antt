@@ -25,10 +25,23 @@ use Rattle.art_cell.specs.Children.{child_word, link_in_pool, link_of}
 use Rattle.art_commit.specs.CommitLaws.{HasLeaf, HasNode}
 use Rattle.art_world.specs.FreeNumbers.{IsLeastFree}
 use Rattle.art_tree.specs.Heaps.{heap_of}
-use Rattle.art_step.specs.Knowledge.{CellAt, NamesLeaf, Leads, Names}
+use Rattle.art_step.specs.Knowledge.{CellAt, NamesLeaf, KnowsPath, KnowsLeaf}
 use Rattle.art_cell_uses.specs.NodeLives.{IsNoted, OnlyLearns, IsStampAt, NotesRoot, NotesKey, key_of_one, HoldsTwo, anchor_held, stamped_holding, IsPair, HoldsPair, NotesPair, HasMerged}
-use Rattle.art_step.specs.Shown.{Freed, Took, link_of_number, links_of, IsHolding, MayReadCell, Passed, Upgraded, Wrote, Committed, Released}
-use Rattle.art_step.specs.StepRows.{HasClaimedNone, MayFree, MayBeFirst, MayRelease, MayWrite, Drops, with_word, begun, note_of, stamp_of, IsInLimbo}
+use Rattle.art_step.specs.Steps.Give as give
+use Rattle.art_step.specs.Steps.Take as take_free
+use Rattle.art_step.specs.Tokens.{link_of_number, links_of}
+use Rattle.art_step.specs.Views.{IsHolding, note_of, stamp_of, IsInLimbo}
+use Rattle.art_step.specs.Steps.Read as read
+use Rattle.art_step.specs.Steps.Check as check
+use Rattle.art_step.specs.Steps.Upgrade as upgrade
+use Rattle.art_step.specs.Steps.Write as write
+use Rattle.art_step.specs.Steps.Commit as commit
+use Rattle.art_step.specs.Steps.Release as release
+use Rattle.art_step.specs.Steps.Upgrade.{HasClaimedNone}
+use Rattle.art_step.specs.Steps.Give.{MayFree}
+use Rattle.art_step.specs.Steps.Release.{Drops}
+use Rattle.art_step.specs.Steps.Write.{with_word}
+use Rattle.art_step.specs.Steps.Begin as begin
 use Rattle.art_tree.specs.Tree.{top}
 use Rattle.art_step.specs.Views.{IsClear, IsNumber, Member, Memory, size_of, words_in}
 use Rattle.art_cell_uses.specs.Visits.{Fills, HasNone, IsIdle}
@@ -47,30 +60,30 @@ use Rattle.art_world.proofs.WorldViews.{at_view}
 
 -- ---- the node is stamped, and its path is noted
 
-pub begun_learns : (v w : View) (x : Stamp) (n : Node) → x.cell ≡ cell.Node n → IsClear x.version → w ≡ begun v (cell.Node n) x.version → OnlyLearns v w × Member x w.stamps
+pub begun_learns : (v w : View) (x : Stamp) (n : Node) → x.cell ≡ cell.Node n → IsClear x.version → w ≡ begin.view_after v (cell.Node n) x.version → OnlyLearns v w × Member x w.stamps
 begun_learns v w x n is clear e =
-    let same : begun v (cell.Node n) x.version ≡ record v { steps = v.steps + 1; stamps = stamp_of (cell.Node n) x.version ∷ v.stamps; found = (begun v (cell.Node n) x.version).found } = rw (eq-eqb (x.version % 4) 0 clear) refl in
+    let same : begin.view_after v (cell.Node n) x.version ≡ record v { steps = v.steps + 1; stamps = stamp_of (cell.Node n) x.version ∷ v.stamps; found = (begin.view_after v (cell.Node n) x.version).found } = rw (eq-eqb (x.version % 4) 0 clear) refl in
     subst (λ (u : View). OnlyLearns v u × Member x u.stamps) (sym (e ∙ same))
     (record { pin = refl; held = refl; committed = refl; hand = refl; limbo = refl; stamps = λ a i. inr i; notes = λ a i. i }, inl (sym (stamp_is x (cell.Node n) is)))
 
 -- what the anchor names has the empty path
-root_leads : (z : Sizes) (v : View) (x : Stamp) (n : Node) → NotesRoot v x (node n) → Leads z v x (cell.Node n) []
+root_leads : (z : Sizes) (v : View) (x : Stamp) (n : Node) → NotesRoot v x (node n) → KnowsPath z v x (cell.Node n) []
 unfolding heap_of
 root_leads z v x n seen s shape holds =
     let word = holds (note_of x (Word 1 seen.word)) seen.noted refl in
     top (ap link_of (sym (ap (λ (c : Cell). s c 1) seen.at.cell) ∙ word) ∙ seen.names) refl
 
-pub below_root : (z : Sizes) (v w : View) (x d : Stamp) (n : Node) (o : Option What) → Member d v.stamps → d.cell ≡ cell.Node n → NotesRoot v x (node n) → Passed z v w x o → IsStampAt w d (cell.Node n) []
+pub below_root : (z : Sizes) (v w : View) (x d : Stamp) (n : Node) (o : Option What) → Member d v.stamps → d.cell ≡ cell.Node n → NotesRoot v x (node n) → check.Unchanged z v w x o → IsStampAt w d (cell.Node n) []
 below_root z v w x d n o stamped is seen p = record {
   cell = is;
   stamp = (passed_learns z v w x o p).stamps d stamped;
   path = subst (λ (u : View). IsNoted u d (Starts [])) (sym p.is)
-      (member_front (note_of d (Starts [])) p.paths v.notes (p.led d [] stamped (subst (λ (c : Cell). Leads z v x c []) (sym is) (root_leads z v x n seen))));
+      (member_front (note_of d (Starts [])) p.paths v.notes (p.led d [] stamped (subst (λ (c : Cell). KnowsPath z v x c []) (sym is) (root_leads z v x n seen))));
 }
 
 -- ---- its words are read
 
-pub may_read_node : (z : Sizes) (v : View) (x : Stamp) (n : Node) (i : ℕ) → n.layout ≡ Node4 → v.held ≡ [] → IsStampAt v x (cell.Node n) [] → 0 < i → i < 15 → MayReadCell z v x (cell.Node n) i
+pub may_read_node : (z : Sizes) (v : View) (x : Stamp) (n : Node) (i : ℕ) → n.layout ≡ Node4 → v.held ≡ [] → IsStampAt v x (cell.Node n) [] → 0 < i → i < 15 → read.MayReadCell z v x (cell.Node n) i
 may_read_node z v x n i layout free at low high = (
   at.cell,
   record {
@@ -103,7 +116,7 @@ pair_on v w x a b more pair = record {
 }
 
 -- and so it names the second leaf
-pub pair_names : (z : Sizes) (v : View) (x : Stamp) (n : Node) (a b : ℕ) → n.layout ≡ Node4 → IsStampAt v x (cell.Node n) [] → NotesPair v x a b → Names z v x b
+pub pair_names : (z : Sizes) (v : View) (x : Stamp) (n : Node) (a b : ℕ) → n.layout ≡ Node4 → IsStampAt v x (cell.Node n) [] → NotesPair v x a b → KnowsLeaf z v x b
 pair_names z v x n a b layout at pair s shape holds =
     subst (λ (c : Cell). NamesLeaf s c b) (sym at.cell) record {
       path = [];
@@ -139,7 +152,7 @@ key_kept v w x l b same key = record {
 -- ---- both are locked
 
 pub locked_both : (v w u : View) (x d : Stamp) (n : Node) (a b value : ℕ) → v.held ≡ [] → NotesRoot v x (node n) → IsStampAt v d (cell.Node n) [] → NotesPair v d a b → NotesKey v d b 98 → IsNoted v d (LeafWord b 0 value)
-    → Upgraded v w d → Upgraded w u x → HoldsPair u n a b value
+    → upgrade.Locked v w d → upgrade.Locked w u x → HoldsPair u n a b value
 locked_both v w u x d n a b value free seen at pair key noted first second = record {
   version = x.version;
   second = d.version;
@@ -177,7 +190,7 @@ locked_both v w u x d n a b value free seen at pair key noted first second = rec
         (ap (λ (y : View). y.held) first.is ∙ ap₂ (λ (c : Cell) (hs : List Holding). record { cell = c; stamped = Some d.version; old = first.words; new = first.words } ∷ hs) at.cell free)
 
 -- after the first upgrade nothing that is held was claimed
-pub one_stamped : (v w : View) (x : Stamp) → v.held ≡ [] → Upgraded v w x → HasClaimedNone w
+pub one_stamped : (v w : View) (x : Stamp) → v.held ≡ [] → upgrade.Locked v w x → HasClaimedNone w
 one_stamped v w x free u h i = ⊎_elim
     (λ (e : h ≡ record { cell = x.cell; stamped = Some x.version; old = u.words; new = u.words }). (x.version, ap (λ (k : Holding). k.stamped) e))
     (λ (j : Member h v.held). absurd (subst (Member h) free j))
@@ -192,10 +205,10 @@ module _ (v w : View) (n : Node) (a b value : ℕ) (r : HoldsPair v n a b value)
   abbrev pair_node : Holding
   pair_node = stamped_holding (stamp_of (cell.Node n) r.second) r.body r.body
 
-  pub may_write_pair : (h : Holding) × (h.cell ≡ cell.Anchor) × MayWrite v h 1
+  pub may_write_pair : (h : Holding) × (h.cell ≡ cell.Anchor) × write.May v h 1
   may_write_pair = (pair_anchor, refl, record { held = r.held.one; early = r.early; place = (omega arith, omega arith) })
 
-  pub wrote_pair : n.layout ≡ Node4 → (c : Cell) (x : ℕ) → c ≡ cell.Anchor → x ≡ child_word (leaf a) → ((h : Holding) → IsHolding v c h → Wrote v w h 1 x) → HasMerged w n a b value × (w.pin ≡ v.pin) × (w.hand ≡ v.hand)
+  pub wrote_pair : n.layout ≡ Node4 → (c : Cell) (x : ℕ) → c ≡ cell.Anchor → x ≡ child_word (leaf a) → ((h : Holding) → IsHolding v c h → write.Outcome v w h 1 x) → HasMerged w n a b value × (w.pin ≡ v.pin) × (w.hand ≡ v.hand)
   wrote_pair layout c x is_anchor is_word each =
       let o = each pair_anchor (r.held.one, sym is_anchor) in (
         record {
@@ -226,12 +239,12 @@ module _ (v w : View) (n : Node) (a b value : ℕ) (r : HasMerged v n a b value)
   abbrev merged_node : Holding
   merged_node = stamped_holding (stamp_of (cell.Node n) r.second) r.body r.body
 
-  pub anchor_may_be_first : (h : Holding) × (h.cell ≡ cell.Anchor) × MayBeFirst v (node n ∷ leaf b ∷ []) h false
+  pub anchor_may_be_first : (h : Holding) × (h.cell ≡ cell.Anchor) × commit.MayBeFirst v (node n ∷ leaf b ∷ []) h false
   anchor_may_be_first = (merged_anchor, refl, record { early = r.early; held = r.held.one; obsolete = ((λ e. cc), (λ o. let bad = o.1 in absurd (cc))) })
 
-  module _ (what : What) (us ls : List Link) (are : us ≡ node n ∷ leaf b ∷ []) (c : Cell) (same : c ≡ cell.Anchor) (each : (h : Holding) → IsHolding v c h → Committed v w what us ls h) where
-    abbrev o : Committed v w what (node n ∷ leaf b ∷ []) ls merged_anchor
-    o = subst (λ (ks : List Link). Committed v w what ks ls merged_anchor) are (each merged_anchor (r.held.one, sym same))
+  module _ (what : What) (us ls : List Link) (are : us ≡ node n ∷ leaf b ∷ []) (c : Cell) (same : c ≡ cell.Anchor) (each : (h : Holding) → IsHolding v c h → commit.Outcome v w what us ls h) where
+    abbrev o : commit.Outcome v w what (node n ∷ leaf b ∷ []) ls merged_anchor
+    o = subst (λ (ks : List Link). commit.Outcome v w what ks ls merged_anchor) are (each merged_anchor (r.held.one, sym same))
 
     node_left : Member merged_node w.held
     node_left = subst (λ (u : View). Member merged_node u.held) (sym o.is) (o.drops.stays merged_node r.held.two (λ e. cc))
@@ -242,10 +255,10 @@ module _ (v w : View) (n : Node) (a b value : ℕ) (r : HasMerged v n a b value)
     leaf_in_limbo : IsInLimbo w (leaf b)
     leaf_in_limbo = subst (λ (u : View). IsInLimbo u (leaf b)) (sym o.is) (_, inr (inl refl), refl)
 
-    pub node_may_go : (h : Holding) × (h.cell ≡ cell.Node n) × MayRelease w h true
+    pub node_may_go : (h : Holding) × (h.cell ≡ cell.Node n) × release.May w h true
     node_may_go = (merged_node, refl, (node_left, inl (ap (λ (u : View). u.committed) o.is, ((λ e. (n, refl, node_in_limbo)), (λ k. refl)))))
 
-    pub merge_ends : (u : View) → HasNone v.hand → ((h : Holding) → IsHolding w (cell.Node n) h → Released w u h) → (u.held ≡ []) × (u.pin ≡ v.pin) × IsInLimbo u (node n) × IsInLimbo u (leaf b) × HasNone u.hand
+    pub merge_ends : (u : View) → HasNone v.hand → ((h : Holding) → IsHolding w (cell.Node n) h → release.Outcome w u h) → (u.held ≡ []) × (u.pin ≡ v.pin) × IsInLimbo u (node n) × IsInLimbo u (leaf b) × HasNone u.hand
     merge_ends u none released =
         let last = released merged_node (node_left, refl) in (
           ap (λ (y : View). y.held) last.is
@@ -281,7 +294,7 @@ few_numbers (a ∷ b ∷ c ∷ []) d e long first second are =
     at_most_one (Some n) bad = omega (arith, bad)
 
 -- a node's number that was free is one in hand
-pub took_node : (a : Kept) (z : Sizes) (m : Memory) (v w : View) (n : Number) → z ≡ a.sizes → IsLeastFree a N4 n → Took m v w (link_of_number n) → HasNode z w (record { layout = Node4; number = n.number })
+pub took_node : (a : Kept) (z : Sizes) (m : Memory) (v w : View) (n : Number) → z ≡ a.sizes → IsLeastFree a N4 n → take_free.Outcome m v w (link_of_number n) → HasNode z w (record { layout = Node4; number = n.number })
 took_node a z m v w n same free t = record {
   hand = record { link = link_of_number n; words = t.words };
   has = subst (Member (record { link = link_of_number n; words = t.words })) (sym (ap (λ (y : View). y.hand) t.is)) (inl refl);
@@ -344,7 +357,7 @@ may_free_node z v d n alone none free is limbo =
     )
 
 -- the others stay in limbo
-pub stays_in_limbo : (v w : View) (d c : Link) → c ≢ d → IsInLimbo v c → Freed v w d → IsInLimbo w c
+pub stays_in_limbo : (v w : View) (d c : Link) → c ≢ d → IsInLimbo v c → give.FreeOutcome v w d → IsInLimbo w c
 stays_in_limbo v w d c other limbo f =
     subst (λ (u : View). IsInLimbo u c) (sym f.is) (limbo.0, f.rest.stays limbo.0 limbo.1 (λ e. other (sym limbo.2 ∙ e)), limbo.2)
 

@@ -21,10 +21,19 @@ use Rattle.art_step.specs.declared.views.What.{What}
 use Rattle.art_cell.specs.Children.{child_word, link_of}
 use Rattle.art_commit.specs.CommitLaws.{HasLeaf, HasNode}
 use Rattle.art_tree.specs.Heaps.{heap_of}
-use Rattle.art_step.specs.Knowledge.{NamesLeaf, Names}
+use Rattle.art_step.specs.Knowledge.{NamesLeaf, KnowsLeaf}
 use Rattle.art_cell_uses.specs.NodeLives.{IsNoted, OnlyLearns, IsStampAt, StampsAnchor, NotesRoot, NotesKey, key_of_one, HoldsTwo, anchor_held, claimed_holding, HoldsLeafRoot, HasClaimed, IsWholePair, HasForked}
-use Rattle.art_step.specs.Shown.{claimed_nodes, coming, Claimed, IsHolding, Passed, Upgraded, Wrote, Committed, Released}
-use Rattle.art_step.specs.StepRows.{MayBeFirst, MayClaim, MayRelease, Puts, with_word, MayWrite, Drops, has_read, note_of, stamp_of, MayReadLeaf, IsNotHeld}
+use Rattle.art_step.specs.Steps.Commit.{claimed_nodes, coming}
+use Rattle.art_step.specs.Steps.Claim as claim
+use Rattle.art_step.specs.Views.{IsHolding, note_of, stamp_of, IsNotHeld}
+use Rattle.art_step.specs.Steps.Check as check
+use Rattle.art_step.specs.Steps.Upgrade as upgrade
+use Rattle.art_step.specs.Steps.Write as write
+use Rattle.art_step.specs.Steps.Commit as commit
+use Rattle.art_step.specs.Steps.Release as release
+use Rattle.art_step.specs.Steps.Write.{Puts, with_word}
+use Rattle.art_step.specs.Steps.Release.{Drops}
+use Rattle.art_step.specs.Steps.Read as read
 use Rattle.art_step.specs.Views.{Member, size_of, words_in}
 use Rattle.art_cell_uses.specs.Visits.{HasNone}
 use Rattle.art_tree.specs.WordChanges.{FitsWord}
@@ -51,22 +60,22 @@ learns_then u v w a b = record {
 }
 
 -- by a word that it reads
-pub reading_learns : (v w : View) (x : Stamp) (y : Fact) → w ≡ has_read v x y → OnlyLearns v w × IsNoted w x y
+pub reading_learns : (v w : View) (x : Stamp) (y : Fact) → w ≡ read.view_after v x y → OnlyLearns v w × IsNoted w x y
 reading_learns v w x y e =
     subst (λ (u : View). OnlyLearns v u × IsNoted u x y) (sym e) (record { pin = refl; held = refl; committed = refl; hand = refl; limbo = refl; stamps = λ a i. i; notes = λ a i. inr i }, inl refl)
 
 -- by a check, which keeps its stamps and notes
-pub passed_learns : (z : Sizes) (v w : View) (x : Stamp) (o : Option What) → Passed z v w x o → OnlyLearns v w
+pub passed_learns : (z : Sizes) (v w : View) (x : Stamp) (o : Option What) → check.Unchanged z v w x o → OnlyLearns v w
 passed_learns z v w x o p = subst (OnlyLearns v) (sym p.is) record { pin = refl; held = refl; committed = refl; hand = refl; limbo = refl; stamps = λ a i. i; notes = λ y i. member_back y p.paths v.notes i }
 
 -- what its notes say they go on to say
 pub stamp_at_on : (v w : View) (x : Stamp) (c : Cell) (p : List ℕ) → OnlyLearns v w → IsStampAt v x c p → IsStampAt w x c p
 stamp_at_on v w x c p more at = record { cell = at.cell; stamp = more.stamps x at.stamp; path = more.notes (note_of x (Starts p)) at.path }
 
-pub names_on : (z : Sizes) (v w : View) (x : Stamp) (l : ℕ) → OnlyLearns v w → Names z v x l → Names z w x l
+pub names_on : (z : Sizes) (v w : View) (x : Stamp) (l : ℕ) → OnlyLearns v w → KnowsLeaf z v x l → KnowsLeaf z w x l
 names_on z v w x l more names s shape holds = names s shape (λ y i e. holds y (more.notes y i) e)
 
-pub may_read_on : (z : Sizes) (v w : View) (x : Stamp) (l i : ℕ) → OnlyLearns v w → Member x v.stamps → IsNotHeld v.held x.cell → Names z v x l → i < 10 → MayReadLeaf z w x l i
+pub may_read_on : (z : Sizes) (v w : View) (x : Stamp) (l i : ℕ) → OnlyLearns v w → Member x v.stamps → IsNotHeld v.held x.cell → KnowsLeaf z v x l → i < 10 → read.MayLeaf z w x l i
 may_read_on z v w x l i more stamped free names low = record {
   stamp = more.stamps x stamped;
   free = λ h j. free h (subst (Member h) more.held j);
@@ -75,7 +84,7 @@ may_read_on z v w x l i more stamped free names low = record {
 }
 
 -- what the anchor's noted word names
-pub root_names : (z : Sizes) (v : View) (x : Stamp) (l : ℕ) (d : Link) → d ≡ leaf l → NotesRoot v x d → Names z v x l
+pub root_names : (z : Sizes) (v : View) (x : Stamp) (l : ℕ) (d : Link) → d ≡ leaf l → NotesRoot v x d → KnowsLeaf z v x l
 unfolding heap_of
 root_names z v x l d is seen s shape holds =
     let word = holds (note_of x (Word 1 seen.word)) seen.noted refl in
@@ -105,7 +114,7 @@ pub stamp_is : (x : Stamp) (c : Cell) → x.cell ≡ c → stamp_of c x.version 
 stamp_is x c e = ap (λ (d : Cell). stamp_of d x.version) (sym e)
 
 -- the anchor is locked above a leaf
-pub locked_above_leaf : (v w : View) (x : Stamp) (l : ℕ) (d : Link) → d ≡ leaf l → v.held ≡ [] → NotesRoot v x d → NotesKey v x l 97 → Upgraded v w x → HoldsLeafRoot w l
+pub locked_above_leaf : (v w : View) (x : Stamp) (l : ℕ) (d : Link) → d ≡ leaf l → v.held ≡ [] → NotesRoot v x d → NotesKey v x l 97 → upgrade.Locked v w x → HoldsLeafRoot w l
 locked_above_leaf v w x l d is free seen key u = record {
   version = x.version;
   words = u.words;
@@ -152,7 +161,7 @@ both_dropped hs h k c ks ls two first is second = no_members ls (none_left ks ls
 
 -- ---- the node is claimed
 
-pub may_claim_beside : (z : Sizes) (v : View) (m : Node) (a : ℕ) → HoldsLeafRoot v a → HasNode z v m → MayClaim v m
+pub may_claim_beside : (z : Sizes) (v : View) (m : Node) (a : ℕ) → HoldsLeafRoot v a → HasNode z v m → claim.May v m
 may_claim_beside z v m a r has = record {
   hand = (has.hand, has.has, has.link);
   free = λ h i e. ⊎_elim
@@ -162,7 +171,7 @@ may_claim_beside z v m a r has = record {
   early = inl r.early;
 }
 
-pub claimed_beside : (z : Sizes) (v w : View) (m : Node) (a : ℕ) (ws : List ℕ) → m.layout ≡ Node4 → HoldsLeafRoot v a → HasNode z v m → Claimed v w m → HasClaimed z w m a ws 0
+pub claimed_beside : (z : Sizes) (v w : View) (m : Node) (a : ℕ) (ws : List ℕ) → m.layout ≡ Node4 → HoldsLeafRoot v a → HasNode z v m → claim.Outcome v w m → HasClaimed z w m a ws 0
 claimed_beside z v w m a ws layout r has k = record {
   version = r.version;
   words = r.words;
@@ -203,14 +212,14 @@ module _ (z : Sizes) (v w : View) (m : Node) (a : ℕ) (ws : List ℕ) (n : ℕ)
   abbrev the_anchor : Holding
   the_anchor = anchor_held r.version r.words r.words
 
-  pub may_write_claimed : m.layout ≡ Node4 → n < 14 → (h : Holding) × (h.cell ≡ cell.Node m) × MayWrite v h (n + 1)
+  pub may_write_claimed : m.layout ≡ Node4 → n < 14 → (h : Holding) × (h.cell ≡ cell.Node m) × write.May v h (n + 1)
   may_write_claimed layout low = (
     the_claimed,
     refl,
     record { held = r.held.two; early = r.early; place = (omega arith, subst (λ (k : Layout). n + 1 < size k) (sym layout) (omega (arith, low))) },
   )
 
-  pub wrote_claimed : (x : ℕ) → n < 14 → x ≡ get_or ws n 0 → ((h : Holding) → IsHolding v (cell.Node m) h → Wrote v w h (n + 1) x) → HasClaimed z w m a ws (n + 1)
+  pub wrote_claimed : (x : ℕ) → n < 14 → x ≡ get_or ws n 0 → ((h : Holding) → IsHolding v (cell.Node m) h → write.Outcome v w h (n + 1) x) → HasClaimed z w m a ws (n + 1)
   wrote_claimed x low is each =
       let o = each the_claimed (r.held.two, refl) in
       let put = puts_one v.held the_claimed the_anchor (with_word the_claimed (n + 1) x) o.held refl (holds_other_way v.held the_anchor the_claimed r.held) o.puts in
@@ -233,7 +242,7 @@ module _ (z : Sizes) (v w : View) (m : Node) (a : ℕ) (ws : List ℕ) (n : ℕ)
         early = ap (λ (u : View). u.committed) o.is ∙ r.early;
       }
 
-  pub wrote_rest : (x : ℕ) → ((h : Holding) → IsHolding v (cell.Node m) h → Wrote v w h (n + 1) x) → (w.hand ≡ v.hand) × (w.pin ≡ v.pin)
+  pub wrote_rest : (x : ℕ) → ((h : Holding) → IsHolding v (cell.Node m) h → write.Outcome v w h (n + 1) x) → (w.hand ≡ v.hand) × (w.pin ≡ v.pin)
   wrote_rest x each = let o = each the_claimed (r.held.two, refl) in (ap (λ (u : View). u.hand) o.is, ap (λ (u : View). u.pin) o.is)
 
 -- ---- and then the anchor
@@ -269,11 +278,11 @@ whole_pair ws a l long first written = record {
         (cases_eq i 13)
 
 module _ (z : Sizes) (v w : View) (m : Node) (a l value : ℕ) (ws : List ℕ) (r : HasClaimed z v m a ws 14) where
-  pub may_write_above : (h : Holding) × (h.cell ≡ cell.Anchor) × MayWrite v h 1
+  pub may_write_above : (h : Holding) × (h.cell ≡ cell.Anchor) × write.May v h 1
   may_write_above = (the_anchor z v v m a ws 14 r, refl, record { held = r.held.one; early = r.early; place = (omega arith, omega arith) })
 
   pub wrote_above : m.layout ≡ Node4 → ws ≡ pair_words (child_word (leaf a)) (child_word (leaf l)) → HasLeaf z v l (98 ∷ []) value
-      → ((h : Holding) → IsHolding v cell.Anchor h → Wrote v w h 1 (child_word (node m))) → HasForked z w m a l value
+      → ((h : Holding) → IsHolding v cell.Anchor h → write.Outcome v w h 1 (child_word (node m))) → HasForked z w m a l value
   wrote_above layout are leaf_in_hand each =
       let h = the_anchor z v v m a ws 14 r in
       let k = the_claimed z v v m a ws 14 r in
@@ -296,19 +305,19 @@ module _ (z : Sizes) (v w : View) (m : Node) (a l value : ℕ) (ws : List ℕ) (
         early = ap (λ (u : View). u.committed) o.is ∙ r.early;
       }
 
-  pub wrote_above_rest : (x : ℕ) → ((h : Holding) → IsHolding v cell.Anchor h → Wrote v w h 1 x) → w.pin ≡ v.pin
+  pub wrote_above_rest : (x : ℕ) → ((h : Holding) → IsHolding v cell.Anchor h → write.Outcome v w h 1 x) → w.pin ≡ v.pin
   wrote_above_rest x each = ap (λ (u : View). u.pin) (each (the_anchor z v v m a ws 14 r) (r.held.one, refl)).is
 
-  pub wrote_above_hand : (x : ℕ) → ((h : Holding) → IsHolding v cell.Anchor h → Wrote v w h 1 x) → w.hand ≡ v.hand
+  pub wrote_above_hand : (x : ℕ) → ((h : Holding) → IsHolding v cell.Anchor h → write.Outcome v w h 1 x) → w.hand ≡ v.hand
   wrote_above_hand x each = ap (λ (u : View). u.hand) (each (the_anchor z v v m a ws 14 r) (r.held.one, refl)).is
 
 -- the words and cells by what stands for them
 pub forked_by : (z y : Sizes) (v w : View) (m : Node) (a l value n first second x : ℕ) (c : Cell) → y ≡ z → 14 ≤ n → n ≤ 14 → HasClaimed z v m a (pair_words first second) n → m.layout ≡ Node4
-    → first ≡ child_word (leaf a) → second ≡ child_word (leaf l) → HasLeaf z v l (98 ∷ []) value → c ≡ cell.Anchor → x ≡ child_word (node m) → ((h : Holding) → IsHolding v c h → Wrote v w h 1 x) → HasForked y w m a l value
+    → first ≡ child_word (leaf a) → second ≡ child_word (leaf l) → HasLeaf z v l (98 ∷ []) value → c ≡ cell.Anchor → x ≡ child_word (node m) → ((h : Holding) → IsHolding v c h → write.Outcome v w h 1 x) → HasForked y w m a l value
 forked_by z y v w m a l value n first second x c same low high r layout is_first is_second has is_anchor is_word each =
     subst (λ (t : Sizes). HasForked t w m a l value) (sym same)
     (wrote_above z v w m a l value (pair_words first second) (subst (HasClaimed z v m a (pair_words first second)) (omega (arith, low, high)) r) layout (ap₂ pair_words is_first is_second) has
-    (λ h i. subst (λ (k : ℕ). Wrote v w h 1 k) is_word (each h (i.0, i.1 ∙ sym is_anchor))))
+    (λ h i. subst (λ (k : ℕ). write.Outcome v w h 1 k) is_word (each h (i.0, i.1 ∙ sym is_anchor))))
 
 -- ---- the fork is committed at the node's release, and the anchor is released
 
@@ -319,21 +328,21 @@ module _ (z : Sizes) (v w : View) (m : Node) (a l value : ℕ) (r : HasForked z 
   abbrev forked_node : Holding
   forked_node = claimed_holding m r.unused r.body
 
-  pub node_may_be_first : (h : Holding) × (h.cell ≡ cell.Node m) × MayBeFirst v [] h false
+  pub node_may_be_first : (h : Holding) × (h.cell ≡ cell.Node m) × commit.MayBeFirst v [] h false
   node_may_be_first = (forked_node, refl, record { early = r.early; held = r.held.two; obsolete = ((λ e. cc), (λ o. absurd o.2)) })
 
-  module _ (what : What) (ls : List Link) (each : (h : Holding) → IsHolding v (cell.Node m) h → Committed v w what [] ls h) where
-    abbrev o : Committed v w what [] ls forked_node
+  module _ (what : What) (ls : List Link) (each : (h : Holding) → IsHolding v (cell.Node m) h → commit.Outcome v w what [] ls h) where
+    abbrev o : commit.Outcome v w what [] ls forked_node
     o = each forked_node (r.held.two, refl)
 
     anchor_left : Member forked_anchor w.held
     anchor_left = subst (λ (u : View). Member forked_anchor u.held) (sym o.is) (o.drops.stays forked_anchor r.held.one (λ e. cc))
 
-    pub anchor_may_go : (h : Holding) × (h.cell ≡ cell.Anchor) × MayRelease w h false
+    pub anchor_may_go : (h : Holding) × (h.cell ≡ cell.Anchor) × release.May w h false
     anchor_may_go = (forked_anchor, refl, (anchor_left, inl (ap (λ (u : View). u.committed) o.is, ((λ e. cc), (λ k. let bad = k.1 in absurd (cc))))))
 
     -- nothing is left in hand
-    pub fork_empties : (u : View) → ls ≡ coming v (Some (leaf l)) → ((x : InHand) → Member x v.hand → (x.link ≡ leaf l) ⊎ (x.link ≡ node m)) → ((h : Holding) → IsHolding w cell.Anchor h → Released w u h) → HasNone u.hand
+    pub fork_empties : (u : View) → ls ≡ coming v (Some (leaf l)) → ((x : InHand) → Member x v.hand → (x.link ≡ leaf l) ⊎ (x.link ≡ node m)) → ((h : Holding) → IsHolding w cell.Anchor h → release.Outcome w u h) → HasNone u.hand
     fork_empties u are only released x i =
         let last = released forked_anchor (anchor_left, refl) in
         let was = o.hands.was x (subst (Member x) (ap (λ (y : View). y.hand) last.is ∙ ap (λ (y : View). y.hand) o.is) i) in
@@ -342,7 +351,7 @@ module _ (z : Sizes) (v w : View) (m : Node) (a l value : ℕ) (r : HasForked z 
         (λ (e : x.link ≡ node m). was.1 (subst (Member x.link) (sym are) (inr (subst (λ (d : Link). Member d (claimed_nodes v.held)) (sym e) (is_claimed v.held forked_node m r.held.two refl refl)))))
         (only x was.0)
 
-    pub fork_ends : (u : View) → ((h : Holding) → IsHolding w cell.Anchor h → Released w u h) → (u.held ≡ []) × (u.pin ≡ v.pin)
+    pub fork_ends : (u : View) → ((h : Holding) → IsHolding w cell.Anchor h → release.Outcome w u h) → (u.held ≡ []) × (u.pin ≡ v.pin)
     fork_ends u released =
         let last = released forked_anchor (anchor_left, refl) in (
           ap (λ (y : View). y.held) last.is

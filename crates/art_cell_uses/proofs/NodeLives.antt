@@ -22,8 +22,9 @@ use Rattle.art_commit.specs.CommitLaws.{IsItsNode, ForkCommits, MergeCommits}
 use Rattle.art_tree.specs.Heaps.{Cells, key_of, heap_of}
 use Rattle.art_step.specs.Knowledge.{IsShape}
 use Rattle.art_cell_uses.specs.NodeLives.{IsNoted, NotesKey, key_of_one, anchor_held, stamped_holding, claimed_holding, IsPair, HasForked, HasMerged}
-use Rattle.art_step.specs.Shown.{claimed_nodes, claimed_node, coming}
-use Rattle.art_step.specs.StepRows.{Knows, AllNew, IsLinked, Commits, MayCommit, note_of, stamp_of}
+use Rattle.art_step.specs.Steps.Commit.{claimed_nodes, claimed_node, coming, Knows, AllNew, IsLinked, Commits}
+use Rattle.art_step.specs.Steps.Commit as commit
+use Rattle.art_step.specs.Views.{note_of, stamp_of}
 use Rattle.art_tree.specs.Tree.{Top, Slot, child_at_place}
 use Rattle.art_step.specs.Views.{Member, words_in}
 use Rattle.art_tree.specs.WordChanges.{WritesNode, two_children}
@@ -192,7 +193,7 @@ is_claimed (k ∷ hs) h n i e f = ⊎_elim
     over (cell.Leaf l) o j = j
 
 -- a fork may be committed
-pub may_fork : (z : Sizes) (v : View) (m : Node) (a l value : ℕ) → ForkCommits → HasForked z v m a l value → MayCommit z v (Done (Insert (98 ∷ []) value) Inserted) [] (coming v (Some (leaf l)))
+pub may_fork : (z : Sizes) (v : View) (m : Node) (a l value : ℕ) → ForkCommits → HasForked z v m a l value → commit.May z v (Done (Insert (98 ∷ []) value) Inserted) [] (coming v (Some (leaf l)))
 may_fork z v m a l value law r s s' shape knows new =
     same_coming z v _ [] (leaf l ∷ node m ∷ []) (leaf l ∷ claimed_nodes v.held) s s'
     (λ d i. ⊎_elim (λ (e : d ≡ leaf l). inl e) (λ (j : Member d (node m ∷ [])). ⊎_elim (λ (e : d ≡ node m). inr (subst (λ (k : Link). Member k (claimed_nodes v.held)) (sym e) (is_claimed v.held (claimed_holding m r.unused r.body) m r.held.two refl refl))) (λ (no : ⊥). absurd no) j) i)
@@ -206,7 +207,7 @@ may_fork z v m a l value law r s s' shape knows new =
         (r.held.only k.0 k.2)
 
 -- a merge may be committed
-pub may_merge : (z : Sizes) (v : View) (n : Node) (a b value : ℕ) → MergeCommits → HasMerged v n a b value → MayCommit z v (Done (Remove (98 ∷ [])) (Removed value)) (node n ∷ leaf b ∷ []) (coming v None)
+pub may_merge : (z : Sizes) (v : View) (n : Node) (a b value : ℕ) → MergeCommits → HasMerged v n a b value → commit.May z v (Done (Remove (98 ∷ [])) (Removed value)) (node n ∷ leaf b ∷ []) (coming v None)
 may_merge z v n a b value law r s s' shape knows new =
     same_coming z v _ (node n ∷ leaf b ∷ []) [] (claimed_nodes v.held) s s' (λ d i. absurd i) (λ d i. not_claimed (claimed_is v.held d i)) (merged z v n a b value r law s s' shape knows new)
   where

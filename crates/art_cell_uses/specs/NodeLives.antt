@@ -15,7 +15,7 @@ use Rattle.art_step.specs.declared.views.Stamp.{Stamp}
 use Rattle.art_step.specs.declared.views.View.{View}
 use Rattle.art_cell.specs.Children.{child_word, link_of}
 use Rattle.art_commit.specs.CommitLaws.{HasLeaf, HasNode}
-use Rattle.art_step.specs.StepRows.{note_of, stamp_of}
+use Rattle.art_step.specs.Views.{note_of, stamp_of}
 use Rattle.art_step.specs.Views.{Member, words_in}
 use Rattle.art_tree.specs.WordChanges.{FitsWord}
 use Rattle.art_cell.specs.Words.{Words}

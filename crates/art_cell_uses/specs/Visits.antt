@@ -21,8 +21,8 @@ use Rattle.art_cell_uses.specs.declared.visits.Visit.TheVariants as visit
 use Rattle.art_cell.specs.Children.{child_word}
 use Rattle.art_cell.specs.Leaves.{leaf_word}
 use Rattle.art_cell_uses.specs.NodeLives.{IsNoted, StampsAnchor, anchor_held}
-use Rattle.art_step.specs.Shown.{AgreesWithNotes}
-use Rattle.art_step.specs.StepRows.{stamp_of}
+use Rattle.art_step.specs.Steps.Upgrade.{AgreesWithNotes}
+use Rattle.art_step.specs.Views.{stamp_of}
 use Rattle.art_step.specs.Views.{Member, words_in}
 
 -- ---- lists with few members

@@ -8,8 +8,8 @@ ghost use Rattle.art_cell.specs.Children.{child_word};
 ghost use Rattle.art_cell.specs.Leaves.{leaf_word};
 ghost use Rattle.art_world.specs.Lent.{OnlyStepped, sizes_lent, view_lent};
 ghost use Rattle.art_cell_uses.specs.NodeLives.{IsNoted, OnlyLearns, StampsAnchor};
-ghost use Rattle.art_step.specs.Shown.{link_of_number};
-ghost use Rattle.art_step.specs.StepRows.{IsInLimbo};
+ghost use Rattle.art_step.specs.Tokens.{link_of_number};
+ghost use Rattle.art_step.specs.Views.{IsInLimbo};
 ghost use Rattle.art_cell_uses.specs.Visits.{ChangesWord, Fills, HoldsUnchanged, HoldsWord, IsAway, IsIdle, Locks, NotesLeaf, Removes};
 
 use art_cell::{Cell, Pool};

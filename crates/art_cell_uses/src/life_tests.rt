@@ -9,11 +9,11 @@ ghost use Rattle.art_step.specs.declared.views.Fact.TheVariants.{LeafWord, Word 
 ghost use Rattle.art_step.specs.declared.views.InHand.{InHand as NumberInHand};
 ghost use Rattle.art_cell.specs.Children.{child_word};
 ghost use Rattle.art_commit.specs.CommitLaws.{HasLeaf, HasNode};
-ghost use Rattle.art_step.specs.Knowledge.{Names};
+ghost use Rattle.art_step.specs.Knowledge.{KnowsLeaf};
 ghost use Rattle.art_world.specs.Lent.{OnlyStepped, lent, sizes_lent, view_lent};
 ghost use Rattle.art_cell_uses.specs.NodeLives.{HasClaimed, HoldsLeafRoot, HoldsPair, IsNoted, IsStampAt, NotesKey, NotesPair, NotesRoot, OnlyLearns, StampsAnchor};
-ghost use Rattle.art_step.specs.Shown.{link_of_number};
-ghost use Rattle.art_step.specs.StepRows.{IsInLimbo, IsNotHeld};
+ghost use Rattle.art_step.specs.Tokens.{link_of_number};
+ghost use Rattle.art_step.specs.Views.{IsInLimbo, IsNotHeld};
 ghost use Rattle.art_step.specs.Views.{Member};
 ghost use Rattle.art_cell_uses.specs.Visits.{Fills, HasNone, IsAway, IsIdle, Visits};
 ghost use Rattle.art_tree.specs.WordChanges.{FitsWord};
@@ -67,7 +67,7 @@ fn leaf_words<S: Steps>(steps: &mut S, stamp: &Stamp, leaf: u32) -> [u64; 3]
     requires number { leaf < (S.sizes steps.old).leaves }
     requires stamped { Member stamp.now (S.view steps.old).stamps }
     requires free { IsNotHeld (S.view steps.old).held stamp.now.cell }
-    requires names { Names (S.sizes steps.old) (S.view steps.old) stamp.now leaf }
+    requires names { KnowsLeaf (S.sizes steps.old) (S.view steps.old) stamp.now leaf }
     ensures sizes { S.sizes steps.new ≡ S.sizes steps.old }
     ensures only { S.only steps.old steps.new }
     ensures learns { OnlyLearns (S.view steps.old) (S.view steps.new) }

@@ -20,7 +20,8 @@ use Rattle.art_tree.specs.Heaps.{Cells, heap_of}
 use Rattle.art_step.specs.Knowledge.{IsNodeCell, IsShape}
 use Rattle.art_tree.specs.Laws.{Does, EditTouched, EditPaths}
 use Rattle.art_tree.specs.Rows.{ByteMap}
-use Rattle.art_step.specs.StepRows.{IsNotHeld, IsLinked, IsOnce, Commits}
+use Rattle.art_step.specs.Views.{IsNotHeld}
+use Rattle.art_step.specs.Steps.Commit.{IsLinked, IsOnce, Commits}
 use Rattle.art_tree.specs.Tree.{Place, Slot, Heap, child_at_place, StandsAt, PlaceAt, Begins, HasTwo}
 use Rattle.art_step.specs.Views.{Member, IsNumber}
 use Rattle.art_tree.specs.WordChanges.{WritesPlace, cell_of, WritesOnly}

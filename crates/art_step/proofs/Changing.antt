@@ -19,14 +19,21 @@ use Rattle.art_step.specs.declared.views.View.{View}
 use Rattle.art_step.specs.declared.views.What.{What}
 use Rattle.art_tree.specs.Heaps.{Cells}
 use Rattle.art_step.specs.Histories.{event, IsAnswered, becomes, run, replay, IsLegalFrom, IsLegal}
-use Rattle.art_step.specs.Instants.{LocksClaimed, LocksStamped, PutsWord, Unlocks}
+use Rattle.art_step.specs.Effects.{LocksClaimed, LocksStamped, PutsWord, Unlocks, SetsVersion, SetsWord, released_word}
 use Rattle.art_tree.specs.Rows.{ByteMap}
-use Rattle.art_step.specs.Shown.{IsHolding, IsInHand, Upgraded, Claimed, Wrote, WroteLeaf, Released, Committed, coming}
+use Rattle.art_step.specs.Views.{IsHolding, IsInHand, note_of, IsNotHeld, SetsView}
+use Rattle.art_step.specs.Steps.Upgrade as upgrade
+use Rattle.art_step.specs.Steps.Claim as claim
+use Rattle.art_step.specs.Steps.Write as write
+use Rattle.art_step.specs.Steps.Release as release
+use Rattle.art_step.specs.Steps.Commit as commit
+use Rattle.art_step.specs.Steps.Commit.{coming, AllNew, AreStanding, all_retired, RetiresPinned, UnlocksFirst}
 use Rattle.art_step.specs.Sound.{IsOneHistory, HoldsEach, Holder, Keeps, OneHolder, IsSound}
-use Rattle.art_step.specs.StepKinds.{OfAKind, Upgrade, Claim, Commit, Release, Write, WriteLeaf}
-use Rattle.art_step.specs.StepRows.{SetsVersion, SetsWord, note_of, MayUpgrade, MayClaim, MayWrite, MayWriteLeaf, MayRelease, MayBeFirst, MayCommit, upgraded, claimed, with_word, writing, with_leaf_word, handing, committed, released_word}
-use Rattle.art_step.specs.StepRows.{AllNew, AreStanding, Drops, HandsOver, IsNotHeld, all_retired}
-use Rattle.art_step.specs.Views.{Member, Memory, IsLocked, size_of, Views, Turned, words_in}
+use Rattle.art_step.specs.Steps.{OfAKind, IsUpgrade, IsClaim, IsCommit, IsRelease, IsWrite, IsWriteLeaf}
+use Rattle.art_step.specs.Steps.Write.{with_word, with_leaf_word}
+use Rattle.art_step.specs.Steps.Release.{Drops}
+use Rattle.art_step.specs.Steps.Give.{HandsOver}
+use Rattle.art_step.specs.Views.{Member, Memory, IsLocked, size_of, Views, words_in, SetsView}
 use Rattle.art_cell.specs.Words.{Words}
 use Rattle.art_step.specs.WordPlaces.{word_count, IsInside, place_of, first_place}
 use Rattle.art_step.specs.WordRows.{memory_of}
@@ -38,7 +45,6 @@ use Rattle.art_step.proofs.StepCommits.{either_member, retired_of}
 use Rattle.art_step.proofs.StepLocks.{no_leaf, unclaimed_law}
 use Rattle.art_step.proofs.Turns.{member_append, one_view}
 use Rattle.art_step.proofs.WordRows.{IsNoLeaf, sets_version, sets_word, copy_of, is_copy, copy_version}
-use Rattle.art_step.specs.FirstReleases.{RetiresPinned, UnlocksFirst}
 
 use Rattle.art_step.proofs.Moves.{Moves, makes, moved, with_view, with_turned}
 
@@ -81,7 +87,7 @@ released_free x true was is = omega arith
 released_free x false was is = omega arith
 
 -- a cell of a holding is released, and the pass has committed: s are the logical words before that, and t those after it
-module _ (m m' : Memory) (f g : Views) (p : ℕ) (v w : View) (h₀ : Holding) (obsolete : Bool) (s t : Cells) (is-v : f p ≡ Some v) (turn : Turned f p w g)
+module _ (m m' : Memory) (f g : Views) (p : ℕ) (v w : View) (h₀ : Holding) (obsolete : Bool) (s t : Cells) (is-v : f p ≡ Some v) (turn : SetsView f p w g)
     (held : Member h₀ v.held) (drops : Drops v.held h₀.cell w.held) (done : w.committed ≡ true) (sets : SetsVersion m h₀.cell (released_word (m.version h₀.cell) obsolete) m')
     (before : OneHolder m f s) (after : OneHolder m' g t) where
   keeps : (h : Holding) → Member h v.held → Keeps m s v.committed h
@@ -131,7 +137,7 @@ module _ (z : Sizes) (ws : List ℕ) (f : Views) (p : ℕ) (v : View) (r : IsSou
       no_leaf z m f x.cell r.formed (λ obsolete. omega arith)
 
   -- a stamped cell is locked
-  pub moves_upgrades : (x : Stamp) → IsInside z x.cell → m.version x.cell ≡ x.version → MayUpgrade v x → Moves z ws f p v (set ws (place_of z x.cell) (x.version + 2)) (λ v w. Upgraded v w x) (LocksStamped x)
+  pub moves_upgrades : (x : Stamp) → IsInside z x.cell → m.version x.cell ≡ x.version → upgrade.May v x → Moves z ws f p v (set ws (place_of z x.cell) (x.version + 2)) (λ v w. upgrade.Locked v w x) (LocksStamped x)
   moves_upgrades x there stays may =
       let clear = ((r.vouch p v at).stamps x may.stamp).clear in
       let us : List ℕ = set ws (place_of z x.cell) (x.version + 2) in
@@ -139,7 +145,7 @@ module _ (z : Sizes) (ws : List ℕ) (f : Views) (p : ℕ) (v : View) (r : IsSou
       let sets : SetsVersion m x.cell (x.version + 2) (memory_of z us) = sets_version z ws x.cell (x.version + 2) there plain long in
       let copy = is_copy z ws x.cell in
       let words : List ℕ = copy_of z ws x.cell in
-      moved z ws f p v r at long us (λ v w. Upgraded v w x) (LocksStamped x) (upgraded v x words) refl
+      moved z ws f p v r at long us (λ v w. upgrade.Locked v w x) (LocksStamped x) (upgrade.view_after v x words) refl
       record {
         limit = may.limit;
         words = words;
@@ -148,36 +154,36 @@ module _ (z : Sizes) (ws : List ℕ) (f : Views) (p : ℕ) (v : View) (r : IsSou
         agrees = λ i value j. ap (λ (w : Words). w i) (sym copy.words ∙ sym (r.holder.at_rest x.cell (λ locked. omega arith))) ∙ ((r.vouch p v at).notes (note_of x (Word i value)) j).same stays;
         is = refl;
       }
-      (λ g t. Upgrade record { stamp = x; copy = words; may = may; copied = copy; locks = record { found = sym stays; sets = sets }; view = t })
+      (λ g t. IsUpgrade record { stamp = x; copy = words; may = may; copied = copy; locks = record { found = sym stays; sets = sets }; view = t })
       (λ g t. record { found = sym stays; sets = sets })
 
   -- a node's number in hand is one whose word may go up
-  pub claim_fits : (n : Node) → MayClaim v n → m.version (cell.Node n) + 1 < 2 ^ 64
+  pub claim_fits : (n : Node) → claim.May v n → m.version (cell.Node n) + 1 < 2 ^ 64
   claim_fits n may =
       let obsolete = unclaimed_law z p v m f n at r may in
       let small = (r.formed.versions (cell.Node n)).obsolete obsolete in
       omega arith
 
   -- a node in hand is locked
-  pub moves_claims : (n : Node) → IsInside z (cell.Node n) → MayClaim v n → Moves z ws f p v (set ws (place_of z (cell.Node n)) (m.version (cell.Node n) + 1)) (λ v w. Claimed v w n) (LocksClaimed n)
+  pub moves_claims : (n : Node) → IsInside z (cell.Node n) → claim.May v n → Moves z ws f p v (set ws (place_of z (cell.Node n)) (m.version (cell.Node n) + 1)) (λ v w. claim.Outcome v w n) (LocksClaimed n)
   moves_claims n there may =
       let c : Cell = cell.Node n in
       let copy = is_copy z ws c in
       let words : List ℕ = copy_of z ws c in
       let us : List ℕ = set ws (place_of z c) (m.version c + 1) in
       let sets : SetsVersion m c (m.version c + 1) (memory_of z us) = sets_version z ws c (m.version c + 1) there (λ l e. cc) long in
-      moved z ws f p v r at long us (λ v w. Claimed v w n) (LocksClaimed n) (claimed v n words) refl
+      moved z ws f p v r at long us (λ v w. claim.Outcome v w n) (LocksClaimed n) (claim.view_after v n words) refl
       record { words = words; long = copy.long; version = copy_version z ws c (λ l e. cc); is = refl }
-      (λ g t. Claim record { node = n; copy = words; may = may; copied = copy; locks = sets; view = t })
+      (λ g t. IsClaim record { node = n; copy = words; may = may; copied = copy; locks = sets; view = t })
       (λ g t. sets)
 
   -- ---- writes
 
   -- a word of a cell that is held is written
-  pub moves_writes : (c : Cell) (h : Holding) (i x : ℕ) → IsInside z c → h.cell ≡ c → MayWrite v h i
-      → Moves z ws f p v (set ws (place_of z c + i) x) (λ v w. (k : Holding) → IsHolding v c k → Wrote v w k i x) (PutsWord c i x)
+  pub moves_writes : (c : Cell) (h : Holding) (i x : ℕ) → IsInside z c → h.cell ≡ c → write.May v h i
+      → Moves z ws f p v (set ws (place_of z c + i) x) (λ v w. (k : Holding) → IsHolding v c k → write.Outcome v w k i x) (PutsWord c i x)
   moves_writes c h i x there of may =
-      let Row : View → View → Type 0 = λ v w. (k : Holding) → IsHolding v c k → Wrote v w k i x in
+      let Row : View → View → Type 0 = λ v w. (k : Holding) → IsHolding v c k → write.Outcome v w k i x in
       let single = (r.holder.holds p v at).single in
       let held = put (λ (k : Holding). k.cell) v.held h (with_word h i x) may.held (λ k. same_cell k.cell h.cell) (λ k j e. single k h j may.held e) in
       let us : List ℕ = set ws (place_of z c + i) x in
@@ -185,24 +191,24 @@ module _ (z : Sizes) (ws : List ℕ) (f : Views) (p : ℕ) (v : View) (r : IsSou
       let small : i < size_of c = subst (λ (d : Cell). i < size_of d) of may.place.1 in
       let sets : SetsWord m c i x (memory_of z us) = sets_word z ws c i x there (let positive = may.place.0 in omega (arith, low)) small long in
       let of_holding : SetsWord m h.cell i x (memory_of z us) = subst (λ (d : Cell). SetsWord m d i x (memory_of z us)) (sym of) sets in
-      moved z ws f p v r at long us Row (PutsWord c i x) (writing v held.0) refl
-      (λ k a. subst (λ (j : Holding). Wrote v (writing v held.0) j i x) (single h k may.held a.0 (of ∙ sym a.1)) record { held = held.0; puts = held.1; is = refl })
-      (λ g t. Write record { holding = h; held = held.0; place = i; value = x; may = may; puts = held.1; word = of_holding; view = t })
+      moved z ws f p v r at long us Row (PutsWord c i x) (write.view_after v held.0) refl
+      (λ k a. subst (λ (j : Holding). write.Outcome v (write.view_after v held.0) j i x) (single h k may.held a.0 (of ∙ sym a.1)) record { held = held.0; puts = held.1; is = refl })
+      (λ g t. IsWrite record { holding = h; held = held.0; place = i; value = x; may = may; puts = held.1; word = of_holding; view = t })
       (λ g t. sets)
 
   -- a word of a leaf in hand is written
-  pub moves_writes_leaf : (y : InHand) (l i x : ℕ) → l < z.leaves → MayWriteLeaf v y l i
-      → Moves z ws f p v (set ws (place_of z (cell.Leaf l) + i) x) (λ v w. (a : InHand) → IsInHand v (leaf l) a → WroteLeaf v w a i x) (PutsWord (cell.Leaf l) i x)
+  pub moves_writes_leaf : (y : InHand) (l i x : ℕ) → l < z.leaves → write.MayLeaf v y l i
+      → Moves z ws f p v (set ws (place_of z (cell.Leaf l) + i) x) (λ v w. (a : InHand) → IsInHand v (leaf l) a → write.LeafOutcome v w a i x) (PutsWord (cell.Leaf l) i x)
   moves_writes_leaf y l i x there may =
-      let Row : View → View → Type 0 = λ v w. (a : InHand) → IsInHand v (leaf l) a → WroteLeaf v w a i x in
+      let Row : View → View → Type 0 = λ v w. (a : InHand) → IsInHand v (leaf l) a → write.LeafOutcome v w a i x in
       let one = one_entry m r.at p v l in
       let k = r.numbers.accounts p v at in
       let hand = put (λ (a : InHand). a.link) v.hand y (with_leaf_word y i x) may.hand (λ a. same_link a.link y.link) (λ a j e. one a y k j may.hand (e ∙ may.leaf) may.leaf) in
       let us : List ℕ = set ws (place_of z (cell.Leaf l) + i) x in
       let sets : SetsWord m (cell.Leaf l) i x (memory_of z us) = sets_word z ws (cell.Leaf l) i x there (omega arith) may.place long in
-      moved z ws f p v r at long us Row (PutsWord (cell.Leaf l) i x) (handing v hand.0) refl
-      (λ a o. subst (λ (b : InHand). WroteLeaf v (handing v hand.0) b i x) (one y a k may.hand o.0 may.leaf o.1) record { hand = hand.0; puts = hand.1; is = refl })
-      (λ g t. WriteLeaf record { leaf = y; hand = hand.0; number = l; place = i; value = x; may = may; puts = hand.1; word = sets; view = t })
+      moved z ws f p v r at long us Row (PutsWord (cell.Leaf l) i x) (write.view_after_leaf v hand.0) refl
+      (λ a o. subst (λ (b : InHand). write.LeafOutcome v (write.view_after_leaf v hand.0) b i x) (one y a k may.hand o.0 may.leaf o.1) record { hand = hand.0; puts = hand.1; is = refl })
+      (λ g t. IsWriteLeaf record { leaf = y; hand = hand.0; number = l; place = i; value = x; may = may; puts = hand.1; word = sets; view = t })
       (λ g t. sets)
 
   -- ---- releases
@@ -228,32 +234,32 @@ module _ (z : Sizes) (ws : List ℕ) (f : Views) (p : ℕ) (v : View) (r : IsSou
   release_sets c h obsolete of i there = sets_version z ws c (released_word (m.version c) obsolete) there (held_plain c h of i) long
 
   -- a later release, or one of a change that is given up
-  moves_released : (h : Holding) (obsolete : Bool) → MayRelease v h obsolete → IsInside z h.cell
-      → Moves z ws f p v (after h.cell obsolete) (λ v w. (k : Holding) → IsHolding v h.cell k → Released v w k) (Unlocks h.cell obsolete)
+  moves_released : (h : Holding) (obsolete : Bool) → release.May v h obsolete → IsInside z h.cell
+      → Moves z ws f p v (after h.cell obsolete) (λ v w. (k : Holding) → IsHolding v h.cell k → release.Outcome v w k) (Unlocks h.cell obsolete)
   moves_released h obsolete may there =
       let rest = dropped v.held h.cell in
       let sets = release_sets h.cell h obsolete refl may.0 there in
-      moved z ws f p v r at long (after h.cell obsolete) (λ v w. (k : Holding) → IsHolding v h.cell k → Released v w k) (Unlocks h.cell obsolete) (writing v rest.0) refl
+      moved z ws f p v r at long (after h.cell obsolete) (λ v w. (k : Holding) → IsHolding v h.cell k → release.Outcome v w k) (Unlocks h.cell obsolete) (write.view_after v rest.0) refl
       (λ k a. record { held = rest.0; drops = subst (λ (d : Cell). Drops v.held d rest.0) (sym a.1) rest.1; is = refl })
-      (λ g t. Release record { holding = h; held = rest.0; obsolete = obsolete; may = may; drops = rest.1; unlocks = sets; view = t })
+      (λ g t. IsRelease record { holding = h; held = rest.0; obsolete = obsolete; may = may; drops = rest.1; unlocks = sets; view = t })
       (λ g t. sets)
 
-  pub moves_releases : (c : Cell) (h : Holding) (obsolete : Bool) → h.cell ≡ c → MayRelease v h obsolete → IsInside z c
-      → Moves z ws f p v (after c obsolete) (λ v w. (k : Holding) → IsHolding v c k → Released v w k) (Unlocks c obsolete)
+  pub moves_releases : (c : Cell) (h : Holding) (obsolete : Bool) → h.cell ≡ c → release.May v h obsolete → IsInside z c
+      → Moves z ws f p v (after c obsolete) (λ v w. (k : Holding) → IsHolding v c k → release.Outcome v w k) (Unlocks c obsolete)
   moves_releases c h obsolete of may there =
-      subst (λ (d : Cell). Moves z ws f p v (after d obsolete) (λ v w. (k : Holding) → IsHolding v d k → Released v w k) (Unlocks d obsolete)) of
+      subst (λ (d : Cell). Moves z ws f p v (after d obsolete) (λ v w. (k : Holding) → IsHolding v d k → release.Outcome v w k) (Unlocks d obsolete)) of
       (moves_released h obsolete may (subst (IsInside z) (sym of) there))
 
   -- the first release of a change
-  moves_committed : (h : Holding) (what : What) (us : List Link) (come : Option Link) (obsolete : Bool) → (ks : List Pin) × AreStanding f ks → MayBeFirst v us h obsolete → MayCommit z v what us (coming v come) → IsInside z h.cell
-      → Moves z ws f p v (after h.cell obsolete) (λ v w. (k : Holding) → IsHolding v h.cell k → Committed v w what us (coming v come) k) (UnlocksFirst v h.cell obsolete)
+  moves_committed : (h : Holding) (what : What) (us : List Link) (come : Option Link) (obsolete : Bool) → (ks : List Pin) × AreStanding f ks → commit.MayBeFirst v us h obsolete → commit.May z v what us (coming v come) → IsInside z h.cell
+      → Moves z ws f p v (after h.cell obsolete) (λ v w. (k : Holding) → IsHolding v h.cell k → commit.Outcome v w what us (coming v come) k) (UnlocksFirst v h.cell obsolete)
   moves_committed h what us come obsolete pins first may there =
       let rest = dropped v.held h.cell in
       let hand = handed_over v.hand (coming v come) in
-      let w : View = committed v r.log what rest.0 hand.0 (all_retired pins.0 us ++ v.limbo) in
+      let w : View = commit.view_after v r.log what rest.0 hand.0 (all_retired pins.0 us ++ v.limbo) in
       let n : Memory = memory_of z (after h.cell obsolete) in
       let sets = release_sets h.cell h obsolete refl first.held there in
-      let kind : (g : Views) → Turned f p w g → OfAKind z p v m f n g r.log r.logical = λ g t. Commit record {
+      let kind : (g : Views) → SetsView f p w g → OfAKind z p v m f n g r.log r.logical = λ g t. IsCommit record {
         what = what;
         unlinked = us;
         linked = coming v come;
@@ -273,7 +279,7 @@ module _ (z : Sizes) (ws : List ℕ) (f : Views) (p : ℕ) (v : View) (r : IsSou
       let g₀ : Views = with_view f p w in
       let t₀ = with_turned f p w in
       let sound₀ = kind_sound z p v m f n g₀ at r (kind g₀ t₀) in
-      moved z ws f p v r at long (after h.cell obsolete) (λ v w. (k : Holding) → IsHolding v h.cell k → Committed v w what us (coming v come) k) (UnlocksFirst v h.cell obsolete) w refl
+      moved z ws f p v r at long (after h.cell obsolete) (λ v w. (k : Holding) → IsHolding v h.cell k → commit.Outcome v w what us (coming v come) k) (UnlocksFirst v h.cell obsolete) w refl
       (λ k a. record {
         held = rest.0;
         drops = subst (λ (d : Cell). Drops v.held d rest.0) (sym a.1) rest.1;
@@ -301,8 +307,8 @@ module _ (z : Sizes) (ws : List ℕ) (f : Views) (p : ℕ) (v : View) (r : IsSou
             (member_append e (all_retired pins.0 us) v.limbo i));
       })
 
-  pub moves_commits : (c : Cell) (h : Holding) (what : What) (us : List Link) (come : Option Link) (obsolete : Bool) → h.cell ≡ c → (ks : List Pin) × AreStanding f ks → MayBeFirst v us h obsolete → MayCommit z v what us (coming v come) → IsInside z c
-      → Moves z ws f p v (after c obsolete) (λ v w. (k : Holding) → IsHolding v c k → Committed v w what us (coming v come) k) (UnlocksFirst v c obsolete)
+  pub moves_commits : (c : Cell) (h : Holding) (what : What) (us : List Link) (come : Option Link) (obsolete : Bool) → h.cell ≡ c → (ks : List Pin) × AreStanding f ks → commit.MayBeFirst v us h obsolete → commit.May z v what us (coming v come) → IsInside z c
+      → Moves z ws f p v (after c obsolete) (λ v w. (k : Holding) → IsHolding v c k → commit.Outcome v w what us (coming v come) k) (UnlocksFirst v c obsolete)
   moves_commits c h what us come obsolete of pins first may there =
-      subst (λ (d : Cell). Moves z ws f p v (after d obsolete) (λ v w. (k : Holding) → IsHolding v d k → Committed v w what us (coming v come) k) (UnlocksFirst v d obsolete)) of
+      subst (λ (d : Cell). Moves z ws f p v (after d obsolete) (λ v w. (k : Holding) → IsHolding v d k → commit.Outcome v w what us (coming v come) k) (UnlocksFirst v d obsolete)) of
       (moves_committed h what us come obsolete pins first may (subst (IsInside z) (sym of) there))

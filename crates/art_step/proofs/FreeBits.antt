@@ -5,7 +5,7 @@ use Rattle.art_cell.specs.declared.cells.Link.{Link}
 use Rattle.art_step.specs.declared.views.Sizes.{Sizes}
 use Rattle.art_cell.specs.Lemmas.Headers.{bit_more, bit_more_elsewhere, bit_less, bit_at_least}
 use Rattle.art_step.specs.Sound.{IsSound}
-use Rattle.art_step.specs.StepRows.{SetsFree}
+use Rattle.art_step.specs.Effects.{SetsFree}
 use Rattle.art_step.specs.Views.{Memory, Views, IsNumber}
 use Rattle.art_cell.specs.Children.{number_of}
 use Rattle.art_step.specs.WordPlaces.{pool_size, pool_of, free_words, word_count}

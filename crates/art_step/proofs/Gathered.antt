@@ -1,6 +1,6 @@
 -- Lists made from other lists: of what each member gives, without some members, and with one thing in the place of a member.
 use Rattle.std.proofs.Common.{◌≡◌, ◌≢◌, ◌⊎◌, ◌↔◌, List, [], ◌∷◌, inl, inr, ⊎_elim, sym, refl, ap, subst}
-use Rattle.art_step.specs.StepRows.{Puts}
+use Rattle.art_step.specs.Steps.Write.{Puts}
 use Rattle.art_step.specs.Views.{Member}
 
 -- ---- lists made from others

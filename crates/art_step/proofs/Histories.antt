@@ -7,8 +7,8 @@ use Rattle.art_step.specs.declared.views.View.{View}
 use Rattle.art_step.specs.declared.views.What.{What}
 use Rattle.art_tree.specs.Rows.{ByteMap}
 use Rattle.art_step.specs.Histories.{event, IsAnswered, becomes, run, replay, IsLegalFrom, places_from, places}
-use Rattle.art_step.specs.Sound.{Tells, IsOneHistory}
-use Rattle.art_step.specs.Views.{Views, Turned}
+use Rattle.art_step.specs.Sound.{IsOneHistory, IsSeenBy}
+use Rattle.art_step.specs.Views.{Views, SetsView}
 use Rattle.art_step.proofs.Turns.{either_view, stranger_before}
 
 run_more : (s : ByteMap) (es : List Event) (e : Event) → run s (es ++ e ∷ []) ≡ becomes (run s es) e.what
@@ -39,14 +39,14 @@ places_else p k (x ∷ xs) e other =
 pub replay_more : (log : List Event) (e : Event) → replay (log ++ e ∷ []) ≡ becomes (replay log) e.what
 replay_more log e = run_more empty log e
 
-module _ (f g : Views) (p : ℕ) (v w : View) (t : Turned f p w g) (at : f p ≡ Some v) (log : List Event) (r : IsOneHistory log f) (pass : w.pass ≡ v.pass) where
+module _ (f g : Views) (p : ℕ) (v w : View) (t : SetsView f p w g) (at : f p ≡ Some v) (log : List Event) (r : IsOneHistory log f) (pass : w.pass ≡ v.pass) where
   -- the pass tells nothing
   pub history_stays : w.seen ≡ v.seen → w.own ≡ v.own → IsOneHistory log g
   history_stays seen own = record {
     legal = r.legal;
     tells = λ q u e. ⊎_elim
         (λ (a : (q ≡ p) × (u ≡ w)). let k = r.tells p v at in
-        subst (λ (x : ℕ × View). Tells log x.0 x.1) (λ i. (sym a.0 i, sym a.1 i)) record { pass = pass ∙ k.pass; starts = (k.starts.0, k.starts.1 ∙ ap (λ l. l ++ k.starts.0) (sym seen)); own = k.own ∙ sym own; all = ap (places p) seen ∙ (k.all ∙ sym own) })
+        subst (λ (x : ℕ × View). IsSeenBy log x.0 x.1) (λ i. (sym a.0 i, sym a.1 i)) record { pass = pass ∙ k.pass; starts = (k.starts.0, k.starts.1 ∙ ap (λ l. l ++ k.starts.0) (sym seen)); own = k.own ∙ sym own; all = ap (places p) seen ∙ (k.all ∙ sym own) })
         (λ (a : (q ≢ p) × (f q ≡ Some u)). r.tells q u a.1) (either_view f g p w t q u e);
     strangers = λ q e. r.strangers q (stranger_before f g p w t q e).1;
   }
@@ -61,7 +61,7 @@ module _ (f g : Views) (p : ℕ) (v w : View) (t : Turned f p w g) (at : f p ≡
       record {
         legal = legal_more empty log e r.legal found;
         tells = λ q u is. ⊎_elim
-            (λ (a : (q ≡ p) × (u ≡ w)). subst (λ (x : ℕ × View). Tells grown x.0 x.1) (λ i. (sym a.0 i, sym a.1 i))
+            (λ (a : (q ≡ p) × (u ≡ w)). subst (λ (x : ℕ × View). IsSeenBy grown x.0 x.1) (λ i. (sym a.0 i, sym a.1 i))
             record { pass = pass ∙ mine; starts = ([], sym (append-nil grown) ∙ ap (λ l. l ++ []) (sym seen)); own = now; all = ap (places p) seen ∙ now })
             (λ (a : (q ≢ p) × (f q ≡ Some u)). let k = r.tells q u a.1 in
             record { pass = k.pass; starts = (k.starts.0 ++ e ∷ [], ap (λ (l : List Event). l ++ e ∷ []) k.starts.1 ∙ append_assoc u.seen k.starts.0 (e ∷ [])); own = places_else q 0 log e (λ h. a.0 (sym h ∙ mine)) ∙ k.own; all = k.all })

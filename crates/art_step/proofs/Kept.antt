@@ -16,7 +16,7 @@ use Rattle.art_step.specs.declared.views.Stamp.{Stamp}
 use Rattle.art_step.specs.declared.views.View.{View}
 use Rattle.art_tree.specs.Heaps.{Cells}
 use Rattle.art_step.specs.Sound.{Keeps, HoldsEach, OneHolder, Holder, Whereabouts, InTree, IsFree, InLimboOf, Accounts, NumbersAccounted, IsUnder, Awaits, IsPinned, MarkedUnstamped, WordsFormed}
-use Rattle.art_step.specs.Views.{Member, Memory, IsClear, IsObsolete, IsVersion, cell_named, Views, Turned}
+use Rattle.art_step.specs.Views.{Member, Memory, IsClear, IsObsolete, IsVersion, cell_named, Views, SetsView}
 use Rattle.art_cell.specs.Words.{Words}
 use Rattle.art_step.proofs.Turns.{one_view, either_view, stranger_before, each_view, each_two, same_early_notes}
 
@@ -41,7 +41,7 @@ one_entry m at p v l a b k i j e e' =
     ap₂ (λ (d : Link) (ws : List ℕ). record { link = d; words = ws }) (e ∙ sym e') words
 
 -- the numbers stay where they are
-pub numbers_turn : (z : Sizes) (m m' : Memory) (f g : Views) (p : ℕ) (w : View) (s s' : Cells) (at : Link → Whereabouts) → Turned f p w g → NumbersAccounted z m f s at → NumbersAccounted z m f s' at
+pub numbers_turn : (z : Sizes) (m m' : Memory) (f g : Views) (p : ℕ) (w : View) (s s' : Cells) (at : Link → Whereabouts) → SetsView f p w g → NumbersAccounted z m f s at → NumbersAccounted z m f s' at
     → m'.free ≡ m.free → ((l : ℕ) → m'.words (cell.Leaf l) ≡ m.words (cell.Leaf l)) → Accounts m' at p w → NumbersAccounted z m' g s' at
 numbers_turn z m m' f g p w s s' at t old k free words mine = record {
   tree = k.tree;
@@ -62,7 +62,7 @@ abbrev pub StampsFrom : (Link → Whereabouts) → View → View → Type 0
 StampsFrom at v w = (x : Stamp) → Member x w.stamps → Member x v.stamps ⊎ IsNewStamp at v x
 
 -- pins and limbo stay, and stamps are the old ones or new ones of the tree
-pub unstamped_turn : (z : Sizes) (m m' : Memory) (f g : Views) (p : ℕ) (v w : View) (s : Cells) (at : Link → Whereabouts) → Turned f p w g → f p ≡ Some v → NumbersAccounted z m f s at → MarkedUnstamped z m f at
+pub unstamped_turn : (z : Sizes) (m m' : Memory) (f g : Views) (p : ℕ) (v w : View) (s : Cells) (at : Link → Whereabouts) → SetsView f p w g → f p ≡ Some v → NumbersAccounted z m f s at → MarkedUnstamped z m f at
     → m'.epoch ≡ m.epoch → m'.pass_word ≡ m.pass_word → ((d : Link) → IsClear (m'.version (cell_named d)) → at d ≡ InTree)
     → w.pin ≡ v.pin → w.pins ≡ v.pins → w.noted ≡ v.noted → w.limbo ≡ v.limbo → StampsFrom at v w → MarkedUnstamped z m' g at
 unstamped_turn z m m' f g p v w s at t is-v numbers k epoch words clear pin pins noted limbo stamps = record {
@@ -127,7 +127,7 @@ unstamped_turn z m m' f g p v w s at t is-v numbers k epoch words clear pin pins
 
 -- ---- words
 
-pub formed_turn : (z : Sizes) (m m' : Memory) (f g : Views) (p : ℕ) (v w : View) → Turned f p w g → f p ≡ Some v → WordsFormed z m f → ((c : Cell) → IsVersion (m'.version c)) → ((l : ℕ) → IsObsolete (m'.version (cell.Leaf l)))
+pub formed_turn : (z : Sizes) (m m' : Memory) (f g : Views) (p : ℕ) (v w : View) → SetsView f p w g → f p ≡ Some v → WordsFormed z m f → ((c : Cell) → IsVersion (m'.version c)) → ((l : ℕ) → IsObsolete (m'.version (cell.Leaf l)))
     → m'.epoch ≡ m.epoch → w.noted ≡ v.noted → WordsFormed z m' g
 formed_turn z m m' f g p v w t is k versions leaves epoch noted = record {
   versions = versions;
@@ -138,7 +138,7 @@ formed_turn z m m' f g p v w t is k versions leaves epoch noted = record {
 -- ---- holders
 
 -- a cell's holder goes on holding it, where the pass has a holding of each cell that it had
-pub holder_turn : (f g : Views) (p : ℕ) (v w : View) (c : Cell) → Turned f p w g → f p ≡ Some v → ((h : Holding) → Member h v.held → h.cell ≡ c → (k : Holding) × Member k w.held × (k.cell ≡ c)) → Holder f c → Holder g c
+pub holder_turn : (f g : Views) (p : ℕ) (v w : View) (c : Cell) → SetsView f p w g → f p ≡ Some v → ((h : Holding) → Member h v.held → h.cell ≡ c → (k : Holding) × Member k w.held × (k.cell ≡ c)) → Holder f c → Holder g c
 holder_turn f g p v w c t is on o = ⊎_elim
     (λ (a : o.pass ≡ p).
     let e : o.view ≡ v = one_view f o.pass p o.view v a o.is is in
@@ -148,7 +148,7 @@ holder_turn f g p v w c t is on o = ⊎_elim
     (cases_eq o.pass p)
 
 -- two passes hold no cell in common, where the one that steps holds no cell that another held
-pub apart_turn : (f g : Views) (p : ℕ) (w : View) → Turned f p w g → ((q : ℕ) (u : View) → q ≢ p → f q ≡ Some u → (h k : Holding) → Member h w.held → Member k u.held → h.cell ≢ k.cell)
+pub apart_turn : (f g : Views) (p : ℕ) (w : View) → SetsView f p w g → ((q : ℕ) (u : View) → q ≢ p → f q ≡ Some u → (h k : Holding) → Member h w.held → Member k u.held → h.cell ≢ k.cell)
     → ((q r : ℕ) (u x : View) → q ≢ r → f q ≡ Some u → f r ≡ Some x → (h k : Holding) → Member h u.held → Member k x.held → h.cell ≢ k.cell)
     → (q r : ℕ) (u x : View) → q ≢ r → g q ≡ Some u → g r ≡ Some x → (h k : Holding) → Member h u.held → Member k x.held → h.cell ≢ k.cell
 apart_turn f g p w t mine old = each_two f g p w t (λ q r u x. (h k : Holding) → Member h u.held → Member k x.held → h.cell ≢ k.cell)
@@ -157,7 +157,7 @@ apart_turn f g p w t mine old = each_two f g p w t (λ q r u x. (h k : Holding) 
     (λ q r u x a b other is is' h k i j. old q r u x other is is' h k i j)
 
 -- what is held stays, and so do the words
-pub holder_same : (m : Memory) (f g : Views) (p : ℕ) (v w : View) (s : Cells) → Turned f p w g → f p ≡ Some v → w.held ≡ v.held → w.committed ≡ v.committed → OneHolder m f s → OneHolder m g s
+pub holder_same : (m : Memory) (f g : Views) (p : ℕ) (v w : View) (s : Cells) → SetsView f p w g → f p ≡ Some v → w.held ≡ v.held → w.committed ≡ v.committed → OneHolder m f s → OneHolder m g s
 holder_same m f g p v w s t is held committed k = record {
   at_rest = k.at_rest;
   holder = λ c locked. holder_turn f g p v w c t is (λ h i e. (h, subst (Member h) (sym held) i, e)) (k.holder c locked);

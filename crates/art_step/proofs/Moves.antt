@@ -16,15 +16,19 @@ use Rattle.art_step.specs.declared.views.View.{View}
 use Rattle.art_step.specs.declared.views.What.{What}
 use Rattle.art_tree.specs.Heaps.{Cells, heap_of}
 use Rattle.art_step.specs.Histories.{event, replay, IsLegal, IsAnswered, places}
-use Rattle.art_step.specs.Instants.{FindsUnchanged, FindsVersion, FindsWord, Instant}
+use Rattle.art_step.specs.Effects.{FindsUnchanged, FindsVersion, FindsWord, Instant}
 use Rattle.art_step.specs.Knowledge.{CellAt, HoldsAll}
-use Rattle.art_step.specs.Shown.{MayReadCell, fact_read, Failed, Passed, Made, Told}
+use Rattle.art_step.specs.Steps.Read as read
+use Rattle.art_step.specs.Steps.Check as check
+use Rattle.art_step.specs.Events.{MakesEvent, SeesEvent}
 use Rattle.art_step.specs.Sound.{IsOneHistory, Whereabouts, InTree, IsFree, InHandOf, InLimboOf, Nowhere, IsSound}
-use Rattle.art_step.specs.StepKinds.{OfAKind, OneStep, Begin, Read, ReadLeaf, Pass, Fail}
-use Rattle.art_step.specs.StepRows.{note_of, MayRead, MayTell, MayPass, MayClaim, ArePaths, Without}
-use Rattle.art_step.specs.StepRows.{begun, has_read, passed, telling, failed}
+use Rattle.art_step.specs.Steps.{OfAKind, OneStep, IsBegin, IsRead, IsReadLeaf, IsUnchanged, IsChanged}
+use Rattle.art_step.specs.Views.{note_of, SetsView}
+use Rattle.art_step.specs.Steps.Claim as claim
+use Rattle.art_step.specs.Steps.Check.{ArePaths, Without}
+use Rattle.art_step.specs.Steps.Begin as begin
 use Rattle.art_tree.specs.Tree.{StandsAt, IsTree}
-use Rattle.art_step.specs.Views.{Member, Memory, Views, Turned}
+use Rattle.art_step.specs.Views.{Member, Memory, Views, SetsView}
 use Rattle.art_step.specs.WordPlaces.{word_count, IsInside, first_place}
 use Rattle.art_step.specs.WordRows.{memory_of}
 use Rattle.art_step.proofs.AnyStep.{kind_sound}
@@ -99,8 +103,8 @@ module _ (z : Sizes) (m : Memory) (f : Views) (v : View) (r : IsSound z m f) whe
 -- ---- events
 
 -- the pass makes an event after all of the history
-pub makes : (f g : Views) (p : ℕ) (v w : View) (log : List Event) (what : What) → f p ≡ Some v → Turned f p w g → IsOneHistory log f → w.pass ≡ v.pass
-    → IsAnswered (replay log) what → w.seen ≡ log ++ event v.pass what ∷ [] → w.own ≡ v.own ++ length log ∷ [] → Made v w what
+pub makes : (f g : Views) (p : ℕ) (v w : View) (log : List Event) (what : What) → f p ≡ Some v → SetsView f p w g → IsOneHistory log f → w.pass ≡ v.pass
+    → IsAnswered (replay log) what → w.seen ≡ log ++ event v.pass what ∷ [] → w.own ≡ v.own ++ length log ∷ [] → MakesEvent v w what
 makes f g p v w log what at t history pass found seen own =
     let mine = history.tells p v at in
     let grown = history_grows f g p v w t at log history pass what found seen own in
@@ -113,7 +117,7 @@ makes f g p v w log what at t history pass found seen own =
     }
 
 -- where an event is made or none, the history that the pass has seen and the places of its own events may change, and no more
-telling_is : (v : View) (log : List Event) (o : Option What) → telling v log o ≡ record v { seen = (telling v log o).seen; own = (telling v log o).own }
+telling_is : (v : View) (log : List Event) (o : Option What) → check.with_event v log o ≡ record v { seen = (check.with_event v log o).seen; own = (check.with_event v log o).own }
 telling_is v log None = refl
 telling_is v log (Some what) = refl
 
@@ -127,14 +131,14 @@ first_low (cell.Node n) = omega arith
 -- ---- numbers by their links
 
 -- the node that a number names may be claimed, where one that it names may
-pub claim_named : (z : Sizes) (v : View) (d : Link) (n : Node) → (a : Node) × (d ≡ node a) × IsInside z (cell.Node a) × MayClaim v a → d ≡ node n → IsInside z (cell.Node n) × MayClaim v n
+pub claim_named : (z : Sizes) (v : View) (d : Link) (n : Node) → (a : Node) × (d ≡ node a) × IsInside z (cell.Node a) × claim.May v a → d ≡ node n → IsInside z (cell.Node n) × claim.May v n
 claim_named z v d n o is =
     let named : node o.0 ≡ node n = sym o.1 ∙ is in
     let same : o.0 ≡ n = cc in
-    subst (λ (a : Node). IsInside z (cell.Node a) × MayClaim v a) same (o.2, o.3)
+    subst (λ (a : Node). IsInside z (cell.Node a) × claim.May v a) same (o.2, o.3)
 
 -- the pass of a view stays at a beginning
-begun_pass : (v : View) (c : Cell) (x : ℕ) → (begun v c x).pass ≡ v.pass
+begun_pass : (v : View) (c : Cell) (x : ℕ) → (begin.view_after v c x).pass ≡ v.pass
 begun_pass v c x = cond_both (x % 4 == 0) _ _ (λ (w : View). w.pass ≡ v.pass) (λ e. refl) (λ e. refl)
 
 -- ---- a step
@@ -144,15 +148,15 @@ pub record Moves (z : Sizes) (ws : List ℕ) (f : Views) (p : ℕ) (v : View) (u
   pub view : View
   pub pass : view.pass ≡ v.pass
   pub row : Row v view
-  pub step : (g : Views) → Turned f p view g → OneStep z p (memory_of z ws) f (memory_of z us) g
-  pub sound : (g : Views) → Turned f p view g → IsSound z (memory_of z us) g
-  pub was : (g : Views) → Turned f p view g → so (memory_of z ws) f (memory_of z us) g
+  pub step : (g : Views) → SetsView f p view g → OneStep z p (memory_of z ws) f (memory_of z us) g
+  pub sound : (g : Views) → SetsView f p view g → IsSound z (memory_of z us) g
+  pub was : (g : Views) → SetsView f p view g → so (memory_of z ws) f (memory_of z us) g
 
 -- the views with one other
 abbrev pub with_view : Views → ℕ → View → Views
 with_view f p w q = if q == p then Some w else f q
 
-pub with_turned : (f : Views) (p : ℕ) (w : View) → Turned f p w (with_view f p w)
+pub with_turned : (f : Views) (p : ℕ) (w : View) → SetsView f p w (with_view f p w)
 with_turned f p w = record { here = rw (eq-eqb p p refl) refl; there = λ q other. rw (ne_eqb q p other) refl }
 
 module _ (z : Sizes) (ws : List ℕ) (f : Views) (p : ℕ) (v : View) (r : IsSound z (memory_of z ws) f) (at : f p ≡ Some v) (long : length ws ≡ word_count z) where
@@ -160,8 +164,8 @@ module _ (z : Sizes) (ws : List ℕ) (f : Views) (p : ℕ) (v : View) (r : IsSou
   m = memory_of z ws
 
   -- the view of the pass becomes w in a step of one of the kinds, so that all is sound then
-  pub moved : (us : List ℕ) (Row : View → View → Type 0) (so : Instant) (w : View) → w.pass ≡ v.pass → Row v w → ((g : Views) → Turned f p w g → OfAKind z p v m f (memory_of z us) g r.log r.logical)
-      → ((g : Views) → Turned f p w g → so m f (memory_of z us) g) → Moves z ws f p v us Row so
+  pub moved : (us : List ℕ) (Row : View → View → Type 0) (so : Instant) (w : View) → w.pass ≡ v.pass → Row v w → ((g : Views) → SetsView f p w g → OfAKind z p v m f (memory_of z us) g r.log r.logical)
+      → ((g : Views) → SetsView f p w g → so m f (memory_of z us) g) → Moves z ws f p v us Row so
   moved us Row so w pass row kind was = record {
     view = w;
     pass = pass;
@@ -174,55 +178,53 @@ module _ (z : Sizes) (ws : List ℕ) (f : Views) (p : ℕ) (v : View) (r : IsSou
   -- ---- steps that change no word
 
   -- the version word of a cell is found
-  pub moves_begins : (c : Cell) (found : ℕ) → v.pin ≢ 0 → found ≡ m.version c → Moves z ws f p v ws (λ v w. w ≡ begun v c found) (FindsVersion c found)
-  moves_begins c found pinned is = moved ws (λ v w. w ≡ begun v c found) (FindsVersion c found) (begun v c (m.version c)) (begun_pass v c (m.version c)) (ap (begun v c) (sym is)) (λ g t. Begin record { cell = c; pinned = pinned; words = refl; view = t })
+  pub moves_begins : (c : Cell) (found : ℕ) → v.pin ≢ 0 → found ≡ m.version c → Moves z ws f p v ws (λ v w. w ≡ begin.view_after v c found) (FindsVersion c found)
+  moves_begins c found pinned is = moved ws (λ v w. w ≡ begin.view_after v c found) (FindsVersion c found) (begin.view_after v c (m.version c)) (begun_pass v c (m.version c)) (ap (begin.view_after v c) (sym is)) (λ g t. IsBegin record { cell = c; pinned = pinned; words = refl; view = t })
       (λ g t. record { found = is; same = refl })
 
-  -- a word of the stamp's own cell is read
-  reads_word : (x : Stamp) (c : Cell) (i found : ℕ) → x.cell ≡ c → MayRead v x i → found ≡ m.words c i → Moves z ws f p v ws (λ v w. w ≡ has_read v x (Word i found)) (FindsWord c i found)
-  reads_word x c i found of may is = moved ws (λ v w. w ≡ has_read v x (Word i found)) (FindsWord c i found) (has_read v x (Word i (m.words x.cell i))) refl
-      (ap (λ (word : ℕ). has_read v x (Word i word)) (ap (λ (c : Cell). m.words c i) of ∙ sym is))
-      (λ g t. Read record { stamp = x; place = i; may = may; words = refl; view = t })
+  -- a word of the stamp's cell is read
+  pub moves_reads : (x : Stamp) (i found : ℕ) → read.May v x i → found ≡ m.words x.cell i → Moves z ws f p v ws (λ v w. read.Outcome v w x i found) (FindsWord x.cell i found)
+  moves_reads x i found may is = moved ws (λ v w. read.Outcome v w x i found) (FindsWord x.cell i found) (read.view_after v x (Word i (m.words x.cell i))) refl
+      (ap (λ (word : ℕ). read.view_after v x (Word i word)) (sym is))
+      (λ g t. IsRead record { stamp = x; place = i; may = may; words = refl; view = t })
       (λ g t. record { found = is; same = refl })
 
-  -- a word of a stamped cell is read, or of a leaf that it names
-  pub moves_reads : (x : Stamp) (c : Cell) (i found : ℕ) → MayReadCell z v x c i → found ≡ m.words c i → Moves z ws f p v ws (λ v w. w ≡ has_read v x (fact_read c i found)) (FindsWord c i found)
-  moves_reads x cell.Anchor i found may is = reads_word x cell.Anchor i found may.0 may.1 is
-  moves_reads x (cell.Leaf l) i found may is = moved ws (λ v w. w ≡ has_read v x (LeafWord l i found)) (FindsWord (cell.Leaf l) i found) (has_read v x (LeafWord l i (m.words (cell.Leaf l) i))) refl
-      (ap (λ (word : ℕ). has_read v x (LeafWord l i word)) (sym is))
-      (λ g t. ReadLeaf record { stamp = x; number = l; place = i; may = may; words = refl; view = t })
+  -- a word of a leaf that it names
+  pub moves_reads_leaf : (x : Stamp) (l i found : ℕ) → read.MayLeaf z v x l i → found ≡ m.words (cell.Leaf l) i → Moves z ws f p v ws (λ v w. read.LeafOutcome v w x l i found) (FindsWord (cell.Leaf l) i found)
+  moves_reads_leaf x l i found may is = moved ws (λ v w. read.LeafOutcome v w x l i found) (FindsWord (cell.Leaf l) i found) (read.view_after v x (LeafWord l i (m.words (cell.Leaf l) i))) refl
+      (ap (λ (word : ℕ). read.view_after v x (LeafWord l i word)) (sym is))
+      (λ g t. IsReadLeaf record { stamp = x; number = l; place = i; may = may; words = refl; view = t })
       (λ g t. record { found = is; same = refl })
-  moves_reads x (cell.Node n) i found may is = reads_word x (cell.Node n) i found may.0 may.1 is
 
   -- a changed version word is found
-  pub moves_fails : (x : Stamp) (found : ℕ) → found ≡ m.version x.cell → Member x v.stamps → found ≢ x.version → Moves z ws f p v ws (λ v w. Failed v w x found) (FindsVersion x.cell found)
+  pub moves_fails : (x : Stamp) (found : ℕ) → found ≡ m.version x.cell → Member x v.stamps → found ≢ x.version → Moves z ws f p v ws (λ v w. check.IsChanged v w x found) (FindsVersion x.cell found)
   moves_fails x found is has other =
       let k = without v x in
-      moved ws (λ v w. Failed v w x found) (FindsVersion x.cell found) (failed v x (m.version x.cell) k.0 k.1) refl
-      record { stamps = k.0; notes = k.1; without = k.2; is = ap (λ (word : ℕ). failed v x word k.0 k.1) (sym is) }
-      (λ g t. Fail record { stamp = x; stamps = k.0; notes = k.1; has = has; changed = λ e. other (is ∙ e); without = k.2; words = refl; view = t })
+      moved ws (λ v w. check.IsChanged v w x found) (FindsVersion x.cell found) (check.view_changed v x (m.version x.cell) k.0 k.1) refl
+      record { stamps = k.0; notes = k.1; without = k.2; is = ap (λ (word : ℕ). check.view_changed v x word k.0 k.1) (sym is) }
+      (λ g t. IsChanged record { stamp = x; stamps = k.0; notes = k.1; has = has; changed = λ e. other (is ∙ e); without = k.2; words = refl; view = t })
       (λ g t. record { found = is; same = refl })
 
   -- what was seen and made, at an unchanged version word
-  told : (g : Views) (x : Stamp) (ys : List Note) (o : Option What) → MayTell z v x o → HoldsAll v x r.logical → Turned f p (telling (passed v x ys) r.log o) g → Told v (telling (passed v x ys) r.log o) o
+  told : (g : Views) (x : Stamp) (ys : List Note) (o : Option What) → check.MayTell z v x o → HoldsAll v x r.logical → SetsView f p (check.with_event (check.view_unchanged v x ys) r.log o) g → SeesEvent v (check.with_event (check.view_unchanged v x ys) r.log o) o
   told g x ys None tells holds t = (refl, refl)
-  told g x ys (Some what) tells holds t = makes f g p v (telling (passed v x ys) r.log (Some what)) r.log what at t r.history refl (tells r.logical (replay r.log) r.shows.shape r.shows.rows holds).0 refl refl
+  told g x ys (Some what) tells holds t = makes f g p v (check.with_event (check.view_unchanged v x ys) r.log (Some what)) r.log what at t r.history refl (tells r.logical (replay r.log) r.shows.shape r.shows.rows holds).0 refl refl
 
   -- an unchanged version word is found
-  pub moves_passes : (x : Stamp) (o : Option What) → m.version x.cell ≡ x.version → MayPass z v x o → Moves z ws f p v ws (λ v w. Passed z v w x o) (FindsUnchanged z v x)
+  pub moves_passes : (x : Stamp) (o : Option What) → m.version x.cell ≡ x.version → check.May z v x o → Moves z ws f p v ws (λ v w. check.Unchanged z v w x o) (FindsUnchanged z v x)
   moves_passes x o same may =
       let k : Gathered (IsWay z m f v r) v.stamps = ways z m f v r in
       let paths = are_paths z m f v r in
       let holds = holds_all m r.logical v x (r.vouch p v at) same in
-      let w : View = telling (passed v x k.list) r.log o in
-      moved ws (λ v w. Passed z v w x o) (FindsUnchanged z v x) w (ap (λ (u : View). u.pass) (telling_is (passed v x k.list) r.log o))
+      let w : View = check.with_event (check.view_unchanged v x k.list) r.log o in
+      moved ws (λ v w. check.Unchanged z v w x o) (FindsUnchanged z v x) w (ap (λ (u : View). u.pass) (telling_is (check.view_unchanged v x k.list) r.log o))
       record {
         paths = k.list;
-        is = telling_is (passed v x k.list) r.log o;
+        is = telling_is (check.view_unchanged v x k.list) r.log o;
         stamped = λ y i. let a = paths y i in (a.0, (a.1.0, a.1.1));
         led = λ d q i leads. k.each d (note_of d (Starts q)) i (q, refl, leads r.logical r.shows.shape holds);
         vouched = (r.logical, r.shows.shape, holds);
         told = told (with_view f p w) x k.list o may.tells holds (with_turned f p w);
       }
-      (λ g t. Pass record { stamp = x; paths = k.list; event = o; may = may; found = same; led = paths; words = refl; view = t })
+      (λ g t. IsUnchanged record { stamp = x; paths = k.list; event = o; may = may; found = same; led = paths; words = refl; view = t })
       (λ g t. record { found = sym same; same = refl; logical = r.logical; holder = r.holder; shape = r.shows.shape; holds = holds })

@@ -19,7 +19,7 @@ use Rattle.art_cell.specs.declared.cells.Link.TheVariants.{Node as node}
 use Rattle.art_step.specs.declared.views.Sizes.{Sizes}
 use Rattle.art_step.specs.declared.views.View.{View}
 use Rattle.art_step.specs.OpeningWords.{version_or_zero, first_bits, opening_word, opening_words}
-use Rattle.art_step.specs.StepLaws.{Opens, newcomer}
+use Rattle.art_step.specs.Opening.{Opens, newcomer}
 use Rattle.art_step.specs.Views.{IsNumber, last_counter}
 use Rattle.art_cell.specs.Children.{number_of}
 use Rattle.art_step.specs.WordPlaces.{pool_size, pool_of_layout, pool_of, words_each, first_cell, free_words, first_free_word, epoch_place, pass_place, word_count}

@@ -20,9 +20,13 @@ use Rattle.art_step.specs.Histories.{event, replay}
 use Rattle.art_step.specs.Knowledge.{CellAt, Holds}
 use Rattle.art_tree.specs.Rows.{HasRows}
 use Rattle.art_step.specs.Sound.{IsOneHistory, ShowsReplay, StampsVouch, Keeps, HoldsEach, OneHolder, Vouches, Vouched, Whereabouts, InTree, IsFree, InHandOf, InLimboOf, Nowhere, HeldAt, Accounts, NumbersAccounted, Awaits, IsPinned, MarkedUnstamped, WordsFormed, IsSound}
-use Rattle.art_step.specs.StepLaws.{CommitLaw}
-use Rattle.art_step.specs.StepRows.{SetsVersion, IsNotHeld, Knows, AllNew, IsLinked, Commits, MayCommit, AreStanding, retired, all_retired, Drops, HandsOver, released_word, MayBeFirst, committed}
-use Rattle.art_step.specs.Views.{Member, Memory, words_in, IsClear, IsLocked, IsObsolete, IsVersion, cell_named, Views, Turned}
+use Rattle.art_step.specs.Steps.Commit as commit
+use Rattle.art_step.specs.Effects.{SetsVersion, released_word}
+use Rattle.art_step.specs.Views.{IsNotHeld, SetsView}
+use Rattle.art_step.specs.Steps.Commit.{Knows, AllNew, IsLinked, Commits, AreStanding, retired, all_retired}
+use Rattle.art_step.specs.Steps.Release.{Drops}
+use Rattle.art_step.specs.Steps.Give.{HandsOver}
+use Rattle.art_step.specs.Views.{Member, Memory, words_in, IsClear, IsLocked, IsObsolete, IsVersion, cell_named, Views, SetsView}
 use Rattle.art_step.proofs.Facts.{SameLeafWords, holds_on}
 use Rattle.art_step.proofs.Histories.{replay_more, history_grows}
 use Rattle.art_step.proofs.Kept.{formed_turn, holder_turn, apart_turn}
@@ -109,8 +113,8 @@ retires ks [] d i = absurd i
 retires ks (e ∷ us) d i = ⊎_elim (λ (is : d ≡ e). inl (ap (retired ks) is)) (λ (j : Member d us). inr (retires ks us d j)) i
 
 module _ (z : Sizes) (m : Memory) (f : Views) (p : ℕ) (v : View) (is-v : f p ≡ Some v) (m' : Memory) (g : Views) (what : What) (us ls : List Link) (ks : List Pin) (h₀ : Holding) (hs : List Holding) (xs : List InHand) (b : Bool) (r : IsSound z m f)
-    (may : MayCommit z v what us ls) (first : MayBeFirst v us h₀ b) (drops : Drops v.held h₀.cell hs) (hands : HandsOver v.hand ls xs) (standing : AreStanding f ks)
-    (sets : SetsVersion m h₀.cell (released_word (m.version h₀.cell) b) m') (t : Turned f p (committed v r.log what hs xs (all_retired ks us ++ v.limbo)) g) where
+    (may : commit.May z v what us ls) (first : commit.MayBeFirst v us h₀ b) (drops : Drops v.held h₀.cell hs) (hands : HandsOver v.hand ls xs) (standing : AreStanding f ks)
+    (sets : SetsVersion m h₀.cell (released_word (m.version h₀.cell) b) m') (t : SetsView f p (commit.view_after v r.log what hs xs (all_retired ks us ++ v.limbo)) g) where
   abbrev s : Cells
   s = r.logical
 
@@ -118,7 +122,7 @@ module _ (z : Sizes) (m : Memory) (f : Views) (p : ℕ) (v : View) (is-v : f p �
   s' = after v.held s
 
   abbrev w : View
-  w = committed v r.log what hs xs (all_retired ks us ++ v.limbo)
+  w = commit.view_after v r.log what hs xs (all_retired ks us ++ v.limbo)
 
   abbrev at' : Link → Whereabouts
   at' = moved p us ls r.at
@@ -535,6 +539,6 @@ module _ (z : Sizes) (m : Memory) (f : Views) (p : ℕ) (v : View) (is-v : f p �
   commits = record { log = r.log ++ event v.pass what ∷ []; logical = s'; at = at'; history = history; shows = shows; holder = holder; vouch = vouch; numbers = numbers; unstamped = unstamped; formed = formed }
 
 -- at the first release all held words become the new ones
-pub commit_law : CommitLaw
+pub commit_law : commit.Law
 commit_law z p v m f m' g is r row =
     commits z m f p v is m' g row.what row.unlinked row.linked row.pins row.holding row.held row.hand row.obsolete r row.may row.first row.drops row.hands row.standing row.unlocks row.view

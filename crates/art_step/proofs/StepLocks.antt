@@ -6,7 +6,7 @@ use Rattle.art_cell.specs.declared.cells.Cell.{Cell}
 use Rattle.art_cell.specs.declared.cells.Cell.TheVariants as cell
 use Rattle.art_cell.specs.declared.cells.Link.{Link}
 use Rattle.art_cell.specs.declared.cells.Link.TheVariants.{Leaf as leaf, Node as node}
-use Rattle.art_step.specs.declared.views.Finding.{Finding}
+use Rattle.art_step.specs.declared.views.Found.{Found}
 use Rattle.art_step.specs.declared.views.Holding.{Holding}
 use Rattle.art_step.specs.declared.views.Note.{Note}
 use Rattle.art_step.specs.declared.views.Sizes.{Sizes}
@@ -15,9 +15,15 @@ use Rattle.art_step.specs.declared.views.View.{View}
 use Rattle.art_tree.specs.Heaps.{Cells}
 use Rattle.art_step.specs.Knowledge.{Holds}
 use Rattle.art_step.specs.Sound.{Keeps, HoldsEach, OneHolder, Holder, IsStampOf, Vouched, Whereabouts, InTree, InHandOf, InLimboOf, HeldAt, Accounts, WordsFormed, IsSound}
-use Rattle.art_step.specs.StepLaws.{UpgradeLaw, ClaimLaw, UnclaimedLaw, ReleaseLaw}
-use Rattle.art_step.specs.StepRows.{SetsVersion, IsNotHeld, MayLock, IsCopy, found_version, MayClaim, released_word, IsNodeAmong, IsInLimbo, HasClaimedNone, MayRelease}
-use Rattle.art_step.specs.Views.{Member, Memory, words_in, IsClear, IsLocked, IsObsolete, last_counter, IsVersion, cell_named, Views, Turned}
+use Rattle.art_step.specs.Steps.Upgrade as upgrade
+use Rattle.art_step.specs.Steps.Claim as claim
+use Rattle.art_step.specs.Steps.Claim.{UnclaimedLaw}
+use Rattle.art_step.specs.Steps.Release as release
+use Rattle.art_step.specs.Effects.{SetsVersion, released_word}
+use Rattle.art_step.specs.Views.{IsNotHeld, MayLock, found_version, IsInLimbo, SetsView}
+use Rattle.art_step.specs.Steps.Upgrade.{IsCopy, HasClaimedNone}
+use Rattle.art_step.specs.Steps.Release.{IsNodeAmong}
+use Rattle.art_step.specs.Views.{Member, Memory, words_in, IsClear, IsLocked, IsObsolete, last_counter, IsVersion, cell_named, Views, SetsView}
 use Rattle.art_tree.proofs.Places.{same_cell}
 use Rattle.art_step.proofs.Histories.{history_stays}
 use Rattle.art_step.proofs.Kept.{numbers_turn, unstamped_turn, formed_turn, holder_turn, apart_turn}
@@ -152,11 +158,11 @@ released_raises m m' c b k = record { above = subst (λ (x : ℕ). m.version c <
 -- ---- one cell's version word goes up, and what the pass holds changes by that cell
 
 -- the pass holds these cells now
-abbrev locking : View → List Holding → Bool → List Finding → View
+abbrev locking : View → List Holding → Bool → List Found → View
 locking v hs b fs = record v { steps = v.steps + 1; held = hs; committed = b; found = fs }
 
 module _ (z : Sizes) (m : Memory) (versions : Cell → ℕ) (f : Views) (p : ℕ) (v : View) (r : IsSound z m f) (is : f p ≡ Some v) (c : Cell) (hs : List Holding) (b : Bool)
-    (fs : List Finding) where
+    (fs : List Found) where
   abbrev n : Memory
   n = with_versions m versions
 
@@ -183,7 +189,7 @@ module _ (z : Sizes) (m : Memory) (versions : Cell → ℕ) (f : Views) (p : ℕ
     stays : (h : Holding) → Member h v.held → h.cell ≢ c → Member h hs
     others : (q : ℕ) (u : View) → q ≢ p → f q ≡ Some u → IsNotHeld u.held c
 
-  module _ (k : Shift) (g : Views) (t : Turned f p (locking v hs b fs) g) where
+  module _ (k : Shift) (g : Views) (t : SetsView f p (locking v hs b fs) g) where
     abbrev w : View
     w = locking v hs b fs
 
@@ -266,7 +272,7 @@ module _ (z : Sizes) (m : Memory) (versions : Cell → ℕ) (f : Views) (p : ℕ
 locked_version : (x : ℕ) → IsLocked x → x ≤ 4 * last_counter + 2 → IsVersion x
 locked_version x locked small = record { form = inr (inl locked); clear = λ e. absurd (omega arith); locked = λ e. small; obsolete = λ e. absurd (omega arith) }
 
-module _ (z : Sizes) (m : Memory) (versions : Cell → ℕ) (f : Views) (p : ℕ) (v : View) (r : IsSound z m f) (is : f p ≡ Some v) (c : Cell) (o : Option ℕ) (ws : List ℕ) (fs : List Finding) where
+module _ (z : Sizes) (m : Memory) (versions : Cell → ℕ) (f : Views) (p : ℕ) (v : View) (r : IsSound z m f) (is : f p ≡ Some v) (c : Cell) (o : Option ℕ) (ws : List ℕ) (fs : List Found) where
   abbrev mine : Holding
   mine = record { cell = c; stamped = o; old = ws; new = ws }
 
@@ -308,7 +314,7 @@ module _ (z : Sizes) (m : Memory) (versions : Cell → ℕ) (f : Views) (p : ℕ
     free = not_held p v is
 
     -- what was sound is so again, with the cell held
-    locks : (g : Views) → Turned f p (locking v with_mine false fs) g → IsSound z (with_versions m versions) g
+    locks : (g : Views) → SetsView f p (locking v with_mine false fs) g → IsSound z (with_versions m versions) g
     locks = shifts z m versions f p v r is c with_mine false fs record {
       raises = k.raises;
       formed = locked_version (versions c) k.locked k.small;
@@ -327,7 +333,7 @@ module _ (z : Sizes) (m : Memory) (versions : Cell → ℕ) (f : Views) (p : ℕ
     }
 
 -- a stamped cell whose word is the stamped one is locked and held
-pub upgrade_law : UpgradeLaw
+pub upgrade_law : upgrade.Law
 upgrade_law z p v m f m' g is r row =
     let x = row.stamp in
     let may = row.may in
@@ -350,7 +356,7 @@ upgrade_law z p v m f m' g is r row =
     } g row.view)
 
 -- the node that may be claimed is in the hand
-claimed_in_hand : (m : Memory) (at : Link → Whereabouts) (p : ℕ) (v : View) (n : Node) → Accounts m at p v → MayClaim v n → at (node n) ≡ InHandOf p
+claimed_in_hand : (m : Memory) (at : Link → Whereabouts) (p : ℕ) (v : View) (n : Node) → Accounts m at p v → claim.May v n → at (node n) ≡ InHandOf p
 claimed_in_hand m at p v n k may = ap at (sym may.hand.2) ∙ k.hand may.hand.0 may.hand.1
 
 -- a node's number in hand that the pass does not hold is obsolete: it is not in the tree, and in no other hand
@@ -370,7 +376,7 @@ unclaimed_law z p v m f n is r may =
     (r.formed.versions c).form
 
 -- a node's number in hand is locked and held
-pub claim_law : ClaimLaw
+pub claim_law : claim.Law
 claim_law z p v m f m' g is r row =
     let n = row.node in
     let may = row.may in
@@ -393,7 +399,7 @@ claim_law z p v m f m' g is r row =
 
 -- ---- a cell is released
 
-module _ (z : Sizes) (m : Memory) (f : Views) (p : ℕ) (v : View) (is : f p ≡ Some v) (r : IsSound z m f) (h : Holding) (obsolete : Bool) (may : MayRelease v h obsolete) where
+module _ (z : Sizes) (m : Memory) (f : Views) (p : ℕ) (v : View) (is : f p ≡ Some v) (r : IsSound z m f) (h : Holding) (obsolete : Bool) (may : release.May v h obsolete) where
   -- after the commit, or before it with nothing written and nothing claimed
   abbrev Late : Type 0
   Late = (v.committed ≡ true) × ((obsolete ≡ true) ↔ IsNodeAmong h.cell (IsInLimbo v))
@@ -440,7 +446,7 @@ module _ (z : Sizes) (m : Memory) (f : Views) (p : ℕ) (v : View) (is : f p ≡
       (λ (a : Early). a.3 h may.0) may.1)
 
 -- after the commit, or of a change that is given up, a cell is no longer held
-pub release_law : ReleaseLaw
+pub release_law : release.Law
 release_law z p v m f m' g is r row =
     let h = row.holding in
     let hs = row.held in

@@ -5,11 +5,11 @@ use Rattle.std.specs.Prelude.{Option, Some, None}
 use Rattle.art_cell.specs.declared.cells.Cell.{Cell}
 use Rattle.art_cell.specs.declared.cells.Cell.TheVariants as cell
 use Rattle.art_cell.specs.declared.cells.Link.TheVariants.{Node as node}
-use Rattle.art_step.specs.declared.views.Checked.{Checked}
+use Rattle.art_step.specs.declared.views.LastCheck.{LastCheck}
 use Rattle.art_step.specs.declared.views.Event.{Event}
 use Rattle.art_step.specs.declared.views.Fact.{Fact}
 use Rattle.art_step.specs.declared.views.Fact.TheVariants.{Starts, Word, LeafWord}
-use Rattle.art_step.specs.declared.views.Finding.{Finding}
+use Rattle.art_step.specs.declared.views.Found.{Found}
 use Rattle.art_step.specs.declared.views.Holding.{Holding}
 use Rattle.art_step.specs.declared.views.Note.{Note}
 use Rattle.art_step.specs.declared.views.Sizes.{Sizes}
@@ -21,16 +21,21 @@ use Rattle.art_step.specs.Histories.{event, replay}
 use Rattle.art_step.specs.Knowledge.{Holds, HoldsAll}
 use Rattle.art_tree.specs.Rows.{HasRows}
 use Rattle.art_step.specs.Sound.{IsOneHistory, IsStampOf, Vouches, Vouched, IsSound}
-use Rattle.art_step.specs.StepLaws.{BeginLaw, ReadLaw, ReadLeafLaw, PassLaw, VouchLaw, FailLaw, ForgetLaw}
-use Rattle.art_step.specs.StepRows.{stamp_of, note_of, IsNotHeld, first_notes, begun, has_read, ArePaths, MayTell, passed, telling}
-use Rattle.art_step.specs.Views.{Member, Memory, IsClear, IsLocked, Views, Turned}
+use Rattle.art_step.specs.Steps.Begin as begin
+use Rattle.art_step.specs.Steps.Read as read
+use Rattle.art_step.specs.Steps.Check as check
+use Rattle.art_step.specs.Steps.Check.{VouchLaw, ArePaths}
+use Rattle.art_step.specs.Steps.Forget as forget
+use Rattle.art_step.specs.Views.{stamp_of, note_of, IsNotHeld, SetsView}
+use Rattle.art_step.specs.Steps.Begin.{first_notes}
+use Rattle.art_step.specs.Views.{Member, Memory, IsClear, IsLocked, Views, SetsView}
 use Rattle.art_step.proofs.Facts.{holds_all}
 use Rattle.art_step.proofs.Histories.{replay_more, history_stays, history_grows}
 use Rattle.art_step.proofs.Kept.{numbers_turn, IsNewStamp, unstamped_turn, formed_turn, holder_same}
 use Rattle.art_step.proofs.Turns.{each_view, member_append}
 
 -- the view with other notes of what the pass has seen, and all that it holds, has in hand and in limbo, and its pins
-abbrev noting : View → List Event → List ℕ → ℕ → ℕ → List Stamp → List Note → Checked → List Finding → View
+abbrev noting : View → List Event → List ℕ → ℕ → ℕ → List Stamp → List Note → LastCheck → List Found → View
 noting v seen own steps failures stamps notes checked found =
     record v { seen = seen; own = own; steps = steps; failures = failures; stamps = stamps; notes = notes; checked = checked; found = found }
 
@@ -64,8 +69,8 @@ module _ (z : Sizes) (m : Memory) (f g : Views) (p : ℕ) (v : View) (at : f p �
   NotesGo xs ys = (y : Note) → Member y ys → Member y.stamp xs
 
   -- stamps and notes change, and perhaps the history
-  notes : {seen : List Event} {own : List ℕ} {steps failures : ℕ} {xs : List Stamp} {ys : List Note} {checked : Checked} {found : List Finding}
-      → Turned f p (noting v seen own steps failures xs ys checked found) g
+  notes : {seen : List Event} {own : List ℕ} {steps failures : ℕ} {xs : List Stamp} {ys : List Note} {checked : LastCheck} {found : List Found}
+      → SetsView f p (noting v seen own steps failures xs ys checked found) g
       → (log : List Event) → IsOneHistory log g → HasRows (heap_of s) (replay log) → StampsCome xs → NotesCome ys → NotesGo xs ys → IsSound z m g
   notes {seen} {own} {steps} {failures} {xs} {ys} {checked} {found} t log history rows stamps come go =
       let w : View = noting v seen own steps failures xs ys checked found in
@@ -93,8 +98,8 @@ module _ (z : Sizes) (m : Memory) (f g : Views) (p : ℕ) (v : View) (at : f p �
       }
 
   -- the pass tells nothing
-  quiet : {steps failures : ℕ} {xs : List Stamp} {ys : List Note} {checked : Checked} {found : List Finding}
-      → Turned f p (noting v v.seen v.own steps failures xs ys checked found) g → StampsCome xs → NotesCome ys → NotesGo xs ys → IsSound z m g
+  quiet : {steps failures : ℕ} {xs : List Stamp} {ys : List Note} {checked : LastCheck} {found : List Found}
+      → SetsView f p (noting v v.seen v.own steps failures xs ys checked found) g → StampsCome xs → NotesCome ys → NotesGo xs ys → IsSound z m g
   quiet {steps} {failures} {xs} {ys} {checked} {found} t stamps come go =
       notes t r.log (history_stays f g p v (noting v v.seen v.own steps failures xs ys checked found) t at r.log r.history refl refl refl) r.shows.rows stamps come go
 
@@ -130,7 +135,7 @@ module _ (z : Sizes) (m : Memory) (f g : Views) (p : ℕ) (v : View) (at : f p �
   made c pinned clear =
       ((pinned, λ n e. r.unstamped.clear (node n) (subst (λ (d : Cell). IsClear (m.version d)) e clear)), record { clear = clear; below = le_refl (m.version c) })
 
-  begins : (c : Cell) → v.pin ≢ 0 → Turned f p (begun v c (m.version c)) g → IsSound z m g
+  begins : (c : Cell) → v.pin ≢ 0 → SetsView f p (begin.view_after v c (m.version c)) g → IsSound z m g
   begins c pinned t = ⊎_elim
       (λ (clear : IsClear (m.version c)).
       let x : Stamp = stamp_of c (m.version c) in
@@ -143,7 +148,7 @@ module _ (z : Sizes) (m : Memory) (f g : Views) (p : ℕ) (v : View) (at : f p �
       (cases_eq (m.version c % 4) 0)
 
   -- a fact of a cell that is not held is noted, where an unchanged version word says that it holds
-  reads : (x : Stamp) (y : Fact) → Member x v.stamps → IsNotHeld v.held x.cell → (m.version x.cell ≡ x.version → Holds s x.cell y) → Turned f p (has_read v x y) g → IsSound z m g
+  reads : (x : Stamp) (y : Fact) → Member x v.stamps → IsNotHeld v.held x.cell → (m.version x.cell ≡ x.version → Holds s x.cell y) → SetsView f p (read.view_after v x y) g → IsSound z m g
   reads x y has free same t = quiet t (λ a i. inl i)
       (more_notes (note_of x y ∷ []) (one_fresh (note_of x y) (record { stamp = mine.stamps x has; same = same }, λ h i is stamped. absurd (free h i (sym is)))))
       (all_go v.stamps (note_of x y ∷ []) (λ a i. i) (one_goes v.stamps (note_of x y) has))
@@ -163,12 +168,12 @@ module _ (z : Sizes) (m : Memory) (f g : Views) (p : ℕ) (v : View) (at : f p �
   paths_go : (ys : List Note) → ArePaths s v ys → NotesGo v.stamps (ys ++ v.notes)
   paths_go ys are = all_go v.stamps ys (λ a i. i) (λ y i. (are y i).0)
 
-  passes : (x : Stamp) (ys : List Note) (o : Option What) → m.version x.cell ≡ x.version → ArePaths s v ys → MayTell z v x o → Turned f p (telling (passed v x ys) r.log o) g → IsSound z m g
+  passes : (x : Stamp) (ys : List Note) (o : Option What) → m.version x.cell ≡ x.version → ArePaths s v ys → check.MayTell z v x o → SetsView f p (check.with_event (check.view_unchanged v x ys) r.log o) g → IsSound z m g
   passes x ys None same are tells t = quiet t (λ a i. inl i) (paths ys are) (paths_go ys are)
   passes x ys (Some what) same are tells t =
       let k = tells s (replay r.log) r.shows.shape r.shows.rows (holds x same) in
       notes t (r.log ++ event v.pass what ∷ [])
-      (history_grows f g p v (telling (passed v x ys) r.log (Some what)) t at r.log r.history refl what k.0 refl refl)
+      (history_grows f g p v (check.with_event (check.view_unchanged v x ys) r.log (Some what)) t at r.log r.history refl what k.0 refl refl)
       (subst (HasRows (heap_of s)) (sym (replay_more r.log (event v.pass what) ∙ k.1)) r.shows.rows)
       (λ a i. inl i) (paths ys are) (paths_go ys are)
 
@@ -177,11 +182,11 @@ unchanged : (z : Sizes) (m n : Memory) (g : Views) → n ≡ m → IsSound z m g
 unchanged z m n g same sound = subst (λ (k : Memory). IsSound z k g) (sym same) sound
 
 -- the version word of a cell is found
-pub begin_law : BeginLaw
+pub begin_law : begin.Law
 begin_law z p v m f n g at r row = unchanged z m n g row.words (begins z m f g p v at r row.cell row.pinned row.view)
 
 -- a word of a stamped cell is read
-pub read_law : ReadLaw
+pub read_law : read.Law
 read_law z p v m f n g at r row =
     let x = row.stamp in
     unchanged z m n g row.words
@@ -189,7 +194,7 @@ read_law z p v m f n g at r row =
     (λ same. let k = ((r.vouch p v at).stamps x row.may.stamp).clear in word_of z m f g p v at r x.cell row.place (λ locked. omega arith)) row.view)
 
 -- a word of a leaf that a stamped cell names is read
-pub read_leaf_law : ReadLeafLaw
+pub read_leaf_law : read.LeafLaw
 read_leaf_law z p v m f n g at r row =
     let x = row.stamp in
     let l = row.number in
@@ -203,11 +208,11 @@ pub vouch_law : VouchLaw
 vouch_law z p v m f x at r same = holds z m f f p v at r x same
 
 -- a check finds an unchanged version word, and may make an event
-pub pass_law : PassLaw
+pub pass_law : check.UnchangedLaw
 pass_law z p v m f n g at r row = unchanged z m n g row.words (passes z m f g p v at r row.stamp row.paths row.event row.found row.led row.may.tells row.view)
 
 -- a check or an upgrade finds a changed version word
-pub fail_law : FailLaw
+pub fail_law : check.ChangedLaw
 fail_law z p v m f n g at r row =
     let without = row.without in
     unchanged z m n g row.words
@@ -215,5 +220,5 @@ fail_law z p v m f n g at r row =
     (λ y i. let k = (without.notes y).0 i in (without.stamps y.stamp).1 ((r.vouch p v at).noted y k.0, k.1)))
 
 -- stamps and notes are let go
-pub forget_law : ForgetLaw
+pub forget_law : forget.Law
 forget_law z p v m f n g at r row = unchanged z m n g row.words (quiet z m f g p v at r row.view (λ a i. inl (row.had a i)) (λ y i. inl (row.noted y i)) row.stamped)

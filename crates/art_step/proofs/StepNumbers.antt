@@ -17,9 +17,11 @@ use Rattle.art_tree.specs.Heaps.{Cells}
 use Rattle.art_step.specs.Knowledge.{Holds}
 use Rattle.art_step.specs.Sound.{Keeps, OneHolder, IsStampOf, Vouched, StampsVouch, Whereabouts, InTree, IsFree, InHandOf, InLimboOf, Nowhere, HeldAt, Accounts, NumbersAccounted, IsStamped}
 use Rattle.art_step.specs.Sound.{Awaits, IsPinned, MarkedUnstamped, WordsFormed, IsSound}
-use Rattle.art_step.specs.StepLaws.{TakeLaw, GiveLaw, FreeLaw}
-use Rattle.art_step.specs.StepRows.{SetsFree, took, IsTaken, gave, freed}
-use Rattle.art_step.specs.Views.{Member, Memory, words_in, IsClear, IsLocked, IsObsolete, IsVersion, cell_named, Views, Turned}
+use Rattle.art_step.specs.Steps.Take as take_free
+use Rattle.art_step.specs.Steps.Give as give
+use Rattle.art_step.specs.Effects.{SetsFree}
+use Rattle.art_step.specs.Steps.Take.{IsTaken}
+use Rattle.art_step.specs.Views.{Member, Memory, words_in, IsClear, IsLocked, IsObsolete, IsVersion, cell_named, Views, SetsView}
 use Rattle.art_step.proofs.Histories.{history_stays}
 use Rattle.art_step.proofs.Kept.{account_on, unstamped_turn, holder_same, formed_turn}
 use Rattle.art_tree.proofs.Places.{same_link}
@@ -71,7 +73,7 @@ vouched_on m m' s v version k = record {
     stamp_on x o = record { clear = o.clear; below = subst (λ (a : Cell → ℕ). x.version ≤ a x.cell) (sym version) o.below }
 
 -- stamps vouch on where version words, the logical words, stamps and notes stay
-pub vouch_turn : (m m' : Memory) (f g : Views) (p : ℕ) (v w : View) (s : Cells) → Turned f p w g → f p ≡ Some v → m'.version ≡ m.version
+pub vouch_turn : (m m' : Memory) (f g : Views) (p : ℕ) (v w : View) (s : Cells) → SetsView f p w g → f p ≡ Some v → m'.version ≡ m.version
     → w.stamps ≡ v.stamps → w.notes ≡ v.notes → w.committed ≡ v.committed → HoldingsFrom v w → StampsVouch m f s → StampsVouch m' g s
 vouch_turn m m' f g p v w s t is version stamps notes committed held k = each_view f g p w t (λ q u. Vouched m' s u)
     (let o = vouched_on m m' s v version (k p v is) in record {
@@ -84,14 +86,14 @@ vouch_turn m m' f g p v w s t is version stamps notes committed held k = each_vi
     (λ q u other e. vouched_on m m' s u version (k q u e))
 
 -- what is given back stays unstamped where numbers, version words, the epoch, pass words, pins, limbo and stamps stay
-pub unstamped_same : (z : Sizes) (m m' : Memory) (f g : Views) (p : ℕ) (v w : View) (s : Cells) (at : Link → Whereabouts) → Turned f p w g → f p ≡ Some v → NumbersAccounted z m f s at → MarkedUnstamped z m f at
+pub unstamped_same : (z : Sizes) (m m' : Memory) (f g : Views) (p : ℕ) (v w : View) (s : Cells) (at : Link → Whereabouts) → SetsView f p w g → f p ≡ Some v → NumbersAccounted z m f s at → MarkedUnstamped z m f at
     → m'.version ≡ m.version → m'.epoch ≡ m.epoch → m'.pass_word ≡ m.pass_word → w.pin ≡ v.pin → w.pins ≡ v.pins → w.noted ≡ v.noted → w.limbo ≡ v.limbo → w.stamps ≡ v.stamps → MarkedUnstamped z m' g at
 unstamped_same z m m' f g p v w s at t is numbers k version epoch words pin pins noted limbo stamps = unstamped_turn z m m' f g p v w s at t is numbers k epoch words
     (λ d clear. k.clear d (subst (λ (a : Cell → ℕ). IsClear (a (cell_named d))) version clear))
     pin pins noted limbo (λ x i. inl (subst (Member x) stamps i))
 
 -- words have their forms where version words, the epoch and its note stay
-pub formed_same : (z : Sizes) (m m' : Memory) (f g : Views) (p : ℕ) (v w : View) → Turned f p w g → f p ≡ Some v → m'.version ≡ m.version → m'.epoch ≡ m.epoch → w.noted ≡ v.noted → WordsFormed z m f → WordsFormed z m' g
+pub formed_same : (z : Sizes) (m m' : Memory) (f g : Views) (p : ℕ) (v w : View) → SetsView f p w g → f p ≡ Some v → m'.version ≡ m.version → m'.epoch ≡ m.epoch → w.noted ≡ v.noted → WordsFormed z m f → WordsFormed z m' g
 formed_same z m m' f g p v w t is version epoch noted k = formed_turn z m m' f g p v w t is k
     (λ c. subst (λ (a : Cell → ℕ). IsVersion (a c)) (sym version) (k.versions c))
     (λ l. subst (λ (a : Cell → ℕ). IsObsolete (a (cell.Leaf l))) (sym version) (k.leaves l))
@@ -161,7 +163,7 @@ held_stays at d w p b h n other = subst (HeldAt p b h.stamped) (sym (put_else at
 
 -- what is sound stays so when a number goes from one place outside the tree to another, by a pass that may do so
 module _ (z : Sizes) (m m' : Memory) (f g : Views) (p : ℕ) (v : View) (is-v : f p ≡ Some v) (r : IsSound z m f) (d : Link) (old new : Whereabouts) (b : Bool) (xs : List InHand) (es : List Retired)
-    (was : r.at d ≡ old) (own : IsOwn p old) (comes : IsOwn p new) (frees : (new ≡ IsFree) ↔ (b ≡ true)) (sets : SetsFree m d b m') (t : Turned f p (moved v xs es) g)
+    (was : r.at d ≡ old) (own : IsOwn p old) (comes : IsOwn p new) (frees : (new ≡ IsFree) ↔ (b ≡ true)) (sets : SetsFree m d b m') (t : SetsView f p (moved v xs es) g)
     (account : Accounts m (put r.at d new) p (moved v xs es)) (unstamped : (q : ℕ) (u : View) (n : Node) → f q ≡ Some u → d ≡ node n → IsStamped u n → ⊥)
     (fewer : (e : Retired) → Member e es → Member e v.limbo) where
   abbrev w : View
@@ -253,7 +255,7 @@ module _ (z : Sizes) (m m' : Memory) (f g : Views) (p : ℕ) (v : View) (is-v : 
 -- ---- the laws
 
 -- a free number is taken
-pub take_law : TakeLaw
+pub take_law : take_free.Law
 take_law z p v m f m' g is r row =
     number_moves z m m' f g p v is r row.link IsFree (InHandOf p) false (x ∷ v.hand) v.limbo was tt refl (λ e. cc, λ e. cc) row.sets row.view account (no_stamp z m f r row.link IsFree was (λ e. cc) (λ q e. cc)) (λ e i. i)
   where
@@ -269,7 +271,7 @@ take_law z p v m f m' g is r row =
     after : (k : Whereabouts) → IsFree ≢ k → (e : Link) → r.at e ≡ k → put r.at row.link (InHandOf p) e ≡ k
     after k = put_after r.at row.link IsFree (InHandOf p) k was
 
-    account : Accounts m (put r.at row.link (InHandOf p)) p (took v row.link row.copy)
+    account : Accounts m (put r.at row.link (InHandOf p)) p (take_free.view_after v row.link row.copy)
     account = record {
       hand = λ y i. ⊎_elim
           (λ (e : y ≡ x). put_here r.at row.link (InHandOf p) y.link (ap (λ (y : InHand). y.link) e))
@@ -290,7 +292,7 @@ take_law z p v m f m' g is r row =
     }
 
 -- a number in hand that is not held goes back
-pub give_law : GiveLaw
+pub give_law : give.Law
 give_law z p v m f m' g is r row =
     number_moves z m m' f g p v is r row.link (InHandOf p) IsFree true row.hand v.limbo was refl tt (λ e. refl, λ e. refl) row.sets row.view account (no_stamp z m f r row.link (InHandOf p) was (λ e. cc) (λ q e. cc)) (λ e i. i)
   where
@@ -300,7 +302,7 @@ give_law z p v m f m' g is r row =
     was : r.at row.link ≡ InHandOf p
     was = ap r.at (sym row.may.hand.2) ∙ mine.hand row.may.hand.0 row.may.hand.1
 
-    account : Accounts m (put r.at row.link IsFree) p (gave v row.hand)
+    account : Accounts m (put r.at row.link IsFree) p (give.view_after v row.hand)
     account = record {
       hand = λ y i. let k = row.may.rest.was y i in put_else r.at row.link IsFree y.link (λ e. k.1 (inl e)) ∙ mine.hand y k.0;
       in_hand = λ e i.
@@ -314,7 +316,7 @@ give_law z p v m f m' g is r row =
     }
 
 -- a number in limbo that is not held, that the pass has in no stamp, and whose place is marked for every other pass, goes back
-pub free_law : FreeLaw
+pub free_law : give.FreeLaw
 free_law z p v m f m' g is r row =
     number_moves z m m' f g p v is r row.link (InLimboOf p) IsFree true v.hand row.limbo was refl tt (λ e. refl, λ e. refl) row.sets row.view account unstamped (λ e i. (row.may.rest.was e i).0)
   where
@@ -334,7 +336,7 @@ free_law z p v m f m' g is r row =
         k.marked marked (k.stamped n (row.may.limbo.2 ∙ e) stamped))
         (cases_eq q p)
 
-    account : Accounts m (put r.at row.link IsFree) p (freed v row.limbo)
+    account : Accounts m (put r.at row.link IsFree) p (give.view_freed v row.limbo)
     account = record {
       hand = λ y i. put_after r.at row.link (InLimboOf p) IsFree (InHandOf p) was (λ e. cc) y.link (mine.hand y i);
       in_hand = λ e i. mine.in_hand e (put_before r.at row.link IsFree (InHandOf p) (λ e. cc) e i).1;

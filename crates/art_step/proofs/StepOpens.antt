@@ -9,8 +9,8 @@ use Rattle.art_step.specs.declared.views.Sizes.{Sizes}
 use Rattle.art_step.specs.declared.views.View.{View}
 use Rattle.art_cell.specs.Children.{link_of}
 use Rattle.art_tree.specs.Heaps.{heap_of}
-use Rattle.art_step.specs.Sound.{Tells, HoldsEach, Vouched, Whereabouts, InTree, IsFree, InHandOf, InLimboOf, Nowhere, Accounts, IsPinned, early_of, early_notes, IsSound}
-use Rattle.art_step.specs.StepLaws.{newcomer, Opens, OpenLaw}
+use Rattle.art_step.specs.Sound.{HoldsEach, Vouched, Whereabouts, InTree, IsFree, InHandOf, InLimboOf, Nowhere, Accounts, IsPinned, early_of, early_notes, IsSound, IsSeenBy}
+use Rattle.art_step.specs.Opening.{newcomer, Opens, OpenLaw}
 use Rattle.art_tree.specs.Tree.{StandsAt}
 use Rattle.art_step.specs.Views.{Member, Memory, IsLocked, IsObsolete, last_counter, IsVersion, cell_named, Views}
 use Rattle.art_tree.proofs.Places.{same_cell}
@@ -101,7 +101,7 @@ module _ (z : Sizes) (m : Memory) (f : Views) (o : Opens z m f) where
     at = λ d. place (m.free d);
     history = record {
       legal = tt;
-      tells = each_newcomer (λ p v. Tells [] p v) (λ p inside. record { pass = refl; starts = ([], refl); own = refl; all = refl });
+      tells = each_newcomer (λ p v. IsSeenBy [] p v) (λ p inside. record { pass = refl; starts = ([], refl); own = refl; all = refl });
       strangers = λ p is. refl;
     };
     shows = record {

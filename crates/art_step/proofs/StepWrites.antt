@@ -17,10 +17,11 @@ use Rattle.art_tree.specs.Heaps.{Cells, key_of, heap_of}
 use Rattle.art_step.specs.Histories.{replay}
 use Rattle.art_step.specs.Knowledge.{IsLeafCell, CellAt, Holds}
 use Rattle.art_step.specs.Sound.{ShowsReplay, Keeps, HoldsEach, OneHolder, StampsVouch, Whereabouts, InTree, IsFree, InHandOf, HeldAt, Accounts, NumbersAccounted, IsSound}
-use Rattle.art_step.specs.StepLaws.{WriteLaw, WriteLeafLaw}
-use Rattle.art_step.specs.StepRows.{SetsWord, Puts, MayWrite, with_word, writing, MayWriteLeaf, with_leaf_word, handing}
+use Rattle.art_step.specs.Steps.Write as write
+use Rattle.art_step.specs.Effects.{SetsWord}
+use Rattle.art_step.specs.Steps.Write.{Puts, with_word, with_leaf_word}
 use Rattle.art_tree.specs.Tree.{StandsAt}
-use Rattle.art_step.specs.Views.{Member, Memory, words_in, IsLocked, IsObsolete, Views, Turned}
+use Rattle.art_step.specs.Views.{Member, Memory, words_in, IsLocked, IsObsolete, Views, SetsView}
 use Rattle.art_tree.specs.WordChanges.{SameByWords}
 use Rattle.art_cell.specs.Words.{Words}
 use Rattle.art_step.proofs.Facts.{SameLeafWords, holds_on}
@@ -47,9 +48,9 @@ words_set w w' ws i x was low here there = λ k j. each j k
 -- ---- a word of a cell that is held
 
 module _ (z : Sizes) (m : Memory) (f : Views) (p : ℕ) (v : View) (is : f p ≡ Some v) (m' : Memory) (g : Views) (h : Holding) (hs : List Holding) (i x : ℕ) (r : IsSound z m f)
-    (may : MayWrite v h i) (puts : Puts v.held h (with_word h i x) hs) (sets : SetsWord m h.cell i x m') (t : Turned f p (writing v hs) g) where
+    (may : write.May v h i) (puts : Puts v.held h (with_word h i x) hs) (sets : SetsWord m h.cell i x m') (t : SetsView f p (write.view_after v hs) g) where
   abbrev writer : View
-  writer = writing v hs
+  writer = write.view_after v hs
 
   abbrev new_holding : Holding
   new_holding = with_word h i x
@@ -148,7 +149,7 @@ module _ (z : Sizes) (m : Memory) (f : Views) (p : ℕ) (v : View) (is : f p ≡
   }
 
 -- a word of a cell that is held is written before the commit
-pub write_law : WriteLaw
+pub write_law : write.Law
 write_law z p v m f m' g is r row = writes z m f p v is m' g row.holding row.held row.place row.value r row.may row.puts row.word row.view
 
 -- ---- a word of a leaf in hand
@@ -160,9 +161,9 @@ with_leaves s words (cell.Leaf l) = words (cell.Leaf l)
 with_leaves s words (cell.Node n) = s (cell.Node n)
 
 module _ (z : Sizes) (m : Memory) (f : Views) (p : ℕ) (v : View) (is : f p ≡ Some v) (m' : Memory) (g : Views) (y : InHand) (ys : List InHand) (l i x : ℕ) (r : IsSound z m f)
-    (may : MayWriteLeaf v y l i) (puts : Puts v.hand y (with_leaf_word y i x) ys) (sets : SetsWord m (cell.Leaf l) i x m') (t : Turned f p (handing v ys) g) where
+    (may : write.MayLeaf v y l i) (puts : Puts v.hand y (with_leaf_word y i x) ys) (sets : SetsWord m (cell.Leaf l) i x m') (t : SetsView f p (write.view_after_leaf v ys) g) where
   abbrev hander : View
-  hander = handing v ys
+  hander = write.view_after_leaf v ys
 
   abbrev after : Cells
   after = with_leaves r.logical m'.words
@@ -318,5 +319,5 @@ module _ (z : Sizes) (m : Memory) (f : Views) (p : ℕ) (v : View) (is : f p ≡
   }
 
 -- a word of a leaf in hand is written
-pub write_leaf_law : WriteLeafLaw
+pub write_leaf_law : write.LeafLaw
 write_leaf_law z p v m f m' g is r row = leaf_writes z m f p v is m' g row.leaf row.hand row.number row.place row.value r row.may row.puts row.word row.view

@@ -5,12 +5,12 @@ use Rattle.std.proofs.lemmas.Option.{same_Some}
 use Rattle.std.specs.Prelude.{Some, None}
 use Rattle.art_step.specs.declared.views.View.{View}
 use Rattle.art_step.specs.Sound.{early, early_of, early_notes}
-use Rattle.art_step.specs.Views.{Member, Views, Turned}
+use Rattle.art_step.specs.Views.{Member, Views, SetsView}
 
 pub one_view : (f : Views) (p q : ℕ) (u v : View) → p ≡ q → f p ≡ Some u → f q ≡ Some v → u ≡ v
 one_view f p q u v is e i = same_Some u v (sym e ∙ (ap f is ∙ i))
 
-module _ (f g : Views) (p : ℕ) (w : View) (t : Turned f p w g) where
+module _ (f g : Views) (p : ℕ) (w : View) (t : SetsView f p w g) where
   pub either_view : (q : ℕ) (u : View) → g q ≡ Some u → ((q ≡ p) × (u ≡ w)) ⊎ ((q ≢ p) × (f q ≡ Some u))
   either_view q u e =
       ⊎_elim

@@ -12,7 +12,9 @@ use Rattle.art_cell.specs.declared.cells.Link.{Link}
 use Rattle.art_cell.specs.declared.cells.Link.TheVariants.{Leaf as leaf, Node as node}
 use Rattle.art_step.specs.declared.views.Sizes.{Sizes}
 use Rattle.art_tree.specs.Heaps.{Cells}
-use Rattle.art_step.specs.StepRows.{SetsVersion, SetsWord, IsCopy, IsTaken}
+use Rattle.art_step.specs.Effects.{SetsVersion, SetsWord}
+use Rattle.art_step.specs.Steps.Upgrade.{IsCopy}
+use Rattle.art_step.specs.Steps.Take.{IsTaken}
 use Rattle.art_step.specs.Views.{Memory, size_of, words_in}
 use Rattle.art_cell.specs.Words.{Words, size}
 use Rattle.art_cell.specs.Children.{number_of}

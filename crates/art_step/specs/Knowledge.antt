@@ -77,13 +77,13 @@ HoldsAll v x s = (y : Note) → Member y v.notes → y.stamp ≡ x → Holds s x
 -- ---- what follows from the notes under a stamp, in whatever tree
 
 -- in each tree in which they hold, and each map with its rows, the event's answer is the map's, and the map stays
-abbrev pub Settles : Sizes → View → Stamp → What → Type 0
-Settles z v x what = (s : Cells) (m : ByteMap) → IsShape z s → HasRows (heap_of s) m → HoldsAll v x s → IsAnswered m what × (becomes m what ≡ m)
+abbrev pub DecidesAnswer : Sizes → View → Stamp → What → Type 0
+DecidesAnswer z v x what = (s : Cells) (m : ByteMap) → IsShape z s → HasRows (heap_of s) m → HoldsAll v x s → IsAnswered m what × (becomes m what ≡ m)
 
 -- in each tree in which they hold, the path p leads to the cell d
-abbrev pub Leads : Sizes → View → Stamp → Cell → List ℕ → Type 0
-Leads z v x d p = (s : Cells) → IsShape z s → HoldsAll v x s → CellAt s d p
+abbrev pub KnowsPath : Sizes → View → Stamp → Cell → List ℕ → Type 0
+KnowsPath z v x d p = (s : Cells) → IsShape z s → HoldsAll v x s → CellAt s d p
 
 -- in each tree in which they hold, the stamp's cell names the leaf
-abbrev pub Names : Sizes → View → Stamp → ℕ → Type 0
-Names z v x l = (s : Cells) → IsShape z s → HoldsAll v x s → NamesLeaf s x.cell l
+abbrev pub KnowsLeaf : Sizes → View → Stamp → ℕ → Type 0
+KnowsLeaf z v x l = (s : Cells) → IsShape z s → HoldsAll v x s → NamesLeaf s x.cell l

@@ -9,7 +9,7 @@ use Rattle.art_step.specs.declared.views.Event.{Event}
 use Rattle.art_step.specs.declared.views.Holding.{Holding}
 use Rattle.art_step.specs.declared.views.InHand.{InHand}
 use Rattle.art_step.specs.declared.views.Note.{Note}
-use Rattle.art_step.specs.declared.views.Noted.{Noted}
+use Rattle.art_step.specs.declared.views.EpochSeen.{EpochSeen}
 use Rattle.art_step.specs.declared.views.Retired.{Retired}
 use Rattle.art_step.specs.declared.views.Sizes.{Sizes}
 use Rattle.art_step.specs.declared.views.Stamp.{Stamp}
@@ -24,7 +24,7 @@ use Rattle.art_step.specs.Views.{Member, Memory, size_of, words_in, IsClear, IsL
 -- ---- one history
 
 -- what the view of the pass p says of the history: what it has seen stands at its front, with all events of its own
-pub record Tells (log : List Event) (p : ℕ) (v : View) : Type 0 where
+pub record IsSeenBy (log : List Event) (p : ℕ) (v : View) : Type 0 where
   pub pass : v.pass ≡ p
   pub starts : StartsWith log v.seen
   pub own : places p log ≡ v.own
@@ -33,7 +33,7 @@ pub record Tells (log : List Event) (p : ℕ) (v : View) : Type 0 where
 -- it is legal, begins with what each pass has seen, and has the events of the passes and no others; each pass has seen its own
 pub record IsOneHistory (log : List Event) (f : Views) : Type 0 where
   pub legal : IsLegal log
-  pub tells : (p : ℕ) (v : View) → f p ≡ Some v → Tells log p v
+  pub tells : (p : ℕ) (v : View) → f p ≡ Some v → IsSeenBy log p v
   pub strangers : (p : ℕ) → f p ≡ None → places p log ≡ []
 
 -- ---- the tree, which the logical words s mean: those of a cell that is held are its holder's old words before the commit,
@@ -156,7 +156,7 @@ pub record IsPinned (z : Sizes) (m : Memory) (at : Link → Whereabouts) (p : �
   pub inside : p < z.passes
   pub word : m.pass_word p ≡ v.pin
   pub low : v.pin ≤ m.epoch
-  pub noted : (t : Noted) → v.noted ≡ Some t → (0 < t.epoch) × (t.epoch ≤ m.epoch)
+  pub noted : (t : EpochSeen) → v.noted ≡ Some t → (0 < t.epoch) × (t.epoch ≤ m.epoch)
   pub pinned : (x : Stamp) → Member x v.stamps → v.pin ≢ 0
   pub stamped : (n : Node) → IsStamped v n → (at (node n) ≡ InTree) ⊎ ((r : ℕ) × (at (node n) ≡ InLimboOf r))
 
@@ -170,7 +170,7 @@ pub record MarkedUnstamped (z : Sizes) (m : Memory) (f : Views) (at : Link → W
 -- ---- words have their forms
 
 -- 1 where the pass has noted an epoch from which the epoch may go on
-abbrev pub early : Option Noted → ℕ
+abbrev pub early : Option EpochSeen → ℕ
 early None = 0
 early (Some t) = if nat_lt t.epoch (2 ^ 62) then 1 else 0
 
@@ -202,3 +202,13 @@ pub record IsSound (z : Sizes) (m : Memory) (f : Views) : Type 0 where
   pub numbers : NumbersAccounted z m f logical at
   pub unstamped : MarkedUnstamped z m f at
   pub formed : WordsFormed z m f
+
+-- ---- kinds of step
+
+-- words and views before a step of the pass p, whose view is v, and those after it
+abbrev pub Kind : Type 1
+Kind = Sizes → ℕ → View → Memory → Views → Memory → Views → Type 0
+
+-- where all is sound and a step of this kind is made, all is sound after it
+abbrev pub KeepsSound : Kind → Type 0
+KeepsSound K = (z : Sizes) (p : ℕ) (v : View) (m : Memory) (f : Views) (m' : Memory) (f' : Views) → f p ≡ Some v → IsSound z m f → K z p v m f m' f' → IsSound z m' f'

@@ -4,7 +4,7 @@ use Rattle.art_cell.specs.Children.{link_in_pool, link_of}
 use Rattle.art_cell.specs.declared.cells.Cell.{Cell}
 use Rattle.art_cell.specs.declared.cells.Link.{Link}
 use Rattle.art_step.specs.declared.numbers.Number.{Number}
-use Rattle.art_step.specs.declared.steps.Held.{Held}
+use Rattle.art_step.specs.declared.held.Held.{Held}
 
 abbrev pub cell_held : Held → Cell
 cell_held h = h.cell

@@ -1,11 +1,19 @@
 -- The shared words as passes see them, and what passes know.
-use Rattle.std.specs.Prelude.{◌≡◌, ◌≢◌, ◌⊎◌, ℕ, ◌+◌, ◌*◌, ◌-◌, ◌%◌, ◌^◌, ◌<◌, ◌≤◌, List, [], ◌∷◌, get_or, Bool, Option, Some}
+use Rattle.std.specs.Prelude.{◌≡◌, ◌≢◌, ◌⊎◌, ℕ, ◌+◌, ◌*◌, ◌-◌, ◌%◌, ◌^◌, ◌<◌, ◌≤◌, List, [], ◌∷◌, false, get_or, Bool, Option, Some}
 use Rattle.art_cell.specs.declared.layouts.Layout.{Layout}
 use Rattle.art_cell.specs.declared.layouts.Layout.TheVariants.{Node4, Node16, Node48, Node256}
 use Rattle.art_cell.specs.declared.cells.Cell.{Cell}
 use Rattle.art_cell.specs.declared.cells.Cell.TheVariants as cell
 use Rattle.art_cell.specs.declared.cells.Link.{Link}
 use Rattle.art_cell.specs.declared.cells.Link.TheVariants.{Leaf as leaf, Node as node}
+use Rattle.art_step.specs.declared.views.Fact.{Fact}
+use Rattle.art_step.specs.declared.views.Found.{Found}
+use Rattle.art_step.specs.declared.views.Holding.{Holding}
+use Rattle.art_step.specs.declared.views.InHand.{InHand}
+use Rattle.art_step.specs.declared.views.Note.{Note}
+use Rattle.art_step.specs.declared.views.Retired.{Retired}
+use Rattle.art_step.specs.declared.views.Stamp.{Stamp}
+use Rattle.art_step.specs.declared.views.Word.TheVariants.{Version}
 use Rattle.art_step.specs.declared.views.Sizes.{Sizes}
 use Rattle.art_step.specs.declared.views.View.{View}
 use Rattle.art_tree.specs.Heaps.{Cells}
@@ -84,6 +92,37 @@ abbrev pub Views : Type 0
 Views = ℕ → Option View
 
 -- the view of the pass p became w, and no other changed
-pub record Turned (f : Views) (p : ℕ) (w : View) (g : Views) : Type 0 where
+pub record SetsView (f : Views) (p : ℕ) (w : View) (g : Views) : Type 0 where
   pub here : g p ≡ Some w
   pub there : (q : ℕ) → q ≢ p → g q ≡ f q
+
+-- ---- stamps, notes, and what was found
+
+-- the version word of the cell was found at this step
+abbrev pub found_version : View → Cell → ℕ → List Found
+found_version v c x = record { word = Version c x; step = v.steps + 1 } ∷ v.found
+
+abbrev pub stamp_of : Cell → ℕ → Stamp
+stamp_of c x = record { cell = c; version = x }
+
+abbrev pub note_of : Stamp → Fact → Note
+note_of x y = record { stamp = x; fact = y }
+
+-- ---- what a pass holds, has in hand and has in limbo
+
+-- no cell that is held is this one
+abbrev pub IsNotHeld : List Holding → Cell → Type 0
+IsNotHeld hs c = (h : Holding) → Member h hs → h.cell ≢ c
+
+-- the pass has not committed, or holds nothing more
+abbrev pub MayLock : View → Type 0
+MayLock v = (v.committed ≡ false) ⊎ (v.held ≡ [])
+
+abbrev pub IsHolding : View → Cell → Holding → Type 0
+IsHolding v c h = Member h v.held × (h.cell ≡ c)
+
+abbrev pub IsInHand : View → Link → InHand → Type 0
+IsInHand v d y = Member y v.hand × (y.link ≡ d)
+
+abbrev pub IsInLimbo : View → Link → Type 0
+IsInLimbo v d = (e : Retired) × Member e v.limbo × (e.link ≡ d)

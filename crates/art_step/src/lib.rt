@@ -4,6 +4,7 @@
 
 mod deeds;
 mod faults;
+mod held;
 mod numbers;
 mod opening;
 mod step_laws;
@@ -13,6 +14,7 @@ mod word_places;
 
 pub use deeds::{Act, Deed};
 pub use faults::{Changed, Locked, UpgradeFault};
+pub use held::Held;
 pub use numbers::{Number, Unlinked, numbers_of, spent};
 pub use opening::opening_words;
 pub use step_laws::{
@@ -20,9 +22,9 @@ pub use step_laws::{
     forgetting_is_sound, giving_is_sound, opening_is_sound, reading_is_sound, releasing_is_sound,
     stepping_is_sound, taking_is_sound, upgrading_is_sound, writing_is_sound,
 };
-pub use steps::{Held, LAST_COUNTER, Steps};
+pub use steps::Steps;
 pub use views::{
-    Answer, Asked, Checked, Event, Fact, Finding, Holding, InHand, Note, Noted, Pin, Retired,
+    Answer, Asked, EpochSeen, Event, Fact, Found, Holding, InHand, LastCheck, Note, Pin, Retired,
     Sizes, Stamp, View, What, Word,
 };
-pub use word_places::{free_words, pool_of_layout};
+pub use word_places::{LAST_COUNTER, free_words, pool_of_layout};

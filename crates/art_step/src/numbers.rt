@@ -3,7 +3,7 @@ ghost use Rattle.std.specs.Prelude.{◌≡◌, ◌≤◌, length, filter_map};
 ghost use Rattle.std.specs.List.{slice_get};
 ghost use Rattle.std.specs.Option.{option_and_then, option_map};
 ghost use Rattle.art_cell.specs.Children.{link_of};
-ghost use Rattle.art_step.specs.Shown.{link_of_number, links_of};
+ghost use Rattle.art_step.specs.Tokens.{link_of_number, links_of};
 
 use art_cell::{Layout, Link, Node, Pool};
 use crate::pool_of_layout;

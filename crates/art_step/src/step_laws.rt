@@ -1,6 +1,20 @@
 //! One law for each kind of step: what is sound before it is sound after it. Each is the contract of a function with
 //! nothing to do.
-ghost use Rattle.art_step.specs.StepLaws.{BeginLaw, ClaimLaw, CommitLaw, FailLaw, ForgetLaw, FreeLaw, GiveLaw, OpenLaw, PassLaw, ReadLaw, ReadLeafLaw, ReleaseLaw, StepLaw, TakeLaw, UnclaimedLaw, UpgradeLaw, VouchLaw, WriteLaw, WriteLeafLaw};
+ghost use Rattle.art_step.specs.Steps.Begin as begin;
+ghost use Rattle.art_step.specs.Steps.Claim as claim;
+ghost use Rattle.art_step.specs.Steps.Commit as commit;
+ghost use Rattle.art_step.specs.Steps.Check as check;
+ghost use Rattle.art_step.specs.Steps.Forget as forget;
+ghost use Rattle.art_step.specs.Steps.Give as give;
+ghost use Rattle.art_step.specs.Opening.{OpenLaw};
+ghost use Rattle.art_step.specs.Steps.Read as read;
+ghost use Rattle.art_step.specs.Steps.Release as release;
+ghost use Rattle.art_step.specs.Steps.{StepLaw};
+ghost use Rattle.art_step.specs.Steps.Take as take_free;
+ghost use Rattle.art_step.specs.Steps.Claim.{UnclaimedLaw};
+ghost use Rattle.art_step.specs.Steps.Upgrade as upgrade;
+ghost use Rattle.art_step.specs.Steps.Check.{VouchLaw};
+ghost use Rattle.art_step.specs.Steps.Write as write;
 
 /// At opening: the anchor names no root, all numbers are free, and no pass knows anything.
 pub fn opening_is_sound()
@@ -9,64 +23,64 @@ pub fn opening_is_sound()
 
 /// A version word is found: a clear one gives a stamp.
 pub fn beginning_is_sound()
-    ensures { BeginLaw }
+    ensures { begin.Law }
 {}
 
 /// A word of a stamped cell is noted, or one of a leaf that its notes name.
 pub fn reading_is_sound()
-    ensures cell { ReadLaw }
-    ensures leaf { ReadLeafLaw }
+    ensures cell { read.Law }
+    ensures leaf { read.LeafLaw }
 {}
 
 /// A version word is compared with a stamp: where it is equal, the notes are the words of the tree at that step, paths
 /// are gained and an event may be made; else the stamp goes.
 pub fn checking_is_sound()
-    ensures passed { PassLaw }
+    ensures passed { check.UnchangedLaw }
     ensures vouched { VouchLaw }
-    ensures failed { FailLaw }
+    ensures failed { check.ChangedLaw }
 {}
 
 /// Stamps and notes are let go, a stamp with all its notes.
 pub fn forgetting_is_sound()
-    ensures { ForgetLaw }
+    ensures { forget.Law }
 {}
 
 /// A stamped cell is locked and held.
 pub fn upgrading_is_sound()
-    ensures { UpgradeLaw }
+    ensures { upgrade.Law }
 {}
 
 /// A node's number in hand is locked and held: until then it is obsolete.
 pub fn claiming_is_sound()
-    ensures claimed { ClaimLaw }
+    ensures claimed { claim.Law }
     ensures unclaimed { UnclaimedLaw }
 {}
 
 /// A word is written to a held cell before the commit, or to a leaf in hand.
 pub fn writing_is_sound()
-    ensures cell { WriteLaw }
-    ensures leaf { WriteLeafLaw }
+    ensures cell { write.Law }
+    ensures leaf { write.LeafLaw }
 {}
 
 /// The first release of a change: all held words become the new ones at this step, with one event.
 pub fn committing_is_sound()
-    ensures { CommitLaw }
+    ensures { commit.Law }
 {}
 
 /// A later release, or that of a change which is given up.
 pub fn releasing_is_sound()
-    ensures { ReleaseLaw }
+    ensures { release.Law }
 {}
 
 /// A free number comes into the hand.
 pub fn taking_is_sound()
-    ensures { TakeLaw }
+    ensures { take_free.Law }
 {}
 
 /// A number goes back, from the hand or from limbo.
 pub fn giving_is_sound()
-    ensures hand { GiveLaw }
-    ensures limbo { FreeLaw }
+    ensures hand { give.Law }
+    ensures limbo { give.FreeLaw }
 {}
 
 /// A step of any of these kinds.

@@ -86,13 +86,13 @@ pub struct Retired {
 }
 
 /// The epoch, as the pass found it at one of its steps.
-pub struct Noted {
+pub struct EpochSeen {
     pub epoch: u64,
     pub step: u64,
 }
 
 /// The stamps and notes as the last check that succeeded left them, at one of the pass's steps.
-pub struct Checked {
+pub struct LastCheck {
     pub stamps: LinkedList<Stamp>,
     pub notes: LinkedList<Note>,
     pub step: u64,
@@ -108,7 +108,7 @@ pub enum Word {
 }
 
 /// A word that the pass found, and at which of its steps.
-pub struct Finding {
+pub struct Found {
     pub word: Word,
     pub step: u64,
 }
@@ -125,11 +125,11 @@ pub struct View {
     /// How many pins it has made, and the epoch that it is pinned to, or 0.
     pub pins: u64,
     pub pin: u64,
-    pub noted: Option<Noted>,
+    pub noted: Option<EpochSeen>,
     pub stamps: LinkedList<Stamp>,
     pub notes: LinkedList<Note>,
-    pub checked: Checked,
-    pub found: LinkedList<Finding>,
+    pub checked: LastCheck,
+    pub found: LinkedList<Found>,
     pub held: LinkedList<Holding>,
     /// Whether the cells that it holds have their new words.
     pub committed: bool,

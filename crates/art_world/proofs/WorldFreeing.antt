@@ -13,10 +13,12 @@ use Rattle.art_step.specs.declared.views.Sizes.{Sizes}
 use Rattle.art_step.specs.declared.views.View.{View}
 use Rattle.art_cell.specs.Children.{link_in_pool, number_of}
 use Rattle.art_cell.specs.Lemmas.Headers.{bit_at_least, bit_more_below}
-use Rattle.art_step.specs.Shown.{Freed, Gave, Took}
+use Rattle.art_step.specs.Steps.Give as give
+use Rattle.art_step.specs.Steps.Take as take_free
 use Rattle.art_step.specs.Sound.{Whereabouts, InHandOf, InLimboOf, Nowhere, IsFree, IsSound}
-use Rattle.art_step.specs.StepKinds.{Take, Give, Free}
-use Rattle.art_step.specs.StepRows.{SetsFree, MayFree, MayGive, freed, gave, took}
+use Rattle.art_step.specs.Steps.{IsTake, IsGive, IsFreed}
+use Rattle.art_step.specs.Effects.{SetsFree}
+use Rattle.art_step.specs.Steps.Give.{MayFree}
 use Rattle.art_step.specs.Views.{Memory, IsNumber}
 use Rattle.art_step.specs.WordPlaces.{first_free_word, word_count}
 use Rattle.art_world.specs.WorldWords.{Kept, memory_now}
@@ -114,7 +116,7 @@ module _ (z : Sizes) (ws : List ℕ) (vs : List View) (p : ℕ) (r : IsSound z (
   )
 
   -- so is one in hand
-  pub in_hand : (d : Link) (xs : List InHand) → MayGive v d xs → IsInUse d
+  pub in_hand : (d : Link) (xs : List InHand) → give.May v d xs → IsInUse d
   in_hand d xs may = let x = may.hand in elsewhere d (InHandOf p) (ap r.at (sym x.2) ∙ (r.numbers.accounts p v at).hand x.0 x.1) (λ e. cc) (λ e. cc)
 
   -- and one in limbo
@@ -123,24 +125,24 @@ module _ (z : Sizes) (ws : List ℕ) (vs : List View) (p : ℕ) (r : IsSound z (
 
   module _ (d : Link) (place found bit : ℕ) (word : IsBitWord z ws d place found bit) where
     -- a free number comes into the hand
-    pub turn_takes : is_free z ws d ≡ true → Next z ws vs p (slice_set ws place (found - bit)) (λ u w. Took (memory_of z (slice_set ws place (found - bit))) u w d)
+    pub turn_takes : is_free z ws d ≡ true → Next z ws vs p (slice_set ws place (found - bit)) (λ u w. take_free.Outcome (memory_of z (slice_set ws place (found - bit))) u w d)
     turn_takes free =
         let words : List ℕ = words_taken z ws d in
         let us : List ℕ = slice_set ws place (found - bit) in
         let sets = takes_bit z ws long d place found bit word free in
-        turned z ws vs p r inside long us (λ u w. Took (memory_of z us) u w d) (took v d words) record { words = words; copy = taken_again (memory_of z ws) (memory_of z us) d words sets.words (is_taken z ws d); is = refl }
-        (λ g t. Take record { link = d; copy = words; free = free; copied = is_taken z ws d; sets = sets; view = t })
+        turned z ws vs p r inside long us (λ u w. take_free.Outcome (memory_of z us) u w d) (take_free.view_after v d words) record { words = words; copy = taken_again (memory_of z ws) (memory_of z us) d words sets.words (is_taken z ws d); is = refl }
+        (λ g t. IsTake record { link = d; copy = words; free = free; copied = is_taken z ws d; sets = sets; view = t })
 
   module _ (us : List ℕ) (d : Link) (sets : SetsFree (memory_of z ws) d true (memory_of z us)) where
     -- a number in hand is free again
-    pub turn_gives : (xs : List InHand) → MayGive v d xs → Next z ws vs p us (λ u w. Gave u w d)
-    turn_gives xs may = turned z ws vs p r inside long us (λ u w. Gave u w d) (gave v xs) record { hand = xs; rest = may.rest; is = refl }
-        (λ g t. Give record { link = d; hand = xs; may = may; sets = sets; view = t })
+    pub turn_gives : (xs : List InHand) → give.May v d xs → Next z ws vs p us (λ u w. give.Outcome u w d)
+    turn_gives xs may = turned z ws vs p r inside long us (λ u w. give.Outcome u w d) (give.view_after v xs) record { hand = xs; rest = may.rest; is = refl }
+        (λ g t. IsGive record { link = d; hand = xs; may = may; sets = sets; view = t })
 
     -- a number in limbo is free again
-    pub turn_frees : (es : List Retired) → MayFree z v d es → Next z ws vs p us (λ u w. Freed u w d)
-    turn_frees es may = turned z ws vs p r inside long us (λ u w. Freed u w d) (freed v es) record { limbo = es; rest = may.rest; is = refl }
-        (λ g t. Free record { link = d; limbo = es; may = may; sets = sets; view = t })
+    pub turn_frees : (es : List Retired) → MayFree z v d es → Next z ws vs p us (λ u w. give.FreeOutcome u w d)
+    turn_frees es may = turned z ws vs p r inside long us (λ u w. give.FreeOutcome u w d) (give.view_freed v es) record { limbo = es; rest = may.rest; is = refl }
+        (λ g t. IsFreed record { link = d; limbo = es; may = may; sets = sets; view = t })
 
 -- ---- the calls that free a number
 
@@ -156,13 +158,13 @@ module _ {k now : Kept} (seen : k ≡ now) (kept : IsKept k) (p : ℕ) (inside :
   seen_so W f = subst (λ (j : Kept). IsKept j → Freeing j p d W) (sym seen) f kept
 
   -- a number in hand can be freed
-  pub giving : (xs : List InHand) × MayGive (view_at now.views p) d xs → Freeing k p d Gave
-  giving may = seen_so Gave (λ i.
+  pub giving : (xs : List InHand) × give.May (view_at now.views p) d xs → Freeing k p d give.Outcome
+  giving may = seen_so give.Outcome (λ i.
       let taken = in_hand now.sizes now.words now.views p i.2 inside i.0 d may.0 may.1 in
       record { number = taken.0; taken = taken.1; turn = λ us sets. turn_gives now.sizes now.words now.views p i.2 inside i.0 us d sets may.0 may.1 })
 
   -- and one in limbo
-  pub freeing : (es : List Retired) × MayFree now.sizes (view_at now.views p) d es → Freeing k p d Freed
-  freeing may = seen_so Freed (λ i.
+  pub freeing : (es : List Retired) × MayFree now.sizes (view_at now.views p) d es → Freeing k p d give.FreeOutcome
+  freeing may = seen_so give.FreeOutcome (λ i.
       let taken = in_limbo now.sizes now.words now.views p i.2 inside i.0 d may.0 may.1 in
       record { number = taken.0; taken = taken.1; turn = λ us sets. turn_frees now.sizes now.words now.views p i.2 inside i.0 us d sets may.0 may.1 })

@@ -9,12 +9,13 @@ use Rattle.art_step.specs.declared.views.Stamp.{Stamp}
 use Rattle.art_step.specs.declared.views.View.{View}
 use Rattle.art_step.specs.declared.views.What.{What}
 use Rattle.art_tree.specs.Heaps.{Cells}
-use Rattle.art_step.specs.Instants.{FindsUnchanged, Unlocks}
-use Rattle.art_step.specs.FirstReleases.{RetiresPinned, UnlocksFirst}
-use Rattle.art_step.specs.Shown.{IsHolding, Committed, coming}
+use Rattle.art_step.specs.Effects.{FindsUnchanged, Unlocks, SetsVersion, released_word}
+use Rattle.art_step.specs.Steps.Commit.{RetiresPinned, UnlocksFirst, coming, AllNew}
+use Rattle.art_step.specs.Views.{IsHolding, IsNotHeld, SetsView}
+use Rattle.art_step.specs.Steps.Commit as commit
 use Rattle.art_step.specs.Sound.{Keeps, Holder, OneHolder}
-use Rattle.art_step.specs.StepRows.{SetsVersion, IsNotHeld, AllNew, Drops, released_word}
-use Rattle.art_step.specs.Views.{Member, Memory, words_in, IsLocked, Views, Turned}
+use Rattle.art_step.specs.Steps.Release.{Drops}
+use Rattle.art_step.specs.Views.{Member, Memory, words_in, IsLocked, Views, SetsView}
 use Rattle.art_world.specs.WorldWords.{Kept, memory_now, StepBy}
 use Rattle.art_step.specs.WordRows.{memory_of, views_of, view_at}
 use Rattle.art_tree.proofs.Places.{same_cell}
@@ -47,7 +48,7 @@ released_free x true was is = omega arith
 released_free x false was is = omega arith
 
 -- a cell of a holding is released, and the pass has committed: s are the logical words before that, and t those after it
-module _ (m m' : Memory) (f g : Views) (p : ℕ) (v w : View) (h₀ : Holding) (obsolete : Bool) (s t : Cells) (is-v : f p ≡ Some v) (turn : Turned f p w g)
+module _ (m m' : Memory) (f g : Views) (p : ℕ) (v w : View) (h₀ : Holding) (obsolete : Bool) (s t : Cells) (is-v : f p ≡ Some v) (turn : SetsView f p w g)
     (held : Member h₀ v.held) (drops : Drops v.held h₀.cell w.held) (done : w.committed ≡ true) (sets : SetsVersion m h₀.cell (released_word (m.version h₀.cell) obsolete) m')
     (before : OneHolder m f s) (after : OneHolder m' g t) where
   keeps : (h : Holding) → Member h v.held → Keeps m s v.committed h
@@ -87,15 +88,15 @@ module _ (m m' : Memory) (f g : Views) (p : ℕ) (v w : View) (h₀ : Holding) (
 -- what a commit of the pass does to a world, of which k is what its code finds
 pub unlocks_first : {k now : Kept} {p : ℕ} {c : Cell} {before ws : List ℕ} {what : What} {us : List Link} {new : List View} (obsolete : Bool) (leaf : Option Link) (h : Holding) → k ≡ now → IsKept k → p < length now.views → h.cell ≡ c
     → Member h (view_at now.views p).held → Unlocks c obsolete (memory_now now) (views_of now.views) (memory_of k.sizes ws) (views_of new)
-    → StepBy k.sizes before ws p (λ v w. (h : Holding) → IsHolding v c h → Committed v w what us (coming v leaf) h × RetiresPinned (views_of k.views) v w) k.views new
+    → StepBy k.sizes before ws p (λ v w. (h : Holding) → IsHolding v c h → commit.Outcome v w what us (coming v leaf) h × RetiresPinned (views_of k.views) v w) k.views new
     → UnlocksFirst (view_at now.views p) c obsolete (memory_now now) (views_of now.views) (memory_of k.sizes ws) (views_of new)
 unlocks_first {k} {now} {p} {c} {before} {ws} {what} {us} {new} obsolete leaf h same kept inside of held sets turns =
     let v : View = view_at now.views p in
     let w : View = turns.view in
     let at = at_view now.views p inside in
     let r = (subst IsKept same kept).2 in
-    let row = subst (λ (a : Kept). (h : Holding) → IsHolding (view_at a.views p) c h → Committed (view_at a.views p) w what us (coming (view_at a.views p) leaf) h × RetiresPinned (views_of a.views) (view_at a.views p) w) same turns.row h (held, of) in
-    let turned : Turned (views_of now.views) p w (views_of new) = subst (λ (vs : List View). Turned (views_of now.views) p w (views_of vs)) (sym (turns.set ∙ ap (λ (a : Kept). slice_set a.views p w) same)) (turned_view now.views p w inside) in
+    let row = subst (λ (a : Kept). (h : Holding) → IsHolding (view_at a.views p) c h → commit.Outcome (view_at a.views p) w what us (coming (view_at a.views p) leaf) h × RetiresPinned (views_of a.views) (view_at a.views p) w) same turns.row h (held, of) in
+    let turned : SetsView (views_of now.views) p w (views_of new) = subst (λ (vs : List View). SetsView (views_of now.views) p w (views_of vs)) (sym (turns.set ∙ ap (λ (a : Kept). slice_set a.views p w) same)) (turned_view now.views p w inside) in
     let drops : Drops v.held h.cell w.held = subst (Drops v.held h.cell) (sym (ap (λ (u : View). u.held) row.0.is)) row.0.drops in
     record {
       unlocks = sets;

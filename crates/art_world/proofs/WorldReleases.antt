@@ -15,12 +15,17 @@ use Rattle.art_step.specs.declared.views.View.{View}
 use Rattle.art_step.specs.declared.views.What.{What}
 use Rattle.art_step.specs.Histories.{event, IsAnswered, becomes, run, replay, IsLegalFrom, IsLegal}
 use Rattle.art_tree.specs.Rows.{ByteMap}
-use Rattle.art_step.specs.Shown.{IsHolding, Released, Committed, coming}
+use Rattle.art_step.specs.Views.{IsHolding, SetsView}
+use Rattle.art_step.specs.Steps.Release as release
+use Rattle.art_step.specs.Steps.Commit as commit
+use Rattle.art_step.specs.Steps.Commit.{coming, AreStanding, all_retired, RetiresPinned}
 use Rattle.art_step.specs.Sound.{IsOneHistory, HoldsEach, IsSound}
-use Rattle.art_step.specs.StepKinds.{OfAKind, Commit, Release}
-use Rattle.art_step.specs.StepRows.{SetsVersion, Drops, HandsOver, AreStanding, all_retired, released_word, MayRelease, MayBeFirst, MayCommit, writing, committed}
-use Rattle.art_step.specs.FirstReleases.{RetiresPinned}
-use Rattle.art_step.specs.Views.{Member, Memory, IsLocked, Views, Turned}
+use Rattle.art_step.specs.Steps.{OfAKind, IsCommit, IsRelease}
+use Rattle.art_step.specs.Effects.{SetsVersion, released_word}
+use Rattle.art_step.specs.Steps.Release.{Drops}
+use Rattle.art_step.specs.Steps.Give.{HandsOver}
+use Rattle.art_step.specs.Steps.Write as write
+use Rattle.art_step.specs.Views.{Member, Memory, IsLocked, Views, SetsView}
 use Rattle.art_step.specs.WordPlaces.{IsInside, place_of, word_count}
 use Rattle.art_world.specs.WorldWords.{Kept, memory_now}
 use Rattle.art_step.specs.WordRows.{memory_of, views_of, view_at}
@@ -127,7 +132,7 @@ module _ (z : Sizes) (ws : List ℕ) (vs : List View) (p : ℕ) (r : IsSound z (
 
   -- the cell of the holding h is released, and the pass's view becomes w
   abbrev IsRelease : Holding → Bool → View → (View → View → Holding → Type 0) → Type 0
-  IsRelease h obsolete w Row = (m' : Memory) (g : Views) → SetsVersion m h.cell (released_word (m.version h.cell) obsolete) m' → Turned f p w g
+  IsRelease h obsolete w Row = (m' : Memory) (g : Views) → SetsVersion m h.cell (released_word (m.version h.cell) obsolete) m' → SetsView f p w g
       → OfAKind z p v m f m' g r.log r.logical × ((k : Holding) → k.cell ≡ h.cell → Row v w k)
 
   -- so the world makes a step whose row is of each holding of the cell
@@ -138,33 +143,33 @@ module _ (z : Sizes) (ws : List ℕ) (vs : List View) (p : ℕ) (r : IsSound z (
   released h obsolete word w Row i law there is =
       let us : List ℕ = slice_set ws (place_of z h.cell) word in
       let sets = release_sets h.cell h obsolete word (place_of z h.cell) refl i there is refl in
-      let done = λ (g : Views) (t : Turned f p w g). law (memory_of z us) g sets t in
+      let done = λ (g : Views) (t : SetsView f p w g). law (memory_of z us) g sets t in
       let row = (done (views_of (slice_set vs p w)) (turned_view vs p w inside)).1 in
       turned z ws vs p r inside long us (λ u w. (k : Holding) → IsHolding u h.cell k → Row u w k) w (λ k held. row k held.1) (λ g t. (done g t).0)
 
   -- a later release, or one of a change that is given up
-  pub turn_releases : (c : Cell) (h : Holding) (obsolete : Bool) (word : ℕ) → h.cell ≡ c → MayRelease v h obsolete → AfterRelease c obsolete word Released
+  pub turn_releases : (c : Cell) (h : Holding) (obsolete : Bool) (word : ℕ) → h.cell ≡ c → release.May v h obsolete → AfterRelease c obsolete word release.Outcome
   turn_releases c h obsolete word of may =
       let rest = dropped v.held h.cell in
-      subst (λ (d : Cell). AfterRelease d obsolete word Released) of (released h obsolete word (writing v rest.0) Released may.0 (λ m' g sets t. (
-        Release record { holding = h; held = rest.0; obsolete = obsolete; may = may; drops = rest.1; unlocks = sets; view = t },
+      subst (λ (d : Cell). AfterRelease d obsolete word release.Outcome) of (released h obsolete word (write.view_after v rest.0) release.Outcome may.0 (λ m' g sets t. (
+        IsRelease record { holding = h; held = rest.0; obsolete = obsolete; may = may; drops = rest.1; unlocks = sets; view = t },
         λ k same. record { held = rest.0; drops = subst (λ (d : Cell). Drops v.held d rest.0) (sym same) rest.1; is = refl },
       )))
 
   -- what a first release makes of the view, with the leaf that comes into the tree
   abbrev pub IsCommit : What → List Link → Option Link → View → View → Holding → Type 0
-  IsCommit what us leaf u w h = Committed u w what us (coming u leaf) h × RetiresPinned f u w
+  IsCommit what us leaf u w h = commit.Outcome u w what us (coming u leaf) h × RetiresPinned f u w
 
   -- the first release of a change
-  pub turn_commits : (c : Cell) (h : Holding) (what : What) (us : List Link) (leaf : Option Link) (obsolete : Bool) (word : ℕ) → h.cell ≡ c → MayBeFirst v us h obsolete
-      → MayCommit z v what us (coming v leaf) → AfterRelease c obsolete word (IsCommit what us leaf)
+  pub turn_commits : (c : Cell) (h : Holding) (what : What) (us : List Link) (leaf : Option Link) (obsolete : Bool) (word : ℕ) → h.cell ≡ c → commit.MayBeFirst v us h obsolete
+      → commit.May z v what us (coming v leaf) → AfterRelease c obsolete word (IsCommit what us leaf)
   turn_commits c h what us leaf obsolete word of first may =
       let rest = dropped v.held h.cell in
       let hand = handed_over v.hand (coming v leaf) in
       let pins = standing vs (λ q u is. (r.history.tells q u is).pass) in
-      let w : View = committed v r.log what rest.0 hand.0 (all_retired pins.0 us ++ v.limbo) in
+      let w : View = commit.view_after v r.log what rest.0 hand.0 (all_retired pins.0 us ++ v.limbo) in
       subst (λ (d : Cell). AfterRelease d obsolete word (IsCommit what us leaf)) of (released h obsolete word w (IsCommit what us leaf) first.held (λ m' g sets t.
-      let kind : OfAKind z p v m f m' g r.log r.logical = Commit record {
+      let kind : OfAKind z p v m f m' g r.log r.logical = IsCommit record {
         what = what;
         unlinked = us;
         linked = coming v leaf;

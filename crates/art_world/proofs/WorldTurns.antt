@@ -12,13 +12,17 @@ use Rattle.art_step.specs.declared.views.Sizes.{Sizes}
 use Rattle.art_step.specs.declared.views.Stamp.{Stamp}
 use Rattle.art_step.specs.declared.views.View.{View}
 use Rattle.art_step.specs.declared.views.What.{What}
-use Rattle.art_step.specs.Instants.{FindsUnchanged, FindsVersion, FindsWord, Instant, LocksClaimed, LocksStamped, PutsWord}
-use Rattle.art_step.specs.Shown.{MayReadCell, fact_read, Failed, Passed, IsHolding, IsInHand, Upgraded, Claimed, Wrote, WroteLeaf}
+use Rattle.art_step.specs.Effects.{FindsUnchanged, FindsVersion, FindsWord, Instant, LocksClaimed, LocksStamped, PutsWord, SetsVersion, SetsWord}
+use Rattle.art_step.specs.Steps.Read as read
+use Rattle.art_step.specs.Steps.Check as check
+use Rattle.art_step.specs.Views.{IsHolding, IsInHand, SetsView}
+use Rattle.art_step.specs.Steps.Upgrade as upgrade
+use Rattle.art_step.specs.Steps.Claim as claim
+use Rattle.art_step.specs.Steps.Write as write
 use Rattle.art_step.specs.Sound.{IsSound}
-use Rattle.art_step.specs.StepKinds.{OfAKind}
-use Rattle.art_step.specs.StepRows.{SetsVersion, SetsWord, MayPass, MayUpgrade, MayClaim, MayWrite, MayWriteLeaf}
-use Rattle.art_step.specs.StepRows.{begun, has_read}
-use Rattle.art_step.specs.Views.{Member, Memory, size_of, Views, Turned}
+use Rattle.art_step.specs.Steps.{OfAKind}
+use Rattle.art_step.specs.Steps.Begin as begin
+use Rattle.art_step.specs.Views.{Member, Memory, size_of, Views, SetsView}
 use Rattle.art_step.specs.WordPlaces.{word_count, IsInside, place_of, first_place}
 use Rattle.art_step.specs.WordRows.{memory_of, views_of, view_at}
 use Rattle.art_world.specs.WorldWords.{Kept, memory_now, StepBy}
@@ -40,11 +44,11 @@ first_low (cell.Node n) = omega arith
 -- ---- numbers by their links
 
 -- the node that a number names may be claimed, where one that it names may
-pub claim_named : (z : Sizes) (v : View) (d : Link) (n : Node) → (a : Node) × (d ≡ node a) × IsInside z (cell.Node a) × MayClaim v a → d ≡ node n → IsInside z (cell.Node n) × MayClaim v n
+pub claim_named : (z : Sizes) (v : View) (d : Link) (n : Node) → (a : Node) × (d ≡ node a) × IsInside z (cell.Node a) × claim.May v a → d ≡ node n → IsInside z (cell.Node n) × claim.May v n
 claim_named z v d n o is =
     let named : node o.0 ≡ node n = sym o.1 ∙ is in
     let same : o.0 ≡ n = cc in
-    subst (λ (a : Node). IsInside z (cell.Node a) × MayClaim v a) same (o.2, o.3)
+    subst (λ (a : Node). IsInside z (cell.Node a) × claim.May v a) same (o.2, o.3)
 
 -- ---- what an answer carries over
 
@@ -78,7 +82,7 @@ module _ (z : Sizes) (ws : List ℕ) (vs : List View) (p : ℕ) (r : IsSound z (
       )
 
   -- the view of the pass becomes w in a step of one of the kinds, so that all is sound then
-  pub turned : (us : List ℕ) (Row : View → View → Type 0) (w : View) → Row v w → ((g : Views) → Turned f p w g → OfAKind z p v m f (memory_of z us) g r.log r.logical) → Next z ws vs p us Row
+  pub turned : (us : List ℕ) (Row : View → View → Type 0) (w : View) → Row v w → ((g : Views) → SetsView f p w g → OfAKind z p v m f (memory_of z us) g r.log r.logical) → Next z ws vs p us Row
   turned us Row w row kind =
       let k = kind (views_of (slice_set vs p w)) (turned_view vs p w inside) in (
         slice_set vs p w,
@@ -93,17 +97,17 @@ module _ (z : Sizes) (ws : List ℕ) (vs : List View) (p : ℕ) (r : IsSound z (
 
   -- ---- steps that change no word
 
-  pub turn_begins : (c : Cell) (found : ℕ) → v.pin ≢ 0 → found ≡ m.version c → Next z ws vs p ws (λ v w. w ≡ begun v c found)
-  turn_begins c found pinned is = next ws (λ v w. w ≡ begun v c found) (FindsVersion c found) (moves_begins z ws f p v r at long c found pinned is)
+  pub turn_begins : (c : Cell) (found : ℕ) → v.pin ≢ 0 → found ≡ m.version c → Next z ws vs p ws (λ v w. w ≡ begin.view_after v c found)
+  turn_begins c found pinned is = next ws (λ v w. w ≡ begin.view_after v c found) (FindsVersion c found) (moves_begins z ws f p v r at long c found pinned is)
 
-  pub turn_reads : (x : Stamp) (c : Cell) (i found : ℕ) → MayReadCell z v x c i → found ≡ m.words c i → Next z ws vs p ws (λ v w. w ≡ has_read v x (fact_read c i found))
-  turn_reads x c i found may is = next ws (λ v w. w ≡ has_read v x (fact_read c i found)) (FindsWord c i found) (moves_reads z ws f p v r at long x c i found may is)
+  pub turn_reads : (x : Stamp) (c : Cell) (i found : ℕ) → read.MayReadCell z v x c i → found ≡ m.words c i → Next z ws vs p ws (λ v w. w ≡ read.view_after v x (read.fact_read c i found))
+  turn_reads x c i found may is = next ws (λ v w. w ≡ read.view_after v x (read.fact_read c i found)) (FindsWord c i found) (moves_reads z ws f p v r at long x c i found may is)
 
-  pub turn_fails : (x : Stamp) (found : ℕ) → found ≡ m.version x.cell → Member x v.stamps → found ≢ x.version → Next z ws vs p ws (λ v w. Failed v w x found)
-  turn_fails x found is has other = next ws (λ v w. Failed v w x found) (FindsVersion x.cell found) (moves_fails z ws f p v r at long x found is has other)
+  pub turn_fails : (x : Stamp) (found : ℕ) → found ≡ m.version x.cell → Member x v.stamps → found ≢ x.version → Next z ws vs p ws (λ v w. check.IsChanged v w x found)
+  turn_fails x found is has other = next ws (λ v w. check.IsChanged v w x found) (FindsVersion x.cell found) (moves_fails z ws f p v r at long x found is has other)
 
-  pub turn_passes : (x : Stamp) (o : Option What) → m.version x.cell ≡ x.version → MayPass z v x o → Next z ws vs p ws (λ v w. Passed z v w x o)
-  turn_passes x o same may = next ws (λ v w. Passed z v w x o) (FindsUnchanged z v x) (moves_passes z ws f p v r at long x o same may)
+  pub turn_passes : (x : Stamp) (o : Option What) → m.version x.cell ≡ x.version → check.May z v x o → Next z ws vs p ws (λ v w. check.Unchanged z v w x o)
+  turn_passes x o same may = next ws (λ v w. check.Unchanged z v w x o) (FindsUnchanged z v x) (moves_passes z ws f p v r at long x o same may)
 
   -- ---- steps that change a word
 
@@ -118,15 +122,15 @@ module _ (z : Sizes) (ws : List ℕ) (vs : List View) (p : ℕ) (r : IsSound z (
       → SetsVersion m x.cell (x.version + 2) (memory_of z (set ws place (found + 2)))
   upgrade_sets x place found there is found_is same stamp = puts_version z ws x.cell (x.version + 2) place (found + 2) there (stamped_plain x (sym found_is ∙ same) stamp) long is (ap (λ (n : ℕ). n + 2) same)
 
-  pub turn_upgrades : (x : Stamp) (place found : ℕ) → IsInside z x.cell → place ≡ place_of z x.cell → found ≡ m.version x.cell → found ≡ x.version → MayUpgrade v x
-      → Next z ws vs p (set ws place (found + 2)) (λ v w. Upgraded v w x)
+  pub turn_upgrades : (x : Stamp) (place found : ℕ) → IsInside z x.cell → place ≡ place_of z x.cell → found ≡ m.version x.cell → found ≡ x.version → upgrade.May v x
+      → Next z ws vs p (set ws place (found + 2)) (λ v w. upgrade.Locked v w x)
   turn_upgrades x place found there is found_is same may =
       let us : set ws (place_of z x.cell) (x.version + 2) ≡ set ws place (found + 2) = ap₂ (λ (i n : ℕ). set ws i (n + 2)) (sym is) (sym same) in
-      subst (λ (us : List ℕ). Next z ws vs p us (λ v w. Upgraded v w x)) us
-      (next (set ws (place_of z x.cell) (x.version + 2)) (λ v w. Upgraded v w x) (LocksStamped x) (moves_upgrades z ws f p v r at long x there (sym found_is ∙ same) may))
+      subst (λ (us : List ℕ). Next z ws vs p us (λ v w. upgrade.Locked v w x)) us
+      (next (set ws (place_of z x.cell) (x.version + 2)) (λ v w. upgrade.Locked v w x) (LocksStamped x) (moves_upgrades z ws f p v r at long x there (sym found_is ∙ same) may))
 
   -- a node's number in hand is one whose word may go up
-  pub claim_fits : (n : Node) (found : ℕ) → found ≡ m.version (cell.Node n) → MayClaim v n → found + 1 < 2 ^ 64
+  pub claim_fits : (n : Node) (found : ℕ) → found ≡ m.version (cell.Node n) → claim.May v n → found + 1 < 2 ^ 64
   claim_fits n found is may = rw is (fits z ws f p v r at long n may)
 
   pub claim_sets : (n : Node) (place found : ℕ) → IsInside z (cell.Node n) → place ≡ place_of z (cell.Node n) → found ≡ m.version (cell.Node n)
@@ -134,27 +138,27 @@ module _ (z : Sizes) (ws : List ℕ) (vs : List View) (p : ℕ) (r : IsSound z (
   claim_sets n place found there is found_is =
       puts_version z ws (cell.Node n) (m.version (cell.Node n) + 1) place (found + 1) there (λ l e. cc) long is (ap (λ (x : ℕ). x + 1) found_is)
 
-  pub turn_claims : (n : Node) (place found : ℕ) → IsInside z (cell.Node n) → place ≡ place_of z (cell.Node n) → found ≡ m.version (cell.Node n) → MayClaim v n
-      → Next z ws vs p (set ws place (found + 1)) (λ v w. Claimed v w n)
+  pub turn_claims : (n : Node) (place found : ℕ) → IsInside z (cell.Node n) → place ≡ place_of z (cell.Node n) → found ≡ m.version (cell.Node n) → claim.May v n
+      → Next z ws vs p (set ws place (found + 1)) (λ v w. claim.Outcome v w n)
   turn_claims n place found there is found_is may =
       let us : set ws (place_of z (cell.Node n)) (m.version (cell.Node n) + 1) ≡ set ws place (found + 1) = ap₂ (λ (i x : ℕ). set ws i (x + 1)) (sym is) (sym found_is) in
-      subst (λ (us : List ℕ). Next z ws vs p us (λ v w. Claimed v w n)) us
-      (next (set ws (place_of z (cell.Node n)) (m.version (cell.Node n) + 1)) (λ v w. Claimed v w n) (LocksClaimed n) (moves_claims z ws f p v r at long n there may))
+      subst (λ (us : List ℕ). Next z ws vs p us (λ v w. claim.Outcome v w n)) us
+      (next (set ws (place_of z (cell.Node n)) (m.version (cell.Node n) + 1)) (λ v w. claim.Outcome v w n) (LocksClaimed n) (moves_claims z ws f p v r at long n there may))
 
-  pub write_sets : (c : Cell) (h : Holding) (i x first : ℕ) → IsInside z c → first ≡ place_of z c → h.cell ≡ c → MayWrite v h i → SetsWord m c i x (memory_of z (set ws (first + i) x))
+  pub write_sets : (c : Cell) (h : Holding) (i x first : ℕ) → IsInside z c → first ≡ place_of z c → h.cell ≡ c → write.May v h i → SetsWord m c i x (memory_of z (set ws (first + i) x))
   write_sets c h i x first there is of may =
       let low = first_low c in
       let small : i < size_of c = subst (λ (d : Cell). i < size_of d) of may.place.1 in
       puts_word z ws c i x first there (let positive = may.place.0 in omega (arith, low)) small long is
 
-  pub turn_writes : (c : Cell) (h : Holding) (i x first : ℕ) → IsInside z c → first ≡ place_of z c → h.cell ≡ c → MayWrite v h i
-      → Next z ws vs p (set ws (first + i) x) (λ v w. (k : Holding) → IsHolding v c k → Wrote v w k i x)
+  pub turn_writes : (c : Cell) (h : Holding) (i x first : ℕ) → IsInside z c → first ≡ place_of z c → h.cell ≡ c → write.May v h i
+      → Next z ws vs p (set ws (first + i) x) (λ v w. (k : Holding) → IsHolding v c k → write.Outcome v w k i x)
   turn_writes c h i x first there is of may =
-      let Row : View → View → Type 0 = λ v w. (k : Holding) → IsHolding v c k → Wrote v w k i x in
+      let Row : View → View → Type 0 = λ v w. (k : Holding) → IsHolding v c k → write.Outcome v w k i x in
       subst (λ (from : ℕ). Next z ws vs p (set ws (from + i) x) Row) (sym is) (next (set ws (place_of z c + i) x) Row (PutsWord c i x) (moves_writes z ws f p v r at long c h i x there of may))
 
-  pub turn_writes_leaf : (y : InHand) (l i x first : ℕ) → l < z.leaves → first ≡ place_of z (cell.Leaf l) → MayWriteLeaf v y l i
-      → Next z ws vs p (set ws (first + i) x) (λ v w. (a : InHand) → IsInHand v (leaf l) a → WroteLeaf v w a i x)
+  pub turn_writes_leaf : (y : InHand) (l i x first : ℕ) → l < z.leaves → first ≡ place_of z (cell.Leaf l) → write.MayLeaf v y l i
+      → Next z ws vs p (set ws (first + i) x) (λ v w. (a : InHand) → IsInHand v (leaf l) a → write.LeafOutcome v w a i x)
   turn_writes_leaf y l i x first there is may =
-      let Row : View → View → Type 0 = λ v w. (a : InHand) → IsInHand v (leaf l) a → WroteLeaf v w a i x in
+      let Row : View → View → Type 0 = λ v w. (a : InHand) → IsInHand v (leaf l) a → write.LeafOutcome v w a i x in
       subst (λ (from : ℕ). Next z ws vs p (set ws (from + i) x) Row) (sym is) (next (set ws (place_of z (cell.Leaf l) + i) x) Row (PutsWord (cell.Leaf l) i x) (moves_writes_leaf z ws f p v r at long y l i x there may))

@@ -2,9 +2,9 @@
 use Rattle.std.proofs.Common.{◌≡◌, ◌≢◌, ℕ, zero, suc, ◌+◌, ◌<◌, List, [], ◌∷◌, Some, length, slice_get, slice_set, refl, sym, ap, ◌∙◌, subst, arith, length-set, get_or-set_same, get_or-set_other}
 use Rattle.std.proofs.lemmas.Option.{same_Some, slice_get-get_or}
 use Rattle.art_step.specs.declared.views.View.{View}
-use Rattle.art_step.specs.Instants.{Instant}
-use Rattle.art_step.specs.StepLaws.{newcomer}
-use Rattle.art_step.specs.Views.{Turned}
+use Rattle.art_step.specs.Effects.{Instant}
+use Rattle.art_step.specs.Opening.{newcomer}
+use Rattle.art_step.specs.Views.{SetsView}
 use Rattle.art_world.specs.WorldWords.{Kept, MakesStep, OnlyStepsOf, StepBy, memory_now}
 use Rattle.art_step.specs.WordRows.{memory_of, views_of, view_at, newcomers}
 
@@ -34,7 +34,7 @@ get_other (v ∷ vs) (suc p) zero w other = refl
 get_other (v ∷ vs) (suc p) (suc q) w other = get_other vs p q w (λ e. other (ap suc e))
 
 -- so the views are as before, but for the one of the pass
-pub turned_view : (vs : List View) (p : ℕ) (w : View) → p < length vs → Turned (views_of vs) p w (views_of (slice_set vs p w))
+pub turned_view : (vs : List View) (p : ℕ) (w : View) → p < length vs → SetsView (views_of vs) p w (views_of (slice_set vs p w))
 turned_view vs p w low = record {
   here = at_view (slice_set vs p w) p (let same = length_set_view vs p w in omega (arith, same)) ∙ ap Some (view_set vs p w low);
   there = λ q other. get_other vs p q w other;

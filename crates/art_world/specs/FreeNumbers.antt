@@ -3,7 +3,7 @@ use Rattle.std.specs.Prelude.{◌≡◌, ℕ, ◌<◌, true, false}
 use Rattle.art_step.specs.declared.numbers.Number.{Number}
 use Rattle.art_cell.specs.declared.layouts.Pool.{Pool}
 use Rattle.art_cell.specs.Children.{link_in_pool}
-use Rattle.art_step.specs.Shown.{link_of_number}
+use Rattle.art_step.specs.Tokens.{link_of_number}
 use Rattle.art_step.specs.Views.{IsNumber}
 use Rattle.art_tree.specs.WordChanges.{FitsWord}
 use Rattle.art_world.specs.WorldWords.{Kept, memory_now}

@@ -5,7 +5,7 @@ use Rattle.art_cell.specs.declared.cells.Cell.TheVariants as cell
 use Rattle.art_cell.specs.declared.cells.Link.TheVariants.{Node as node}
 use Rattle.art_step.specs.declared.views.Sizes.{Sizes}
 use Rattle.art_step.specs.OpeningWords.{opening_words}
-use Rattle.art_step.specs.StepLaws.{Opens}
+use Rattle.art_step.specs.Opening.{Opens}
 use Rattle.art_step.specs.Views.{IsNumber}
 use Rattle.art_step.specs.WordRows.{newcomers, views_of}
 use Rattle.art_world.specs.WorldWords.{Kept, memory_now}

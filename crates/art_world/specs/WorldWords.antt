@@ -8,10 +8,10 @@ use Rattle.art_cell.specs.declared.cells.Link.{Link}
 use Rattle.art_step.specs.declared.views.Sizes.{Sizes}
 use Rattle.art_step.specs.declared.views.View.{View}
 use Rattle.art_cell.specs.Children.{number_of}
-use Rattle.art_step.specs.Instants.{Instant}
+use Rattle.art_step.specs.Effects.{Instant}
 use Rattle.art_step.specs.Sound.{IsSound}
-use Rattle.art_step.specs.StepKinds.{AtStep, OneStep}
-use Rattle.art_step.specs.StepLaws.{newcomer}
+use Rattle.art_step.specs.Steps.{AtStep, OneStep}
+use Rattle.art_step.specs.Opening.{newcomer}
 use Rattle.art_step.specs.Views.{Memory, Views, size_of}
 use Rattle.art_step.specs.WordRows.{memory_of, view_at, views_of}
 use Rattle.art_step.specs.WordPlaces.{epoch_place, first_free_word, first_place, free_words, is_inside, pass_place, place_of, pool_of, pool_size}

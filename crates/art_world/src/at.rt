@@ -4,9 +4,12 @@ ghost use Rattle.art_step.specs.declared.views.InHand.{InHand as NumberInHand};
 ghost use Rattle.art_step.specs.declared.views.Retired.{Retired as RetiredNumber};
 ghost use Rattle.art_world.specs.FreeNumbers.{HasNoneFree, IsLeastFree};
 ghost use Rattle.art_world.specs.Lent.{OnlyStepped, lent, only_same, only_then, pass_of, sizes_lent, view_lent};
-ghost use Rattle.art_step.specs.Shown.{Freed, Gave, Took, link_of_number};
+ghost use Rattle.art_step.specs.Steps.Give as give;
+ghost use Rattle.art_step.specs.Steps.Take as take_free;
+ghost use Rattle.art_step.specs.Tokens.{link_of_number};
 ghost use Rattle.art_step.specs.Sound.{IsSound};
-ghost use Rattle.art_step.specs.StepRows.{MayFree, MayGive, SetsFree};
+ghost use Rattle.art_step.specs.Steps.Give.{MayFree};
+ghost use Rattle.art_step.specs.Effects.{SetsFree};
 ghost use Rattle.art_step.specs.WordPlaces.{word_count};
 ghost use Rattle.art_world.specs.WorldWords.{IsAround, memory_now};
 ghost use Rattle.art_step.specs.WordRows.{views_of};
@@ -91,17 +94,17 @@ impl At<'_> {
         ensures memory { IfSome result (λ n. SetsFree (memory_now (lent self.old)) (link_of_number n) false (memory_now (lent self.new))) }
         ensures none { IfNone result ((lent self.new ≡ lent self.old) × HasNoneFree (lent self.old) pool) }
         ensures some { IfSome result (IsLeastFree (lent self.old) pool) }
-        ensures row { IfSome result (λ n. Took (memory_now (lent self.new)) (view_lent self.old) (view_lent self.new) (link_of_number n)) }
+        ensures row { IfSome result (λ n. take_free.Outcome (memory_now (lent self.new)) (view_lent self.old) (view_lent self.new) (link_of_number n)) }
     {
         self.world.first_free(self.pass, pool)
     }
 
     /// A number in the hand of the pass, of a cell that it does not hold, is free again.
     pub fn put_back(&mut self, number: Number)
-        requires { (xs : List NumberInHand) × MayGive (view_lent self.old) (link_of_number number) xs }
+        requires { (xs : List NumberInHand) × give.May (view_lent self.old) (link_of_number number) xs }
         ensures only { OnlyStepped self.old self.new }
         ensures memory { SetsFree (memory_now (lent self.old)) (link_of_number number) true (memory_now (lent self.new)) }
-        ensures row { Gave (view_lent self.old) (view_lent self.new) (link_of_number number) }
+        ensures row { give.Outcome (view_lent self.old) (view_lent self.new) (link_of_number number) }
     {
         self.world.put_back(self.pass, number);
     }
@@ -111,7 +114,7 @@ impl At<'_> {
         requires { (es : List RetiredNumber) × MayFree (sizes_lent self.old) (view_lent self.old) (link_of_number number) es }
         ensures only { OnlyStepped self.old self.new }
         ensures memory { SetsFree (memory_now (lent self.old)) (link_of_number number) true (memory_now (lent self.new)) }
-        ensures row { Freed (view_lent self.old) (view_lent self.new) (link_of_number number) }
+        ensures row { give.FreeOutcome (view_lent self.old) (view_lent self.new) (link_of_number number) }
     {
         self.world.give_back(self.pass, number);
     }

@@ -42,10 +42,10 @@ pub(crate) struct Begins {
 
 impl Change<Vec<u64>, Begins, LinkedList<View>> for Begins {
     ghost use Rattle.std.specs.Prelude.{◌≡◌};
-    ghost use Rattle.art_step.specs.StepRows.{begun};
+    ghost use Rattle.art_step.specs.Steps.Begin as begin;
     ghost use Rattle.art_world.specs.WorldWords.{StepBy};
 
-    ghost then = { λ ws t old new. StepBy t.sizes ws.items ws.items t.pass (λ v w. w ≡ begun v t.cell t.found) old new };
+    ghost then = { λ ws t old new. StepBy t.sizes ws.items ws.items t.pass (λ v w. w ≡ begin.view_after v t.cell t.found) old new };
 }
 
 /// A word was read.
@@ -61,11 +61,10 @@ pub(crate) struct Reads {
 
 impl Change<Vec<u64>, Reads, LinkedList<View>> for Reads {
     ghost use Rattle.std.specs.Prelude.{◌≡◌};
-    ghost use Rattle.art_step.specs.Shown.{fact_read};
-    ghost use Rattle.art_step.specs.StepRows.{has_read};
+    ghost use Rattle.art_step.specs.Steps.Read as read;
     ghost use Rattle.art_world.specs.WorldWords.{StepBy};
 
-    ghost then = { λ ws t old new. StepBy t.sizes ws.items ws.items t.pass (λ v w. w ≡ has_read v t.stamp (fact_read t.cell t.place t.value)) old new };
+    ghost then = { λ ws t old new. StepBy t.sizes ws.items ws.items t.pass (λ v w. w ≡ read.view_after v t.stamp (read.fact_read t.cell t.place t.value)) old new };
 }
 
 /// A check found the stamped word.
@@ -80,10 +79,10 @@ pub(crate) struct Passes<'a> {
 impl<'a> Change<Vec<u64>, Passes<'a>, LinkedList<View>> for Passes<'a> {
     ghost use Rattle.std.specs.Option.{option_map};
     ghost use Rattle.art_step.specs.Deeds.{what_of};
-    ghost use Rattle.art_step.specs.Shown.{Passed};
+    ghost use Rattle.art_step.specs.Steps.Check as check;
     ghost use Rattle.art_world.specs.WorldWords.{StepBy};
 
-    ghost then = { λ ws t old new. StepBy t.sizes ws.items ws.items t.pass (λ v w. Passed t.sizes v w t.stamp (option_map (λ d. what_of d.now) t.deed)) old new };
+    ghost then = { λ ws t old new. StepBy t.sizes ws.items ws.items t.pass (λ v w. check.Unchanged t.sizes v w t.stamp (option_map (λ d. what_of d.now) t.deed)) old new };
 }
 
 /// A check or an upgrade found another word.
@@ -96,10 +95,9 @@ pub(crate) struct Fails {
 }
 
 impl Change<Vec<u64>, Fails, LinkedList<View>> for Fails {
-    ghost use Rattle.art_step.specs.Shown.{Failed};
     ghost use Rattle.art_world.specs.WorldWords.{StepBy};
 
-    ghost then = { λ ws t old new. StepBy t.sizes ws.items ws.items t.pass (λ v w. Failed v w t.stamp t.found) old new };
+    ghost then = { λ ws t old new. StepBy t.sizes ws.items ws.items t.pass (λ v w. check.IsChanged v w t.stamp t.found) old new };
 }
 
 /// A cell was locked.
@@ -112,10 +110,10 @@ pub(crate) struct Upgrades {
 }
 
 impl Change<Vec<u64>, Upgrades, LinkedList<View>> for Upgrades {
-    ghost use Rattle.art_step.specs.Shown.{Upgraded};
+    ghost use Rattle.art_step.specs.Steps.Upgrade as upgrade;
     ghost use Rattle.art_world.specs.WorldWords.{StepBy};
 
-    ghost then = { λ ws t old new. StepBy t.sizes t.before.value ws.items t.pass (λ v w. Upgraded v w t.stamp) old new };
+    ghost then = { λ ws t old new. StepBy t.sizes t.before.value ws.items t.pass (λ v w. upgrade.Locked v w t.stamp) old new };
 }
 
 /// A node in hand was locked.
@@ -128,10 +126,10 @@ pub(crate) struct Claims {
 }
 
 impl Change<Vec<u64>, Claims, LinkedList<View>> for Claims {
-    ghost use Rattle.art_step.specs.Shown.{Claimed};
+    ghost use Rattle.art_step.specs.Steps.Claim as claim;
     ghost use Rattle.art_world.specs.WorldWords.{StepBy};
 
-    ghost then = { λ ws t old new. StepBy t.sizes t.before.value ws.items t.pass (λ v w. Claimed v w t.node) old new };
+    ghost then = { λ ws t old new. StepBy t.sizes t.before.value ws.items t.pass (λ v w. claim.Outcome v w t.node) old new };
 }
 
 /// A word of a held cell was written.
@@ -147,10 +145,11 @@ pub(crate) struct Writes {
 
 impl Change<Vec<u64>, Writes, LinkedList<View>> for Writes {
     ghost use Rattle.art_step.specs.declared.views.Holding.{Holding};
-    ghost use Rattle.art_step.specs.Shown.{IsHolding, Wrote};
+    ghost use Rattle.art_step.specs.Views.{IsHolding, IsInHand};
+    ghost use Rattle.art_step.specs.Steps.Write as write;
     ghost use Rattle.art_world.specs.WorldWords.{StepBy};
 
-    ghost then = { λ ws t old new. StepBy t.sizes t.before.value ws.items t.pass (λ v w. (h : Holding) → IsHolding v t.cell h → Wrote v w h t.place t.value) old new };
+    ghost then = { λ ws t old new. StepBy t.sizes t.before.value ws.items t.pass (λ v w. (h : Holding) → IsHolding v t.cell h → write.Outcome v w h t.place t.value) old new };
 }
 
 /// A word of a leaf in hand was written.
@@ -166,10 +165,9 @@ pub(crate) struct WritesLeaf {
 
 impl Change<Vec<u64>, WritesLeaf, LinkedList<View>> for WritesLeaf {
     ghost use Rattle.art_step.specs.declared.views.InHand.{InHand};
-    ghost use Rattle.art_step.specs.Shown.{IsInHand, WroteLeaf};
     ghost use Rattle.art_world.specs.WorldWords.{StepBy};
 
-    ghost then = { λ ws t old new. StepBy t.sizes t.before.value ws.items t.pass (λ v w. (y : InHand) → IsInHand v t.link y → WroteLeaf v w y t.place t.value) old new };
+    ghost then = { λ ws t old new. StepBy t.sizes t.before.value ws.items t.pass (λ v w. (y : InHand) → IsInHand v t.link y → write.LeafOutcome v w y t.place t.value) old new };
 }
 
 /// The first cell of a change was released.
@@ -187,12 +185,13 @@ pub(crate) struct Commits<'a> {
 impl<'a> Change<Vec<u64>, Commits<'a>, LinkedList<View>> for Commits<'a> {
     ghost use Rattle.art_step.specs.declared.views.Holding.{Holding};
     ghost use Rattle.art_step.specs.Deeds.{what_of};
-    ghost use Rattle.art_step.specs.Shown.{Committed, IsHolding, coming, links_of};
-    ghost use Rattle.art_step.specs.FirstReleases.{RetiresPinned};
+    ghost use Rattle.art_step.specs.Steps.Commit as commit;
+    ghost use Rattle.art_step.specs.Steps.Commit.{coming, RetiresPinned};
+    ghost use Rattle.art_step.specs.Tokens.{links_of};
     ghost use Rattle.art_world.specs.WorldWords.{StepBy};
     ghost use Rattle.art_step.specs.WordRows.{views_of, memory_of};
 
-    ghost then = { λ ws t old new. StepBy t.sizes t.before.value ws.items t.pass (λ v w. (h : Holding) → IsHolding v t.cell h → Committed v w (what_of t.deed.now) (links_of t.unlinked.now) (coming v t.leaf) h × RetiresPinned (views_of old) v w) old new };
+    ghost then = { λ ws t old new. StepBy t.sizes t.before.value ws.items t.pass (λ v w. (h : Holding) → IsHolding v t.cell h → commit.Outcome v w (what_of t.deed.now) (links_of t.unlinked.now) (coming v t.leaf) h × RetiresPinned (views_of old) v w) old new };
 }
 
 /// A cell was released.
@@ -206,10 +205,10 @@ pub(crate) struct Releases {
 
 impl Change<Vec<u64>, Releases, LinkedList<View>> for Releases {
     ghost use Rattle.art_step.specs.declared.views.Holding.{Holding};
-    ghost use Rattle.art_step.specs.Shown.{IsHolding, Released};
+    ghost use Rattle.art_step.specs.Steps.Release as release;
     ghost use Rattle.art_world.specs.WorldWords.{StepBy};
 
-    ghost then = { λ ws t old new. StepBy t.sizes t.before.value ws.items t.pass (λ v w. (h : Holding) → IsHolding v t.cell h → Released v w h) old new };
+    ghost then = { λ ws t old new. StepBy t.sizes t.before.value ws.items t.pass (λ v w. (h : Holding) → IsHolding v t.cell h → release.Outcome v w h) old new };
 }
 
 /// A number came into the hand.
@@ -222,10 +221,10 @@ pub(crate) struct Takes {
 }
 
 impl Change<Vec<u64>, Takes, LinkedList<View>> for Takes {
-    ghost use Rattle.art_step.specs.Shown.{Took};
+    ghost use Rattle.art_step.specs.Steps.Take as take_free;
     ghost use Rattle.art_world.specs.WorldWords.{StepBy};
 
-    ghost then = { λ ws t old new. StepBy t.sizes t.before.value ws.items t.pass (λ v w. Took (memory_of t.sizes ws.items) v w t.link) old new };
+    ghost then = { λ ws t old new. StepBy t.sizes t.before.value ws.items t.pass (λ v w. take_free.Outcome (memory_of t.sizes ws.items) v w t.link) old new };
 }
 
 /// A number went back from the hand.
@@ -238,10 +237,10 @@ pub(crate) struct Gives {
 }
 
 impl Change<Vec<u64>, Gives, LinkedList<View>> for Gives {
-    ghost use Rattle.art_step.specs.Shown.{Gave};
+    ghost use Rattle.art_step.specs.Steps.Give as give;
     ghost use Rattle.art_world.specs.WorldWords.{StepBy};
 
-    ghost then = { λ ws t old new. StepBy t.sizes t.before.value ws.items t.pass (λ v w. Gave v w t.link) old new };
+    ghost then = { λ ws t old new. StepBy t.sizes t.before.value ws.items t.pass (λ v w. give.Outcome v w t.link) old new };
 }
 
 /// A number went back from limbo.
@@ -254,8 +253,7 @@ pub(crate) struct Frees {
 }
 
 impl Change<Vec<u64>, Frees, LinkedList<View>> for Frees {
-    ghost use Rattle.art_step.specs.Shown.{Freed};
     ghost use Rattle.art_world.specs.WorldWords.{StepBy};
 
-    ghost then = { λ ws t old new. StepBy t.sizes t.before.value ws.items t.pass (λ v w. Freed v w t.link) old new };
+    ghost then = { λ ws t old new. StepBy t.sizes t.before.value ws.items t.pass (λ v w. give.FreeOutcome v w t.link) old new };
 }

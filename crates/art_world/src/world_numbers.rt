@@ -4,8 +4,11 @@ ghost use Rattle.art_step.specs.declared.views.InHand.{InHand as NumberInHand};
 ghost use Rattle.art_step.specs.declared.views.Retired.{Retired as RetiredNumber};
 ghost use Rattle.art_cell.specs.Children.{link_in_pool};
 ghost use Rattle.art_world.specs.FreeNumbers.{HasNoneFree, IsLeastFree};
-ghost use Rattle.art_step.specs.Shown.{Freed, Gave, Took, link_of_number};
-ghost use Rattle.art_step.specs.StepRows.{MayFree, MayGive, SetsFree};
+ghost use Rattle.art_step.specs.Steps.Give as give;
+ghost use Rattle.art_step.specs.Steps.Take as take_free;
+ghost use Rattle.art_step.specs.Tokens.{link_of_number};
+ghost use Rattle.art_step.specs.Steps.Give.{MayFree};
+ghost use Rattle.art_step.specs.Effects.{SetsFree};
 ghost use Rattle.art_step.specs.Views.{IsNumber};
 ghost use Rattle.art_step.specs.WordPlaces.{pool_size, word_count};
 ghost use Rattle.art_world.specs.WorldWords.{OnlyStepsOf, memory_now};
@@ -24,7 +27,7 @@ impl World {
         ensures memory { IfSome result (λ n. SetsFree (memory_now self.old) (link_of_number n) false (memory_now self.new)) }
         ensures none { IfNone result ((self.new ≡ self.old) × HasNoneFree self.old pool) }
         ensures some { IfSome result (IsLeastFree self.old pool) }
-        ensures row { IfSome result (λ n. Took (memory_now self.new) (view_at self.old.views pass) (view_at self.new.views pass) (link_of_number n)) }
+        ensures row { IfSome result (λ n. take_free.Outcome (memory_now self.new) (view_at self.old.views pass) (view_at self.new.views pass) (link_of_number n)) }
     {
         let number = self.least_free(pool)?;
         let place = self.sizes.first_free_word(pool) + number as usize / 64;
@@ -61,10 +64,10 @@ impl World {
     /// A number in the hand of the pass, of a cell that it does not hold, is free again.
     pub(crate) fn put_back(&mut self, pass: usize, number: Number)
         requires pass { pass < length self.old.views }
-        requires may { (xs : List NumberInHand) × MayGive (view_at self.old.views pass) (link_of_number number) xs }
+        requires may { (xs : List NumberInHand) × give.May (view_at self.old.views pass) (link_of_number number) xs }
         ensures only { OnlyStepsOf self.old self.new pass }
         ensures memory { SetsFree (memory_now self.old) (link_of_number number) true (memory_now self.new) }
-        ensures row { Gave (view_at self.old.views pass) (view_at self.new.views pass) (link_of_number number) }
+        ensures row { give.Outcome (view_at self.old.views pass) (view_at self.new.views pass) (link_of_number number) }
     {
         let turn = Gives {
             sizes: self.sizes,
@@ -84,7 +87,7 @@ impl World {
         requires may { (es : List RetiredNumber) × MayFree self.old.sizes (view_at self.old.views pass) (link_of_number number) es }
         ensures only { OnlyStepsOf self.old self.new pass }
         ensures memory { SetsFree (memory_now self.old) (link_of_number number) true (memory_now self.new) }
-        ensures row { Freed (view_at self.old.views pass) (view_at self.new.views pass) (link_of_number number) }
+        ensures row { give.FreeOutcome (view_at self.old.views pass) (view_at self.new.views pass) (link_of_number number) }
     {
         let turn = Frees {
             sizes: self.sizes,

@@ -5,10 +5,12 @@ ghost use Rattle.std.specs.List.{slice_get};
 ghost use Rattle.art_step.specs.declared.views.Holding.{Holding as HoldingOf};
 ghost use Rattle.art_cell.specs.Children.{child_word, link_of};
 ghost use Rattle.art_step.specs.Deeds.{what_of};
-ghost use Rattle.art_step.specs.Instants.{Unlocks};
-ghost use Rattle.art_step.specs.FirstReleases.{UnlocksFirst};
-ghost use Rattle.art_step.specs.Shown.{Committed, IsHolding, Released, coming, link_of_number, links_of};
-ghost use Rattle.art_step.specs.StepRows.{MayBeFirst, MayCommit, MayRelease, released_word};
+ghost use Rattle.art_step.specs.Effects.{Unlocks, released_word};
+ghost use Rattle.art_step.specs.Steps.Commit.{UnlocksFirst, coming};
+ghost use Rattle.art_step.specs.Steps.Commit as commit;
+ghost use Rattle.art_step.specs.Views.{IsHolding};
+ghost use Rattle.art_step.specs.Steps.Release as release;
+ghost use Rattle.art_step.specs.Tokens.{link_of_number, links_of};
 ghost use Rattle.art_step.specs.WordPlaces.{IsInside};
 ghost use Rattle.art_world.specs.WorldWords.{MakesStep, OnlyStepsOf};
 ghost use Rattle.art_step.specs.WordRows.{view_at};
@@ -39,12 +41,12 @@ impl World {
         requires inside { IsInside self.old.sizes (cell_held held) }
         requires words { map child_word (links_of unlinked.now) ≡ unlinked.now }
         requires few { length unlinked.now ≤ 3 }
-        requires first { (h : HoldingOf) × (h.cell ≡ cell_held held) × MayBeFirst (view_at self.old.views pass) (links_of unlinked.now) h obsolete }
-        requires may { MayCommit self.old.sizes (view_at self.old.views pass) (what_of deed.now) (links_of unlinked.now) (coming (view_at self.old.views pass) (option_map link_of_number leaf)) }
+        requires first { (h : HoldingOf) × (h.cell ≡ cell_held held) × commit.MayBeFirst (view_at self.old.views pass) (links_of unlinked.now) h obsolete }
+        requires may { commit.May self.old.sizes (view_at self.old.views pass) (what_of deed.now) (links_of unlinked.now) (coming (view_at self.old.views pass) (option_map link_of_number leaf)) }
         ensures only { OnlyStepsOf self.old self.new pass }
         ensures at_once { MakesStep pass self.old self.new (UnlocksFirst (view_at self.old.views pass) (cell_held held) obsolete) }
         ensures numbers { filter_map (option_map link_of_number) result ≡ links_of unlinked.now }
-        ensures row { (h : HoldingOf) → IsHolding (view_at self.old.views pass) (cell_held held) h → Committed (view_at self.old.views pass) (view_at self.new.views pass) (what_of deed.now) (links_of unlinked.now) (coming (view_at self.old.views pass) (option_map link_of_number leaf)) h }
+        ensures row { (h : HoldingOf) → IsHolding (view_at self.old.views pass) (cell_held held) h → commit.Outcome (view_at self.old.views pass) (view_at self.new.views pass) (what_of deed.now) (links_of unlinked.now) (coming (view_at self.old.views pass) (option_map link_of_number leaf)) h }
     {
         let cell = held.spend();
         let leaf = spent(leaf);
@@ -69,10 +71,10 @@ impl World {
     pub(crate) fn release(&mut self, pass: usize, held: Held, obsolete: bool)
         requires pass { pass < length self.old.views }
         requires inside { IsInside self.old.sizes (cell_held held) }
-        requires may { (h : HoldingOf) × (h.cell ≡ cell_held held) × MayRelease (view_at self.old.views pass) h obsolete }
+        requires may { (h : HoldingOf) × (h.cell ≡ cell_held held) × release.May (view_at self.old.views pass) h obsolete }
         ensures only { OnlyStepsOf self.old self.new pass }
         ensures at_once { MakesStep pass self.old self.new (Unlocks (cell_held held) obsolete) }
-        ensures row { (h : HoldingOf) → IsHolding (view_at self.old.views pass) (cell_held held) h → Released (view_at self.old.views pass) (view_at self.new.views pass) h }
+        ensures row { (h : HoldingOf) → IsHolding (view_at self.old.views pass) (cell_held held) h → release.Outcome (view_at self.old.views pass) (view_at self.new.views pass) h }
     {
         let cell = held.spend();
         let found = self.version(cell);

@@ -8,10 +8,17 @@ ghost use Rattle.art_step.specs.declared.views.Fact.TheVariants.{Starts};
 ghost use Rattle.art_step.specs.declared.views.Holding.{Holding as HoldingOf};
 ghost use Rattle.art_step.specs.declared.views.InHand.{InHand as NumberInHand};
 ghost use Rattle.art_step.specs.Deeds.{what_of};
-ghost use Rattle.art_step.specs.Instants.{FindsUnchanged, FindsVersion, FindsWord, LocksClaimed, LocksStamped, PutsWord};
-ghost use Rattle.art_step.specs.Shown.{Claimed, FailedUpgrade, Failed, IsHolding, IsInHand, MayReadCell, Passed, Upgraded, Wrote, WroteLeaf, fact_read, link_of_number};
-ghost use Rattle.art_step.specs.StepKinds.{LocksNothing};
-ghost use Rattle.art_step.specs.StepRows.{HasClaimedNone, MayClaim, MayLock, MayPass, MayWrite, MayWriteLeaf, begun, has_read, note_of};
+ghost use Rattle.art_step.specs.Effects.{FindsUnchanged, FindsVersion, FindsWord, LocksClaimed, LocksStamped, PutsWord};
+ghost use Rattle.art_step.specs.Steps.Claim as claim;
+ghost use Rattle.art_step.specs.Steps.Upgrade as upgrade;
+ghost use Rattle.art_step.specs.Steps.Check as check;
+ghost use Rattle.art_step.specs.Views.{IsHolding, IsInHand, MayLock, note_of};
+ghost use Rattle.art_step.specs.Steps.Read as read;
+ghost use Rattle.art_step.specs.Steps.Write as write;
+ghost use Rattle.art_step.specs.Tokens.{link_of_number};
+ghost use Rattle.art_step.specs.Steps.{LocksNothing};
+ghost use Rattle.art_step.specs.Steps.Upgrade.{HasClaimedNone};
+ghost use Rattle.art_step.specs.Steps.Begin as begin;
 ghost use Rattle.art_step.specs.Views.{IsClear, Member};
 ghost use Rattle.art_step.specs.WordPlaces.{IsInside};
 ghost use Rattle.art_world.specs.WorldWords.{IsAround, MakesStep, OnlyStepsOf, memory_now};
@@ -31,7 +38,7 @@ impl World {
         requires pinned { (view_at self.old.views pass).pin ≢ 0 }
         ensures only { OnlyStepsOf self.old self.new pass }
         ensures at_once { MatchResult result (λ x. MakesStep pass self.old self.new (FindsVersion cell x.version)) (λ l. MakesStep pass self.old self.new (FindsVersion cell l.found)) }
-        ensures row { MatchResult result (λ x. (x.cell ≡ cell) × IsClear x.version × (view_at self.new.views pass ≡ begun (view_at self.old.views pass) cell x.version)) (λ l. (l.cell ≡ cell) × (IsClear l.found → ⊥) × (view_at self.new.views pass ≡ begun (view_at self.old.views pass) cell l.found)) }
+        ensures row { MatchResult result (λ x. (x.cell ≡ cell) × IsClear x.version × (view_at self.new.views pass ≡ begin.view_after (view_at self.old.views pass) cell x.version)) (λ l. (l.cell ≡ cell) × (IsClear l.found → ⊥) × (view_at self.new.views pass ≡ begin.view_after (view_at self.old.views pass) cell l.found)) }
     {
         let found = self.version(cell);
         let turn = Begins {
@@ -55,10 +62,10 @@ impl World {
     pub(crate) fn read(&mut self, pass: usize, stamp: &Stamp, cell: Cell, place: usize) -> u64
         requires pass { pass < length self.old.views }
         requires inside { IsInside self.old.sizes cell }
-        requires may { MayReadCell self.old.sizes (view_at self.old.views pass) stamp.now cell place }
+        requires may { read.MayReadCell self.old.sizes (view_at self.old.views pass) stamp.now cell place }
         ensures only { OnlyStepsOf self.old self.new pass }
         ensures at_once { MakesStep pass self.old self.new (FindsWord cell place result) }
-        ensures row { view_at self.new.views pass ≡ has_read (view_at self.old.views pass) stamp.now (fact_read cell place result) }
+        ensures row { view_at self.new.views pass ≡ read.view_after (view_at self.old.views pass) stamp.now (read.fact_read cell place result) }
     {
         let value = self.word(cell, place);
         let turn = Reads {
@@ -83,10 +90,10 @@ impl World {
     ) -> Result<(), Changed>
         requires pass { pass < length self.old.views }
         requires inside { IsInside self.old.sizes stamp.now.cell }
-        requires may { MayPass self.old.sizes (view_at self.old.views pass) stamp.now (option_map (λ d. what_of d.now) deed) }
+        requires may { check.May self.old.sizes (view_at self.old.views pass) stamp.now (option_map (λ d. what_of d.now) deed) }
         ensures only { OnlyStepsOf self.old self.new pass }
         ensures at_once { MatchResult result (λ _. MakesStep pass self.old self.new (FindsUnchanged self.old.sizes (view_at self.old.views pass) stamp.now)) (λ c. MakesStep pass self.old self.new (FindsVersion stamp.now.cell c.found)) }
-        ensures row { MatchResult result (λ _. Passed self.old.sizes (view_at self.old.views pass) (view_at self.new.views pass) stamp.now (option_map (λ d. what_of d.now) deed.entry)) (λ c. (c.cell ≡ stamp.now.cell) × (c.seen ≡ stamp.now.version) × (c.found ≢ c.seen) × Failed (view_at self.old.views pass) (view_at self.new.views pass) stamp.now c.found) }
+        ensures row { MatchResult result (λ _. check.Unchanged self.old.sizes (view_at self.old.views pass) (view_at self.new.views pass) stamp.now (option_map (λ d. what_of d.now) deed.entry)) (λ c. (c.cell ≡ stamp.now.cell) × (c.seen ≡ stamp.now.version) × (c.found ≢ c.seen) × check.IsChanged (view_at self.old.views pass) (view_at self.new.views pass) stamp.now c.found) }
     {
         let found = self.version(stamp.cell);
         if stamp.version != found {
@@ -114,7 +121,7 @@ impl World {
         ensures only { OnlyStepsOf self.old self.new pass }
         ensures at_once { MakesStep pass self.old self.new (FindsVersion stamp.cell result.found) }
         ensures changed { result ≡ record { cell = stamp.cell; seen = stamp.version; found = found } }
-        ensures row { Failed (view_at self.old.views pass) (view_at self.new.views pass) stamp found }
+        ensures row { check.IsChanged (view_at self.old.views pass) (view_at self.new.views pass) stamp found }
     {
         let turn = Fails {
             sizes: self.sizes,
@@ -141,7 +148,7 @@ impl World {
         requires unclaimed { HasClaimedNone (view_at self.old.views pass) }
         ensures only { OnlyStepsOf self.old self.new pass }
         ensures at_once { MatchResult result (λ _. MakesStep pass self.old self.new (LocksStamped stamp)) (λ e. LocksNothing self.old.sizes (view_at self.old.views pass) (view_at self.new.views pass) (IsAround self.old self.new) stamp e) }
-        ensures row { MatchResult result (λ h. (cell_held h ≡ stamp.cell) × Upgraded (view_at self.old.views pass) (view_at self.new.views pass) stamp) (λ e. FailedUpgrade (view_at self.old.views pass) (view_at self.new.views pass) stamp e) }
+        ensures row { MatchResult result (λ h. (cell_held h ≡ stamp.cell) × upgrade.Locked (view_at self.old.views pass) (view_at self.new.views pass) stamp) (λ e. upgrade.Refused (view_at self.old.views pass) (view_at self.new.views pass) stamp e) }
     {
         if stamp.version / 4 >= LAST_COUNTER {
             return Err(UpgradeFault::Exhausted(stamp.cell));
@@ -166,10 +173,10 @@ impl World {
 
     pub(crate) fn claim(&mut self, pass: usize, number: Number) -> Held
         requires pass { pass < length self.old.views }
-        requires inside { (n : NodeOf) × (link_of_number number ≡ node n) × IsInside self.old.sizes (node_cell n) × MayClaim (view_at self.old.views pass) n }
+        requires inside { (n : NodeOf) × (link_of_number number ≡ node n) × IsInside self.old.sizes (node_cell n) × claim.May (view_at self.old.views pass) n }
         ensures only { OnlyStepsOf self.old self.new pass }
         ensures at_once { (n : NodeOf) → link_of_number number ≡ node n → MakesStep pass self.old self.new (LocksClaimed n) }
-        ensures row { (n : NodeOf) → link_of_number number ≡ node n → (cell_held result ≡ node_cell n) × Claimed (view_at self.old.views pass) (view_at self.new.views pass) n }
+        ensures row { (n : NodeOf) → link_of_number number ≡ node n → (cell_held result ≡ node_cell n) × claim.Outcome (view_at self.old.views pass) (view_at self.new.views pass) n }
     {
         let Link::Node(node) = number.spend() else {
             unreachable!();
@@ -193,11 +200,11 @@ impl World {
     pub(crate) fn write(&mut self, pass: usize, held: &mut Held, place: usize, value: u64)
         requires pass { pass < length self.old.views }
         requires inside { IsInside self.old.sizes (cell_held held.old) }
-        requires may { (h : HoldingOf) × (h.cell ≡ cell_held held.old) × MayWrite (view_at self.old.views pass) h place }
+        requires may { (h : HoldingOf) × (h.cell ≡ cell_held held.old) × write.May (view_at self.old.views pass) h place }
         ensures only { OnlyStepsOf self.old self.new pass }
         ensures at_once { MakesStep pass self.old self.new (PutsWord (cell_held held.old) place value) }
         ensures same { held.new ≡ held.old }
-        ensures row { (h : HoldingOf) → IsHolding (view_at self.old.views pass) (cell_held held.old) h → Wrote (view_at self.old.views pass) (view_at self.new.views pass) h place value }
+        ensures row { (h : HoldingOf) → IsHolding (view_at self.old.views pass) (cell_held held.old) h → write.Outcome (view_at self.old.views pass) (view_at self.new.views pass) h place value }
     {
         let cell = held.cell();
         let first = self.sizes.place_of(cell);
@@ -217,11 +224,11 @@ impl World {
 
     pub(crate) fn write_leaf(&mut self, pass: usize, number: &mut Number, place: usize, value: u64)
         requires pass { pass < length self.old.views }
-        requires inside { (l : ℕ) × (y : NumberInHand) × (link_of_number number.old ≡ leaf l) × (l < self.old.sizes.leaves) × MayWriteLeaf (view_at self.old.views pass) y l place }
+        requires inside { (l : ℕ) × (y : NumberInHand) × (link_of_number number.old ≡ leaf l) × (l < self.old.sizes.leaves) × write.MayLeaf (view_at self.old.views pass) y l place }
         ensures only { OnlyStepsOf self.old self.new pass }
         ensures at_once { (l : ℕ) → link_of_number number.old ≡ leaf l → MakesStep pass self.old self.new (PutsWord (leaf_cell l) place value) }
         ensures same { number.new ≡ number.old }
-        ensures row { (y : NumberInHand) → IsInHand (view_at self.old.views pass) (link_of_number number.old) y → WroteLeaf (view_at self.old.views pass) (view_at self.new.views pass) y place value }
+        ensures row { (y : NumberInHand) → IsInHand (view_at self.old.views pass) (link_of_number number.old) y → write.LeafOutcome (view_at self.old.views pass) (view_at self.new.views pass) y place value }
     {
         let link = number.link();
         let Link::Leaf(leaf) = link else {

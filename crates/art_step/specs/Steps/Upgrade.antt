@@ -6,7 +6,7 @@ use Rattle.art_step.specs.Effects.{LocksStamped}
 use Rattle.art_step.specs.Sound.{KeepsSound}
 use Rattle.art_step.specs.Views.{Member, note_of, last_counter, MayLock, Memory, size_of, words_in, found_version, Views, SetsView}
 use Rattle.art_step.specs.declared.faults.UpgradeFault.{UpgradeFault}
-use Rattle.art_step.specs.declared.steps.Held.{Held}
+use Rattle.art_step.specs.declared.held.Held.{Held}
 use Rattle.art_step.specs.declared.views.Fact.TheVariants.{Starts, Word}
 use Rattle.art_step.specs.declared.views.Holding.{Holding}
 use Rattle.art_step.specs.declared.views.Sizes.{Sizes}

@@ -4,8 +4,8 @@ use Rattle.art_cell.specs.declared.cells.Link.{Link}
 use Rattle.art_step.specs.declared.views.Answer.TheVariants.{Removed}
 use Rattle.art_step.specs.declared.views.Asked.TheVariants.{Remove}
 use Rattle.art_step.specs.declared.views.What.TheVariants.{Done}
-use Rattle.art_step.specs.Shown.{coming}
-use Rattle.art_step.specs.StepRows.{MayCommit}
+use Rattle.art_step.specs.Steps.Commit.{coming}
+use Rattle.art_step.specs.Steps.Commit as commit
 use Rattle.art_cell_uses.proofs.AnchorRows.{anchor_first, committed_steps, may_remove, one_link, removed_idle, removed_limbo}
 use Rattle.art_cell_uses.proofs.anchor_steps.commit_remove.Goals as goal
 
@@ -17,7 +17,7 @@ commit-numbers-requires-clause-may g c =
     let r = c.requires.1 in
     let z = g.S.Steps.sizes c.args.steps.now in
     let v = g.S.Steps.view c.args.steps.now in
-    subst₂ (λ (k : List ℕ) (us : List Link). MayCommit z v (Done (Remove k) (Removed VALUE)) us (coming v None)) (sym c.one_byte.ensures) (sym (one_link c.word_of_leaf-word.result c.args.leaf r.2.small c.word_of_leaf-word.ensures))
+    subst₂ (λ (k : List ℕ) (us : List Link). commit.May z v (Done (Remove k) (Removed VALUE)) us (coming v None)) (sym c.one_byte.ensures) (sym (one_link c.word_of_leaf-word.result c.args.leaf r.2.small c.word_of_leaf-word.ensures))
     (may_remove z v c.args.held c.args.leaf r.0 KEY VALUE (omega arith) r.2 r.1)
 
 pub returns-clause-step : goal.returns-clause-step

@@ -9,8 +9,8 @@ use Rattle.art_step.specs.declared.views.Asked.TheVariants.{Insert}
 use Rattle.art_step.specs.declared.views.Sizes.{Sizes}
 use Rattle.art_step.specs.declared.views.What.TheVariants.{Done}
 use Rattle.art_cell.specs.Children.{link_in_pool}
-use Rattle.art_step.specs.Shown.{coming}
-use Rattle.art_step.specs.StepRows.{MayCommit}
+use Rattle.art_step.specs.Steps.Commit.{coming}
+use Rattle.art_step.specs.Steps.Commit as commit
 use Rattle.art_commit.specs.CommitLaws.{HasLeaf}
 use Rattle.art_cell_uses.specs.NodeLives.{HasClaimed, HasForked}
 use Rattle.art_step.specs.Views.{Member}
@@ -68,7 +68,7 @@ pub commit-requires-clause-may : goal.commit-requires-clause-may
 commit-requires-clause-may g c =
     let at = (goal.at.commit-requires-clause-may g c).After-write-2 in
     let named = ap (λ (p : Pool). link_in_pool p c.args.leaf.number) c.requires.pool in
-    subst₂ (λ (k : List ℕ) (d : Link). MayCommit (g.S.Steps.sizes c.write-2.new.self) (g.S.Steps.view c.write-2.new.self) (Done (Insert k 2) Inserted) [] (coming (g.S.Steps.view c.write-2.new.self) (Some d)))
+    subst₂ (λ (k : List ℕ) (d : Link). commit.May (g.S.Steps.sizes c.write-2.new.self) (g.S.Steps.view c.write-2.new.self) (Done (Insert k 2) Inserted) [] (coming (g.S.Steps.view c.write-2.new.self) (Some d)))
     (sym c.one_byte.ensures) (sym named) (may_fork _ _ _ _ _ 2 fork_commits (forked g at))
 
 pub release-requires-clause-may : goal.release-requires-clause-may

@@ -7,8 +7,9 @@ use Rattle.art_step.specs.declared.views.Answer.TheVariants.{Removed}
 use Rattle.art_step.specs.declared.views.Asked.TheVariants.{Remove}
 use Rattle.art_step.specs.declared.views.What.TheVariants.{Done}
 use Rattle.art_cell_uses.specs.NodeLives.{HasMerged}
-use Rattle.art_step.specs.Shown.{coming, links_of}
-use Rattle.art_step.specs.StepRows.{MayBeFirst, MayCommit}
+use Rattle.art_step.specs.Steps.Commit.{coming}
+use Rattle.art_step.specs.Tokens.{links_of}
+use Rattle.art_step.specs.Steps.Commit as commit
 use Rattle.art_step.specs.Views.{Member}
 use Rattle.art_commit.proofs.ChangeMerges.{merge_commits}
 use Rattle.art_cell_uses.proofs.LifePairs.{anchor_may_be_first, may_write_pair, merge_ends, node_fits, node_may_go, two_links, wrote_pair}
@@ -38,12 +39,12 @@ pub commit-unlinked-requires-clause-first : goal.commit-unlinked-requires-clause
 commit-unlinked-requires-clause-first g c =
     let at = (goal.at.commit-unlinked-requires-clause-first g c).After-word_of_leaf-2 in
     let k = anchor_may_be_first _ (g.S.Steps.view c.write.new.self) _ _ _ _ (wrote g at).0 in
-    (k.0, k.1 ∙ sym (above g at), subst (λ (us : List Link). MayBeFirst (g.S.Steps.view c.write.new.self) us k.0 false) (sym (links g at)) k.2)
+    (k.0, k.1 ∙ sym (above g at), subst (λ (us : List Link). commit.MayBeFirst (g.S.Steps.view c.write.new.self) us k.0 false) (sym (links g at)) k.2)
 
 pub commit-unlinked-requires-clause-may : goal.commit-unlinked-requires-clause-may
 commit-unlinked-requires-clause-may g c =
     let at = (goal.at.commit-unlinked-requires-clause-may g c).After-word_of_leaf-2 in
-    subst₂ (λ (us : List Link) (k : List ℕ). MayCommit (g.S.Steps.sizes c.write.new.self) (g.S.Steps.view c.write.new.self) (Done (Remove k) (Removed 2)) us (coming (g.S.Steps.view c.write.new.self) None))
+    subst₂ (λ (us : List Link) (k : List ℕ). commit.May (g.S.Steps.sizes c.write.new.self) (g.S.Steps.view c.write.new.self) (Done (Remove k) (Removed 2)) us (coming (g.S.Steps.view c.write.new.self) None))
     (sym (links g at)) (sym c.one_byte.ensures) (may_merge _ _ _ _ _ 2 merge_commits (wrote g at).0)
 
 pub release-requires-clause-may : goal.release-requires-clause-may

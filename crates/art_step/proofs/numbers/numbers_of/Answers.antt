@@ -4,7 +4,7 @@ use Rattle.std.specs.Option.{option_and_then}
 use Rattle.std.specs.List.{cons_option, slice_get}
 use Rattle.art_cell.specs.declared.cells.Link.{Link}
 use Rattle.art_cell.specs.Children.{link_of}
-use Rattle.art_step.specs.Shown.{links_of}
+use Rattle.art_step.specs.Tokens.{links_of}
 use Rattle.art_step.proofs.numbers.numbers_of.Goals as goal
 
 abbrev link_at : List ℕ → ℕ → List Link → List Link

@@ -4,7 +4,7 @@ use Rattle.std.specs.Prelude.{Option}
 use Rattle.std.specs.Option.{option_map}
 use Rattle.art_step.specs.declared.views.What.{What}
 use Rattle.art_step.specs.Deeds.{what_of}
-use Rattle.art_step.specs.Shown.{Passed}
+use Rattle.art_step.specs.Steps.Check as check
 use Rattle.art_world.specs.WorldWords.{Kept, memory_now}
 use Rattle.art_world.proofs.WorldLogical.{stands}
 use Rattle.art_world.proofs.WorldTurns.{IsKept, Next, turn_passes}
@@ -15,7 +15,7 @@ pub changed-requires : goal.changed-requires
 changed-requires c =
     let now : Kept = c.args.self.now in
     let what : Option What = option_map (λ d. what_of d.now) c.args.deed in
-    subst (λ (k : Kept). IsKept k → Next k.sizes k.words k.views c.args.pass k.words (λ v w. Passed k.sizes v w c.args.stamp.now what)) (sym c.self.view_is)
+    subst (λ (k : Kept). IsKept k → Next k.sizes k.words k.views c.args.pass k.words (λ v w. check.Unchanged k.sizes v w c.args.stamp.now what)) (sym c.self.view_is)
     (λ i. turn_passes now.sizes now.words now.views c.args.pass i.2 c.requires.pass i.0 c.args.stamp.now what (sym c.version-found.ensures ∙ sym c.if-stamp-found.false) c.requires.may)
     c.self.invariant
 

@@ -3,8 +3,9 @@ use Rattle.std.proofs.Common.{◌≡◌, ℕ, ◌+◌, set, sym, ap, subst, ◌�
 use Rattle.art_cell.specs.declared.cells.Node.{Node}
 use Rattle.art_cell.specs.declared.cells.Cell.TheVariants as cell
 use Rattle.art_cell.specs.declared.cells.Link.TheVariants.{Node as node}
-use Rattle.art_step.specs.Shown.{Claimed, link_of_number}
-use Rattle.art_step.specs.StepRows.{SetsVersion}
+use Rattle.art_step.specs.Steps.Claim as claim
+use Rattle.art_step.specs.Tokens.{link_of_number}
+use Rattle.art_step.specs.Effects.{SetsVersion}
 use Rattle.art_step.specs.WordPlaces.{place_of}
 use Rattle.art_world.specs.WorldWords.{Kept, memory_now}
 use Rattle.art_step.specs.WordRows.{memory_of, view_at}
@@ -28,7 +29,7 @@ changed-requires c =
     let found : ℕ = c.version-found.result in
     let may = claim_named now.sizes (view_at now.views c.args.pass) (link_of_number c.args.number) n c.requires.inside (sym c.link-link.ensures ∙ c.in-Node.is) in
     rw c.copied.ensures
-    (subst (λ (k : Kept). IsKept k → place ≡ place_of k.sizes (cell.Node n) → Next k.sizes k.words k.views c.args.pass (set k.words place (found + 1)) (λ v w. Claimed v w n)) (sym c.self.view_is)
+    (subst (λ (k : Kept). IsKept k → place ≡ place_of k.sizes (cell.Node n) → Next k.sizes k.words k.views c.args.pass (set k.words place (found + 1)) (λ v w. claim.Outcome v w n)) (sym c.self.view_is)
     (λ i at. turn_claims now.sizes now.words now.views c.args.pass i.2 c.requires.pass i.0 n place found may.0 at c.version-found.ensures may.1)
     c.self.invariant c.place_of-place.ensures)
 

@@ -6,9 +6,11 @@ use Rattle.art_cell.specs.declared.cells.Link.{Link}
 use Rattle.art_step.specs.declared.views.Holding.{Holding}
 use Rattle.art_step.specs.declared.views.What.{What}
 use Rattle.art_step.specs.Deeds.{what_of}
-use Rattle.art_step.specs.Shown.{IsHolding, Committed, coming, links_of}
-use Rattle.art_step.specs.StepRows.{MayCommit, released_word}
-use Rattle.art_step.specs.FirstReleases.{RetiresPinned}
+use Rattle.art_step.specs.Views.{IsHolding}
+use Rattle.art_step.specs.Steps.Commit as commit
+use Rattle.art_step.specs.Steps.Commit.{coming, RetiresPinned}
+use Rattle.art_step.specs.Tokens.{links_of}
+use Rattle.art_step.specs.Effects.{released_word}
 use Rattle.art_step.specs.WordPlaces.{place_of}
 use Rattle.art_world.specs.WorldWords.{Kept}
 use Rattle.art_step.specs.WordRows.{view_at, views_of}
@@ -32,11 +34,11 @@ changed-requires c =
     let us : List Link = links_of c.args.unlinked.now in
     let leaf : Option Link = c.spent-leaf.result in
     let first = c.requires.first in
-    let may = subst (λ (d : Option Link). MayCommit now.sizes (view_at now.views c.args.pass) what us (coming (view_at now.views c.args.pass) d)) (sym c.spent-leaf.ensures) c.requires.may in
+    let may = subst (λ (d : Option Link). commit.May now.sizes (view_at now.views c.args.pass) what us (coming (view_at now.views c.args.pass) d)) (sym c.spent-leaf.ensures) c.requires.may in
     let word = c.released.ensures ∙ ap (λ (x : ℕ). released_word x c.args.obsolete) c.version-found.ensures in
     rw (c.place_of-place.ensures, c.copied.ensures)
     (subst (λ (k : Kept).
-    Next k.sizes k.words k.views c.args.pass (slice_set k.words (place_of k.sizes cell) c.released.result) (λ v w. (h : Holding) → IsHolding v cell h → Committed v w what us (coming v leaf) h × RetiresPinned (views_of k.views) v w)) (sym c.self.view_is)
+    Next k.sizes k.words k.views c.args.pass (slice_set k.words (place_of k.sizes cell) c.released.result) (λ v w. (h : Holding) → IsHolding v cell h → commit.Outcome v w what us (coming v leaf) h × RetiresPinned (views_of k.views) v w)) (sym c.self.view_is)
     (turn_commits now.sizes now.words now.views c.args.pass kept.2 c.requires.pass kept.0 cell first.0 what us leaf c.args.obsolete c.released.result first.1 first.2 may c.requires.inside word))
 
 pub returns-clause-at_once : goal.returns-clause-at_once

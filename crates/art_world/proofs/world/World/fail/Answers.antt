@@ -1,6 +1,6 @@
 -- A changed version word is found: the stamp goes.
 use Rattle.std.proofs.Common.{ap, sym, subst, refl}
-use Rattle.art_step.specs.Shown.{Failed}
+use Rattle.art_step.specs.Steps.Check as check
 use Rattle.art_world.specs.WorldWords.{Kept, memory_now}
 use Rattle.art_world.proofs.WorldTurns.{IsKept, Next, turn_fails}
 use Rattle.art_world.proofs.WorldViews.{at_step, only_steps_of}
@@ -9,7 +9,7 @@ use Rattle.art_world.proofs.world.World.fail.Goals as goal
 pub changed-requires : goal.changed-requires
 changed-requires c =
     let now : Kept = c.args.self.now in
-    subst (λ (k : Kept). IsKept k → Next k.sizes k.words k.views c.args.pass k.words (λ v w. Failed v w c.args.stamp c.args.found)) (sym c.self.view_is)
+    subst (λ (k : Kept). IsKept k → Next k.sizes k.words k.views c.args.pass k.words (λ v w. check.IsChanged v w c.args.stamp c.args.found)) (sym c.self.view_is)
     (λ i. turn_fails now.sizes now.words now.views c.args.pass i.2 c.requires.pass i.0 c.args.stamp c.args.found c.requires.found c.requires.stamp c.requires.changed)
     c.self.invariant
 

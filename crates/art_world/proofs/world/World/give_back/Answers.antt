@@ -1,5 +1,5 @@
 -- A number in limbo is not free: its bit can be set, and all is sound after that.
-use Rattle.art_step.specs.Shown.{link_of_number}
+use Rattle.art_step.specs.Tokens.{link_of_number}
 use Rattle.art_world.proofs.WorldFreeing.{seen_before, freeing}
 use Rattle.art_world.proofs.WorldViews.{only_steps_of}
 use Rattle.art_world.proofs.world.World.give_back.Goals as goal

@@ -1,7 +1,6 @@
 -- A word of a stamped cell is read, or of a leaf that it names.
 use Rattle.std.proofs.Common.{ap, ◌≡◌, sym, subst, refl}
-use Rattle.art_step.specs.Shown.{fact_read}
-use Rattle.art_step.specs.StepRows.{has_read}
+use Rattle.art_step.specs.Steps.Read as read
 use Rattle.art_world.specs.WorldWords.{Kept, memory_now}
 use Rattle.art_world.proofs.WorldTurns.{IsKept, Next, turn_reads}
 use Rattle.art_world.proofs.WorldViews.{at_step, only_steps_of}
@@ -10,7 +9,7 @@ use Rattle.art_world.proofs.world.World.read.Goals as goal
 pub changed-requires : goal.changed-requires
 changed-requires c =
     let now : Kept = c.args.self.now in
-    subst (λ (k : Kept). IsKept k → Next k.sizes k.words k.views c.args.pass k.words (λ v w. w ≡ has_read v c.args.stamp.now (fact_read c.args.cell c.args.place c.word-value.result))) (sym c.self.view_is)
+    subst (λ (k : Kept). IsKept k → Next k.sizes k.words k.views c.args.pass k.words (λ v w. w ≡ read.view_after v c.args.stamp.now (read.fact_read c.args.cell c.args.place c.word-value.result))) (sym c.self.view_is)
     (λ i. turn_reads now.sizes now.words now.views c.args.pass i.2 c.requires.pass i.0 c.args.stamp.now c.args.cell c.args.place c.word-value.result c.requires.may c.word-value.ensures)
     c.self.invariant
 

@@ -2,8 +2,9 @@
 use Rattle.std.proofs.Common.{◌∙◌, ℕ, slice_set, sym, subst, ap}
 use Rattle.art_cell.specs.declared.cells.Cell.{Cell}
 use Rattle.art_step.specs.declared.views.Holding.{Holding}
-use Rattle.art_step.specs.Shown.{IsHolding, Released}
-use Rattle.art_step.specs.StepRows.{released_word}
+use Rattle.art_step.specs.Views.{IsHolding}
+use Rattle.art_step.specs.Steps.Release as release
+use Rattle.art_step.specs.Effects.{released_word}
 use Rattle.art_step.specs.WordPlaces.{place_of}
 use Rattle.art_world.specs.WorldWords.{Kept}
 use Rattle.art_world.proofs.WorldReleases.{found_fits, found_sets, turn_releases}
@@ -24,7 +25,7 @@ changed-requires c =
     let may = c.requires.may in
     let word = c.released.ensures ∙ ap (λ (x : ℕ). released_word x c.args.obsolete) c.version-found.ensures in
     rw (c.place_of-place.ensures, c.copied.ensures)
-    (subst (λ (k : Kept). Next k.sizes k.words k.views c.args.pass (slice_set k.words (place_of k.sizes cell) c.released.result) (λ v w. (h : Holding) → IsHolding v cell h → Released v w h)) (sym c.self.view_is)
+    (subst (λ (k : Kept). Next k.sizes k.words k.views c.args.pass (slice_set k.words (place_of k.sizes cell) c.released.result) (λ v w. (h : Holding) → IsHolding v cell h → release.Outcome v w h)) (sym c.self.view_is)
     (turn_releases now.sizes now.words now.views c.args.pass kept.2 c.requires.pass kept.0 cell may.0 c.args.obsolete c.released.result may.1 may.2 c.requires.inside word))
 
 pub returns-clause-at_once : goal.returns-clause-at_once

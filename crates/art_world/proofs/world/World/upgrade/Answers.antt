@@ -1,8 +1,8 @@
 -- A stamped cell is locked.
 use Rattle.std.proofs.Common.{◌≡◌, ◌∙◌, ℕ, ◌+◌, set, sym, subst, arith}
 use Rattle.art_step.specs.declared.views.Stamp.{Stamp}
-use Rattle.art_step.specs.Shown.{Upgraded}
-use Rattle.art_step.specs.StepRows.{SetsVersion}
+use Rattle.art_step.specs.Steps.Upgrade as upgrade
+use Rattle.art_step.specs.Effects.{SetsVersion}
 use Rattle.art_step.specs.WordPlaces.{place_of}
 use Rattle.art_world.specs.WorldWords.{Kept, memory_now}
 use Rattle.art_step.specs.WordRows.{memory_of}
@@ -16,7 +16,7 @@ changed-requires c =
     let place : ℕ = c.place_of-place.result in
     let found : ℕ = c.version-found.result in
     rw c.copied.ensures
-    (subst (λ (k : Kept). IsKept k → place ≡ place_of k.sizes c.args.stamp.cell → Next k.sizes k.words k.views c.args.pass (set k.words place (found + 2)) (λ v w. Upgraded v w c.args.stamp)) (sym c.self.view_is)
+    (subst (λ (k : Kept). IsKept k → place ≡ place_of k.sizes c.args.stamp.cell → Next k.sizes k.words k.views c.args.pass (set k.words place (found + 2)) (λ v w. upgrade.Locked v w c.args.stamp)) (sym c.self.view_is)
     (λ i at. turn_upgrades now.sizes now.words now.views c.args.pass i.2 c.requires.pass i.0 c.args.stamp place found c.requires.inside at c.version-found.ensures c.if-found-stamp.false
     record { stamp = c.requires.stamp; path = c.requires.path; limit = let low = c.if-stamp-ge-LAST_COUNTER.false in omega arith; early = c.requires.early; unclaimed = c.requires.unclaimed })
     c.self.invariant c.place_of-place.ensures)

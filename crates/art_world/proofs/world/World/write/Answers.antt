@@ -2,8 +2,9 @@
 use Rattle.std.proofs.Common.{◌≡◌, ℕ, ◌+◌, set, sym, subst}
 use Rattle.art_cell.specs.declared.cells.Cell.{Cell}
 use Rattle.art_step.specs.declared.views.Holding.{Holding}
-use Rattle.art_step.specs.Shown.{IsHolding, Wrote}
-use Rattle.art_step.specs.StepRows.{SetsWord}
+use Rattle.art_step.specs.Views.{IsHolding}
+use Rattle.art_step.specs.Steps.Write as write
+use Rattle.art_step.specs.Effects.{SetsWord}
 use Rattle.art_step.specs.WordPlaces.{place_of}
 use Rattle.art_world.specs.WorldWords.{Kept, memory_now}
 use Rattle.art_step.specs.WordRows.{memory_of}
@@ -21,7 +22,7 @@ changed-requires c =
     let value : ℕ = c.args.value in
     rw c.copied.ensures
     (subst (λ (k : Kept). IsKept k → first ≡ place_of k.sizes held
-    → Next k.sizes k.words k.views c.args.pass (set k.words (first + place) value) (λ v w. (h : Holding) → IsHolding v held h → Wrote v w h place value)) (sym c.self.view_is)
+    → Next k.sizes k.words k.views c.args.pass (set k.words (first + place) value) (λ v w. (h : Holding) → IsHolding v held h → write.Outcome v w h place value)) (sym c.self.view_is)
     (λ i at. turn_writes now.sizes now.words now.views c.args.pass i.2 c.requires.pass i.0 held o.0 place value first c.requires.inside at o.1 o.2)
     c.self.invariant c.place_of-first.ensures)
 

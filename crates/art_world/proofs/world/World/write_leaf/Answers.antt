@@ -3,8 +3,9 @@ use Rattle.std.proofs.Common.{◌≡◌, ℕ, ◌+◌, ◌<◌, set, sym, ap, su
 use Rattle.art_cell.specs.declared.cells.Cell.TheVariants as cell
 use Rattle.art_cell.specs.declared.cells.Link.TheVariants.{Leaf as leaf}
 use Rattle.art_step.specs.declared.views.InHand.{InHand}
-use Rattle.art_step.specs.Shown.{IsInHand, WroteLeaf}
-use Rattle.art_step.specs.StepRows.{MayWriteLeaf, SetsWord}
+use Rattle.art_step.specs.Views.{IsInHand}
+use Rattle.art_step.specs.Steps.Write as write
+use Rattle.art_step.specs.Effects.{SetsWord}
 use Rattle.art_step.specs.WordPlaces.{place_of}
 use Rattle.art_world.specs.WorldWords.{Kept, memory_now}
 use Rattle.art_step.specs.WordRows.{memory_of, view_at}
@@ -23,10 +24,10 @@ changed-requires c =
     let value : ℕ = c.args.value in
     let named : leaf o.0 ≡ leaf l = sym o.2 ∙ (sym c.link-link.ensures ∙ c.in-Leaf.is) in
     let same : o.0 ≡ l = cc in
-    let may : (l < now.sizes.leaves) × MayWriteLeaf (view_at now.views c.args.pass) o.1 l place = subst (λ (a : ℕ). (a < now.sizes.leaves) × MayWriteLeaf (view_at now.views c.args.pass) o.1 a place) same (o.3, o.4) in
+    let may : (l < now.sizes.leaves) × write.MayLeaf (view_at now.views c.args.pass) o.1 l place = subst (λ (a : ℕ). (a < now.sizes.leaves) × write.MayLeaf (view_at now.views c.args.pass) o.1 a place) same (o.3, o.4) in
     rw c.copied.ensures
     (subst (λ (k : Kept). IsKept k → first ≡ place_of k.sizes (cell.Leaf l)
-    → Next k.sizes k.words k.views c.args.pass (set k.words (first + place) value) (λ v w. (y : InHand) → IsInHand v (leaf l) y → WroteLeaf v w y place value)) (sym c.self.view_is)
+    → Next k.sizes k.words k.views c.args.pass (set k.words (first + place) value) (λ v w. (y : InHand) → IsInHand v (leaf l) y → write.LeafOutcome v w y place value)) (sym c.self.view_is)
     (λ i at. turn_writes_leaf now.sizes now.words now.views c.args.pass i.2 c.requires.pass i.0 o.1 l place value first may.0 at may.1)
     c.self.invariant c.place_of-first.ensures)
 

@@ -1,0 +1,44 @@
+-- What stands at opening.
+use Rattle.std.specs.Prelude.{◌≡◌, ◌≢◌, ℕ, ◌+◌, ◌*◌, ◌<◌, ◌≤◌, [], true, false, Some, None}
+use Rattle.art_cell.specs.declared.cells.Cell.{Cell}
+use Rattle.art_cell.specs.declared.cells.Cell.TheVariants as cell
+use Rattle.art_cell.specs.declared.cells.Link.{Link}
+use Rattle.art_step.specs.declared.views.Sizes.{Sizes}
+use Rattle.art_step.specs.declared.views.View.{View}
+use Rattle.art_step.specs.Sound.{IsSound}
+use Rattle.art_step.specs.Views.{IsNumber, Memory, Views, last_counter}
+
+-- a pass that knows nothing, pinned to the first epoch
+abbrev pub newcomer : ℕ → View
+newcomer p = record {
+  pass = p;
+  seen = [];
+  own = [];
+  steps = 0;
+  failures = 0;
+  pins = 1;
+  pin = 1;
+  noted = None;
+  stamps = [];
+  notes = [];
+  checked = record { stamps = []; notes = []; step = 0 };
+  found = [];
+  held = [];
+  committed = false;
+  hand = [];
+  limbo = [];
+}
+
+-- the words at opening: the anchor names no root and is clear, all other cells are obsolete, and all numbers are free
+pub record Opens (z : Sizes) (m : Memory) (f : Views) : Type 0 where
+  pub root : m.words cell.Anchor 1 ≡ 0
+  pub anchor : (k : ℕ) × (k ≤ last_counter) × (m.version cell.Anchor ≡ 4 * k)
+  pub cells : (c : Cell) → c ≢ cell.Anchor → (k : ℕ) × (k ≤ last_counter) × (m.version c ≡ 4 * k + 1)
+  pub free : (d : Link) → (m.free d ≡ true → IsNumber z d) × (IsNumber z d → m.free d ≡ true)
+  pub epoch : m.epoch ≡ 1
+  pub pass_word : (p : ℕ) → p < z.passes → m.pass_word p ≡ 1
+  pub views : (p : ℕ) (v : View) → f p ≡ Some v → (p < z.passes) × (v ≡ newcomer p)
+
+abbrev pub OpenLaw : Type 0
+OpenLaw = (z : Sizes) (m : Memory) (f : Views) → Opens z m f → IsSound z m f
+
