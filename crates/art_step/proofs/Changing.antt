@@ -21,7 +21,7 @@ use Rattle.art_tree.specs.Heaps.{Cells}
 use Rattle.art_step.specs.Histories.{event, IsAnswered, becomes, run, replay, IsLegalFrom, IsLegal}
 use Rattle.art_step.specs.Effects.{LocksClaimed, LocksStamped, PutsWord, Unlocks, SetsVersion, SetsWord, released_word}
 use Rattle.art_tree.specs.Rows.{ByteMap}
-use Rattle.art_step.specs.Views.{IsHolding, IsInHand, note_of, IsNotHeld, SetsView}
+use Rattle.art_step.specs.Views.{IsChildPlace, IsChildWord, IsHolding, IsInHand, note_of, IsNotHeld, SetsView}
 use Rattle.art_step.specs.Steps.Upgrade as upgrade
 use Rattle.art_step.specs.Steps.Claim as claim
 use Rattle.art_step.specs.Steps.Write as write
@@ -180,9 +180,9 @@ module _ (z : Sizes) (ws : List ℕ) (f : Views) (p : ℕ) (v : View) (r : IsSou
   -- ---- writes
 
   -- a word of a cell that is held is written
-  pub moves_writes : (c : Cell) (h : Holding) (i x : ℕ) → IsInside z c → h.cell ≡ c → write.May v h i
+  pub moves_writes : (c : Cell) (h : Holding) (i x : ℕ) → IsInside z c → h.cell ≡ c → write.May v h i → (IsChildPlace c i → IsChildWord z x)
       → Moves z ws f p v (set ws (place_of z c + i) x) (λ v w. (k : Holding) → IsHolding v c k → write.Outcome v w k i x) (PutsWord c i x)
-  moves_writes c h i x there of may =
+  moves_writes c h i x there of may child =
       let Row : View → View → Type 0 = λ v w. (k : Holding) → IsHolding v c k → write.Outcome v w k i x in
       let single = (r.holder.holds p v at).single in
       let held = put (λ (k : Holding). k.cell) v.held h (with_word h i x) may.held (λ k. same_cell k.cell h.cell) (λ k j e. single k h j may.held e) in
@@ -193,7 +193,7 @@ module _ (z : Sizes) (ws : List ℕ) (f : Views) (p : ℕ) (v : View) (r : IsSou
       let of_holding : SetsWord m h.cell i x (memory_of z us) = subst (λ (d : Cell). SetsWord m d i x (memory_of z us)) (sym of) sets in
       moved z ws f p v r at long us Row (PutsWord c i x) (write.view_after v held.0) refl
       (λ k a. subst (λ (j : Holding). write.Outcome v (write.view_after v held.0) j i x) (single h k may.held a.0 (of ∙ sym a.1)) record { held = held.0; puts = held.1; is = refl })
-      (λ g t. IsWrite record { holding = h; held = held.0; place = i; value = x; may = may; puts = held.1; word = of_holding; view = t })
+      (λ g t. IsWrite record { holding = h; held = held.0; place = i; value = x; may = may; child = λ place. child (subst (λ (d : Cell). IsChildPlace d i) of place); puts = held.1; word = of_holding; view = t })
       (λ g t. sets)
 
   -- a word of a leaf in hand is written

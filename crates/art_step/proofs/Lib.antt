@@ -3,6 +3,7 @@ pub mod Changing
 pub mod Facts
 pub mod FreeBits
 pub mod Gathered
+pub mod Determined
 pub mod Histories
 pub mod Kept
 pub mod Moves

@@ -1,12 +1,13 @@
 -- The words of a world that just opened: what stands at the places of cells, of free numbers, of the epoch and of the passes,
 -- and what all of them mean.
-use Rattle.std.proofs.Common.{◌≡◌, ◌≢◌, ℕ, ◌+◌, ◌-◌, ◌*◌, ◌/◌, ◌%◌, ◌<◌, ◌≤◌, ◌==◌, if◌then◌else◌, true, false, List, [], ◌∷◌, Some, zero, suc, length, get_or, nat_lt, sym, refl, ap, ap₂, ◌∙◌, subst, ⊎_elim, arith, lt-ltb, ltb-false}
+use Rattle.std.proofs.Common.{◌≡◌, ◌≢◌, ℕ, ◌+◌, ◌-◌, ◌*◌, ◌/◌, ◌%◌, ◌<◌, ◌≤◌, ◌==◌, if◌then◌else◌, true, false, List, [], ◌∷◌, Some, zero, suc, length, get_or, nat_lt, sym, refl, ap, ap₂, ◌∙◌, subst, ⊎_elim, arith, lt-ltb, ltb-false, ne_eqb, false}
 use Rattle.std.proofs.lemmas.Bool.{cases_Bool, cases_lt, eqb-true, cond-true, cond-false, cond_both}
 use Rattle.std.proofs.lemmas.Bool.Decides.{nat_tests}
 use Rattle.std.proofs.lemmas.List.FromFn.{get_or-map-range_with_len, length-map-range_with_len}
 use Rattle.std.proofs.lemmas.Option.{same_Some}
 use Rattle.std.proofs.lemmas.Nat.Bits.{bit_at_ones, bit_at_ones_above}
-use Rattle.std.proofs.Math.Nat.{mul-mod_right}
+use Rattle.std.proofs.Math.Nat.{mul-mod_right, mul-add-mod_self_left, mod-eq_of_lt}
+use Rattle.art_cell.specs.Words.{first_child, size}
 use Rattle.art_cell.specs.declared.layouts.Layout.{Layout}
 use Rattle.art_cell.specs.declared.layouts.Layout.TheVariants.{Node4, Node16, Node48, Node256}
 use Rattle.art_cell.specs.declared.layouts.Pool.{Pool}
@@ -20,14 +21,14 @@ use Rattle.art_step.specs.declared.views.Sizes.{Sizes}
 use Rattle.art_step.specs.declared.views.View.{View}
 use Rattle.art_step.specs.OpeningWords.{version_or_zero, first_bits, opening_word, opening_words}
 use Rattle.art_step.specs.Opening.{Opens, newcomer}
-use Rattle.art_step.specs.Views.{IsNumber, last_counter}
+use Rattle.art_step.specs.Views.{IsChildPlace, IsNumber, last_counter}
 use Rattle.art_cell.specs.Children.{number_of}
 use Rattle.art_step.specs.WordPlaces.{pool_size, pool_of_layout, pool_of, words_each, first_cell, free_words, first_free_word, epoch_place, pass_place, word_count}
-use Rattle.art_step.specs.WordRows.{newcomers, version_in, free_place, bit_of, is_free, memory_of, views_of}
+use Rattle.art_step.specs.WordRows.{newcomers, version_in, word_in, free_place, bit_of, is_free, memory_of, views_of}
 use Rattle.art_step.specs.WordPlaces.{is_inside, place_of}
 use Rattle.art_step.proofs.FreeBits.{free_has_bit, free_found}
 use Rattle.art_step.proofs.WordRows.{version_found, word_found, version_below}
-use Rattle.art_step.proofs.WordPlaces.{HasBit, is_number, has_bit, is_inside_of, free_below}
+use Rattle.art_step.proofs.WordPlaces.{HasBit, is_number, has_bit, is_inside_of, free_below, cell_below}
 
 -- each place has its word
 pub opening_at : (z : Sizes) (k place : ℕ) → place < word_count z → get_or (opening_words z k) place 0 ≡ opening_word z k place
@@ -48,6 +49,30 @@ node_word_at z k number Node4 low = grind (arith, nat_tests)
 node_word_at z k number Node16 low = grind (arith, nat_tests)
 node_word_at z k number Node48 low = grind (arith, nat_tests)
 node_word_at z k number Node256 low = grind (arith, nat_tests)
+
+-- and so the others, which are 0
+node_words_at : (z : Sizes) (k number i : ℕ) (l : Layout) → number < pool_size z (pool_of_layout l) → i < words_each (pool_of_layout l)
+    → opening_word z k (first_cell z (pool_of_layout l) + words_each (pool_of_layout l) * number + i)
+    ≡ version_or_zero (words_each (pool_of_layout l) * number + i) (words_each (pool_of_layout l)) (4 * k + 1)
+node_words_at z k number i Node4 low few = grind (arith, nat_tests)
+node_words_at z k number i Node16 low few = grind (arith, nat_tests)
+node_words_at z k number i Node48 low few = grind (arith, nat_tests)
+node_words_at z k number i Node256 low few = grind (arith, nat_tests)
+
+later_word : (each number i version : ℕ) → 0 < i → i < each → version_or_zero (each * number + i) each version ≡ 0
+later_word each number i version late few = cond-false _ version 0 (ap (λ (j : ℕ). j == 0) (mul-add-mod_self_left each number i ∙ mod-eq_of_lt few) ∙ ne_eqb i 0 (λ e. omega arith))
+
+late_child : (l : Layout) (i : ℕ) → first_child l ≤ i → 0 < i
+late_child Node4 i late = omega arith
+late_child Node16 i late = omega arith
+late_child Node48 i late = omega arith
+late_child Node256 i late = omega arith
+
+few_words : (l : Layout) (i : ℕ) → i < size l → i < words_each (pool_of_layout l)
+few_words Node4 i few = few
+few_words Node16 i few = few
+few_words Node48 i few = few
+few_words Node256 i few = few
 
 -- ---- the words of free numbers
 
@@ -125,6 +150,20 @@ module _ (z : Sizes) (k : ℕ) where
       (λ (e : is_inside z (cell.Node n) ≡ false). (0, omega arith, cond-false _ _ 1 e))
       (cases_Bool (is_inside z (cell.Node n)))
 
+  -- no cell names a child
+  no_child : (c : Cell) (i : ℕ) → IsChildPlace c i → word_in z opened c i ≡ 0
+  no_child cell.Anchor i place = subst (λ (j : ℕ). word_in z opened cell.Anchor j ≡ 0) (sym place) no_root
+  no_child (cell.Leaf l) i place = absurd place
+  no_child (cell.Node n) i place = ⊎_elim
+      (λ (e : is_inside z (cell.Node n) ≡ true).
+          let inside = is_inside_of z (cell.Node n) e in
+          let below = cell_below z (cell.Node n) i inside place.1 in
+          word_found z opened (cell.Node n) i inside (late_child n.layout i place.0) place.1
+          ∙ (opening_at z k (place_of z (cell.Node n) + i) (omega arith)
+          ∙ (node_words_at z k n.number i n.layout ((is_number z (node n)).0 inside) (few_words n.layout i place.1) ∙ later_word (words_each (pool_of_layout n.layout)) n.number i (4 * k + 1) (late_child n.layout i place.0) (few_words n.layout i place.1))))
+      (λ (e : is_inside z (cell.Node n) ≡ false). cond-false _ _ 0 e)
+      (cases_Bool (is_inside z (cell.Node n)))
+
   -- how many numbers the pool has from the first of the number's word on
   abbrev rest : Link → ℕ
   rest d = pool_size z (pool_of d) - 64 * (number_of d / 64)
@@ -158,6 +197,7 @@ module _ (z : Sizes) (k : ℕ) where
   pub opens : k ≤ last_counter → Opens z (memory_of z opened) (views_of (newcomers 0 z.passes))
   opens low = record {
     root = no_root;
+    children = no_child;
     anchor = (k, low, anchor_version);
     cells = obsolete low;
     free = λ d. (no_other_free d, all_free d);

@@ -264,7 +264,7 @@ module _ (z : Sizes) (m : Memory) (versions : Cell → ℕ) (f : Views) (p : ℕ
           (λ e other d same clear. r.unstamped.clear d (subst (λ (a : Cell). IsClear (m.version a)) same clear)) (cell_named d) d refl)
           refl refl refl refl (λ x i. inl i);
       formed = formed_turn z m n f g p v w t is r.formed (words_on (λ (d : Cell) (x : ℕ). IsVersion x) k.formed (λ d other. r.formed.versions d))
-          (λ l. subst IsObsolete (sym (k.raises.there (cell.Leaf l) (λ e. k.leaf l (sym e)))) (r.formed.leaves l)) refl refl;
+          (λ l. subst IsObsolete (sym (k.raises.there (cell.Leaf l) (λ e. k.leaf l (sym e)))) (r.formed.leaves l)) refl refl r.formed.children;
     }
 
 -- ---- a cell is locked, and held with the words that it has

@@ -94,7 +94,7 @@ module _ (z : Sizes) (m : Memory) (f g : Views) (p : ℕ) (v : View) (at : f p �
             record { hand = k.hand; in_hand = k.in_hand; leaves = k.leaves; limbo = k.limbo; in_limbo = k.in_limbo; held = k.held };
         unstamped = unstamped_turn z m m f g p v w s r.at t at r.numbers r.unstamped refl refl r.unstamped.clear refl refl refl refl
             (λ x i. ⊎_elim (λ (j : Member x v.stamps). inl j) (λ (j : IsMade x). inr j.0) (stamps x i));
-        formed = formed_turn z m m f g p v w t at r.formed r.formed.versions r.formed.leaves refl refl;
+        formed = formed_turn z m m f g p v w t at r.formed r.formed.versions r.formed.leaves refl refl r.formed.children;
       }
 
   -- the pass tells nothing
@@ -183,7 +183,7 @@ unchanged z m n g same sound = subst (λ (k : Memory). IsSound z k g) (sym same)
 
 -- the version word of a cell is found
 pub begin_law : begin.Law
-begin_law z p v m f n g at r row = unchanged z m n g row.words (begins z m f g p v at r row.cell row.pinned row.view)
+begin_law z p v m f n g at r row = unchanged z m n g row.words (begins z m f g p v at r row.cell row.may.pinned row.view)
 
 -- a word of a stamped cell is read
 pub read_law : read.Law

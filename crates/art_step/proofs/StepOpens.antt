@@ -151,6 +151,7 @@ module _ (z : Sizes) (m : Memory) (f : Views) (o : Opens z m f) where
     formed = record {
       versions = versions;
       leaves = λ l. obsolete (leaf l);
+      children = λ c i place. inl (o.children c i place);
       epoch = let k = not_early z.passes in omega (arith, o.epoch);
     };
   }

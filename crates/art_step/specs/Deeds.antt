@@ -1,4 +1,5 @@
 -- What a deed says, as an event does.
+use Rattle.std.specs.Prelude.{ℕ, List, ⊤}
 use Rattle.std.specs.Option.{option_map}
 use Rattle.art_key.specs.declared.bounds.Bound.{Bound as KeyBound}
 use Rattle.art_key.specs.declared.bounds.Bound.TheVariants as key_bound
@@ -25,3 +26,14 @@ bound_of key_bound.End = End
 abbrev pub what_of : Deed → What
 what_of (deed.Done a r) = Done (asked_of a) r
 what_of (deed.Look lo hi row) = Look lo.items (bound_of hi) (option_map (λ r. (r.0.items, r.1)) row)
+
+-- the key that a command has
+abbrev pub key_asked : Asked → List ℕ
+key_asked (Insert k v) = k
+key_asked (Remove k) = k
+key_asked (Get k) = k
+
+-- a command has a key that is admitted; a look has none
+abbrev pub IsAdmitted : (List ℕ → Type 0) → What → Type 0
+IsAdmitted A (Done a r) = A (key_asked a)
+IsAdmitted A (Look lo hi row) = ⊤

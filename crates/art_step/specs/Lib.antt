@@ -1,4 +1,5 @@
 pub mod Deeds
+pub mod Determined
 pub mod Effects
 pub mod Events
 pub mod Histories

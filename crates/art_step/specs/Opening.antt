@@ -6,7 +6,7 @@ use Rattle.art_cell.specs.declared.cells.Link.{Link}
 use Rattle.art_step.specs.declared.views.Sizes.{Sizes}
 use Rattle.art_step.specs.declared.views.View.{View}
 use Rattle.art_step.specs.Sound.{IsSound}
-use Rattle.art_step.specs.Views.{IsNumber, Memory, Views, last_counter}
+use Rattle.art_step.specs.Views.{IsChildPlace, IsNumber, Memory, Views, last_counter}
 
 -- a pass that knows nothing, pinned to the first epoch
 abbrev pub newcomer : ℕ → View
@@ -29,9 +29,10 @@ newcomer p = record {
   limbo = [];
 }
 
--- the words at opening: the anchor names no root and is clear, all other cells are obsolete, and all numbers are free
+-- the words at opening: no cell names a child, the anchor is clear, all other cells are obsolete, and all numbers are free
 pub record Opens (z : Sizes) (m : Memory) (f : Views) : Type 0 where
   pub root : m.words cell.Anchor 1 ≡ 0
+  pub children : (c : Cell) (i : ℕ) → IsChildPlace c i → m.words c i ≡ 0
   pub anchor : (k : ℕ) × (k ≤ last_counter) × (m.version cell.Anchor ≡ 4 * k)
   pub cells : (c : Cell) → c ≢ cell.Anchor → (k : ℕ) × (k ≤ last_counter) × (m.version c ≡ 4 * k + 1)
   pub free : (d : Link) → (m.free d ≡ true → IsNumber z d) × (IsNumber z d → m.free d ≡ true)

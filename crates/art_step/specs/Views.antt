@@ -1,5 +1,5 @@
 -- The shared words as passes see them, and what passes know.
-use Rattle.std.specs.Prelude.{◌≡◌, ◌≢◌, ◌⊎◌, ℕ, ◌+◌, ◌*◌, ◌-◌, ◌%◌, ◌^◌, ◌<◌, ◌≤◌, List, [], ◌∷◌, false, get_or, Bool, Option, Some}
+use Rattle.std.specs.Prelude.{◌≡◌, ◌≢◌, ◌⊎◌, ℕ, ◌+◌, ◌*◌, ◌-◌, ◌%◌, ◌^◌, ◌<◌, ◌≤◌, List, [], ◌∷◌, false, get_or, Bool, Option, Some, ⊤}
 use Rattle.art_cell.specs.declared.layouts.Layout.{Layout}
 use Rattle.art_cell.specs.declared.layouts.Layout.TheVariants.{Node4, Node16, Node48, Node256}
 use Rattle.art_cell.specs.declared.cells.Cell.{Cell}
@@ -7,6 +7,7 @@ use Rattle.art_cell.specs.declared.cells.Cell.TheVariants as cell
 use Rattle.art_cell.specs.declared.cells.Link.{Link}
 use Rattle.art_cell.specs.declared.cells.Link.TheVariants.{Leaf as leaf, Node as node}
 use Rattle.art_step.specs.declared.views.Fact.{Fact}
+use Rattle.art_step.specs.declared.views.Fact.TheVariants.{Starts, Word, LeafWord}
 use Rattle.art_step.specs.declared.views.Found.{Found}
 use Rattle.art_step.specs.declared.views.Holding.{Holding}
 use Rattle.art_step.specs.declared.views.InHand.{InHand}
@@ -17,7 +18,8 @@ use Rattle.art_step.specs.declared.views.Word.TheVariants.{Version}
 use Rattle.art_step.specs.declared.views.Sizes.{Sizes}
 use Rattle.art_step.specs.declared.views.View.{View}
 use Rattle.art_tree.specs.Heaps.{Cells}
-use Rattle.art_cell.specs.Words.{Words, size}
+use Rattle.art_cell.specs.Children.{link_of}
+use Rattle.art_cell.specs.Words.{Words, first_child, size}
 
 abbrev pub Member : {A : Type 0} → A → List A → Type 0
 Member x [] = ⊥
@@ -85,6 +87,22 @@ abbrev pub cell_named : Link → Cell
 cell_named (leaf l) = cell.Leaf l
 cell_named (node n) = cell.Node n
 
+-- ---- child words
+
+-- a child word that passes may find: 0, or one that names a leaf or a node that there is
+abbrev pub IsChildWord : Sizes → ℕ → Type 0
+IsChildWord z word = (word ≡ 0) ⊎ ((d : Link) × (link_of word ≡ Some d) × IsNumber z d)
+
+-- the places of a cell at which child words stand
+abbrev pub IsChildPlace : Cell → ℕ → Type 0
+IsChildPlace cell.Anchor i = i ≡ 1
+IsChildPlace (cell.Leaf l) i = ⊥
+IsChildPlace (cell.Node n) i = (first_child n.layout ≤ i) × (i < size n.layout)
+
+-- such words stand there in each cell, whoever holds it
+abbrev pub HaveChildWords : Sizes → Cells → Type 0
+HaveChildWords z s = (c : Cell) (i : ℕ) → IsChildPlace c i → IsChildWord z (s c i)
+
 -- ---- passes
 
 -- the views, by the numbers of their passes
@@ -126,3 +144,17 @@ IsInHand v d y = Member y v.hand × (y.link ≡ d)
 
 abbrev pub IsInLimbo : View → Link → Type 0
 IsInLimbo v d = (e : Retired) × Member e v.limbo × (e.link ≡ d)
+
+-- ---- cells that a pass may begin
+
+-- the word that is noted names the link
+abbrev pub NamesLink : Fact → Link → Type 0
+NamesLink (Word i word) d = link_of word ≡ Some d
+NamesLink (Starts q) d = ⊥
+NamesLink (LeafWord l i word) d = ⊥
+
+-- the anchor, or a node that a noted word names
+abbrev pub IsNamed : View → Cell → Type 0
+IsNamed v cell.Anchor = ⊤
+IsNamed v (cell.Leaf l) = ⊥
+IsNamed v (cell.Node n) = (y : Note) × Member y v.notes × NamesLink y.fact (node n)

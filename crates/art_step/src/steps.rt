@@ -1,5 +1,5 @@
 //! The atomic steps of one pass, whoever keeps the words.
-ghost use Rattle.std.specs.Prelude.{◌≡◌, ◌≢◌, ◌<◌, ◌≤◌, ℕ, List, length, map, filter_map, MatchResult};
+ghost use Rattle.std.specs.Prelude.{◌≡◌, ◌<◌, ◌≤◌, ℕ, List, length, map, filter_map, IfSome, MatchResult};
 ghost use Rattle.std.specs.Option.{option_map};
 ghost use Rattle.art_cell.specs.declared.cells.Cell.TheVariants.{Leaf as leaf_cell, Node as node_cell};
 ghost use Rattle.art_cell.specs.declared.cells.Link.TheVariants.{Leaf as leaf, Node as node};
@@ -8,7 +8,7 @@ ghost use Rattle.art_cell.specs.Children.{child_word};
 ghost use Rattle.art_step.specs.declared.views.Fact.TheVariants.{Starts};
 ghost use Rattle.art_step.specs.declared.views.Holding.{Holding as HoldingOf};
 ghost use Rattle.art_step.specs.declared.views.InHand.{InHand as NumberInHand};
-ghost use Rattle.art_step.specs.Deeds.{what_of};
+ghost use Rattle.art_step.specs.Deeds.{IsAdmitted, what_of};
 ghost use Rattle.art_step.specs.Effects.{FindsVersion, FindsWord, LocksClaimed, LocksStamped, PutsWord, Unlocks};
 ghost use Rattle.art_step.specs.Steps.{AtStep, LocksNothing};
 ghost use Rattle.art_step.specs.Steps.Begin as begin;
@@ -20,7 +20,7 @@ ghost use Rattle.art_step.specs.Steps.Release as release;
 ghost use Rattle.art_step.specs.Steps.Upgrade as upgrade;
 ghost use Rattle.art_step.specs.Steps.Write as write;
 ghost use Rattle.art_step.specs.Tokens.{cell_held, link_of_number, links_of};
-ghost use Rattle.art_step.specs.Views.{IsHolding, IsInHand, MayLock, Member, note_of};
+ghost use Rattle.art_step.specs.Views.{IsChildPlace, IsChildWord, IsHolding, IsInHand, MayLock, Member, note_of};
 ghost use Rattle.art_step.specs.WordPlaces.{HasVersion, IsInside};
 
 use crate::{Changed, Deed, Held, Locked, Number, Stamp, Unlinked, UpgradeFault};
@@ -33,7 +33,7 @@ use art_cell::Cell;
 /// return, with what happened at once to the words that all passes share. `only` says what else stayed. No law composes
 /// instants: the contract of a call that makes several steps names the states between them.
 pub trait Steps {
-    ghost use Rattle.std.specs.Prelude.{◌≡◌};
+    ghost use Rattle.std.specs.Prelude.{◌≡◌, ◌↔◌, ℕ, List};
     ghost use Rattle.art_step.specs.declared.views.Sizes.{Sizes};
     ghost use Rattle.art_step.specs.declared.views.View.{View};
     ghost use Rattle.art_step.specs.Effects.{Instant};
@@ -43,6 +43,9 @@ pub trait Steps {
 
     /// How many cells there are.
     ghost sizes: { Self → Sizes };
+
+    /// Which keys commands may have: all of them, or those that a schema spells.
+    ghost admits: { Self → List ℕ → Type 0 };
 
     /// The second is the first after steps of this pass alone.
     ghost only: { Self → Self → Type 0 };
@@ -54,7 +57,7 @@ pub trait Steps {
     /// The version word of the anchor or of a node. A clear one gives a stamp.
     fn begin(&mut self, cell: Cell) -> Result<Stamp, Locked>
         requires inside { HasVersion (sizes self.old) cell }
-        requires pinned { (view self.old).pin ≢ 0 }
+        requires may { begin.May (view self.old) cell }
         ensures only { only self.old self.new }
         ensures at_once { AtStep (sizes self.old) (view self.old) (view self.new) (instants self.old self.new)
             (FindsVersion cell (begin.word_found result)) }
@@ -67,7 +70,7 @@ pub trait Steps {
         ensures only { only self.old self.new }
         ensures at_once { AtStep (sizes self.old) (view self.old) (view self.new) (instants self.old self.new)
             (FindsWord stamp.cell place result) }
-        ensures row { read.Outcome (view self.old) (view self.new) stamp place result };
+        ensures row { read.Outcome (sizes self.old) (view self.old) (view self.new) stamp place result };
 
     /// A word of a leaf that the words of the stamp's cell name.
     fn read_leaf(&mut self, stamp: Stamp, leaf: u32, place: usize) -> u64
@@ -83,6 +86,7 @@ pub trait Steps {
     fn check(&mut self, stamp: Stamp, deed: Option<&Deed>) -> Result<(), Changed>
         requires inside { HasVersion (sizes self.old) stamp.cell }
         requires may { check.May (sizes self.old) (view self.old) stamp (option_map (λ d. what_of d.now) deed) }
+        requires admitted { IfSome deed (λ d. IsAdmitted (admits self.old) (what_of d.now)) }
         ensures only { only self.old self.new }
         ensures at_once { AtStep (sizes self.old) (view self.old) (view self.new) (instants self.old self.new)
             (check.Finds (sizes self.old) (view self.old) stamp result) }
@@ -115,6 +119,7 @@ pub trait Steps {
     fn write(&mut self, held: &mut Held, place: usize, value: u64)
         requires inside { IsInside (sizes self.old) (cell_held held.old) }
         requires may { (h : HoldingOf) × (h.cell ≡ cell_held held.old) × write.May (view self.old) h place }
+        requires child { IsChildPlace (cell_held held.old) place → IsChildWord (sizes self.old) value }
         ensures only { only self.old self.new }
         ensures at_once { AtStep (sizes self.old) (view self.old) (view self.new) (instants self.old self.new)
             (PutsWord (cell_held held.old) place value) }
@@ -150,6 +155,7 @@ pub trait Steps {
             commit.MayBeFirst (view self.old) (links_of unlinked.now) h obsolete }
         requires may { commit.May (sizes self.old) (view self.old) (what_of deed.now) (links_of unlinked.now)
             (commit.coming (view self.old) (option_map link_of_number leaf)) }
+        requires admitted { IsAdmitted (admits self.old) (what_of deed.now) }
         ensures only { only self.old self.new }
         ensures at_once { AtStep (sizes self.old) (view self.old) (view self.new) (instants self.old self.new)
             (commit.UnlocksFirst (view self.old) (cell_held held) obsolete) }
@@ -173,4 +179,6 @@ pub trait Steps {
     ghost only_then: { (a b c : Self) → only a b → only b c → only a c };
 
     ghost only_sizes: { (a b : Self) → only a b → sizes b ≡ sizes a };
+
+    ghost only_admits: { (a b : Self) (k : List ℕ) → only a b → (admits b k ↔ admits a k) };
 }

@@ -3,13 +3,18 @@ use Rattle.std.specs.Prelude.{ℕ, List, [], ◌∷◌, if◌then◌else◌, ◌
 use Rattle.art_cell.specs.declared.cells.Cell.TheVariants as cell
 use Rattle.art_cell.specs.declared.cells.Cell.{Cell}
 use Rattle.art_step.specs.Sound.{KeepsSound}
-use Rattle.art_step.specs.Views.{note_of, stamp_of, found_version, Memory, Views, SetsView, IsClear}
+use Rattle.art_step.specs.Views.{IsNamed, note_of, stamp_of, found_version, Memory, Views, SetsView, IsClear}
 use Rattle.art_step.specs.declared.faults.Locked.{Locked}
 use Rattle.art_step.specs.declared.views.Fact.TheVariants.{Starts}
 use Rattle.art_step.specs.declared.views.Note.{Note}
 use Rattle.art_step.specs.declared.views.Sizes.{Sizes}
 use Rattle.art_step.specs.declared.views.Stamp.{Stamp}
 use Rattle.art_step.specs.declared.views.View.{View}
+
+-- the pass is pinned; a leaf has no version word
+pub record May (v : View) (c : Cell) : Type 0 where
+  pub pinned : v.pin ≢ 0
+  pub named : IsNamed v c
 
 -- of the anchor the path is known at once
 abbrev pub first_notes : Cell → ℕ → List Note
@@ -26,7 +31,7 @@ view_after v c x =
 
 pub record Step (z : Sizes) (p : ℕ) (v : View) (m : Memory) (f : Views) (m' : Memory) (f' : Views) : Type 0 where
   pub cell : Cell
-  pub pinned : v.pin ≢ 0
+  pub may : May v cell
   pub words : m' ≡ m
   pub view : SetsView f p (view_after v cell (m.version cell)) f'
 

@@ -3,7 +3,7 @@ use Rattle.std.specs.Prelude.{ℕ, ◌<◌, ◌+◌, ◌∷◌, ◌≡◌}
 use Rattle.art_cell.specs.declared.cells.Cell.TheVariants as cell
 use Rattle.art_step.specs.Knowledge.{KnowsLeaf}
 use Rattle.art_step.specs.Sound.{KeepsSound}
-use Rattle.art_step.specs.Views.{Member, IsNotHeld, size_of, note_of, Memory, Views, SetsView}
+use Rattle.art_step.specs.Views.{IsChildPlace, IsChildWord, Member, IsNotHeld, size_of, note_of, Memory, Views, SetsView}
 use Rattle.art_step.specs.declared.views.Fact.{Fact}
 use Rattle.art_step.specs.declared.views.Fact.TheVariants.{Word, LeafWord}
 use Rattle.art_step.specs.declared.views.Sizes.{Sizes}
@@ -40,8 +40,10 @@ pub record LeafStep (z : Sizes) (p : ℕ) (v : View) (m : Memory) (f : Views) (m
   pub words : m' ≡ m
   pub view : SetsView f p (view_after v stamp (LeafWord number place (m.words (cell.Leaf number) place))) f'
 
-abbrev pub Outcome : View → View → Stamp → ℕ → ℕ → Type 0
-Outcome v w x i word = w ≡ view_after v x (Word i word)
+-- a child word names what there is
+pub record Outcome (z : Sizes) (v w : View) (x : Stamp) (i word : ℕ) : Type 0 where
+  pub child : IsChildPlace x.cell i → IsChildWord z word
+  pub is : w ≡ view_after v x (Word i word)
 
 abbrev pub LeafOutcome : View → View → Stamp → ℕ → ℕ → ℕ → Type 0
 LeafOutcome v w x l i word = w ≡ view_after v x (LeafWord l i word)

@@ -1,0 +1,21 @@
+-- What no view shows, the history and the logical words, is determined by what the words and the views are.
+use Rattle.std.specs.Prelude.{◌≡◌, ℕ}
+use Rattle.art_cell.specs.declared.cells.Cell.{Cell}
+use Rattle.art_step.specs.declared.views.Sizes.{Sizes}
+use Rattle.art_tree.specs.Heaps.{Cells}
+use Rattle.art_step.specs.Histories.{StartsWith}
+use Rattle.art_step.specs.Sound.{IsSound, OneHolder}
+use Rattle.art_step.specs.Steps.{OneStep}
+use Rattle.art_step.specs.Views.{Memory, Views}
+
+-- there is one history
+abbrev pub HistoryLaw : Type 0
+HistoryLaw = (z : Sizes) (m : Memory) (f : Views) (r r' : IsSound z m f) → r.log ≡ r'.log
+
+-- it only grows
+abbrev pub HistoryGrows : Type 0
+HistoryGrows = (z : Sizes) (p : ℕ) (m : Memory) (f : Views) (m' : Memory) (f' : Views) → OneStep z p m f m' f' → (r : IsSound z m f) (r' : IsSound z m' f') → StartsWith r'.log r.log
+
+-- each cell has one body of logical words
+abbrev pub LogicalLaw : Type 0
+LogicalLaw = (m : Memory) (f : Views) (s s' : Cells) → OneHolder m f s → OneHolder m f s' → (c : Cell) → s c ≡ s' c
