@@ -23,7 +23,7 @@ use Rattle.art_step.specs.Steps.Take.{IsTaken}
 use Rattle.art_step.specs.Views.{IsNumber, Member, Memory, words_in}
 use Rattle.art_cell_uses.specs.Visits.{HasNone, HasJust, IsAway, IsIdle, Fills, leaf_in_hand}
 use Rattle.art_tree.specs.WordChanges.{FitsWord}
-use Rattle.art_world.specs.WorldWords.{Kept}
+use Rattle.art_world.specs.Contents.{Contents}
 use Rattle.art_cell_uses.proofs.Few.{just_one, no_members}
 use Rattle.art_cell_uses.proofs.IdlePasses.{still_away}
 
@@ -57,7 +57,7 @@ took_fills z m v w n k value none pool inside small t = record {
         ∙ ap (λ (d : Link). record { link = d; words = t.words } ∷ []) (leaf_link n pool))
 
 -- it is that of a leaf, none of whose words is written
-pub took_leaf : (a : Kept) (z : Sizes) (m : Memory) (v w : View) (n : Number) (k : List ℕ) (value : ℕ) → z ≡ a.sizes → IsIdle v → IsLeastFree a Leaves n → take_free.Outcome m v w (link_of_number n) → IsAway w × Fills z w.hand n k value 0
+pub took_leaf : (a : Contents) (z : Sizes) (m : Memory) (v w : View) (n : Number) (k : List ℕ) (value : ℕ) → z ≡ a.sizes → IsIdle v → IsLeastFree a Leaves n → take_free.Outcome m v w (link_of_number n) → IsAway w × Fills z w.hand n k value 0
 took_leaf a z m v w n k value same idle free t = (
   still_away v w (ap (λ (y : View). y.pin) t.is) (ap (λ (y : View). y.held) t.is) idle.away,
   took_fills z m v w n k value idle.hand free.pool inside (subst FitsWord (leaf_link n free.pool) free.fits) t,

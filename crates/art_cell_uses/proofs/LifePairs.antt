@@ -47,7 +47,7 @@ use Rattle.art_step.specs.Views.{IsClear, IsNumber, Member, Memory, size_of, wor
 use Rattle.art_cell_uses.specs.Visits.{Fills, HasNone, IsIdle}
 use Rattle.art_tree.specs.WordChanges.{FitsWord, two_children}
 use Rattle.art_cell.specs.Words.{size, child_of}
-use Rattle.art_world.specs.WorldWords.{Kept}
+use Rattle.art_world.specs.Contents.{Contents}
 use Rattle.art_step.specs.WordRows.{view_at}
 use Rattle.art_cell_uses.proofs.AnchorRows.{without_link}
 use Rattle.art_tree.proofs.ChildWords.{link_back, link_exact}
@@ -294,7 +294,7 @@ few_numbers (a ∷ b ∷ c ∷ []) d e long first second are =
     at_most_one (Some n) bad = omega (arith, bad)
 
 -- a node's number that was free is one in hand
-pub took_node : (a : Kept) (z : Sizes) (m : Memory) (v w : View) (n : Number) → z ≡ a.sizes → IsLeastFree a N4 n → take_free.Outcome m v w (link_of_number n) → HasNode z w (record { layout = Node4; number = n.number })
+pub took_node : (a : Contents) (z : Sizes) (m : Memory) (v w : View) (n : Number) → z ≡ a.sizes → IsLeastFree a N4 n → take_free.Outcome m v w (link_of_number n) → HasNode z w (record { layout = Node4; number = n.number })
 took_node a z m v w n same free t = record {
   hand = record { link = link_of_number n; words = t.words };
   has = subst (Member (record { link = link_of_number n; words = t.words })) (sym (ap (λ (y : View). y.hand) t.is)) (inl refl);
@@ -336,7 +336,7 @@ just_both z v w n d e words k value place is fills are x i = ⊎_elim
 -- ---- numbers in limbo go back
 
 -- where there is one view, each pass is that of the view
-pub no_other_pass : (k : Kept) (p : ℕ) → IsKept k → p < length k.views → length k.views ≡ 1 → (q : ℕ) → q < k.sizes.passes → q ≡ (view_at k.views p).pass
+pub no_other_pass : (k : Contents) (p : ℕ) → IsKept k → p < length k.views → length k.views ≡ 1 → (q : ℕ) → q < k.sizes.passes → q ≡ (view_at k.views p).pass
 no_other_pass k p kept inside one q low =
     let mine : (view_at k.views p).pass ≡ p = (kept.2.history.tells p (view_at k.views p) (at_view k.views p inside)).pass in
     let passes = kept.1 in

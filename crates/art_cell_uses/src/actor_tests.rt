@@ -2,7 +2,7 @@
 ghost use Rattle.std.specs.Prelude.{◌≡◌, ◌≤◌, ◌+◌, ◌∷◌, [], false, true, refl, IfSome};
 ghost use Rattle.std.proofs.Common.{◌∙◌};
 ghost use Rattle.std.proofs.lemmas.Bool.{false≢true};
-ghost use Rattle.art_world.specs.Lent.{OnlyStepped, sizes_lent, view_lent};
+ghost use Rattle.art_world.specs.Stepper.{OnlyStepped, sizes_of, view_of};
 ghost use Rattle.art_cell_uses.specs.NodeLives.{StampsAnchor};
 ghost use Rattle.art_cell_uses.specs.Visits.{Adds, Counts, IsIdle, Removes, Visits, counts_none, counts_one_more};
 
@@ -14,7 +14,7 @@ use crate::visits::{Adding, Removing, Visit};
 use crate::word_forms::words_are_formed;
 use art_cell::{Cell, Link};
 use art_step::{Sizes, Stamp, UpgradeFault};
-use art_world::{Actor, At, Held, Steps, World};
+use art_world::{Actor, Stepper, Held, Steps, World};
 use rand_pcg::Pcg32;
 use rand_pcg::rand_core::{Rng, SeedableRng};
 use std::mem::replace;
@@ -114,11 +114,11 @@ fn add<S: Steps>(adding: Adding, steps: &mut S) -> Visit
 }
 
 /// The next step of one that removes the leaf.
-fn remove(removing: Removing, at: &mut At<'_>) -> Visit
-    requires { Removes (KEY ∷ []) VALUE (sizes_lent at.old) (view_lent at.old) removing }
+fn remove(removing: Removing, at: &mut Stepper<'_>) -> Visit
+    requires { Removes (KEY ∷ []) VALUE (sizes_of at.old) (view_of at.old) removing }
     ensures only { OnlyStepped at.old at.new }
-    ensures step { (view_lent at.new).steps ≤ (view_lent at.old).steps + 1 }
-    ensures visits { Visits (KEY ∷ []) VALUE (sizes_lent at.new) (view_lent at.new) result }
+    ensures step { (view_of at.new).steps ≤ (view_of at.old).steps + 1 }
+    ensures visits { Visits (KEY ∷ []) VALUE (sizes_of at.new) (view_of at.new) result }
 {
     let leaves = leaves_of(at.world);
     let next = match removing {
@@ -167,22 +167,22 @@ fn see_leaf<S: Steps>(steps: &mut S, stamp: Stamp, leaves: u32) -> Removing
 }
 
 /// Commits that the row is removed, and gives the leaf's number back, which no stamp can name.
-fn take_out(at: &mut At<'_>, held: Held, leaf: u32)
-    requires { Removes (KEY ∷ []) VALUE (sizes_lent at.old) (view_lent at.old) (Removing.Written held leaf) }
+fn take_out(at: &mut Stepper<'_>, held: Held, leaf: u32)
+    requires { Removes (KEY ∷ []) VALUE (sizes_of at.old) (view_of at.old) (Removing.Written held leaf) }
     ensures only { OnlyStepped at.old at.new }
-    ensures step { (view_lent at.new).steps ≤ (view_lent at.old).steps + 1 }
-    ensures idle { IsIdle (view_lent at.new) }
+    ensures step { (view_of at.new).steps ≤ (view_of at.old).steps + 1 }
+    ensures idle { IsIdle (view_of at.new) }
 {
     let number = commit_remove(at, held, leaf);
     at.give_back(number);
 }
 
 /// The next step of a task, and what is kept then.
-fn go_on(task: Task, visit: Visit, at: &mut At<'_>) -> Visit
-    requires { Visits (KEY ∷ []) VALUE (sizes_lent at.old) (view_lent at.old) visit }
+fn go_on(task: Task, visit: Visit, at: &mut Stepper<'_>) -> Visit
+    requires { Visits (KEY ∷ []) VALUE (sizes_of at.old) (view_of at.old) visit }
     ensures only { OnlyStepped at.old at.new }
-    ensures step { (view_lent at.new).steps ≤ (view_lent at.old).steps + 1 }
-    ensures visits { Visits (KEY ∷ []) VALUE (sizes_lent at.new) (view_lent at.new) result }
+    ensures step { (view_of at.new).steps ≤ (view_of at.old).steps + 1 }
+    ensures visits { Visits (KEY ∷ []) VALUE (sizes_of at.new) (view_of at.new) result }
 {
     match visit {
         Visit::Idle => match task {
@@ -279,7 +279,7 @@ impl Actor for Visitor {
 
     ghost stays = { λ n a b x e. absurd (false≢true e) };
 
-    fn turn(&mut self, at: &mut At<'_>) -> bool {
+    fn turn(&mut self, at: &mut Stepper<'_>) -> bool {
         self.turns = self.turns.wrapping_add(1);
         let visit = replace(&mut self.visit, Visit::Idle);
         let next = go_on(self.task, visit, at);

@@ -6,7 +6,7 @@ ghost use Rattle.art_step.specs.declared.views.Fact.TheVariants.{LeafWord as lea
 ghost use Rattle.art_cell_uses.specs.declared.visits.Removing.TheVariants.{Written as written};
 ghost use Rattle.art_cell.specs.Children.{child_word};
 ghost use Rattle.art_cell.specs.Leaves.{leaf_word};
-ghost use Rattle.art_world.specs.Lent.{OnlyStepped, sizes_lent, view_lent};
+ghost use Rattle.art_world.specs.Stepper.{OnlyStepped, sizes_of, view_of};
 ghost use Rattle.art_cell_uses.specs.NodeLives.{IsNoted, OnlyLearns, StampsAnchor};
 ghost use Rattle.art_step.specs.Tokens.{link_of_number};
 ghost use Rattle.art_step.specs.Views.{IsInLimbo};
@@ -15,7 +15,7 @@ ghost use Rattle.art_cell_uses.specs.Visits.{ChangesWord, Fills, HoldsUnchanged,
 use art_cell::{Cell, Pool};
 use art_key::Key;
 use art_step::{Answer, Stamp, UpgradeFault};
-use art_world::{Act, At, Deed, Held, Number, Steps, Unlinked, World};
+use art_world::{Act, Stepper, Deed, Held, Number, Steps, Unlinked, World};
 
 /// The row that comes and goes.
 pub(crate) const KEY: u8 = 97;
@@ -116,13 +116,13 @@ pub(crate) fn leaves_of(world: &World) -> u32
 }
 
 /// Takes a leaf's number into the hand, if one is free. This step is not counted.
-pub(crate) fn take_leaf(at: &mut At<'_>) -> Option<Number>
-    requires { IsIdle (view_lent at.old) }
+pub(crate) fn take_leaf(at: &mut Stepper<'_>) -> Option<Number>
+    requires { IsIdle (view_of at.old) }
     ensures only { OnlyStepped at.old at.new }
-    ensures step { (view_lent at.new).steps ≤ (view_lent at.old).steps + 1 }
-    ensures idle { IfNone result (IsIdle (view_lent at.new)) }
-    ensures away { IfSome result (λ _. IsAway (view_lent at.new)) }
-    ensures fills { (key value : ℕ) → IfSome result (λ n. Fills (sizes_lent at.new) (view_lent at.new).hand n (key ∷ []) value 0) }
+    ensures step { (view_of at.new).steps ≤ (view_of at.old).steps + 1 }
+    ensures idle { IfNone result (IsIdle (view_of at.new)) }
+    ensures away { IfSome result (λ _. IsAway (view_of at.new)) }
+    ensures fills { (key value : ℕ) → IfSome result (λ n. Fills (sizes_of at.new) (view_of at.new).hand n (key ∷ []) value 0) }
 {
     let number = at.first_free(Pool::Leaves)?;
     Some(number)

@@ -10,7 +10,7 @@ ghost use Rattle.art_step.specs.declared.views.InHand.{InHand as NumberInHand};
 ghost use Rattle.art_cell.specs.Children.{child_word};
 ghost use Rattle.art_commit.specs.CommitLaws.{HasLeaf, HasNode};
 ghost use Rattle.art_step.specs.Knowledge.{KnowsLeaf};
-ghost use Rattle.art_world.specs.Lent.{OnlyStepped, lent, sizes_lent, view_lent};
+ghost use Rattle.art_world.specs.Stepper.{OnlyStepped, world_of, sizes_of, view_of};
 ghost use Rattle.art_cell_uses.specs.NodeLives.{HasClaimed, HoldsLeafRoot, HoldsPair, IsNoted, IsStampAt, NotesKey, NotesPair, NotesRoot, OnlyLearns, StampsAnchor};
 ghost use Rattle.art_step.specs.Tokens.{link_of_number};
 ghost use Rattle.art_step.specs.Views.{IsInLimbo, IsNotHeld};
@@ -26,7 +26,7 @@ use crate::anchor_steps::{
 };
 use art_cell::{Cell, Layout, Link, Node, Pool};
 use art_step::{Answer, Sizes, Stamp};
-use art_world::{Act, At, Deed, Held, Number, Steps, Unlinked, World};
+use art_world::{Act, Stepper, Deed, Held, Number, Steps, Unlinked, World};
 use std::test::*;
 
 const SIZES: Sizes = Sizes {
@@ -351,23 +351,23 @@ fn forget<S: Steps>(steps: &mut S, node: Node) -> bool
 }
 
 /// Takes the number of a Node4 into the hand, if one is free. This step is not counted.
-fn take_node(at: &mut At<'_>) -> Option<Number>
+fn take_node(at: &mut Stepper<'_>) -> Option<Number>
     ensures only { OnlyStepped at.old at.new }
-    ensures held { (view_lent at.new).held ≡ (view_lent at.old).held }
-    ensures pin { (view_lent at.new).pin ≡ (view_lent at.old).pin }
-    ensures hand { IfSome result (λ n. (words : List ℕ) × ((view_lent at.new).hand ≡ record { link = link_of_number n; words = words } ∷ (view_lent at.old).hand)) }
-    ensures node { IfSome result (λ n. (n.pool ≡ n4_pool) × HasNode (sizes_lent at.new) (view_lent at.new) (record { layout = node4; number = n.number })) }
+    ensures held { (view_of at.new).held ≡ (view_of at.old).held }
+    ensures pin { (view_of at.new).pin ≡ (view_of at.old).pin }
+    ensures hand { IfSome result (λ n. (words : List ℕ) × ((view_of at.new).hand ≡ record { link = link_of_number n; words = words } ∷ (view_of at.old).hand)) }
+    ensures node { IfSome result (λ n. (n.pool ≡ n4_pool) × HasNode (sizes_of at.new) (view_of at.new) (record { layout = node4; number = n.number })) }
 {
     let number = at.first_free(Pool::N4)?;
     Some(number)
 }
 
 /// Takes the number of a leaf into the hand, writes the second row to it, and tells it.
-fn take_second(at: &mut At<'_>) -> Option<Number>
-    requires idle { IsIdle (view_lent at.old) }
+fn take_second(at: &mut Stepper<'_>) -> Option<Number>
+    requires idle { IsIdle (view_of at.old) }
     ensures only { OnlyStepped at.old at.new }
-    ensures away { IfSome result (λ _. IsAway (view_lent at.new)) }
-    ensures fills { IfSome result (λ n. Fills (sizes_lent at.new) (view_lent at.new).hand n (98 ∷ []) 2 10) }
+    ensures away { IfSome result (λ _. IsAway (view_of at.new)) }
+    ensures fills { IfSome result (λ n. Fills (sizes_of at.new) (view_of at.new).hand n (98 ∷ []) 2 10) }
 {
     let mut number = take_leaf(at)?;
     fill_second(at, &mut number);
@@ -389,14 +389,14 @@ fn fill_second<S: Steps>(steps: &mut S, number: &mut Number)
 }
 
 /// Takes a leaf with the second row and the node into the hand.
-fn take_both(at: &mut At<'_>, node: Node) -> Option<(Number, Number)>
-    requires idle { IsIdle (view_lent at.old) }
+fn take_both(at: &mut Stepper<'_>, node: Node) -> Option<(Number, Number)>
+    requires idle { IsIdle (view_of at.old) }
     requires layout { node.layout ≡ node4 }
     ensures only { OnlyStepped at.old at.new }
-    ensures away { IfSome result (λ _. ((view_lent at.new).held ≡ []) × ((view_lent at.new).pin ≢ 0)) }
-    ensures hand { IfSome result (λ p. (x : NumberInHand) → Member x (view_lent at.new).hand → (x.link ≡ leaf_link p.0.number) ⊎ (x.link ≡ node_link node)) }
-    ensures leaf { IfSome result (λ p. (p.0.pool ≡ leaves_pool) × HasLeaf (sizes_lent at.new) (view_lent at.new) p.0.number (98 ∷ []) 2) }
-    ensures node { IfSome result (λ p. (link_of_number p.1 ≡ node_link node) × HasNode (sizes_lent at.new) (view_lent at.new) node) }
+    ensures away { IfSome result (λ _. ((view_of at.new).held ≡ []) × ((view_of at.new).pin ≢ 0)) }
+    ensures hand { IfSome result (λ p. (x : NumberInHand) → Member x (view_of at.new).hand → (x.link ≡ leaf_link p.0.number) ⊎ (x.link ≡ node_link node)) }
+    ensures leaf { IfSome result (λ p. (p.0.pool ≡ leaves_pool) × HasLeaf (sizes_of at.new) (view_of at.new) p.0.number (98 ∷ []) 2) }
+    ensures node { IfSome result (λ p. (link_of_number p.1 ≡ node_link node) × HasNode (sizes_of at.new) (view_of at.new) node) }
 {
     let leaf = take_second(at)?;
     let Some(number) = take_node(at) else {
@@ -413,14 +413,14 @@ fn take_both(at: &mut At<'_>, node: Node) -> Option<(Number, Number)>
 
 /// Inserts the second row, for which the node comes above both leaves. Tells the second leaf, and the node's version word
 /// once the node is claimed and once it is released.
-fn grow(at: &mut At<'_>, node: Node, first: u32) -> Option<(u32, [u64; 2])>
-    requires idle { IsIdle (view_lent at.old) }
-    requires inside { IsInside (sizes_lent at.old) (node_cell node) }
+fn grow(at: &mut Stepper<'_>, node: Node, first: u32) -> Option<(u32, [u64; 2])>
+    requires idle { IsIdle (view_of at.old) }
+    requires inside { IsInside (sizes_of at.old) (node_cell node) }
     requires layout { node.layout ≡ node4 }
-    requires number { first < (sizes_lent at.old).leaves }
+    requires number { first < (sizes_of at.old).leaves }
     ensures only { OnlyStepped at.old at.new }
-    ensures idle { IfSome result (λ _. IsIdle (view_lent at.new)) }
-    ensures second { IfSome result (λ p. p.0 < (sizes_lent at.new).leaves) }
+    ensures idle { IfSome result (λ _. IsIdle (view_of at.new)) }
+    ensures second { IfSome result (λ p. p.0 < (sizes_of at.new).leaves) }
 {
     let (leaf, number) = take_both(at, node)?;
     let second = leaf.number;
@@ -437,24 +437,24 @@ fn grow(at: &mut At<'_>, node: Node, first: u32) -> Option<(u32, [u64; 2])>
 }
 
 /// Where there is one view, there is no other pass than that of the view.
-fn no_other_pass(at: &At<'_>)
-    requires { length (lent at.now).views ≡ 1 }
-    ensures { (q : ℕ) → q < (sizes_lent at.now).passes → q ≡ (view_lent at.now).pass }
+fn no_other_pass(at: &Stepper<'_>)
+    requires { length (world_of at.now).views ≡ 1 }
+    ensures { (q : ℕ) → q < (sizes_of at.now).passes → q ≡ (view_of at.now).pass }
 {
     at.stays_sound();
 }
 
 /// Removes the second row, for which the node goes. Tells the node's version word once it is locked and once it is obsolete.
 /// The numbers of the node and of the leaf are free again.
-fn shrink(at: &mut At<'_>, node: Node, first: u32, second: u32) -> Option<[u64; 2]>
-    requires idle { IsIdle (view_lent at.old) }
-    requires alone { length (lent at.old).views ≡ 1 }
-    requires inside { IsInside (sizes_lent at.old) (node_cell node) }
+fn shrink(at: &mut Stepper<'_>, node: Node, first: u32, second: u32) -> Option<[u64; 2]>
+    requires idle { IsIdle (view_of at.old) }
+    requires alone { length (world_of at.old).views ≡ 1 }
+    requires inside { IsInside (sizes_of at.old) (node_cell node) }
     requires fits { FitsWord (node_link node) }
     requires layout { node.layout ≡ node4 }
-    requires number { second < (sizes_lent at.old).leaves }
+    requires number { second < (sizes_of at.old).leaves }
     ensures only { OnlyStepped at.old at.new }
-    ensures idle { IfSome result (λ _. IsIdle (view_lent at.new)) }
+    ensures idle { IfSome result (λ _. IsIdle (view_of at.new)) }
 {
     let (anchor, below) = lock_pair(at, node, first, second)?;
     let locked = at.world.version(Cell::Node(node));

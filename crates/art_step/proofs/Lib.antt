@@ -1,12 +1,13 @@
 pub mod AnyStep
 pub mod Changing
+pub mod Determined
 pub mod Facts
 pub mod FreeBits
 pub mod Gathered
-pub mod Determined
 pub mod Histories
 pub mod Kept
 pub mod Moves
+pub mod NumberMoves
 pub mod OpeningWords
 pub mod StepCommits
 pub mod StepLocks

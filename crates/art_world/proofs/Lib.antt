@@ -1,7 +1,4 @@
-pub mod RunTurns
+pub mod Moving
+pub mod Standing
 pub mod TakenTurns
-pub mod WorldFreeing
-pub mod WorldLogical
-pub mod WorldReleases
-pub mod WorldTurns
-pub mod WorldViews
+pub mod ViewLists

@@ -7,7 +7,7 @@ use Rattle.std.specs.List.{slice_get}
 use Rattle.art_step.specs.declared.views.Sizes.{Sizes}
 use Rattle.art_step.specs.declared.views.View.{View}
 use Rattle.art_world.specs.Turns.{IsRun, IsTurn, NamesNobody, TakesTurn}
-use Rattle.art_world.specs.WorldWords.{Kept, OnlyStepsOf}
+use Rattle.art_world.specs.Contents.{Contents, OnlyStepsOf}
 use Rattle.art_step.specs.WordRows.{view_at}
 
 -- ---- an actor in its place
@@ -27,7 +27,7 @@ placed_there {A} xs p q x other =
     (cases_lt q (length xs))
 
 -- what each actor knows of its pass's view holds on, where one has made its turn
-pub fits_on : {A : Type 0} (Fits : A → Sizes → View → Type 0) (k l : Kept) (xs : List A) (p : ℕ) (x : A) → p < length xs → OnlyStepsOf k l p → Fits x l.sizes (view_at l.views p)
+pub fits_on : {A : Type 0} (Fits : A → Sizes → View → Type 0) (k l : Contents) (xs : List A) (p : ℕ) (x : A) → p < length xs → OnlyStepsOf k l p → Fits x l.sizes (view_at l.views p)
     → ((q : ℕ) (a : A) → slice_get xs q ≡ Some a → Fits a k.sizes (view_at k.views q)) → (q : ℕ) (a : A) → slice_get (set xs p x) q ≡ Some a → Fits a l.sizes (view_at l.views q)
 fits_on {A} Fits k l xs p x inside only mine all q a is =
     ⊎_elim
@@ -41,80 +41,41 @@ fits_on {A} Fits k l xs p x inside only mine all q a is =
 
 -- ---- one turn
 
-module _ {A : Type 0} (ended : A → Bool) (after : ℕ → A → A → Type 0) (p : ℕ) (k : Kept) (xs : List A) (l : Kept) (ys : List A) where
+module _ {A : Type 0} (fits : A → Sizes → View → Type 0) (ended : A → Bool) (makes : ℕ → A → Contents → A → Contents → Type 0) (p : ℕ) (k : Contents) (xs : List A) (l : Contents) (ys : List A) where
   abbrev Turn : Type 0
-  Turn = IsTurn ended after p k xs l ys
+  Turn = IsTurn fits ended makes p k xs l ys
 
-  inside : TakesTurn ended after p k xs l ys → p < length xs
+  inside : TakesTurn fits ended makes p k xs l ys → p < length xs
   inside t = slice_get_within xs p t.before t.named
 
   -- it leaves the sizes, how many passes and actors there are, and all views and actors but those of the pass
   pub turn_sizes : Turn → l.sizes ≡ k.sizes
-  turn_sizes t = ⊎_elim (λ (n : NamesNobody ended after p xs × (l ≡ k) × (ys ≡ xs)). ap (λ (w : Kept). w.sizes) n.1) (λ (t : TakesTurn ended after p k xs l ys). t.only.sizes) t
+  turn_sizes t = ⊎_elim (λ (n : NamesNobody fits ended makes p xs × (l ≡ k) × (ys ≡ xs)). ap (λ (w : Contents). w.sizes) n.1) (λ (t : TakesTurn fits ended makes p k xs l ys). t.only.sizes) t
 
   pub turn_passes : Turn → length l.views ≡ length k.views
-  turn_passes t = ⊎_elim (λ (n : NamesNobody ended after p xs × (l ≡ k) × (ys ≡ xs)). ap (λ (w : Kept). length w.views) n.1) (λ (t : TakesTurn ended after p k xs l ys). t.only.count) t
+  turn_passes t = ⊎_elim (λ (n : NamesNobody fits ended makes p xs × (l ≡ k) × (ys ≡ xs)). ap (λ (w : Contents). length w.views) n.1) (λ (t : TakesTurn fits ended makes p k xs l ys). t.only.count) t
 
   pub turn_actors : Turn → length ys ≡ length xs
-  turn_actors t = ⊎_elim (λ (n : NamesNobody ended after p xs × (l ≡ k) × (ys ≡ xs)). ap length n.2) (λ (t : TakesTurn ended after p k xs l ys). ap length t.actors ∙ length-set xs p t.now) t
+  turn_actors t = ⊎_elim (λ (n : NamesNobody fits ended makes p xs × (l ≡ k) × (ys ≡ xs)). ap length n.2) (λ (t : TakesTurn fits ended makes p k xs l ys). ap length t.actors ∙ length-set xs p t.now) t
 
   pub turn_others : Turn → (q : ℕ) → q ≢ p → view_at l.views q ≡ view_at k.views q
-  turn_others t q other = ⊎_elim (λ (n : NamesNobody ended after p xs × (l ≡ k) × (ys ≡ xs)). ap (λ (w : Kept). view_at w.views q) n.1) (λ (t : TakesTurn ended after p k xs l ys). t.only.others q other) t
+  turn_others t q other = ⊎_elim (λ (n : NamesNobody fits ended makes p xs × (l ≡ k) × (ys ≡ xs)). ap (λ (w : Contents). view_at w.views q) n.1) (λ (t : TakesTurn fits ended makes p k xs l ys). t.only.others q other) t
 
   pub turn_past : Turn → (q : ℕ) → length xs ≤ q → view_at l.views q ≡ view_at k.views q
   turn_past t q past = ⊎_elim
-      (λ (n : NamesNobody ended after p xs × (l ≡ k) × (ys ≡ xs)). ap (λ (w : Kept). view_at w.views q) n.1)
-      (λ (t : TakesTurn ended after p k xs l ys). t.only.others q (λ e. let low = inside t in absurd (omega (arith, low, past, e)))) t
-
-  pub turn_same : Turn → (q : ℕ) → q ≢ p → slice_get ys q ≡ slice_get xs q
-  turn_same t q other = ⊎_elim
-      (λ (n : NamesNobody ended after p xs × (l ≡ k) × (ys ≡ xs)). ap (λ (zs : List A). slice_get zs q) n.2)
-      (λ (t : TakesTurn ended after p k xs l ys). ap (λ (zs : List A). slice_get zs q) t.actors ∙ placed_there xs p q t.now other) t
-
-  pub turn_step : Turn → (view_at l.views p).steps ≤ (view_at k.views p).steps + 1
-  turn_step t = ⊎_elim
-      (λ (n : NamesNobody ended after p xs × (l ≡ k) × (ys ≡ xs)). let same = ap (λ (w : Kept). (view_at w.views p).steps) n.1 in omega (arith, same))
-      (λ (t : TakesTurn ended after p k xs l ys). t.step) t
-
-  -- one that names nobody changes nothing
-  pub turn_nobody : Turn → slice_get xs p ≡ None → (l ≡ k) × (ys ≡ xs)
-  turn_nobody t none = ⊎_elim
-      (λ (n : NamesNobody ended after p xs × (l ≡ k) × (ys ≡ xs)). (n.1, n.2))
-      (λ (t : TakesTurn ended after p k xs l ys). let bad : Some t.before ≡ None = sym t.named ∙ none in absurd (cc)) t
-
-  pub turn_ended : Turn → (x : A) → slice_get xs p ≡ Some x → ended x ≡ true → (l ≡ k) × (ys ≡ xs)
-  turn_ended t x is over = ⊎_elim
-      (λ (n : NamesNobody ended after p xs × (l ≡ k) × (ys ≡ xs)). (n.1, n.2))
-      (λ (t : TakesTurn ended after p k xs l ys).
-      let same = same_Some t.before x (sym t.named ∙ is) in
-      let bad : false ≡ true = sym t.goes_on ∙ (ap ended same ∙ over) in
-      absurd (cc)) t
-
-  -- what it makes of the actor
-  pub turn_makes : Turn → (x y : A) → slice_get xs p ≡ Some x → slice_get ys p ≡ Some y → after 1 x y ⊎ ((ended x ≡ true) × (y ≡ x))
-  turn_makes t x y is now = ⊎_elim
-      (λ (n : NamesNobody ended after p xs × (l ≡ k) × (ys ≡ xs)).
-      let same : y ≡ x = same_Some y x (sym now ∙ (ap (λ (zs : List A). slice_get zs p) n.2 ∙ is)) in
-      ⊎_elim
-      (λ (none : slice_get xs p ≡ None). let bad : Some x ≡ None = sym is ∙ none in absurd (cc))
-      (λ (over : (a : A) × (slice_get xs p ≡ Some a) × (ended a ≡ true)). inr (ap ended (same_Some x over.0 (sym is ∙ over.1)) ∙ over.2, same))
-      n.0)
-      (λ (t : TakesTurn ended after p k xs l ys).
-      let before : t.before ≡ x = same_Some t.before x (sym t.named ∙ is) in
-      let after_is : t.now ≡ y = same_Some t.now y (sym (placed_here xs p t.now (inside t)) ∙ (ap (λ (zs : List A). slice_get zs p) (sym t.actors) ∙ now)) in
-      inl (subst (λ (a : A). after 1 a y) before (subst (after 1 t.before) after_is t.turn)))
-      t
+      (λ (n : NamesNobody fits ended makes p xs × (l ≡ k) × (ys ≡ xs)). ap (λ (w : Contents). view_at w.views q) n.1)
+      (λ (t : TakesTurn fits ended makes p k xs l ys). t.only.others q (λ e. let low = inside t in absurd (omega (arith, low, past, e)))) t
 
 -- ---- a list of turns, and one more
 
-module _ {A : Type 0} (ended : A → Bool) (after : ℕ → A → A → Type 0) (m : Kept) (zs : List A) (l : Kept) (ys : List A) where
-  run_longer : (ts : List ℕ) (i : ℕ) (k : Kept) (xs : List A) → i < length ts → IsRun ended after (take i ts) k xs m zs → IsTurn ended after (get_or ts i 0) m zs l ys → IsRun ended after (take (suc i) ts) k xs l ys
+module _ {A : Type 0} (fits : A → Sizes → View → Type 0) (ended : A → Bool) (makes : ℕ → A → Contents → A → Contents → Type 0) (m : Contents) (zs : List A) (l : Contents) (ys : List A) where
+  run_longer : (ts : List ℕ) (i : ℕ) (k : Contents) (xs : List A) → i < length ts → IsRun fits ended makes (take i ts) k xs m zs → IsTurn fits ended makes (get_or ts i 0) m zs l ys → IsRun fits ended makes (take (suc i) ts) k xs l ys
   run_longer [] i k xs low run turn = absurd (omega arith)
   run_longer (t ∷ ts) zero k xs low run turn =
-      (l, ys, subst (λ (w : Kept × List A). IsTurn ended after t w.0 w.1 l ys) (λ i. (run.0 i, run.1 i)) turn, (refl, refl))
+      (l, ys, subst (λ (w : Contents × List A). IsTurn fits ended makes t w.0 w.1 l ys) (λ i. (run.0 i, run.1 i)) turn, (refl, refl))
   run_longer (t ∷ ts) (suc i) k xs low run turn = (run.0, run.1, run.2, run_longer ts i run.0 run.1 (omega arith) run.3 turn)
 
-  pub run_more : (ts : List ℕ) (i : ℕ) (k : Kept) (xs : List A) → i < length ts → IsRun ended after (take i ts) k xs m zs → IsTurn ended after (get_or ts i 0) m zs l ys → IsRun ended after (take (i + 1) ts) k xs l ys
+  pub run_more : (ts : List ℕ) (i : ℕ) (k : Contents) (xs : List A) → i < length ts → IsRun fits ended makes (take i ts) k xs m zs → IsTurn fits ended makes (get_or ts i 0) m zs l ys → IsRun fits ended makes (take (i + 1) ts) k xs l ys
   run_more ts i k xs low run turn =
       let next : suc i ≡ i + 1 = omega arith in
-      subst (λ (n : ℕ). IsRun ended after (take n ts) k xs l ys) next (run_longer ts i k xs low run turn)
+      subst (λ (n : ℕ). IsRun fits ended makes (take n ts) k xs l ys) next (run_longer ts i k xs low run turn)

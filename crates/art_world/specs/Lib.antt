@@ -1,5 +1,5 @@
+pub mod Contents
 pub mod FreeNumbers
-pub mod Lent
 pub mod Opening
+pub mod Stepper
 pub mod Turns
-pub mod WorldWords

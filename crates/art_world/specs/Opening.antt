@@ -8,10 +8,10 @@ use Rattle.art_step.specs.OpeningWords.{opening_words}
 use Rattle.art_step.specs.Opening.{Opens}
 use Rattle.art_step.specs.Views.{IsNumber}
 use Rattle.art_step.specs.WordRows.{newcomers, views_of}
-use Rattle.art_world.specs.WorldWords.{Kept, memory_now}
+use Rattle.art_world.specs.Contents.{Contents, memory_now}
 
 -- a world that just opened: each pass knows nothing, and the counters of the anchor and of all nodes are at k
-pub record OpensAt (z : Sizes) (k : ℕ) (w : Kept) : Type 0 where
+pub record OpensAt (z : Sizes) (k : ℕ) (w : Contents) : Type 0 where
   pub sizes : w.sizes ≡ z
   pub words : w.words ≡ opening_words z k
   pub views : w.views ≡ newcomers 0 z.passes

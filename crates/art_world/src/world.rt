@@ -1,10 +1,18 @@
 //! The words of all cells in one row, with what each pass knows.
+mod moves;
+mod numbers;
+mod opening;
+mod run;
+mod steps;
+
 ghost use Rattle.std.specs.Prelude.{◌≡◌, ◌<◌, ◌≤◌, length};
 ghost use Rattle.art_step.specs.Sound.{IsSound};
-ghost use Rattle.art_step.specs.WordPlaces.{IsInside, first_place, word_count};
-ghost use Rattle.art_world.specs.WorldWords.{memory_now};
-ghost use Rattle.art_step.specs.WordRows.{views_of};
 ghost use Rattle.art_step.specs.Views.{size_of};
+ghost use Rattle.art_step.specs.WordPlaces.{IsInside, first_place, word_count};
+ghost use Rattle.art_step.specs.WordRows.{views_of};
+ghost use Rattle.art_world.specs.Contents.{memory_now};
+
+pub use run::Actor;
 
 use art_cell::Cell;
 use art_ghosts::Ghost;
@@ -26,24 +34,20 @@ pub struct World {
 
 /// A world, in which one pass makes its steps.
 #[derive(Drop)]
-pub struct At<'a> {
+pub struct Stepper<'a> {
     pub world: &'a mut World,
     pub(crate) pass: usize,
     ghost inside: { pass < length world.now.views },
 }
 
 impl Model for World {
-    ghost use Rattle.std.specs.Prelude.{◌≡◌, length};
-    ghost use Rattle.art_step.specs.Sound.{IsSound};
-    ghost use Rattle.art_step.specs.WordPlaces.{word_count};
-    ghost use Rattle.art_world.specs.WorldWords.{Kept};
-    ghost use Rattle.art_step.specs.WordRows.{memory_of, views_of};
+    ghost use Rattle.art_world.specs.Contents.{Contents, IsSoundWorld};
 
-    ghost Value = { Kept };
+    ghost Value = { Contents };
 
     ghost view = { λ w. record { sizes = w.sizes; words = w.words.items; views = w.views.value } };
 
-    ghost invariant = { λ w. (length w.words.items ≡ word_count w.sizes) × (length w.views.value ≡ w.sizes.passes) × IsSound w.sizes (memory_of w.sizes w.words.items) (views_of w.views.value) };
+    ghost invariant = { λ w. IsSoundWorld (record { sizes = w.sizes; words = w.words.items; views = w.views.value }) };
 }
 
 impl World {

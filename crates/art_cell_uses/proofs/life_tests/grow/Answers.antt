@@ -1,5 +1,5 @@
 use Rattle.std.proofs.Common.{subst, ◌∙◌}
-use Rattle.art_world.specs.Lent.{only_then}
+use Rattle.art_world.specs.Stepper.{only_then}
 use Rattle.art_step.specs.Views.{Member}
 use Rattle.art_cell_uses.proofs.life_tests.grow.Goals as goal
 

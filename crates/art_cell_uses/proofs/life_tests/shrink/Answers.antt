@@ -1,6 +1,6 @@
 use Rattle.std.proofs.Common.{◌≡◌, refl, subst, ◌∙◌}
 use Rattle.art_cell.specs.declared.cells.Link.TheVariants.{Leaf as leaf, Node as node}
-use Rattle.art_world.specs.Lent.{only_then, sizes_lent, view_lent}
+use Rattle.art_world.specs.Stepper.{only_then, sizes_of, view_of}
 use Rattle.art_step.specs.Views.{Member}
 use Rattle.art_cell_uses.proofs.AnchorRows.{freed_idle, may_give_back}
 use Rattle.art_cell_uses.proofs.Few.{no_members}
@@ -19,20 +19,20 @@ no_other_pass-requires c = c.if-not-forget.ensures.only.steps.count ∙ (c.merge
 pub give_back-requires : goal.give_back-requires
 give_back-requires c =
     let at = c.forget.new.steps in
-    let limbo = in_limbo_on (view_lent c.merge-unlinked.new.steps) (view_lent at) _ c.if-not-forget.ensures.limbo c.merge-unlinked.ensures.limbo.0 in
-    may_free_node (sizes_lent at) (view_lent at) _ c.args.node c.no_other_pass.ensures (c.if-not-forget.ensures.stamps refl) (c.if-not-forget.ensures.held ∙ c.merge-unlinked.ensures.idle.0) c.two_numbers.ensures.node limbo
+    let limbo = in_limbo_on (view_of c.merge-unlinked.new.steps) (view_of at) _ c.if-not-forget.ensures.limbo c.merge-unlinked.ensures.limbo.0 in
+    may_free_node (sizes_of at) (view_of at) _ c.args.node c.no_other_pass.ensures (c.if-not-forget.ensures.stamps refl) (c.if-not-forget.ensures.held ∙ c.merge-unlinked.ensures.idle.0) c.two_numbers.ensures.node limbo
 
 pub give_back-requires-2 : goal.give_back-requires-2
 give_back-requires-2 c =
     let at = c.forget.new.steps in
-    let limbo = in_limbo_on (view_lent c.merge-unlinked.new.steps) (view_lent at) _ c.if-not-forget.ensures.limbo c.merge-unlinked.ensures.limbo.1 in
-    may_give_back (sizes_lent c.give_back.new.self) (view_lent c.give_back.new.self) _ c.args.second c.two_numbers.ensures.leaf
-    (stays_in_limbo (view_lent at) _ _ (leaf c.args.second) (λ e. let bad : leaf c.args.second ≡ node c.args.node = e ∙ c.two_numbers.ensures.node in cc) limbo c.give_back.ensures.row)
+    let limbo = in_limbo_on (view_of c.merge-unlinked.new.steps) (view_of at) _ c.if-not-forget.ensures.limbo c.merge-unlinked.ensures.limbo.1 in
+    may_give_back (sizes_of c.give_back.new.self) (view_of c.give_back.new.self) _ c.args.second c.two_numbers.ensures.leaf
+    (stays_in_limbo (view_of at) _ _ (leaf c.args.second) (λ e. let bad : leaf c.args.second ≡ node c.args.node = e ∙ c.two_numbers.ensures.node in cc) limbo c.give_back.ensures.row)
 
 pub returns-clause-idle : goal.returns-clause-idle
 returns-clause-idle c =
     let at = c.forget.new.steps in
-    let idle = idle_by (view_lent c.args.at.now) (view_lent at) c.requires.idle.away.pinned
+    let idle = idle_by (view_of c.args.at.now) (view_of at) c.requires.idle.away.pinned
     (c.if-not-forget.ensures.pin ∙ (c.merge-unlinked.ensures.idle.1 ∙ c.in_ok-anchor.ensures.pin)) (c.if-not-forget.ensures.held ∙ c.merge-unlinked.ensures.idle.0)
     (λ x i. c.merge-unlinked.ensures.hand x (subst (Member x) c.if-not-forget.ensures.hand i)) in
     freed_idle _ _ _ (freed_idle _ _ _ idle c.give_back.ensures.row) c.give_back-2.ensures.row

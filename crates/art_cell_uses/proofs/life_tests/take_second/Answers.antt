@@ -1,4 +1,4 @@
-use Rattle.art_world.specs.Lent.{only_then}
+use Rattle.art_world.specs.Stepper.{only_then}
 use Rattle.art_cell_uses.proofs.life_tests.take_second.Goals as goal
 
 pub fill_second-requires-clause-fills : goal.fill_second-requires-clause-fills

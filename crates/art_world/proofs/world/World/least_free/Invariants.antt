@@ -1,7 +1,7 @@
 -- No number below the one that is looked at is free.
 use Rattle.std.proofs.Common.{◌≡◌, ◌<◌, ℕ, false}
 use Rattle.art_cell.specs.Children.{link_in_pool}
-use Rattle.art_world.specs.WorldWords.{memory_now}
+use Rattle.art_world.specs.Contents.{memory_now}
 use Rattle.art_world.proofs.world.World.least_free.Given as goal
 
 abbrev pub invariant-loop-number : goal.invariant-loop-number

@@ -18,13 +18,13 @@ opens_at z k low ws vs words views =
     let same = ap₂ (λ (us : List ℕ) (fs : List View). record { sizes = z; words = us; views = fs }) (sym words) (sym views) in
     subst (OpensAt z k) same (record { sizes = refl; words = refl; views = refl; opens = opens z k low; anchor = anchor_version z k; nodes = node_version z k })
 
-opened : (c : After-first_views) → OpensAt c.args.sizes.now c.args.counter_start (record { sizes = c.args.sizes.now; words = c.in_ok-opening_words.value.items; views = c.first_views.result.value })
-opened c = opens_at c.args.sizes.now c.args.counter_start c.requires _ _ c.in_ok-opening_words.ensures c.first_views.ensures
+opened : (c : After-first_views) → OpensAt c.args.sizes.now c.args.counter_start (record { sizes = c.args.sizes.now; words = c.in_ok-words.words.items; views = c.first_views.result.value })
+opened c = opens_at c.args.sizes.now c.args.counter_start c.requires _ _ c.in_ok-words.ensures c.first_views.ensures
 
 pub invariant_of-result : goal.invariant_of-result
 invariant_of-result c =
     let o = opened c in
-    (ap length o.words ∙ length-opening_words c.args.sizes.now c.args.counter_start, ap length o.views ∙ length_newcomers 0 c.args.sizes.now.passes, open_law _ _ _ o.opens)
+    record { long = ap length o.words ∙ length-opening_words c.args.sizes.now c.args.counter_start; count = ap length o.views ∙ length_newcomers 0 c.args.sizes.now.passes; sound = open_law _ _ _ o.opens }
 
 pub returns : goal.returns
 returns c = opened c

@@ -21,10 +21,13 @@ returns-clause-is_turn g c =
       now = c.lend_to.new.actor;
       named = slice_get-get_or c.args.actors.now c.args.pass c.index-actors-pass.result (omega (arith, c.if-pass-actors.false));
       goes_on = sym c.ended.ensures ∙ c.if-ended.false;
-      turn = e.after;
+      fits_before = c.requires.fits c.args.pass _ (slice_get-get_or c.args.actors.now c.args.pass c.index-actors-pass.result (omega (arith, c.if-pass-actors.false)));
+      fits_now = e.fits;
+      turn = e.makes;
       actors = refl;
       only = e.only;
       step = e.step;
+      sound_before = e.sound_before;
       sound = e.sound;
     })
 

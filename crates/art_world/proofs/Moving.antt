@@ -1,0 +1,128 @@
+-- Each kind of step, of a sound world: the view after it, as the list of views has it.
+use Rattle.std.proofs.Common.{◌≡◌, ◌≢◌, ℕ, ◌+◌, ◌^◌, ◌<◌, true, false, List, length, set, sym, refl, ap, ◌∙◌, subst, ⊎_elim, arith}
+use Rattle.std.proofs.lemmas.Bool.{cases_eq}
+use Rattle.std.specs.Prelude.{Option}
+use Rattle.art_cell.specs.declared.cells.Cell.{Cell}
+use Rattle.art_cell.specs.declared.cells.Cell.TheVariants as cell
+use Rattle.art_cell.specs.declared.cells.Link.{Link}
+use Rattle.art_cell.specs.declared.cells.Link.TheVariants.{Leaf as leaf, Node as node}
+use Rattle.art_cell.specs.declared.cells.Node.{Node}
+use Rattle.art_cell.specs.declared.layouts.Pool.{Pool}
+use Rattle.art_cell.specs.declared.layouts.Pool.TheVariants.{Leaves}
+use Rattle.art_cell.specs.Children.{link_in_pool, number_of}
+use Rattle.art_step.specs.declared.numbers.Number.{Number}
+use Rattle.art_step.specs.Sound.{IsSound}
+use Rattle.art_step.specs.Tokens.{link_of_number}
+use Rattle.art_step.proofs.FreeBits.{free_is_number}
+use Rattle.art_world.specs.FreeNumbers.{IsLeastFree}
+use Rattle.art_step.specs.Steps.Claim as claim
+use Rattle.art_step.specs.WordPlaces.{IsInside, place_of, pool_of}
+use Rattle.art_step.proofs.WordPlaces.{cell_below}
+use Rattle.art_step.proofs.WordRows.{version_below}
+use Rattle.art_step.specs.declared.views.InHand.{InHand}
+use Rattle.art_step.specs.Steps.Write as write
+use Rattle.art_step.specs.declared.views.Stamp.{Stamp}
+use Rattle.art_step.specs.declared.views.View.{View}
+use Rattle.art_step.specs.declared.views.What.{What}
+use Rattle.art_step.specs.Effects.{FindsUnchanged, FindsVersion, Instant}
+use Rattle.art_step.specs.Steps.Check as check
+use Rattle.art_step.specs.declared.views.Sizes.{Sizes}
+use Rattle.art_step.specs.Steps.{AtStep}
+use Rattle.art_step.specs.Views.{Memory, Views, size_of}
+use Rattle.art_step.specs.WordRows.{view_at, views_of}
+use Rattle.art_step.proofs.Moves.{Moves, moves_fails, moves_passes}
+use Rattle.art_world.specs.Contents.{Contents, IsSoundWorld, memory_now}
+use Rattle.art_world.proofs.ViewLists.{at_view}
+
+-- what a check shows, whichever word is found
+abbrev pub ShowsCheck : Contents → ℕ → Stamp → Option What → ℕ → View → View → Type 0
+ShowsCheck k p x o found v w = (found ≡ x.version → check.Unchanged k.sizes v w x o) × (found ≢ x.version → check.IsChanged v w x found)
+
+-- and what happens at it
+abbrev pub AtCheck : Contents → ℕ → Stamp → ℕ → Instant
+AtCheck k p x found m f m' f' = (found ≡ x.version → FindsUnchanged k.sizes (view_at k.views p) x m f m' f') × (found ≢ x.version → FindsVersion x.cell found m f m' f')
+
+module _ (k : Contents) (p : ℕ) (inside : p < length k.views) (r : IsSoundWorld k) where
+  abbrev v : View
+  v = view_at k.views p
+
+  -- a step of the pass, after which the words are us
+  abbrev Shown : List ℕ → (View → View → Type 0) → Instant → Type 0
+  Shown us Row so = Moves k.sizes k.words (views_of k.views) p v us Row so
+
+  weaker : (us : List ℕ) (Row Row' : View → View → Type 0) (so so' : Instant) → ((w : View) → Row v w → Row' v w)
+      → ((m' : _) (f' : Views) → so (memory_now k) (views_of k.views) m' f' → so' (memory_now k) (views_of k.views) m' f') → Shown us Row so → Shown us Row' so'
+  weaker us Row Row' so so' row was t = record { view = t.view; pass = t.pass; row = row t.view t.row; step = t.step; sound = t.sound; was = λ g s. was _ g (t.was g s) }
+
+  pub checks : (x : Stamp) (o : Option What) (found : ℕ) → found ≡ (memory_now k).version x.cell → check.May k.sizes v x o
+      → Shown k.words (λ v w. ShowsCheck k p x o found v w) (AtCheck k p x found)
+  checks x o found is may = ⊎_elim
+      (λ (same : found ≡ x.version).
+      weaker k.words (λ v w. check.Unchanged k.sizes v w x o) (λ v w. ShowsCheck k p x o found v w) (FindsUnchanged k.sizes v x) (AtCheck k p x found) (λ w s. (λ _. s, λ other. absurd (other same))) (λ m' f' s. (λ _. s, λ other. absurd (other same)))
+      (moves_passes k.sizes k.words (views_of k.views) p v r.sound (at_view k.views p inside) r.long x o (sym is ∙ same) may))
+      (λ (other : found ≢ x.version).
+      weaker k.words (λ v w. check.IsChanged v w x found) (λ v w. ShowsCheck k p x o found v w) (FindsVersion x.cell found) (AtCheck k p x found) (λ w s. (λ same. absurd (other same), λ _. s)) (λ m' f' s. (λ same. absurd (other same), λ _. s))
+      (moves_fails k.sizes k.words (views_of k.views) p v r.sound (at_view k.views p inside) r.long x found is may.stamp other))
+      (cases_eq found x.version)
+
+-- ---- places
+
+-- the version word of a cell, and its other words, stand among the words of the world
+pub version_low : (k : Contents) (c : Cell) → IsSoundWorld k → IsInside k.sizes c → place_of k.sizes c < length k.words
+version_low k c r inside = let low = version_below k.sizes c inside in omega (arith, r.long, low)
+
+pub word_low : (k : Contents) (c : Cell) (i : ℕ) → IsSoundWorld k → IsInside k.sizes c → i < size_of c → place_of k.sizes c + i < length k.words
+word_low k c i r inside few = let low = cell_below k.sizes c i inside few in omega (arith, r.long, low)
+
+-- ---- numbers by their links
+
+-- the node that a number names may be claimed, where one that it names may
+pub claim_named : (z : Sizes) (v : View) (d : Link) (n : Node) → (a : Node) × (d ≡ node a) × IsInside z (cell.Node a) × claim.May v a → d ≡ node n → IsInside z (cell.Node n) × claim.May v n
+claim_named z v d n o is =
+    let named : node o.0 ≡ node n = sym o.1 ∙ is in
+    let same : o.0 ≡ n = cc in
+    subst (λ (a : Node). IsInside z (cell.Node a) × claim.May v a) same (o.2, o.3)
+
+-- the leaf that a number names may be written, where one that it names may
+pub leaf_named : (d : Link) (l : ℕ) → d ≡ leaf l → (z : Sizes) (v : View) (i : ℕ) → (a : ℕ) × (y : InHand) × (d ≡ leaf a) × (a < z.leaves) × write.MayLeaf v y a i → (y : InHand) × (l < z.leaves) × write.MayLeaf v y l i
+leaf_named d l is z v i o =
+    let named : leaf o.0 ≡ leaf l = sym o.2 ∙ is in
+    let same : o.0 ≡ l = cc in
+    subst (λ (a : ℕ). (y : InHand) × (a < z.leaves) × write.MayLeaf v y a i) same (o.1, o.3, o.4)
+
+pool_again : (pool : Pool) (n : ℕ) → pool_of (link_in_pool pool n) ≡ pool
+pool_again pool n = elim pool as (λ k. pool_of (link_in_pool k n) ≡ k) [ Leaves ↦ refl | _ ↦ refl ]
+
+number_again : (pool : Pool) (n : ℕ) → number_of (link_in_pool pool n) ≡ n
+number_again pool n = elim pool as (λ k. number_of (link_in_pool k n) ≡ n) [ Leaves ↦ refl | _ ↦ refl ]
+
+-- the least free number of a pool, as a number in hand
+pub least_of : (k : Contents) (p : Pool) (n : Number) (i : ℕ) → link_of_number n ≡ link_in_pool p i → (memory_now k).free (link_in_pool p i) ≡ true → ((j : ℕ) → j < i → (memory_now k).free (link_in_pool p j) ≡ false)
+    → IsSound k.sizes (memory_now k) (views_of k.views) → i < 2 ^ 32 → IsLeastFree k p n
+least_of k p n i is free least r low =
+    let mine = subst (λ (d : Link). (memory_now k).free d ≡ true) (sym is) free in
+    let same : number_of (link_of_number n) ≡ i = ap number_of is ∙ number_again p i in
+    record {
+      pool = ap pool_of is ∙ pool_again p i;
+      there = free_is_number k.sizes (memory_now k) (views_of k.views) (link_of_number n) r mine;
+      fits = rw same low;
+      free = mine;
+      least = λ j below. least j (subst (λ (m : ℕ). j < m) same below);
+    }
+
+-- ---- instants
+
+-- what was so at the instant of a step, was so in other words
+pub at_step_so : {z : Sizes} {v w : View} {I so so' : Instant} → ((m : Memory) (f : Views) (m' : Memory) (f' : Views) → so m f m' f' → so' m f m' f') → AtStep z v w I so → AtStep z v w I so'
+at_step_so by t = record {
+  words = t.words;
+  views = t.views;
+  words_after = t.words_after;
+  views_after = t.views_after;
+  instant = t.instant;
+  pass = t.pass;
+  before = t.before;
+  after = t.after;
+  step = t.step;
+  was = by t.words t.views t.words_after t.views_after t.was;
+}

@@ -1,0 +1,16 @@
+-- What a step makes of the views stands in the list.
+use Rattle.std.proofs.Common.{List, sym, subst}
+use Rattle.art_step.specs.declared.views.View.{View}
+use Rattle.art_world.specs.Contents.{Contents, IsSoundWorld, StepBy}
+use Rattle.art_world.proofs.ViewLists.{next, stepped}
+use Rattle.art_world.proofs.world.World.find.Goals as goal
+
+pub changed-requires : goal.changed-requires
+changed-requires g c =
+    let Row = g.K.Shows.shown in
+    let so = g.K.Shows.happens in
+    rw c.copied.ensures (subst (λ (k : Contents). (new : List View) × StepBy k.sizes k.words k.words c.args.pass Row so k.views new) (sym c.self.view_is)
+    (next _ _ _ c.args.pass _ Row so c.requires.pass (c.requires.moves (subst IsSoundWorld c.self.view_is c.self.invariant))))
+
+pub returns : goal.returns
+returns g c = stepped g.K.Shows.shown g.K.Shows.happens c.self.view_is c.copied.ensures c.requires.pass c.changed.ensures

@@ -1,0 +1,26 @@
+-- The cell of the one holding is unlocked.
+use Rattle.art_world.specs.Stepper.{pass_of, view_of, world_of}
+use Rattle.art_step.specs.WordRows.{views_of}
+use Rattle.art_world.proofs.ViewLists.{at_view}
+use Rattle.std.proofs.Common.{◌≡◌}
+use Rattle.art_step.proofs.Changing.{moves_releases, released_fits}
+use Rattle.art_world.proofs.Moving.{version_low}
+use Rattle.art_world.proofs.world.steps.StepperSteps.release.Goals as goal
+
+pub released-word-requires : goal.released-word-requires
+released-word-requires c =
+    let s = c.args.self.now in
+    let k = world_of s in
+    let may = c.requires.may in
+    let sound = c.stays_sound.ensures in
+    rw (c.version.ensures, c.spend-cell.ensures) (released_fits k.sizes k.words (views_of k.views) (pass_of s) (view_of s) sound.sound (at_view k.views (pass_of s) s.inside) sound.words _ may.0 may.1 may.2.0)
+
+pub put-requires-clause-place : goal.put-requires-clause-place
+put-requires-clause-place c i = rw (c.place_of-place.ensures, c.sizes.ensures, c.spend-cell.ensures) (version_low (world_of c.args.self.now) _ i c.requires.inside)
+
+pub put-requires-clause-moves : goal.put-requires-clause-moves
+put-requires-clause-moves c i =
+    let s = c.args.self.now in
+    let k = world_of s in
+    let may = c.requires.may in
+    rw (c.place_of-place.ensures, c.sizes.ensures, c.released-word.ensures, c.version.ensures, c.spend-cell.ensures) (moves_releases k.sizes k.words (views_of k.views) (pass_of s) (view_of s) i.sound (at_view k.views (pass_of s) s.inside) i.long _ may.0 c.args.obsolete may.1 may.2 c.requires.inside)

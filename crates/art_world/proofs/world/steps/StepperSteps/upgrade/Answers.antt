@@ -1,0 +1,29 @@
+-- A changed version word is found, or the stamped one, and the cell is locked.
+use Rattle.art_world.specs.Stepper.{pass_of, view_of, world_of}
+use Rattle.art_step.specs.WordRows.{views_of}
+use Rattle.art_world.proofs.ViewLists.{at_view}
+use Rattle.std.proofs.Common.{◌≡◌, ◌∙◌, sym, ap, ap₂, subst, arith}
+use Rattle.art_step.specs.Steps.Upgrade as upgrade
+use Rattle.art_step.proofs.Moves.{moves_fails}
+use Rattle.art_step.proofs.Changing.{moves_upgrades}
+use Rattle.art_step.proofs.WordRows.{inside_of}
+use Rattle.art_world.proofs.Moving.{version_low}
+use Rattle.art_world.proofs.world.steps.StepperSteps.upgrade.Goals as goal
+
+pub find-requires-clause-moves : goal.find-requires-clause-moves
+find-requires-clause-moves c i =
+    let s = c.args.self.now in
+    let k = world_of s in
+    moves_fails k.sizes k.words (views_of k.views) (pass_of s) (view_of s) i.sound (at_view k.views (pass_of s) s.inside) i.long c.args.stamp c.version-found.result c.version-found.ensures c.requires.stamp c.if-found-stamp.true
+
+pub put-requires-clause-place : goal.put-requires-clause-place
+put-requires-clause-place c i =
+    let k = world_of c.args.self.now in
+    rw (c.place_of-place.ensures, c.sizes.ensures) (version_low k c.args.stamp.cell i (inside_of k.sizes c.args.stamp.cell c.requires.inside))
+
+pub put-requires-clause-moves : goal.put-requires-clause-moves
+put-requires-clause-moves c i =
+    let s = c.args.self.now in
+    let k = world_of s in
+    let may : upgrade.May (view_of s) c.args.stamp = record { stamp = c.requires.stamp; path = c.requires.path; limit = omega arith; early = c.requires.early; unclaimed = c.requires.unclaimed } in
+    rw (c.place_of-place.ensures, c.sizes.ensures) (moves_upgrades k.sizes k.words (views_of k.views) (pass_of s) (view_of s) i.sound (at_view k.views (pass_of s) s.inside) i.long c.args.stamp (inside_of k.sizes c.args.stamp.cell c.requires.inside) (sym c.version-found.ensures ∙ c.if-found-stamp.false) may)
