@@ -1,7 +1,8 @@
 -- What no view shows, the history and the logical words, is determined by what the words and the views are.
-use Rattle.std.specs.Prelude.{◌≡◌, ℕ}
+use Rattle.std.specs.Prelude.{◌≡◌, ℕ, Some}
 use Rattle.art_cell.specs.declared.cells.Cell.{Cell}
 use Rattle.art_step.specs.declared.views.Sizes.{Sizes}
+use Rattle.art_step.specs.declared.views.View.{View}
 use Rattle.art_tree.specs.Heaps.{Cells}
 use Rattle.art_step.specs.Histories.{StartsWith}
 use Rattle.art_step.specs.Sound.{IsSound, OneHolder}
@@ -19,3 +20,11 @@ HistoryGrows = (z : Sizes) (p : ℕ) (m : Memory) (f : Views) (m' : Memory) (f' 
 -- each cell has one body of logical words
 abbrev pub LogicalLaw : Type 0
 LogicalLaw = (m : Memory) (f : Views) (s s' : Cells) → OneHolder m f s → OneHolder m f s' → (c : Cell) → s c ≡ s' c
+
+-- ---- what a step keeps of its own view
+
+abbrev pub PassLaw : Type 0
+PassLaw = (z : Sizes) (p : ℕ) (v w : View) (m : Memory) (f : Views) (m' : Memory) (f' : Views) → OneStep z p m f m' f' → f p ≡ Some v → f' p ≡ Some w → w.pass ≡ v.pass
+
+abbrev pub SeenLaw : Type 0
+SeenLaw = (z : Sizes) (p : ℕ) (v w : View) (m : Memory) (f : Views) (m' : Memory) (f' : Views) → OneStep z p m f m' f' → f p ≡ Some v → f' p ≡ Some w → StartsWith w.seen v.seen

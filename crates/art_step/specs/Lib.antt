@@ -7,6 +7,7 @@ pub mod Knowledge
 pub mod Opening
 pub mod OpeningWords
 pub mod Sound
+pub mod StepNames
 pub mod Steps
 pub mod Tokens
 pub mod Views

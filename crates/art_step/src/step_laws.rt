@@ -1,5 +1,6 @@
 //! One law for each kind of step: what is sound before it is sound after it. Each is the contract of a function with
 //! nothing to do.
+ghost use Rattle.art_step.specs.Determined.{HistoryGrows, HistoryLaw, LogicalLaw, PassLaw, SeenLaw};
 ghost use Rattle.art_step.specs.Steps.Begin as begin;
 ghost use Rattle.art_step.specs.Steps.Claim as claim;
 ghost use Rattle.art_step.specs.Steps.Commit as commit;
@@ -86,4 +87,18 @@ pub fn giving_is_sound()
 /// A step of any of these kinds.
 pub fn stepping_is_sound()
     ensures { StepLaw }
+{}
+
+/// What no view shows is determined by what the words and the views are: there is one history, which only grows, and each cell
+/// has one body of logical words.
+pub fn hidden_is_determined()
+    ensures history { HistoryLaw }
+    ensures grows { HistoryGrows }
+    ensures logical { LogicalLaw }
+{}
+
+/// A step keeps its pass, and what the pass has seen only grows.
+pub fn steps_keep_their_pass()
+    ensures pass { PassLaw }
+    ensures seen { SeenLaw }
 {}

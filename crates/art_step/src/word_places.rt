@@ -8,9 +8,6 @@ ghost use Rattle.art_step.specs.WordPlaces.{cells_end, epoch_place, first_cell, 
 use crate::Sizes;
 use art_cell::{Cell, Layout, Pool};
 
-/// No counter that is this or more goes on by an upgrade.
-pub const LAST_COUNTER: u64 = (1 << 62) - 8;
-
 /// The pool that nodes of the layout come from.
 pub fn pool_of_layout(layout: Layout) -> Pool
     ensures { result ≡ pool_of_layout layout }

@@ -16,7 +16,7 @@ pub use run::Actor;
 
 use art_cell::Cell;
 use art_ghosts::Ghost;
-use art_step::{Sizes, View};
+use art_step::{Sizes, Version, View};
 use std::collections::LinkedList;
 use std::marker::Model;
 
@@ -75,14 +75,15 @@ impl World {
     }
 
     /// The version word of a cell. A leaf has none, and counts as obsolete.
-    pub fn version(&self, cell: Cell) -> u64
+    pub fn version(&self, cell: Cell) -> Version
         requires { IsInside self.now.sizes cell }
-        ensures { result ≡ (memory_now self.now).version cell }
+        ensures { result.word ≡ (memory_now self.now).version cell }
     {
-        match cell {
+        let word = match cell {
             Cell::Leaf(_) => 1,
             _ => self.words[self.sizes.place_of(cell)],
-        }
+        };
+        Version { word }
     }
 
     /// The word at a place of a cell that is no version word.

@@ -1,6 +1,5 @@
 //! The steps of the pass that a world is lent to.
 ghost use Rattle.std.specs.Prelude.{◌≡◌, ◌<◌, ⊤, length};
-ghost use Rattle.art_step.specs.Effects.{released_word};
 ghost use Rattle.art_step.specs.Sound.{IsSound};
 ghost use Rattle.art_step.specs.WordPlaces.{word_count};
 ghost use Rattle.art_step.specs.WordRows.{views_of};
@@ -10,18 +9,10 @@ ghost use Rattle.art_world.specs.Stepper.{OnlyStepped, lender, only_same, only_s
 use super::{Stepper, World};
 use art_cell::{Cell, Link, Node};
 use art_step::{
-    Changed, Deed, Held, LAST_COUNTER, Locked, Number, Stamp, Steps, Unlinked, UpgradeFault,
+    Changed, Deed, Held, Locked, Number, Stamp, Steps, Unlinked, UpgradeFault, Version,
     numbers_of, spent,
 };
 use std::marker::Brand;
-
-/// What a release makes of a version word.
-fn released(word: u64, obsolete: bool) -> u64
-    requires { word < 18446744073709551613 }
-    ensures { result ≡ released_word word obsolete }
-{
-    if obsolete { word + 3 } else { word + 2 }
-}
 
 impl World {
     /// The world, in which the pass makes its steps: it is afterwards as they leave it.
@@ -57,13 +48,16 @@ impl Steps for Stepper<'_> {
     fn begin(&mut self, cell: Cell) -> Result<Stamp, Locked> {
         let found = self.world.version(cell);
         self.world
-            .find::<Brand, (Cell, u64)>(self.pass, &(cell, found));
-        if found % 4 != 0 {
-            return Err(Locked { cell, found });
+            .find::<Brand, (Cell, u64)>(self.pass, &(cell, found.word));
+        if !found.is_clear() {
+            return Err(Locked {
+                cell,
+                found: found.word,
+            });
         }
         Ok(Stamp {
             cell,
-            version: found,
+            version: found.word,
         })
     }
 
@@ -82,7 +76,7 @@ impl Steps for Stepper<'_> {
     }
 
     fn check(&mut self, stamp: Stamp, deed: Option<&Deed>) -> Result<(), Changed> {
-        let found = self.world.version(stamp.cell);
+        let found = self.world.version(stamp.cell).word;
         self.world
             .find::<Brand, (Stamp, Option<&Deed>, u64)>(self.pass, &(stamp, deed, found));
         if found != stamp.version {
@@ -92,10 +86,13 @@ impl Steps for Stepper<'_> {
     }
 
     fn upgrade(&mut self, stamp: Stamp) -> Result<Held, UpgradeFault> {
-        if stamp.version / 4 >= LAST_COUNTER {
+        let clear = Version {
+            word: stamp.version,
+        };
+        if clear.is_last() {
             return Err(UpgradeFault::Exhausted(stamp.cell));
         }
-        let found = self.world.version(stamp.cell);
+        let found = self.world.version(stamp.cell).word;
         if found != stamp.version {
             self.world
                 .find::<Brand, (Stamp, u64)>(self.pass, &(stamp, found));
@@ -103,7 +100,7 @@ impl Steps for Stepper<'_> {
         }
         let place = self.world.sizes().place_of(stamp.cell);
         self.world
-            .put::<Brand, Stamp>(self.pass, place, stamp.version + 2, &stamp);
+            .put::<Brand, Stamp>(self.pass, place, clear.locked().word, &stamp);
         Ok(Held::of(stamp.cell))
     }
 
@@ -113,10 +110,10 @@ impl Steps for Stepper<'_> {
         };
         self.world.stays_sound();
         let cell = Cell::Node(node);
-        let found = self.world.version(cell);
+        let locked = self.world.version(cell).claimed();
         let place = self.world.sizes().place_of(cell);
         self.world
-            .put::<Brand, Node>(self.pass, place, found + 1, &node);
+            .put::<Brand, Node>(self.pass, place, locked.word, &node);
         Held::of(cell)
     }
 
@@ -155,13 +152,13 @@ impl Steps for Stepper<'_> {
         self.world.stays_sound();
         let cell = held.spend();
         let leaf = spent(leaf);
-        let word = released(self.world.version(cell), obsolete);
+        let unlocked = self.world.version(cell).released(obsolete);
         let place = self.world.sizes().place_of(cell);
         self.world
             .put::<Brand, (Cell, bool, &Deed, Option<Link>, &[u64])>(
                 self.pass,
                 place,
-                word,
+                unlocked.word,
                 &(cell, obsolete, deed, leaf, unlinked),
             );
         numbers_of(unlinked)
@@ -170,10 +167,10 @@ impl Steps for Stepper<'_> {
     fn release(&mut self, held: Held, obsolete: bool) {
         self.world.stays_sound();
         let cell = held.spend();
-        let word = released(self.world.version(cell), obsolete);
+        let unlocked = self.world.version(cell).released(obsolete);
         let place = self.world.sizes().place_of(cell);
         self.world
-            .put::<Brand, (Cell, bool)>(self.pass, place, word, &(cell, obsolete));
+            .put::<Brand, (Cell, bool)>(self.pass, place, unlocked.word, &(cell, obsolete));
     }
 }
 

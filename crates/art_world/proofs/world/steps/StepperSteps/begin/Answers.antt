@@ -9,4 +9,4 @@ pub find-requires-clause-moves : goal.find-requires-clause-moves
 find-requires-clause-moves c i =
     let s = c.args.self.now in
     let k = world_of s in
-    moves_begins k.sizes k.words (views_of k.views) (pass_of s) (view_of s) i.sound (at_view k.views (pass_of s) s.inside) i.long c.args.cell c.version-found.result c.requires.may c.version-found.ensures
+    moves_begins k.sizes k.words (views_of k.views) (pass_of s) (view_of s) i.sound (at_view k.views (pass_of s) s.inside) i.long c.args.cell c.version-found.result.word c.requires.may c.version-found.ensures

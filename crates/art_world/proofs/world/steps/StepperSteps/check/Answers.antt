@@ -12,7 +12,7 @@ pub find-requires-clause-moves : goal.find-requires-clause-moves
 find-requires-clause-moves c i =
     let s = c.args.self.now in
     let k = world_of s in
-    checks k (pass_of s) s.inside i c.args.stamp (option_map (λ d. what_of d.now) c.args.deed) c.version-found.result c.version-found.ensures c.requires.may
+    checks k (pass_of s) s.inside i c.args.stamp (option_map (λ d. what_of d.now) c.args.deed) c.version-found.result.word c.version-found.ensures c.requires.may
 
 pub returns-then-found-stamp-clause-at_once : goal.returns-then-found-stamp-clause-at_once
 returns-then-found-stamp-clause-at_once c = rw c.changed.ensures (at_step_so (λ m f m' f' s. s.1 c.if-found-stamp.true) c.find.ensures.at_once)

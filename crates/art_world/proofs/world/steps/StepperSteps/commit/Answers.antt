@@ -2,7 +2,7 @@
 use Rattle.art_world.specs.Stepper.{pass_of, view_of, world_of}
 use Rattle.art_step.specs.WordRows.{views_of}
 use Rattle.art_world.proofs.ViewLists.{at_view}
-use Rattle.std.proofs.Common.{sym, subst}
+use Rattle.std.proofs.Common.{arith, sym, subst}
 use Rattle.std.specs.Prelude.{Option}
 use Rattle.art_cell.specs.declared.cells.Link.{Link}
 use Rattle.art_step.specs.Deeds.{what_of}
@@ -13,13 +13,14 @@ use Rattle.art_world.proofs.Moving.{version_low}
 use Rattle.art_world.proofs.Standing.{standing}
 use Rattle.art_world.proofs.world.steps.StepperSteps.commit.Goals as goal
 
-pub released-word-requires : goal.released-word-requires
-released-word-requires c =
+pub released-unlocked-requires : goal.released-unlocked-requires
+released-unlocked-requires c =
     let s = c.args.self.now in
     let k = world_of s in
     let first = c.requires.first in
     let sound = c.stays_sound.ensures in
-    rw (c.version.ensures, c.spend-cell.ensures) (released_fits k.sizes k.words (views_of k.views) (pass_of s) (view_of s) sound.sound (at_view k.views (pass_of s) s.inside) sound.words _ first.0 first.1 first.2.held)
+    let fits = released_fits k.sizes k.words (views_of k.views) (pass_of s) (view_of s) sound.sound (at_view k.views (pass_of s) s.inside) sound.words _ first.0 first.1 first.2.held in
+    rw (c.version.ensures, c.spend-cell.ensures) (omega (arith, fits))
 
 pub put-requires-clause-place : goal.put-requires-clause-place
 put-requires-clause-place c i = rw (c.place_of-place.ensures, c.sizes.ensures, c.spend-cell.ensures) (version_low (world_of c.args.self.now) _ i c.requires.inside)
@@ -30,5 +31,5 @@ put-requires-clause-moves c i =
     let k = world_of s in
     let first = c.requires.first in
     let pins = standing k.views (λ q u is. (i.sound.history.tells q u is).pass) in
-    rw (c.place_of-place.ensures, c.sizes.ensures, c.released-word.ensures, c.version.ensures, c.spend-cell.ensures, c.spent-leaf.ensures)
+    rw (c.place_of-place.ensures, c.sizes.ensures, c.released-unlocked.ensures, c.version.ensures, c.spend-cell.ensures, c.spent-leaf.ensures)
     (moves_commits k.sizes k.words (views_of k.views) (pass_of s) (view_of s) i.sound (at_view k.views (pass_of s) s.inside) i.long _ first.0 (what_of c.args.deed.now) (links_of c.args.unlinked.now) _ c.args.obsolete first.1 pins first.2 c.requires.may c.requires.inside)

@@ -2,18 +2,19 @@
 use Rattle.art_world.specs.Stepper.{pass_of, view_of, world_of}
 use Rattle.art_step.specs.WordRows.{views_of}
 use Rattle.art_world.proofs.ViewLists.{at_view}
-use Rattle.std.proofs.Common.{◌≡◌}
+use Rattle.std.proofs.Common.{arith, ◌≡◌}
 use Rattle.art_step.proofs.Changing.{moves_releases, released_fits}
 use Rattle.art_world.proofs.Moving.{version_low}
 use Rattle.art_world.proofs.world.steps.StepperSteps.release.Goals as goal
 
-pub released-word-requires : goal.released-word-requires
-released-word-requires c =
+pub released-unlocked-requires : goal.released-unlocked-requires
+released-unlocked-requires c =
     let s = c.args.self.now in
     let k = world_of s in
     let may = c.requires.may in
     let sound = c.stays_sound.ensures in
-    rw (c.version.ensures, c.spend-cell.ensures) (released_fits k.sizes k.words (views_of k.views) (pass_of s) (view_of s) sound.sound (at_view k.views (pass_of s) s.inside) sound.words _ may.0 may.1 may.2.0)
+    let fits = released_fits k.sizes k.words (views_of k.views) (pass_of s) (view_of s) sound.sound (at_view k.views (pass_of s) s.inside) sound.words _ may.0 may.1 may.2.0 in
+    rw (c.version.ensures, c.spend-cell.ensures) (omega (arith, fits))
 
 pub put-requires-clause-place : goal.put-requires-clause-place
 put-requires-clause-place c i = rw (c.place_of-place.ensures, c.sizes.ensures, c.spend-cell.ensures) (version_low (world_of c.args.self.now) _ i c.requires.inside)
@@ -23,4 +24,4 @@ put-requires-clause-moves c i =
     let s = c.args.self.now in
     let k = world_of s in
     let may = c.requires.may in
-    rw (c.place_of-place.ensures, c.sizes.ensures, c.released-word.ensures, c.version.ensures, c.spend-cell.ensures) (moves_releases k.sizes k.words (views_of k.views) (pass_of s) (view_of s) i.sound (at_view k.views (pass_of s) s.inside) i.long _ may.0 c.args.obsolete may.1 may.2 c.requires.inside)
+    rw (c.place_of-place.ensures, c.sizes.ensures, c.released-unlocked.ensures, c.version.ensures, c.spend-cell.ensures) (moves_releases k.sizes k.words (views_of k.views) (pass_of s) (view_of s) i.sound (at_view k.views (pass_of s) s.inside) i.long _ may.0 c.args.obsolete may.1 may.2 c.requires.inside)

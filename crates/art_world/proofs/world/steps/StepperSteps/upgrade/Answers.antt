@@ -2,7 +2,10 @@
 use Rattle.art_world.specs.Stepper.{pass_of, view_of, world_of}
 use Rattle.art_step.specs.WordRows.{views_of}
 use Rattle.art_world.proofs.ViewLists.{at_view}
-use Rattle.std.proofs.Common.{◌≡◌, ◌∙◌, sym, ap, ap₂, subst, arith}
+use Rattle.std.proofs.lemmas.Bool.{cases_lt, false≢true}
+use Rattle.std.specs.Prelude.{IsTrue}
+use Rattle.art_step.specs.Views.{last_counter}
+use Rattle.std.proofs.Common.{Bool, false, ℕ, ◌*◌, ◌<◌, ◌≤◌, ◌↔◌, ⊎_elim, ◌≡◌, ◌∙◌, sym, ap, ap₂, subst, arith}
 use Rattle.art_step.specs.Steps.Upgrade as upgrade
 use Rattle.art_step.proofs.Moves.{moves_fails}
 use Rattle.art_step.proofs.Changing.{moves_upgrades}
@@ -10,11 +13,18 @@ use Rattle.art_step.proofs.WordRows.{inside_of}
 use Rattle.art_world.proofs.Moving.{version_low}
 use Rattle.art_world.proofs.world.steps.StepperSteps.upgrade.Goals as goal
 
+-- a word of which it is found that it is not the last, is below it
+not_last : (b : Bool) (x : ℕ) → (IsTrue b ↔ (4 * last_counter ≤ x)) → b ≡ false → x < 4 * last_counter
+not_last b x says off = ⊎_elim
+    (λ (low : x < 4 * last_counter). low)
+    (λ (high : 4 * last_counter ≤ x). absurd (false≢true (sym off ∙ says.1 high)))
+    (cases_lt x (4 * last_counter))
+
 pub find-requires-clause-moves : goal.find-requires-clause-moves
 find-requires-clause-moves c i =
     let s = c.args.self.now in
     let k = world_of s in
-    moves_fails k.sizes k.words (views_of k.views) (pass_of s) (view_of s) i.sound (at_view k.views (pass_of s) s.inside) i.long c.args.stamp c.version-found.result c.version-found.ensures c.requires.stamp c.if-found-stamp.true
+    moves_fails k.sizes k.words (views_of k.views) (pass_of s) (view_of s) i.sound (at_view k.views (pass_of s) s.inside) i.long c.args.stamp c.version-found.result.word c.version-found.ensures c.requires.stamp c.if-found-stamp.true
 
 pub put-requires-clause-place : goal.put-requires-clause-place
 put-requires-clause-place c i =
@@ -25,5 +35,5 @@ pub put-requires-clause-moves : goal.put-requires-clause-moves
 put-requires-clause-moves c i =
     let s = c.args.self.now in
     let k = world_of s in
-    let may : upgrade.May (view_of s) c.args.stamp = record { stamp = c.requires.stamp; path = c.requires.path; limit = omega arith; early = c.requires.early; unclaimed = c.requires.unclaimed } in
-    rw (c.place_of-place.ensures, c.sizes.ensures) (moves_upgrades k.sizes k.words (views_of k.views) (pass_of s) (view_of s) i.sound (at_view k.views (pass_of s) s.inside) i.long c.args.stamp (inside_of k.sizes c.args.stamp.cell c.requires.inside) (sym c.version-found.ensures ∙ c.if-found-stamp.false) may)
+    let may : upgrade.May (view_of s) c.args.stamp = record { stamp = c.requires.stamp; path = c.requires.path; limit = not_last _ _ c.is_last.ensures c.if-is_last.false; early = c.requires.early; unclaimed = c.requires.unclaimed } in
+    rw (c.place_of-place.ensures, c.sizes.ensures, c.locked.ensures) (moves_upgrades k.sizes k.words (views_of k.views) (pass_of s) (view_of s) i.sound (at_view k.views (pass_of s) s.inside) i.long c.args.stamp (inside_of k.sizes c.args.stamp.cell c.requires.inside) (sym c.version-found.ensures ∙ c.if-found-stamp.false) may)
