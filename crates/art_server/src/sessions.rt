@@ -5,13 +5,15 @@ ghost use Rattle.art_model.specs.declared.commands.Command.TheVariants.{Insert, 
 ghost use Rattle.art_table.specs.Answers.{table_answer};
 ghost use Rattle.art_table.specs.Contents.{IsPassOf};
 ghost use Rattle.art_server.specs.Lines.{line_says};
+ghost use Rattle.art_server.specs.Counted.{reader_of, reads_of};
+ghost use Rattle.art_server.specs.Reads.{EndsAtInput, MakesReads};
 ghost use Rattle.art_server.specs.Replies.{reply_of};
 ghost use Rattle.art_server.specs.Sessions.{refused, line_answer, RunsSession};
 ghost use Rattle.art_server.specs.Steps.{IsServed, SendsReply, SendsLine, AnswersBytes, Finishes};
 
 use crate::replies::{Answer, print_answer};
-use crate::streams::{read_piece, write_text};
-use crate::{LineFault, Refusal, parse_line};
+use crate::streams::write_text;
+use crate::{Counted, LineFault, Refusal, parse_line};
 use arrayvec::ArrayVec;
 use art_model::{Command, NoMemory, Tuple};
 use art_table::{Inserted, Pass, Table, get, insert, remove};
@@ -100,21 +102,23 @@ impl From<io::Error> for Stop {
 
 /// Answers each line that the reader gives, by the table, to the writer.
 ///
-/// At most 1,000,000 reads are made, each of at most 4,096 bytes; one that a signal interrupts is made again. Memory
-/// is taken for one line's reading and for its reply alone.
+/// At most 1,000,000 reads are made, each of at most 4,096 bytes. The first read or write that fails ends the session, an
+/// interruption too: a caller who wants another try makes it in the reader or the writer. So does a write that takes
+/// no byte. Memory is taken for one line's reading and for its reply alone.
 pub fn session<R: Read, W: Write>(
     alloc: Global,
     table: &mut Table,
     pass: Pass,
-    reader: &mut R,
+    reader: &mut Counted<R>,
     writer: &mut W,
 ) -> (Pass, SessionEnd)
     requires { IsPassOf table.old pass }
     ensures pass { result.0 ≡ pass }
     ensures sizes { table.new.sizes ≡ table.old.sizes }
-    ensures session { RunsSession (R.remaining reader.old) (R.remaining reader.new)
+    ensures session { RunsSession (R.remaining (reader_of reader.old)) (R.remaining (reader_of reader.new))
         (W.contents writer.old) (W.contents writer.new) table.old table.new result.1 }
-    ensures end { result.1.why ≡ EndCause.Ended → IsAtEnd (R.remaining reader.new) }
+    ensures end { result.1.why ≡ EndCause.Ended → IsAtEnd (R.remaining (reader_of reader.new)) }
+    ensures reads { MakesReads (reads_of reader.old) (reads_of reader.new) result.1.why }
 {
     let mut pass = pass;
     let end = answer_reads(alloc, table, &mut pass, reader, writer);
@@ -125,21 +129,22 @@ fn answer_reads<R: Read, W: Write>(
     alloc: Global,
     table: &mut Table,
     pass: &mut Pass,
-    reader: &mut R,
+    reader: &mut Counted<R>,
     writer: &mut W,
 ) -> SessionEnd
     requires { IsPassOf table.old pass.old }
     ensures pass { pass.new ≡ pass.old }
     ensures sizes { table.new.sizes ≡ table.old.sizes }
-    ensures session { RunsSession (R.remaining reader.old) (R.remaining reader.new)
+    ensures session { RunsSession (R.remaining (reader_of reader.old)) (R.remaining (reader_of reader.new))
         (W.contents writer.old) (W.contents writer.new) table.old table.new result }
-    ensures end { result.why ≡ EndCause.Ended → IsAtEnd (R.remaining reader.new) }
+    ensures end { result.why ≡ EndCause.Ended → IsAtEnd (R.remaining (reader_of reader.new)) }
+    ensures reads { MakesReads (reads_of reader.old) (reads_of reader.new) result.why }
 {
     let mut piece = [0u8; 4096];
     let mut line = ArrayVec::new();
     let mut answered = 0;
     'reads: for _ in 0..READS {
-        match read_piece(reader, &mut piece) {
+        match reader.read(&mut piece) {
             Ok(0) => return finish(alloc, table, pass, line.as_slice(), writer, answered),
             Ok(count) => {
                 match answer_bytes(
@@ -186,6 +191,7 @@ fn finish<W: Write>(
     ensures sizes { table.new.sizes ≡ table.old.sizes }
     ensures finishes { Finishes (W.contents writer.old) (W.contents writer.new) table.old table.new
         answered line.now result }
+    ensures cause { EndsAtInput result.why }
 {
     if line.is_empty() {
         return ended(EndCause::Ended, answered);

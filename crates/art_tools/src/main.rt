@@ -13,6 +13,7 @@ mod settings;
 #[cfg(test)]
 mod tests;
 
+use art_server::Counted;
 use std::alloc::Global;
 use std::io::ErrorKind;
 use std::process::ExitCode;
@@ -36,7 +37,7 @@ fn main(rt: HostRuntime) -> io::Result<ExitCode> {
     let status = program::execute(
         alloc,
         words.as_slice(),
-        &mut rt.stdin(),
+        &mut Counted::new(rt.stdin()),
         &mut rt.stdout(),
         &mut rt.stderr(),
     );

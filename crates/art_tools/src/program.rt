@@ -7,6 +7,8 @@ ghost use Rattle.art_key.specs.declared.faults.SchemaFault.{SchemaFault};
 ghost use Rattle.art_key.specs.Schemas.{schema_of};
 ghost use Rattle.art_table.specs.Closing.{AreAllPasses};
 ghost use Rattle.art_table.specs.Contents.{IsPassOf};
+ghost use Rattle.art_server.specs.Counted.{reader_of, reads_of};
+ghost use Rattle.art_server.specs.Reads.{AddsReads};
 ghost use Rattle.art_server.specs.Refusals.{schema_refusal};
 ghost use Rattle.art_server.specs.declared.refusals.Refusal.{Refusal};
 ghost use Rattle.art_tools.specs.Outputs.{Outputs, empty_table};
@@ -17,7 +19,7 @@ use crate::command_line::settings;
 use crate::run_faults::RunFault;
 use crate::settings::{Settings, SettingsFault};
 use art_key::Schema;
-use art_server::{EndCause, session};
+use art_server::{Counted, EndCause, session};
 use art_table::{Config, OpenFault, Pass, Table, close, open};
 use std::alloc::Global;
 use std::io::{self, Read, Write};
@@ -41,7 +43,7 @@ pub const SIZES: Config = Config {
 pub fn execute<'a, R: Read, W: Write, E: Write>(
     alloc: Global,
     words: &'a [&'a str],
-    reader: &mut R,
+    reader: &mut Counted<R>,
     writer: &mut W,
     faults: &mut E,
 ) -> u8
@@ -54,7 +56,8 @@ pub fn execute<'a, R: Read, W: Write, E: Write>(
         → (result ≡ 3) ⊎ (result ≡ 4) }
     ensures refused { result ≡ 3 → (faults_of words.entry.now ≡ []) × IsErr (schema_asked words.entry.now) }
     ensures ran { faults_of words.entry.now ≡ [] → result ≡ 0
-        → Outputs (schema_asked words.entry.now) (R.remaining reader.old) (W.contents writer.old) (W.contents writer.new) }
+        → Outputs (schema_asked words.entry.now) (R.remaining (reader_of reader.old)) (W.contents writer.old) (W.contents writer.new) }
+    ensures reads { AddsReads (reads_of reader.old) (reads_of reader.new) }
 {
     match settings(alloc, words) {
         Ok(Settings::Run { schema }) => status(faults, run(alloc, schema, reader, writer)),
@@ -67,14 +70,15 @@ pub fn execute<'a, R: Read, W: Write, E: Write>(
 pub fn run<R: Read, W: Write>(
     alloc: Global,
     schema: &str,
-    reader: &mut R,
+    reader: &mut Counted<R>,
     writer: &mut W,
 ) -> Result<(), RunFault>
-    ensures output { OnOk result (Outputs (schema_of schema.now) (R.remaining reader.old)
+    ensures output { OnOk result (Outputs (schema_of schema.now) (R.remaining (reader_of reader.old))
         (W.contents writer.old) (W.contents writer.new)) }
     ensures schema { (fault : SchemaFault) → schema_of schema.now ≡ Err fault
         → result ≡ Err (RunFault.Refused (schema_refusal fault)) }
     ensures refused { (refusal : Refusal) → result ≡ Err (RunFault.Refused refusal) → IsErr (schema_of schema.now) }
+    ensures reads { AddsReads (reads_of reader.old) (reads_of reader.new) }
 {
     let schema = Schema::parse(schema)?;
     let (mut table, mut passes) = empty_table(alloc, schema)?;
