@@ -14,8 +14,6 @@ mod refusals;
 mod replies;
 mod sessions;
 mod streams;
-#[cfg(test)]
-mod tests;
 
 pub use counted::Counted;
 pub use lines::{LINE_BYTES, LineFault, long_lines_are_alike, parse_line};

@@ -11,11 +11,11 @@ ghost use Rattle.art_server.specs.Replies.{reply_of};
 ghost use Rattle.art_server.specs.Sessions.{refused, line_answer, RunsSession};
 ghost use Rattle.art_server.specs.Steps.{IsServed, SendsReply, SendsLine, AnswersBytes, Finishes};
 
-use crate::replies::{Answer, print_answer};
+use crate::replies::print_answer;
 use crate::streams::write_text;
 use crate::{Counted, LineFault, Refusal, parse_line};
 use arrayvec::ArrayVec;
-use art_model::{Command, NoMemory, Tuple};
+use art_model::{Answer, Command, NoMemory, Tuple};
 use art_table::{Inserted, Pass, Table, get, insert, remove};
 use std::alloc::Global;
 use std::io::{self, Read, Write};
@@ -266,13 +266,17 @@ fn answer_line<W: Write>(
                     pending: false,
                 });
             }
-            _ => Answer::Refused(Refusal::from(fault)),
+            _ => Err(Refusal::from(fault)),
         },
     };
     send_answer(alloc, answer, writer)
 }
 
-fn send_answer<W: Write>(alloc: Global, answer: Answer, writer: &mut W) -> Result<(), Stop>
+fn send_answer<W: Write>(
+    alloc: Global,
+    answer: Result<Answer, Refusal>,
+    writer: &mut W,
+) -> Result<(), Stop>
     ensures { SendsReply (reply_of answer) (W.contents writer.old) (W.contents writer.new) result }
 {
     let text = print_answer(alloc, answer)?;
@@ -280,7 +284,7 @@ fn send_answer<W: Write>(alloc: Global, answer: Answer, writer: &mut W) -> Resul
     Ok(())
 }
 
-fn run_command(table: &mut Table, pass: &mut Pass, command: &Command) -> Answer
+fn run_command(table: &mut Table, pass: &mut Pass, command: &Command) -> Result<Answer, Refusal>
     requires pass { IsPassOf table.old pass.old }
     requires served { IsServed command.now }
     ensures reply { reply_of result ≡ refused (table_answer command.now table.old).0 }
@@ -295,41 +299,46 @@ fn run_command(table: &mut Table, pass: &mut Pass, command: &Command) -> Answer
     }
 }
 
-fn run_insert(table: &mut Table, pass: &mut Pass, tuple: &Tuple, value: u64) -> Answer
+fn run_insert(
+    table: &mut Table,
+    pass: &mut Pass,
+    tuple: &Tuple,
+    value: u64,
+) -> Result<Answer, Refusal>
     requires { IsPassOf table.old pass.old }
     ensures reply { reply_of result ≡ refused (table_answer (Insert tuple.now value) table.old).0 }
     ensures after { table.new ≡ (table_answer (Insert tuple.now value) table.old).1 }
     ensures pass { pass.new ≡ pass.old }
 {
     match insert(table, pass, tuple, value, TURNS) {
-        Ok(Inserted::New) => Answer::Inserted,
-        Ok(Inserted::Present(stored)) => Answer::Present(stored),
-        Err(fault) => Answer::Refused(Refusal::from(fault)),
+        Ok(Inserted::New) => Ok(Answer::Inserted),
+        Ok(Inserted::Present(stored)) => Ok(Answer::Present(stored)),
+        Err(fault) => Err(Refusal::from(fault)),
     }
 }
 
-fn run_remove(table: &mut Table, pass: &mut Pass, tuple: &Tuple) -> Answer
+fn run_remove(table: &mut Table, pass: &mut Pass, tuple: &Tuple) -> Result<Answer, Refusal>
     requires { IsPassOf table.old pass.old }
     ensures reply { reply_of result ≡ refused (table_answer (Remove tuple.now) table.old).0 }
     ensures after { table.new ≡ (table_answer (Remove tuple.now) table.old).1 }
     ensures pass { pass.new ≡ pass.old }
 {
     match remove(table, pass, tuple, TURNS) {
-        Ok(Some(value)) => Answer::Removed(value),
-        Ok(None) => Answer::Absent,
-        Err(fault) => Answer::Refused(Refusal::from(fault)),
+        Ok(Some(value)) => Ok(Answer::Removed(value)),
+        Ok(None) => Ok(Answer::Absent),
+        Err(fault) => Err(Refusal::from(fault)),
     }
 }
 
-fn run_get(table: &mut Table, pass: &mut Pass, tuple: &Tuple) -> Answer
+fn run_get(table: &mut Table, pass: &mut Pass, tuple: &Tuple) -> Result<Answer, Refusal>
     requires { IsPassOf table.old pass.old }
     ensures reply { reply_of result ≡ refused (table_answer (Get tuple.now) table.old).0 }
     ensures after { table.new ≡ (table_answer (Get tuple.now) table.old).1 }
     ensures pass { pass.new ≡ pass.old }
 {
     match get(table, pass, tuple, TURNS) {
-        Ok(Some(value)) => Answer::Found(value),
-        Ok(None) => Answer::Absent,
-        Err(fault) => Answer::Refused(Refusal::from(fault)),
+        Ok(Some(value)) => Ok(Answer::Found(value)),
+        Ok(None) => Ok(Answer::Absent),
+        Err(fault) => Err(Refusal::from(fault)),
     }
 }

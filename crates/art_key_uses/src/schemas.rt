@@ -1,5 +1,5 @@
 //! Schemas by their names.
-use crate::{Column, Schema, SchemaFault};
+use art_key::{Column, Schema, SchemaFault};
 use std::test::*;
 
 #[test]

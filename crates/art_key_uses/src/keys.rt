@@ -1,5 +1,5 @@
 //! Keys of worked examples, and bytes that are no key.
-use super::*;
+use art_key::{Bound, Schema, SchemaFault, ValueFault, decode, encode};
 use art_model::{Text, Tuple, Value};
 use std::process::Abort;
 use std::test::*;

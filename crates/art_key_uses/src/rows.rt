@@ -1,5 +1,5 @@
 //! The map answers worked examples.
-use crate::{Command, NoMemory, Reply, Row, SortedRows, Text, Tuple, Value};
+use art_model::{Command, NoMemory, Reply, Row, SortedRows, Text, Tuple, Value};
 use arrayvec::ArrayVec;
 use std::process::Abort;
 use std::test::Fail;

@@ -1,12 +1,12 @@
 //! Calls on a table of one `u64` column.
 ghost use Rattle.art_table.specs.Contents.{IsPassOf};
 
-use crate::{
+use art_key::{Schema, ValueFault};
+use art_model::{Tuple, Value};
+use art_table::{
     CloseRefusal, Config, Fault, Inserted, OpenFault, Pass, Pool, PoolCount, Table, close, get,
     insert, open, remove,
 };
-use art_key::{Schema, ValueFault};
-use art_model::{Tuple, Value};
 use std::alloc::Global;
 use std::process::Abort;
 use std::test::Fail;
