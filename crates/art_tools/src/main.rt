@@ -5,8 +5,9 @@
 #![tactic(auto)]
 
 #[cfg(test)]
-mod answers_tests;
+mod answers;
 mod command_line;
+mod help;
 mod program;
 mod run_faults;
 mod settings;

@@ -37,7 +37,7 @@ pub const SIZES: Config = Config {
 
 /// Does what the words ask for, and answers the status that the program ends with.
 ///
-/// Replies and help go to `writer`, and what was wrong goes to `faults`, in one line. 0: ended, or help;
+/// Replies, help and the version go to `writer`, and what was wrong goes to `faults`, in one line. 0: ended, or help;
 /// 1: a read or a write failed; 2: the words were refused; 3: the schema was; 4: want of memory; 5: a session's
 /// reads were used up.
 pub fn execute<'a, R: Read, W: Write, E: Write>(
@@ -51,6 +51,7 @@ pub fn execute<'a, R: Read, W: Write, E: Write>(
     ensures quiet { result ≡ 2 → writer.new ≡ writer.old }
     ensures mistake { faults_of words.entry.now ≢ [] → (¬ (AsksToShow words.entry.now)) → (result ≡ 2) ⊎ (result ≡ 4) }
     ensures help { faults_of words.entry.now ≡ DisplayHelp ∷ [] → result ≢ 2 }
+    ensures version { faults_of words.entry.now ≡ DisplayVersion ∷ [] → result ≢ 2 }
     ensures words { result ≡ 2 → faults_of words.entry.now ≢ [] }
     ensures schema { (fault : SchemaFault) → faults_of words.entry.now ≡ [] → schema_asked words.entry.now ≡ Err fault
         → (result ≡ 3) ⊎ (result ≡ 4) }
