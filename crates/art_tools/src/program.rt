@@ -8,7 +8,7 @@ ghost use Rattle.art_key.specs.Schemas.{schema_of};
 ghost use Rattle.art_table.specs.Closing.{AreAllPasses};
 ghost use Rattle.art_table.specs.Contents.{IsPassOf};
 ghost use Rattle.art_server.specs.Counted.{reader_of, reads_of};
-ghost use Rattle.art_server.specs.Reads.{AddsReads};
+ghost use Rattle.art_server.specs.Reads.{AddsReads, MakesReads};
 ghost use Rattle.art_server.specs.Refusals.{schema_refusal};
 ghost use Rattle.art_server.specs.declared.refusals.Refusal.{Refusal};
 ghost use Rattle.art_tools.specs.Outputs.{Outputs, empty_table};
@@ -38,8 +38,8 @@ pub const SIZES: Config = Config {
 /// Does what the words ask for, and answers the status that the program ends with.
 ///
 /// Replies, help and the version go to `writer`, and what was wrong goes to `faults`, in one line. 0: ended, or help;
-/// 1: a read or a write failed; 2: the words were refused; 3: the schema was; 4: want of memory; 5: a session's
-/// reads were used up.
+/// 1: a read or a write failed; 2: the words were refused; 3: the schema was; 4: want of memory; 5: a million reads were
+/// made, each of which gave bytes.
 pub fn execute<'a, R: Read, W: Write, E: Write>(
     alloc: Global,
     words: &'a [&'a str],
@@ -59,6 +59,7 @@ pub fn execute<'a, R: Read, W: Write, E: Write>(
     ensures ran { faults_of words.entry.now ≡ [] → result ≡ 0
         → Outputs (schema_asked words.entry.now) (R.remaining (reader_of reader.old)) (W.contents writer.old) (W.contents writer.new) }
     ensures reads { AddsReads (reads_of reader.old) (reads_of reader.new) }
+    ensures used { result ≡ 5 → MakesReads (reads_of reader.old) (reads_of reader.new) EndCause.ReadsUsed }
 {
     match settings(alloc, words) {
         Ok(Settings::Run { schema }) => status(faults, run(alloc, schema, reader, writer)),
@@ -80,6 +81,10 @@ pub fn run<R: Read, W: Write>(
         → result ≡ Err (RunFault.Refused (schema_refusal fault)) }
     ensures refused { (refusal : Refusal) → result ≡ Err (RunFault.Refused refusal) → IsErr (schema_of schema.now) }
     ensures reads { AddsReads (reads_of reader.old) (reads_of reader.new) }
+    ensures failed { result ≡ Err RunFault.ReadFailed
+        → MakesReads (reads_of reader.old) (reads_of reader.new) EndCause.ReadFault }
+    ensures used { result ≡ Err RunFault.ReadsUsed
+        → MakesReads (reads_of reader.old) (reads_of reader.new) EndCause.ReadsUsed }
 {
     let schema = Schema::parse(schema)?;
     let (mut table, mut passes) = empty_table(alloc, schema)?;
