@@ -1,6 +1,6 @@
 //! The map answers worked examples.
-use art_model::{Command, NoMemory, Reply, Row, SortedRows, Text, Tuple, Value};
 use arrayvec::ArrayVec;
+use art_model::{Command, NoMemory, Reply, Row, SortedRows, Text, Tuple, Value};
 use std::process::Abort;
 use std::test::Fail;
 

@@ -1,11 +1,11 @@
 //! The texts that clients see.
 ghost use Rattle.art_server.specs.Replies.{IsPrintableRow};
 
+use arrayvec::ArrayVec;
 use art_key::{SchemaFault, ValueFault};
 use art_model::{Reply, Row, Text, Tuple, Value};
 use art_server::{LineFault, Refusal, print_reply};
 use art_table::{CloseRefusal, Fault, OpenFault, Pool};
-use arrayvec::ArrayVec;
 use std::test::Fail;
 
 #[test]
@@ -115,4 +115,3 @@ fn faults_have_refusals(rt: HostRuntime) {
         Refusal::PassesMissing
     );
 }
-

@@ -1,4 +1,4 @@
-use Rattle.std.proofs.Common.{subst, sym}
+use Rattle.std.proofs.Common.{subst}
 use Rattle.art_server.specs.Counted.{reader_of}
 use Rattle.art_tools.specs.Outputs.{Outputs}
 use Rattle.art_server.specs.Reads.{MakesReads}
