@@ -19,8 +19,3 @@ pub use faults::{SchemaFault, ValueFault};
 pub use keys::{Key, decode, encode};
 pub use laws::{keys_stand_as_tuples, no_key_begins_another, spellings_are_read_back};
 pub use schemas::Schema;
-
-#[cfg(test)]
-mod schema_tests;
-#[cfg(test)]
-mod tests;

@@ -1,5 +1,7 @@
 -- What the sorted map answers to a command: the reply, and the rows after it.
 use Rattle.std.specs.Prelude.{ℕ, List, ◌≤◌, ◌==◌, Option, Some, None, length, take, ⊤}
+use Rattle.art_model.specs.declared.commands.Answer.{Answer}
+use Rattle.art_model.specs.declared.commands.Answer.TheVariants as short
 use Rattle.art_model.specs.declared.commands.Command.{Command}
 use Rattle.art_model.specs.declared.commands.Command.TheVariants.{Insert, Remove, Get, Scan}
 use Rattle.art_model.specs.declared.commands.Reply.{Reply}
@@ -8,28 +10,28 @@ use Rattle.art_model.specs.declared.rows.Row.{Row}
 use Rattle.art_model.specs.Rows.{Tuple, value_at, with_row, without_row, rows_between}
 
 -- a reply, and the rows after it
-abbrev pub Answer : Type 0
-Answer = Reply × List Row
+abbrev pub Outcome : Type 0
+Outcome = Reply × List Row
 
 -- An insert adds its row where none with the tuple stands; one that stands stays.
-abbrev pub insert_answer : List Row → Tuple → ℕ → Option ℕ → Answer
+abbrev pub insert_answer : List Row → Tuple → ℕ → Option ℕ → Outcome
 insert_answer rows t v None = (Inserted, with_row rows t v)
 insert_answer rows t v (Some there) = (Present there, rows)
 
 -- A remove takes the row with the tuple out, where one stands.
-abbrev pub remove_answer : List Row → Tuple → Option ℕ → Answer
+abbrev pub remove_answer : List Row → Tuple → Option ℕ → Outcome
 remove_answer rows t None = (Absent, rows)
 remove_answer rows t (Some there) = (Removed there, without_row rows t)
 
-abbrev pub get_answer : List Row → Option ℕ → Answer
+abbrev pub get_answer : List Row → Option ℕ → Outcome
 get_answer rows None = (Absent, rows)
 get_answer rows (Some there) = (Found there, rows)
 
 -- A scan lists the first rows of its range, and says whether there are as many as the limit.
-abbrev pub scan_answer : List Row → List Row → ℕ → Answer
+abbrev pub scan_answer : List Row → List Row → ℕ → Outcome
 scan_answer rows listed limit = (Rows (record { items = listed }) (length listed == limit), rows)
 
-abbrev pub answer : Command → List Row → Answer
+abbrev pub answer : Command → List Row → Outcome
 answer (Insert t v) rows = insert_answer rows t v (value_at rows t)
 answer (Remove t) rows = remove_answer rows t (value_at rows t)
 answer (Get t) rows = get_answer rows (value_at rows t)
@@ -41,3 +43,11 @@ HasRoomFor (Insert t v) = ⊤
 HasRoomFor (Remove t) = ⊤
 HasRoomFor (Get t) = ⊤
 HasRoomFor (Scan lo hi limit) = limit ≤ 100
+
+-- the reply that an answer is
+abbrev pub reply_of_answer : Answer → Reply
+reply_of_answer short.Inserted = Inserted
+reply_of_answer (short.Present value) = Present value
+reply_of_answer (short.Removed value) = Removed value
+reply_of_answer short.Absent = Absent
+reply_of_answer (short.Found value) = Found value

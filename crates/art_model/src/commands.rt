@@ -15,6 +15,21 @@ pub enum Command {
     Scan(Tuple, Tuple, u64),
 }
 
+/// What is answered to all but a scan.
+#[derive(Clone, Copy, Debug, PartialEq, Eq)]
+pub enum Answer {
+    /// The row was added.
+    Inserted,
+    /// A row with the tuple stood, with this value, and stays.
+    Present(u64),
+    /// The row was taken out; this was its value.
+    Removed(u64),
+    /// No row has the tuple.
+    Absent,
+    /// The row has this value.
+    Found(u64),
+}
+
 /// What is answered.
 #[derive(Debug, PartialEq, Eq, Drop)]
 pub enum Reply {

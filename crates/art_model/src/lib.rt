@@ -10,11 +10,9 @@ mod faults;
 mod laws;
 mod rows;
 mod sorted_rows;
-#[cfg(test)]
-mod tests;
 mod values;
 
-pub use commands::{Command, Reply};
+pub use commands::{Answer, Command, Reply};
 pub use faults::NoMemory;
 pub use laws::{rows_answer_at_places, rows_are_searched, texts_stand_by_code_points};
 pub use rows::{Row, Tuple};

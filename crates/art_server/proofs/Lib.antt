@@ -6,3 +6,4 @@ pub mod ServedLaws
 pub mod SessionLaws
 pub mod StepLaws
 pub mod ReadLaws
+pub mod CountLaws

@@ -4,3 +4,6 @@ pub mod Replies
 pub mod Streams
 pub mod Sessions
 pub mod Steps
+pub mod Given
+pub mod Counted
+pub mod Reads

@@ -1,18 +1,18 @@
 -- What is printed for a reply.
 use Rattle.std.specs.Prelude.{ℕ, ◌^◌, List, [], ◌∷◌, ◌++◌, map, pos, neg_ℤ, ◌≤ℤ◌, ◌<ℤ◌, codes, All, ⊤, Result, Ok, Err}
+use Rattle.art_model.specs.declared.commands.Answer.{Answer}
 use Rattle.art_model.specs.declared.commands.Reply.{Reply}
 use Rattle.art_model.specs.declared.commands.Reply.TheVariants.{Inserted, Present, Removed, Absent, Found, Rows}
 use Rattle.art_model.specs.declared.rows.Row.{Row}
 use Rattle.art_model.specs.declared.values.Value.{Value}
 use Rattle.art_model.specs.declared.values.Value.TheVariants.{Bool, Int, Text}
+use Rattle.art_model.specs.Answers.{reply_of_answer}
 use Rattle.art_model.specs.Rows.{Tuple}
 use Rattle.serde_json.specs.Data.{Data, boolean, number, unsigned, string, array, no_items, item}
 use Rattle.serde_json.specs.Find.{of_integer}
 use Rattle.serde_json.specs.View.{items_of}
 use Rattle.serde_json.specs.Written.{compact_text}
 use Rattle.art_server.specs.declared.refusals.Refusal.{Refusal}
-use Rattle.art_server.specs.declared.replies.Answer.{Answer}
-use Rattle.art_server.specs.declared.replies.Answer.TheVariants as short
 use Rattle.art_server.specs.Refusals.{refusal_number, refusal_name}
 
 -- true or false, a whole number or a text
@@ -71,11 +71,7 @@ IsPrintable (Ok (Found value)) = ⊤
 IsPrintable (Ok (Rows rows more)) = All IsPrintableRow rows.items
 IsPrintable (Err refusal) = ⊤
 
--- the reply that a short answer stands for
-abbrev pub reply_of : Answer → Result Reply Refusal
-reply_of short.Inserted = Ok Inserted
-reply_of (short.Present value) = Ok (Present value)
-reply_of (short.Removed value) = Ok (Removed value)
-reply_of short.Absent = Ok Absent
-reply_of (short.Found value) = Ok (Found value)
-reply_of (short.Refused refusal) = Err refusal
+-- the reply of an answer with no rows, or the refusal
+abbrev pub reply_of : Result Answer Refusal → Result Reply Refusal
+reply_of (Ok answer) = Ok (reply_of_answer answer)
+reply_of (Err refusal) = Err refusal

@@ -25,13 +25,13 @@ pub enum Refusal {
     BadRange,
     /// The limit of a scan is not allowed.
     BadLimit,
-    /// Too many clients are served.
+    /// The turns of the command are used up.
     Busy,
-    /// The map holds as many rows as it may.
+    /// The pool that the row needs has no free number.
     Full,
-    /// The map has no room for the row.
+    /// The limbo of the pass has no four places for numbers that a change unlinks.
     Crowded,
-    /// The map has used up what it numbers its parts by.
+    /// A cell's counter of changes is at its end.
     Exhausted,
     /// There is no memory.
     NoMemory,
@@ -43,9 +43,9 @@ pub enum Refusal {
     KeyTooWide,
     /// A column is of no known kind.
     BadColumn,
-    /// The configuration is not understood.
+    /// A size of the configuration is out of its range.
     BadConfig,
-    /// The number of passes is missing.
+    /// A pass of the table that is to be closed is missing.
     PassesMissing,
 }
 

@@ -7,65 +7,49 @@ ghost use Rattle.serde_json.specs.View.{view, items_of};
 ghost use Rattle.serde_json.specs.Written.{has_float, compact_text};
 
 use crate::Refusal;
-use art_model::{NoMemory, Reply, Row, Tuple, Value};
+use art_model::{Answer, NoMemory, Reply, Row, Tuple, Value};
 use serde_json::{Number, Value as Json, json};
 use std::alloc::{AllocError, Global};
-
-/// A reply with no rows, or a refusal.
-#[derive(Clone, Copy, Debug, PartialEq, Eq)]
-pub(crate) enum Answer {
-    /// The row was added.
-    Inserted,
-    /// A row with the tuple stood, with this value, and stays.
-    Present(u64),
-    /// The row was taken out; this was its value.
-    Removed(u64),
-    /// No row has the tuple.
-    Absent,
-    /// The row has this value.
-    Found(u64),
-    /// The command was refused.
-    Refused(Refusal),
-}
 
 /// The text of a reply, with its line feed. The only error is want of memory.
 pub fn print_reply(alloc: Global, reply: &Result<Reply, Refusal>) -> Result<Vec<u8>, NoMemory>
     requires { IsPrintable reply.now }
     ensures { IfOk result (λ text. text.items ≡ text_of_reply reply.now) }
 {
-    let reply = match reply {
-        Ok(reply) => reply,
-        Err(refusal) => return print_answer(alloc, Answer::Refused(*refusal)),
+    let answer = match reply {
+        Ok(Reply::Inserted) => Ok(Answer::Inserted),
+        Ok(Reply::Present(value)) => Ok(Answer::Present(*value)),
+        Ok(Reply::Removed(value)) => Ok(Answer::Removed(*value)),
+        Ok(Reply::Absent) => Ok(Answer::Absent),
+        Ok(Reply::Found(value)) => Ok(Answer::Found(*value)),
+        Ok(Reply::Rows(rows, more)) => {
+            return print_line(alloc, &rows_json(alloc, rows.as_slice(), *more)?);
+        }
+        Err(refusal) => Err(*refusal),
     };
-    match reply {
-        Reply::Inserted => print_answer(alloc, Answer::Inserted),
-        Reply::Present(value) => print_answer(alloc, Answer::Present(*value)),
-        Reply::Removed(value) => print_answer(alloc, Answer::Removed(*value)),
-        Reply::Absent => print_answer(alloc, Answer::Absent),
-        Reply::Found(value) => print_answer(alloc, Answer::Found(*value)),
-        Reply::Rows(rows, more) => { print_line(alloc, &rows_json(alloc, rows.as_slice(), *more)?) }
-    }
+    print_answer(alloc, answer)
 }
 
-/// The text of a short answer, with its line feed. The only error is want of memory.
-pub(crate) fn print_answer(alloc: Global, answer: Answer) -> Result<Vec<u8>, NoMemory>
+/// The text of an answer with no rows, or of a refusal, with its line feed. The only error is want of memory.
+pub(crate) fn print_answer(
+    alloc: Global,
+    answer: Result<Answer, Refusal>,
+) -> Result<Vec<u8>, NoMemory>
     ensures { IfOk result (λ text. text.items ≡ text_of_reply (reply_of answer)) }
 {
     print_line(alloc, &answer_json(alloc, answer)?)
 }
 
-fn answer_json(alloc: Global, answer: Answer) -> Result<Json, AllocError>
+fn answer_json(alloc: Global, answer: Result<Answer, Refusal>) -> Result<Json, AllocError>
     ensures { IfOk result (λ json. view json ≡ reply_data (reply_of answer)) }
 {
     match answer {
-        Answer::Inserted => json!(in alloc; ["inserted"]),
-        Answer::Present(value) => json!(in alloc; ["present", value]),
-        Answer::Removed(value) => json!(in alloc; ["removed", value]),
-        Answer::Absent => json!(in alloc; ["absent"]),
-        Answer::Found(value) => json!(in alloc; ["found", value]),
-        Answer::Refused(refusal) => {
-            json!(in alloc; ["refused", refusal.number(), refusal.name()])
-        }
+        Ok(Answer::Inserted) => json!(in alloc; ["inserted"]),
+        Ok(Answer::Present(value)) => json!(in alloc; ["present", value]),
+        Ok(Answer::Removed(value)) => json!(in alloc; ["removed", value]),
+        Ok(Answer::Absent) => json!(in alloc; ["absent"]),
+        Ok(Answer::Found(value)) => json!(in alloc; ["found", value]),
+        Err(refusal) => json!(in alloc; ["refused", refusal.number(), refusal.name()]),
     }
 }
 

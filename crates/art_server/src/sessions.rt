@@ -5,15 +5,17 @@ ghost use Rattle.art_model.specs.declared.commands.Command.TheVariants.{Insert, 
 ghost use Rattle.art_table.specs.Answers.{table_answer};
 ghost use Rattle.art_table.specs.Contents.{IsPassOf};
 ghost use Rattle.art_server.specs.Lines.{line_says};
+ghost use Rattle.art_server.specs.Counted.{reader_of, reads_of};
+ghost use Rattle.art_server.specs.Reads.{EndsAtInput, MakesReads};
 ghost use Rattle.art_server.specs.Replies.{reply_of};
 ghost use Rattle.art_server.specs.Sessions.{refused, line_answer, RunsSession};
 ghost use Rattle.art_server.specs.Steps.{IsServed, SendsReply, SendsLine, AnswersBytes, Finishes};
 
-use crate::replies::{Answer, print_answer};
-use crate::streams::{read_piece, write_text};
-use crate::{LineFault, Refusal, parse_line};
+use crate::replies::print_answer;
+use crate::streams::write_text;
+use crate::{Counted, LineFault, Refusal, parse_line};
 use arrayvec::ArrayVec;
-use art_model::{Command, NoMemory, Tuple};
+use art_model::{Answer, Command, NoMemory, Tuple};
 use art_table::{Inserted, Pass, Table, get, insert, remove};
 use std::alloc::Global;
 use std::io::{self, Read, Write};
@@ -100,21 +102,23 @@ impl From<io::Error> for Stop {
 
 /// Answers each line that the reader gives, by the table, to the writer.
 ///
-/// At most 1,000,000 reads are made, each of at most 4,096 bytes; one that a signal interrupts is made again. Memory
-/// is taken for one line's reading and for its reply alone.
+/// At most 1,000,000 reads are made, each of at most 4,096 bytes. The first read or write that fails ends the session, an
+/// interruption too: a caller who wants another try makes it in the reader or the writer. So does a write that takes
+/// no byte. Memory is taken for one line's reading and for its reply alone.
 pub fn session<R: Read, W: Write>(
     alloc: Global,
     table: &mut Table,
     pass: Pass,
-    reader: &mut R,
+    reader: &mut Counted<R>,
     writer: &mut W,
 ) -> (Pass, SessionEnd)
     requires { IsPassOf table.old pass }
     ensures pass { result.0 ≡ pass }
     ensures sizes { table.new.sizes ≡ table.old.sizes }
-    ensures session { RunsSession (R.remaining reader.old) (R.remaining reader.new)
+    ensures session { RunsSession (R.remaining (reader_of reader.old)) (R.remaining (reader_of reader.new))
         (W.contents writer.old) (W.contents writer.new) table.old table.new result.1 }
-    ensures end { result.1.why ≡ EndCause.Ended → IsAtEnd (R.remaining reader.new) }
+    ensures end { result.1.why ≡ EndCause.Ended → IsAtEnd (R.remaining (reader_of reader.new)) }
+    ensures reads { MakesReads (reads_of reader.old) (reads_of reader.new) result.1.why }
 {
     let mut pass = pass;
     let end = answer_reads(alloc, table, &mut pass, reader, writer);
@@ -125,21 +129,22 @@ fn answer_reads<R: Read, W: Write>(
     alloc: Global,
     table: &mut Table,
     pass: &mut Pass,
-    reader: &mut R,
+    reader: &mut Counted<R>,
     writer: &mut W,
 ) -> SessionEnd
     requires { IsPassOf table.old pass.old }
     ensures pass { pass.new ≡ pass.old }
     ensures sizes { table.new.sizes ≡ table.old.sizes }
-    ensures session { RunsSession (R.remaining reader.old) (R.remaining reader.new)
+    ensures session { RunsSession (R.remaining (reader_of reader.old)) (R.remaining (reader_of reader.new))
         (W.contents writer.old) (W.contents writer.new) table.old table.new result }
-    ensures end { result.why ≡ EndCause.Ended → IsAtEnd (R.remaining reader.new) }
+    ensures end { result.why ≡ EndCause.Ended → IsAtEnd (R.remaining (reader_of reader.new)) }
+    ensures reads { MakesReads (reads_of reader.old) (reads_of reader.new) result.why }
 {
     let mut piece = [0u8; 4096];
     let mut line = ArrayVec::new();
     let mut answered = 0;
     'reads: for _ in 0..READS {
-        match read_piece(reader, &mut piece) {
+        match reader.read(&mut piece) {
             Ok(0) => return finish(alloc, table, pass, line.as_slice(), writer, answered),
             Ok(count) => {
                 match answer_bytes(
@@ -186,6 +191,7 @@ fn finish<W: Write>(
     ensures sizes { table.new.sizes ≡ table.old.sizes }
     ensures finishes { Finishes (W.contents writer.old) (W.contents writer.new) table.old table.new
         answered line.now result }
+    ensures cause { EndsAtInput result.why }
 {
     if line.is_empty() {
         return ended(EndCause::Ended, answered);
@@ -260,13 +266,17 @@ fn answer_line<W: Write>(
                     pending: false,
                 });
             }
-            _ => Answer::Refused(Refusal::from(fault)),
+            _ => Err(Refusal::from(fault)),
         },
     };
     send_answer(alloc, answer, writer)
 }
 
-fn send_answer<W: Write>(alloc: Global, answer: Answer, writer: &mut W) -> Result<(), Stop>
+fn send_answer<W: Write>(
+    alloc: Global,
+    answer: Result<Answer, Refusal>,
+    writer: &mut W,
+) -> Result<(), Stop>
     ensures { SendsReply (reply_of answer) (W.contents writer.old) (W.contents writer.new) result }
 {
     let text = print_answer(alloc, answer)?;
@@ -274,7 +284,7 @@ fn send_answer<W: Write>(alloc: Global, answer: Answer, writer: &mut W) -> Resul
     Ok(())
 }
 
-fn run_command(table: &mut Table, pass: &mut Pass, command: &Command) -> Answer
+fn run_command(table: &mut Table, pass: &mut Pass, command: &Command) -> Result<Answer, Refusal>
     requires pass { IsPassOf table.old pass.old }
     requires served { IsServed command.now }
     ensures reply { reply_of result ≡ refused (table_answer command.now table.old).0 }
@@ -289,41 +299,46 @@ fn run_command(table: &mut Table, pass: &mut Pass, command: &Command) -> Answer
     }
 }
 
-fn run_insert(table: &mut Table, pass: &mut Pass, tuple: &Tuple, value: u64) -> Answer
+fn run_insert(
+    table: &mut Table,
+    pass: &mut Pass,
+    tuple: &Tuple,
+    value: u64,
+) -> Result<Answer, Refusal>
     requires { IsPassOf table.old pass.old }
     ensures reply { reply_of result ≡ refused (table_answer (Insert tuple.now value) table.old).0 }
     ensures after { table.new ≡ (table_answer (Insert tuple.now value) table.old).1 }
     ensures pass { pass.new ≡ pass.old }
 {
     match insert(table, pass, tuple, value, TURNS) {
-        Ok(Inserted::New) => Answer::Inserted,
-        Ok(Inserted::Present(stored)) => Answer::Present(stored),
-        Err(fault) => Answer::Refused(Refusal::from(fault)),
+        Ok(Inserted::New) => Ok(Answer::Inserted),
+        Ok(Inserted::Present(stored)) => Ok(Answer::Present(stored)),
+        Err(fault) => Err(Refusal::from(fault)),
     }
 }
 
-fn run_remove(table: &mut Table, pass: &mut Pass, tuple: &Tuple) -> Answer
+fn run_remove(table: &mut Table, pass: &mut Pass, tuple: &Tuple) -> Result<Answer, Refusal>
     requires { IsPassOf table.old pass.old }
     ensures reply { reply_of result ≡ refused (table_answer (Remove tuple.now) table.old).0 }
     ensures after { table.new ≡ (table_answer (Remove tuple.now) table.old).1 }
     ensures pass { pass.new ≡ pass.old }
 {
     match remove(table, pass, tuple, TURNS) {
-        Ok(Some(value)) => Answer::Removed(value),
-        Ok(None) => Answer::Absent,
-        Err(fault) => Answer::Refused(Refusal::from(fault)),
+        Ok(Some(value)) => Ok(Answer::Removed(value)),
+        Ok(None) => Ok(Answer::Absent),
+        Err(fault) => Err(Refusal::from(fault)),
     }
 }
 
-fn run_get(table: &mut Table, pass: &mut Pass, tuple: &Tuple) -> Answer
+fn run_get(table: &mut Table, pass: &mut Pass, tuple: &Tuple) -> Result<Answer, Refusal>
     requires { IsPassOf table.old pass.old }
     ensures reply { reply_of result ≡ refused (table_answer (Get tuple.now) table.old).0 }
     ensures after { table.new ≡ (table_answer (Get tuple.now) table.old).1 }
     ensures pass { pass.new ≡ pass.old }
 {
     match get(table, pass, tuple, TURNS) {
-        Ok(Some(value)) => Answer::Found(value),
-        Ok(None) => Answer::Absent,
-        Err(fault) => Answer::Refused(Refusal::from(fault)),
+        Ok(Some(value)) => Ok(Answer::Found(value)),
+        Ok(None) => Ok(Answer::Absent),
+        Err(fault) => Err(Refusal::from(fault)),
     }
 }

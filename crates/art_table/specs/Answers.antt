@@ -7,7 +7,7 @@ use Rattle.art_model.specs.declared.commands.Reply.{Reply}
 use Rattle.art_model.specs.declared.commands.Reply.TheVariants as reply
 use Rattle.art_model.specs.declared.rows.Row.{Row}
 use Rattle.art_model.specs.Rows.{value_at}
-use Rattle.art_model.specs.Answers.{Answer, answer}
+use Rattle.art_model.specs.Answers.{Outcome, answer}
 use Rattle.art_key.specs.declared.columns.Column.{Column}
 use Rattle.art_key.specs.declared.faults.ValueFault.{ValueFault}
 use Rattle.art_key.specs.Columns.{tuple_fault}
@@ -37,7 +37,7 @@ abbrev pub lacks_leaf : Command → Contents → Bool
 lacks_leaf command table = adds_row command table.rows && (length table.rows == table.sizes.leaves)
 
 -- the reply, and the table with the rows after it
-abbrev pub answered : Answer → Contents → Result Reply Fault × Contents
+abbrev pub answered : Outcome → Contents → Result Reply Fault × Contents
 answered a table = (Ok a.0, record table { rows = a.1 })
 
 -- A tuple's fault comes before want of a leaf. A refusal leaves the table.

@@ -13,8 +13,6 @@ mod configs;
 mod faults;
 mod passes;
 mod tables;
-#[cfg(test)]
-mod tests;
 
 pub use closing::{CloseFault, CloseRefusal, Closed, PoolCount, close};
 pub use configs::Config;

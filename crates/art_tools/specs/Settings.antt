@@ -24,9 +24,13 @@ run_app = with_rule (new_app (codes "run")) (option_rule (codes "schema"))
 abbrev pub wanting_subcommand : App → App
 wanting_subcommand = on_top (λ s. record s { subcommand_required = true })
 
--- `art_index`, with its subcommands
+-- a command that has a version
+abbrev pub versioned : App → App
+versioned = on_top (λ s. record s { has_version = true })
+
+-- `art_index`, with its version and its subcommands
 abbrev pub art_index_app : App
-art_index_app = with_subcommand (wanting_subcommand (new_app (codes "art_index"))) run_app.top
+art_index_app = with_subcommand (wanting_subcommand (versioned (new_app (codes "art_index")))) run_app.top
 
 -- the subcommand that the words name
 abbrev pub subcommand_given : List Text → Option Text

@@ -4,6 +4,7 @@ ghost use Rattle.clap.specs.Words.{app_of, fault_of, first_value, found_of, item
 ghost use Rattle.art_tools.specs.Settings.{IsAskedBy, RunsWith, art_index_app, option_rule, run_app};
 ghost use Rattle.art_tools.specs.Faults.{Explains};
 
+use crate::help::{AFTER_HELP, VERSION};
 use crate::settings::{Settings, SettingsFault};
 use clap::{Arg, ArgMatches, Command};
 use std::alloc::{AllocError, Global};
@@ -32,6 +33,8 @@ fn art_index<'a>(alloc: Global) -> Result<Command<'a>, AllocError>
     let run = run_command(alloc)?;
     Command::new(alloc, "art_index")
         .about("An ordered index in memory")
+        .after_help(AFTER_HELP)
+        .version(VERSION)
         .subcommand_required(true)
         .subcommand(run)
 }
@@ -43,10 +46,11 @@ fn run_command<'a>(alloc: Global) -> Result<Command<'a>, AllocError>
         alloc,
         "schema",
         "TEXT",
-        "The schema of the keys [default: u64]",
+        "The columns of a row [default: u64]",
     );
     Command::new(alloc, "run")
-        .about("Runs the commands on standard input")
+        .about("Answers the lines on standard input")
+        .after_help(AFTER_HELP)
         .arg(schema)
 }
 

@@ -5,14 +5,16 @@
 #![tactic(auto)]
 
 #[cfg(test)]
-mod answers_tests;
+mod answers;
 mod command_line;
+mod help;
 mod program;
 mod run_faults;
 mod settings;
 #[cfg(test)]
 mod tests;
 
+use art_server::Counted;
 use std::alloc::Global;
 use std::io::ErrorKind;
 use std::process::ExitCode;
@@ -36,7 +38,7 @@ fn main(rt: HostRuntime) -> io::Result<ExitCode> {
     let status = program::execute(
         alloc,
         words.as_slice(),
-        &mut rt.stdin(),
+        &mut Counted::new(rt.stdin()),
         &mut rt.stdout(),
         &mut rt.stderr(),
     );

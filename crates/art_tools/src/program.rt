@@ -7,6 +7,8 @@ ghost use Rattle.art_key.specs.declared.faults.SchemaFault.{SchemaFault};
 ghost use Rattle.art_key.specs.Schemas.{schema_of};
 ghost use Rattle.art_table.specs.Closing.{AreAllPasses};
 ghost use Rattle.art_table.specs.Contents.{IsPassOf};
+ghost use Rattle.art_server.specs.Counted.{reader_of, reads_of};
+ghost use Rattle.art_server.specs.Reads.{AddsReads, MakesReads};
 ghost use Rattle.art_server.specs.Refusals.{schema_refusal};
 ghost use Rattle.art_server.specs.declared.refusals.Refusal.{Refusal};
 ghost use Rattle.art_tools.specs.Outputs.{Outputs, empty_table};
@@ -17,7 +19,7 @@ use crate::command_line::settings;
 use crate::run_faults::RunFault;
 use crate::settings::{Settings, SettingsFault};
 use art_key::Schema;
-use art_server::{EndCause, session};
+use art_server::{Counted, EndCause, session};
 use art_table::{Config, OpenFault, Pass, Table, close, open};
 use std::alloc::Global;
 use std::io::{self, Read, Write};
@@ -35,13 +37,13 @@ pub const SIZES: Config = Config {
 
 /// Does what the words ask for, and answers the status that the program ends with.
 ///
-/// Replies and help go to `writer`, and what was wrong goes to `faults`, in one line. 0: ended, or help;
-/// 1: a read or a write failed; 2: the words were refused; 3: the schema was; 4: want of memory; 5: a session's
-/// reads were used up.
+/// Replies, help and the version go to `writer`, and what was wrong goes to `faults`, in one line. 0: ended, or help;
+/// 1: a read or a write failed; 2: the words were refused; 3: the schema was; 4: want of memory; 5: a million reads were
+/// made, each of which gave bytes.
 pub fn execute<'a, R: Read, W: Write, E: Write>(
     alloc: Global,
     words: &'a [&'a str],
-    reader: &mut R,
+    reader: &mut Counted<R>,
     writer: &mut W,
     faults: &mut E,
 ) -> u8
@@ -49,12 +51,15 @@ pub fn execute<'a, R: Read, W: Write, E: Write>(
     ensures quiet { result ≡ 2 → writer.new ≡ writer.old }
     ensures mistake { faults_of words.entry.now ≢ [] → (¬ (AsksToShow words.entry.now)) → (result ≡ 2) ⊎ (result ≡ 4) }
     ensures help { faults_of words.entry.now ≡ DisplayHelp ∷ [] → result ≢ 2 }
+    ensures version { faults_of words.entry.now ≡ DisplayVersion ∷ [] → result ≢ 2 }
     ensures words { result ≡ 2 → faults_of words.entry.now ≢ [] }
     ensures schema { (fault : SchemaFault) → faults_of words.entry.now ≡ [] → schema_asked words.entry.now ≡ Err fault
         → (result ≡ 3) ⊎ (result ≡ 4) }
     ensures refused { result ≡ 3 → (faults_of words.entry.now ≡ []) × IsErr (schema_asked words.entry.now) }
     ensures ran { faults_of words.entry.now ≡ [] → result ≡ 0
-        → Outputs (schema_asked words.entry.now) (R.remaining reader.old) (W.contents writer.old) (W.contents writer.new) }
+        → Outputs (schema_asked words.entry.now) (R.remaining (reader_of reader.old)) (W.contents writer.old) (W.contents writer.new) }
+    ensures reads { AddsReads (reads_of reader.old) (reads_of reader.new) }
+    ensures used { result ≡ 5 → MakesReads (reads_of reader.old) (reads_of reader.new) EndCause.ReadsUsed }
 {
     match settings(alloc, words) {
         Ok(Settings::Run { schema }) => status(faults, run(alloc, schema, reader, writer)),
@@ -67,14 +72,19 @@ pub fn execute<'a, R: Read, W: Write, E: Write>(
 pub fn run<R: Read, W: Write>(
     alloc: Global,
     schema: &str,
-    reader: &mut R,
+    reader: &mut Counted<R>,
     writer: &mut W,
 ) -> Result<(), RunFault>
-    ensures output { OnOk result (Outputs (schema_of schema.now) (R.remaining reader.old)
+    ensures output { OnOk result (Outputs (schema_of schema.now) (R.remaining (reader_of reader.old))
         (W.contents writer.old) (W.contents writer.new)) }
     ensures schema { (fault : SchemaFault) → schema_of schema.now ≡ Err fault
         → result ≡ Err (RunFault.Refused (schema_refusal fault)) }
     ensures refused { (refusal : Refusal) → result ≡ Err (RunFault.Refused refusal) → IsErr (schema_of schema.now) }
+    ensures reads { AddsReads (reads_of reader.old) (reads_of reader.new) }
+    ensures failed { result ≡ Err RunFault.ReadFailed
+        → MakesReads (reads_of reader.old) (reads_of reader.new) EndCause.ReadFault }
+    ensures used { result ≡ Err RunFault.ReadsUsed
+        → MakesReads (reads_of reader.old) (reads_of reader.new) EndCause.ReadsUsed }
 {
     let schema = Schema::parse(schema)?;
     let (mut table, mut passes) = empty_table(alloc, schema)?;

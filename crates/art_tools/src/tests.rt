@@ -1,41 +1,20 @@
-ghost use Rattle.std.specs.Prelude.{◌≡◌, IfErr, IfOk, None, Some, codes};
+//! What the words of a command line ask for, and the statuses and lines of what goes wrong.
+ghost use Rattle.std.specs.Prelude.{◌≡◌, IfErr, IfOk, Some, codes};
 ghost use Rattle.art_tools.specs.Settings.{RunsWith};
 ghost use Rattle.art_tools.specs.declared.settings.SettingsFault.TheVariants.{NoMemory};
 
 use crate::command_line::settings;
+use crate::help::AFTER_HELP;
 use crate::program::execute;
 use crate::settings::{Settings, SettingsFault};
+use art_server::Counted;
 use std::alloc::Global;
 use std::io::{self, ErrorKind, Read, Write};
 use std::test::Fail;
 
-fn schema<'a>(alloc: Global, words: &'a [&'a str]) -> Option<&'a str> {
-    match settings(alloc, words) {
-        Ok(Settings::Run { schema }) => Some(schema),
-        Err(_) => None,
-    }
-}
-
-// The status to exit with, where the words are refused or ask for help.
-fn status<'a>(alloc: Global, words: &'a [&'a str]) -> Option<i32> {
-    match settings(alloc, words) {
-        Err(SettingsFault::Usage(error)) => Some(error.exit_code()),
-        _ => None,
-    }
-}
-
-static PLAIN: [&str; 2] = ["art_index", "run"];
-
 static CHOSEN: [&str; 3] = ["art_index", "run", "--schema=u16"];
 
-// What `settings` promises, at words that are written out.
-fn plain_settings(alloc: Global) -> Result<Settings<'static>, SettingsFault>
-    ensures ok { IfOk result (RunsWith (λ _. None)) }
-    ensures err { IfErr result (λ fault. fault ≡ NoMemory) }
-{
-    settings(alloc, PLAIN.as_slice())
-}
-
+/// What `settings` promises, at words that are written out.
 fn chosen_settings(alloc: Global) -> Result<Settings<'static>, SettingsFault>
     ensures ok { IfOk result (RunsWith (λ _. Some (codes "u16"))) }
     ensures err { IfErr result (λ fault. fault ≡ NoMemory) }
@@ -43,57 +22,108 @@ fn chosen_settings(alloc: Global) -> Result<Settings<'static>, SettingsFault>
     settings(alloc, CHOSEN.as_slice())
 }
 
+/// The status that the words end with, what was written, and what was said of faults.
+#[derive(Drop)]
+struct Outcome {
+    status: u8,
+    output: Vec<u8>,
+    faults: Vec<u8>,
+}
+
+fn run_on<R: Read>(alloc: Global, words: &[&str], reader: R) -> (Outcome, R) {
+    let mut reader = Counted::new(reader);
+    let mut output = Vec::new(alloc);
+    let mut faults = Vec::new(alloc);
+    let status = execute(alloc, words, &mut reader, &mut output, &mut faults);
+    let ran = Outcome {
+        status,
+        output,
+        faults,
+    };
+    (ran, reader.into_inner())
+}
+
+fn run_on_nothing(alloc: Global, words: &[&str]) -> Outcome {
+    let (ran, _) = run_on(alloc, words, b"".as_slice());
+    ran
+}
+
 #[test]
-fn known_from_the_words(rt: HostRuntime) {
+fn the_schema_is_the_one_that_is_given_or_u64(rt: HostRuntime) {
     let alloc = rt.alloc();
-    assert!(rt; matches!(plain_settings(alloc), Ok(Settings::Run { schema: "u64" })));
     assert!(rt; matches!(chosen_settings(alloc), Ok(Settings::Run { schema: "u16" })));
+    let words = ["art_index", "run", "--schema", "u16"];
+    assert!(rt; matches!(settings(alloc, &words), Ok(Settings::Run { schema: "u16" })));
+    let words = ["art_index", "run"];
+    assert!(rt; matches!(settings(alloc, &words), Ok(Settings::Run { schema: "u64" })));
 }
 
 #[test]
-fn runs_with_u64(rt: HostRuntime) {
-    assert!(rt; schema(rt.alloc(), &["art_index", "run"]) == Some("u64"));
+fn faults_of_words_end_with_two(rt: HostRuntime) {
+    for words in [
+        [].as_slice(),
+        &["art_index"],
+        &["art_index", "frob"],
+        &["art_index", "--schema", "u16", "run"],
+        &["art_index", "run", "--schema"],
+        &["art_index", "run", "--schema=a", "--schema=b"],
+        &["art_index", "run", "--frob"],
+        &["art_index", "run", "--version"],
+        &["art_index", "run", "frob"],
+    ] {
+        let ran = run_on_nothing(rt.alloc(), words);
+        assert_eq!(rt; ran.status, 2, "at {words:?}");
+        assert!(rt; ran.output.is_empty());
+        assert!(rt; !ran.faults.is_empty());
+    }
 }
 
 #[test]
-fn takes_a_schema(rt: HostRuntime) {
-    let alloc = rt.alloc();
-    assert!(rt; schema(alloc, &["art_index", "run", "--schema", "u16"]) == Some("u16"));
-    assert!(rt; schema(alloc, &["art_index", "run", "--schema=u16"]) == Some("u16"));
+fn help_ends_with_the_lines_and_the_statuses(rt: HostRuntime) {
+    for (words, first) in [
+        (["art_index", "--help"].as_slice(), "An ordered index"),
+        (&["art_index", "-h"], "An ordered index"),
+        (&["art_index", "help"], "An ordered index"),
+        (&["art_index", "help", "run"], "Answers the lines"),
+        (&["art_index", "run", "--help"], "Answers the lines"),
+    ] {
+        let ran = run_on_nothing(rt.alloc(), words);
+        assert_eq!(rt; ran.status, 0, "at {words:?}");
+        assert!(rt; ran.output.as_slice().starts_with(first.as_bytes()));
+        let end = ran.output.as_slice().strip_suffix(b"\n".as_slice());
+        assert!(rt; end.is_some_and(|text| text.ends_with(AFTER_HELP.as_bytes())));
+        assert!(rt; ran.faults.is_empty());
+    }
 }
 
 #[test]
-fn refuses_other_options(rt: HostRuntime) {
-    let alloc = rt.alloc();
-    assert!(rt; status(alloc, &["art_index", "run", "--schema"]) == Some(2));
-    assert!(rt; status(alloc, &["art_index", "run", "--schema=a", "--schema=b"]) == Some(2));
-    assert!(rt; status(alloc, &["art_index", "run", "--frob"]) == Some(2));
-    assert!(rt; status(alloc, &["art_index", "run", "frob"]) == Some(2));
+fn the_version_is_the_programs(rt: HostRuntime) {
+    for word in ["--version", "-V"] {
+        let ran = run_on_nothing(rt.alloc(), &["art_index", word]);
+        assert_eq!(rt; ran.status, 0);
+        assert_eq!(rt; ran.output.as_slice(), b"art_index 0.1.0\n".as_slice());
+        assert!(rt; ran.faults.is_empty());
+    }
 }
 
 #[test]
-fn wants_a_subcommand(rt: HostRuntime) {
-    let alloc = rt.alloc();
-    assert!(rt; status(alloc, &["art_index"]) == Some(2));
-    assert!(rt; status(alloc, &[]) == Some(2));
-    assert!(rt; status(alloc, &["art_index", "frob"]) == Some(2));
-    assert!(rt; status(alloc, &["art_index", "--schema", "u16", "run"]) == Some(2));
-}
-
-#[test]
-fn answers_help(rt: HostRuntime) {
-    let alloc = rt.alloc();
-    assert!(rt; status(alloc, &["art_index", "--help"]) == Some(0));
-    assert!(rt; status(alloc, &["art_index", "-h"]) == Some(0));
-    assert!(rt; status(alloc, &["art_index", "help"]) == Some(0));
-    assert!(rt; status(alloc, &["art_index", "help", "run"]) == Some(0));
-    assert!(rt; status(alloc, &["art_index", "run", "--help"]) == Some(0));
-}
-
-#[test]
-fn compares_settings(rt: HostRuntime) {
-    assert!(rt; Settings::Run { schema: "u16" } == Settings::Run { schema: "u16" });
-    assert!(rt; Settings::Run { schema: "u16" } != Settings::Run { schema: "u64" });
+fn a_schema_that_is_none_ends_with_three(rt: HostRuntime) {
+    for (option, expected) in [
+        ("--schema=", "art_index: refused 20 NoColumns\n"),
+        (
+            "--schema=u8,u8,u8,u8,u8,u8,u8,u8,u8",
+            "art_index: refused 21 TooManyColumns\n",
+        ),
+        ("--schema=u8,u24", "art_index: refused 23 BadColumn\n"),
+        (
+            "--schema=text24,text7",
+            "art_index: refused 22 KeyTooWide\n",
+        ),
+    ] {
+        let ran = run_on_nothing(rt.alloc(), &["art_index", "run", option]);
+        assert_eq!(rt; ran.status, 3);
+        assert_eq!(rt; ran.faults.as_slice(), expected.as_bytes());
+    }
 }
 
 /// Gives one byte a read, and fails at the read of that number, if there is one.
@@ -107,7 +137,7 @@ impl Read for Dribble {
     fn read(&mut self, buf: &mut [u8]) -> io::Result<usize> {
         self.reads = self.reads.saturating_add(1);
         if self.reads == self.fails_at {
-            return Err(io::Error::from(ErrorKind::Other));
+            return Err(io::Error::from(ErrorKind::Interrupted));
         }
         if buf.is_empty() {
             return Ok(0);
@@ -132,91 +162,26 @@ impl Write for Closed {
 }
 
 #[test]
-fn a_run_answers_its_lines(rt: HostRuntime) -> Result<(), Fail> {
-    let mut input = b"[\"get\",[5]]\n[\"insert\",[5],9]\n[\"get\",[5]]\n".as_slice();
-    let mut output = Vec::new(rt.alloc());
-    let mut faults = Vec::new(rt.alloc());
-    let words = ["art_index", "run"];
-    let status = execute(rt.alloc(), &words, &mut input, &mut output, &mut faults);
-    assert_eq!(rt; status, 0);
-    let expected = b"[\"absent\"]\n[\"inserted\"]\n[\"found\",9]\n".as_slice();
-    assert_eq!(rt; output.as_slice(), expected);
-    assert_eq!(rt; faults.as_slice(), b"".as_slice());
-    Ok(())
-}
-
-#[test]
-fn a_schema_that_is_none_ends_with_three(rt: HostRuntime) {
-    let cases = [
-        ("--schema=", b"art_index: refused 20 NoColumns\n".as_slice()),
-        (
-            "--schema=u8,u8,u8,u8,u8,u8,u8,u8,u8",
-            b"art_index: refused 21 TooManyColumns\n".as_slice(),
-        ),
-        (
-            "--schema=u8,u24",
-            b"art_index: refused 23 BadColumn\n".as_slice(),
-        ),
-        (
-            "--schema=text24,text7",
-            b"art_index: refused 22 KeyTooWide\n".as_slice(),
-        ),
-    ];
-    for (option, expected) in cases {
-        let mut input = b"".as_slice();
-        let mut output = Vec::new(rt.alloc());
-        let mut faults = Vec::new(rt.alloc());
-        let words = ["art_index", "run", option];
-        let status = execute(rt.alloc(), &words, &mut input, &mut output, &mut faults);
-        assert_eq!(rt; status, 3);
-        assert_eq!(rt; faults.as_slice(), expected);
+fn a_read_that_fails_ends_with_one_and_a_million_reads_with_five(rt: HostRuntime) {
+    for (fails_at, status, reads, expected) in [
+        (3, 1, 3, "art_index: read failed\n"),
+        (0, 5, 1_000_000, "art_index: reads used up\n"),
+    ] {
+        let input = Dribble { reads: 0, fails_at };
+        let (ran, input) = run_on(rt.alloc(), &["art_index", "run"], input);
+        assert_eq!(rt; ran.status, status);
+        assert_eq!(rt; ran.faults.as_slice(), expected.as_bytes());
+        assert_eq!(rt; input.reads, reads);
     }
 }
 
 #[test]
-fn help_goes_to_the_writer_and_faults_of_words_do_not(rt: HostRuntime) {
-    for (word, expected) in [("--help", 0), ("--frob", 2)] {
-        let mut input = b"".as_slice();
-        let mut output = Vec::new(rt.alloc());
-        let mut faults = Vec::new(rt.alloc());
-        let words = ["art_index", "run", word];
-        let status = execute(rt.alloc(), &words, &mut input, &mut output, &mut faults);
-        assert_eq!(rt; status, expected);
-        assert_eq!(rt; output.is_empty(), expected == 2);
-        assert_eq!(rt; faults.is_empty(), expected == 0);
-    }
-}
-
-#[test]
-fn a_read_or_a_write_that_fails_ends_with_one(rt: HostRuntime) {
+fn a_write_that_fails_ends_with_one(rt: HostRuntime) -> Result<(), Fail> {
+    let mut reader = Counted::new(b"{\n".as_slice());
+    let mut faults = Vec::new(rt.alloc());
     let words = ["art_index", "run"];
-    let mut input = Dribble {
-        reads: 0,
-        fails_at: 3,
-    };
-    let mut output = Vec::new(rt.alloc());
-    let mut faults = Vec::new(rt.alloc());
-    let status = execute(rt.alloc(), &words, &mut input, &mut output, &mut faults);
-    assert_eq!(rt; status, 1);
-    assert_eq!(rt; faults.as_slice(), b"art_index: read failed\n".as_slice());
-    let mut input = b"{\n".as_slice();
-    let mut faults = Vec::new(rt.alloc());
-    let status = execute(rt.alloc(), &words, &mut input, &mut Closed, &mut faults);
+    let status = execute(rt.alloc(), &words, &mut reader, &mut Closed, &mut faults);
     assert_eq!(rt; status, 1);
     assert_eq!(rt; faults.as_slice(), b"art_index: write failed\n".as_slice());
-}
-
-#[test]
-fn an_input_with_no_end_uses_the_reads_up(rt: HostRuntime) {
-    let words = ["art_index", "run"];
-    let mut input = Dribble {
-        reads: 0,
-        fails_at: 0,
-    };
-    let mut output = Vec::new(rt.alloc());
-    let mut faults = Vec::new(rt.alloc());
-    let status = execute(rt.alloc(), &words, &mut input, &mut output, &mut faults);
-    assert_eq!(rt; status, 5);
-    assert_eq!(rt; input.reads, 1_000_000);
-    assert_eq!(rt; faults.as_slice(), b"art_index: reads used up\n".as_slice());
+    Ok(())
 }

@@ -5,4 +5,4 @@ use Rattle.art_server.proofs.replies.print_reply.Goals as goal
 
 pub print_line-requires : goal.print_line-requires
 print_line-requires c =
-    rw c.in_ok-rows_json-in-Rows.ensures (has_float-reply_data (Ok (Rows (record { items = c.as_slice.result.now }) c.in-Rows.more)))
+    rw c.in_ok-rows_json-in-Ok-Rows.ensures (has_float-reply_data (Ok (Rows (record { items = c.as_slice.result.now }) c.in-Ok-Rows.more)))

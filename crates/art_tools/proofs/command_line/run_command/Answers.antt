@@ -6,5 +6,5 @@ use Rattle.art_tools.proofs.command_line.run_command.Goals as goal
 
 pub returns : goal.returns
 returns c =
-    let run_is : app_of c.about.result ≡ new_app (codes "run") = ap app_of_fields c.about.ensures ∙ c.new.ensures.app in
+    let run_is : app_of c.after_help.result ≡ new_app (codes "run") = ap app_of_fields c.after_help.ensures ∙ ap app_of_fields c.about.ensures ∙ c.new.ensures.app in
     IfOk-weaker c.arg.result _ _ (λ r h. h.shape c.option-schema.ensures.local ∙ ap₂ with_rule run_is c.option-schema.ensures.rule) c.arg.ensures

@@ -1,13 +1,26 @@
 use Rattle.std.proofs.Common.{subst}
+use Rattle.art_server.specs.Counted.{reader_of}
 use Rattle.art_tools.specs.Outputs.{Outputs}
-use Rattle.art_tools.proofs.Runs.{where_ended, session_outputs}
+use Rattle.art_server.specs.Reads.{MakesReads}
+use Rattle.art_tools.specs.declared.run_faults.RunFault.TheVariants.{ReadFailed, ReadsUsed}
+use Rattle.art_tools.proofs.Runs.{where_ended, session_outputs, told_by_session, used_up, read_failed}
 use Rattle.art_tools.proofs.program.run.Goals as goal
 
 pub returns-clause-output : goal.returns-clause-output
 returns-clause-output g c =
-    let left = g.R.Read.remaining c.args.reader.now in
+    let left = g.R.Read.remaining (reader_of c.args.reader.now) in
     let held = g.W.Write.contents c.args.writer.now in
     let held_after = g.W.Write.contents c.session-pass.new.writer in
     where_ended _ _ _ _ c.outcome.ensures (λ ended.
     let wrote = session_outputs c.in_ok-schema.schema left _ held held_after _ _ _ c.in_ok-table.ensures.table c.session-pass.ensures.session (c.session-pass.ensures.end ended) ended in
     subst (λ s. Outputs s left held held_after) c.in_ok-schema.ensures wrote)
+
+pub returns-clause-failed : goal.returns-clause-failed
+returns-clause-failed g c = λ is.
+    let told = told_by_session c.outcome.result _ _ ReadFailed c.outcome.ensures c.give_back-closed.ensures (λ e. cc) is in
+    subst (MakesReads _ _) (read_failed _ told) c.session-pass.ensures.reads
+
+pub returns-clause-used : goal.returns-clause-used
+returns-clause-used g c = λ is.
+    let told = told_by_session c.outcome.result _ _ ReadsUsed c.outcome.ensures c.give_back-closed.ensures (λ e. cc) is in
+    subst (MakesReads _ _) (used_up _ told) c.session-pass.ensures.reads

@@ -1,0 +1,118 @@
+//! The map answers worked examples.
+use arrayvec::ArrayVec;
+use art_model::{Command, NoMemory, Reply, Row, SortedRows, Text, Tuple, Value};
+use std::process::Abort;
+use std::test::Fail;
+
+fn tuple_of(number: i128) -> Tuple {
+    let mut tuple = Tuple::new();
+    tuple.push(Value::Int(number));
+    tuple
+}
+
+fn scan(
+    rt: &impl Abort,
+    rows: &mut SortedRows,
+    lo: i128,
+    hi: i128,
+    limit: u64,
+) -> Result<Reply, NoMemory> {
+    assert!(rt; limit <= 100);
+    rows.apply(&Command::Scan(tuple_of(lo), tuple_of(hi), limit))
+}
+
+fn listed(rt: &impl Abort, numbers: &[i128], more: bool) -> Reply {
+    let mut rows = ArrayVec::new();
+    for number in numbers {
+        assert!(rt; !rows.is_full());
+        rows.push(Row {
+            tuple: tuple_of(*number),
+            value: 7,
+        });
+    }
+    Reply::Rows(rows, more)
+}
+
+#[test]
+fn an_inserted_row_is_found(rt: HostRuntime) -> Result<(), Fail> {
+    let mut rows = SortedRows::new(rt.alloc());
+    let inserted = rows.apply(&Command::Insert(tuple_of(5), 9))?;
+    assert_eq!(rt; inserted, Reply::Inserted);
+    assert_eq!(rt; rows.apply(&Command::Get(tuple_of(5)))?, Reply::Found(9));
+    assert_eq!(rt; rows.rows().len(), 1);
+    Ok(())
+}
+
+#[test]
+fn a_row_that_stands_keeps_its_value(rt: HostRuntime) -> Result<(), Fail> {
+    let mut rows = SortedRows::new(rt.alloc());
+    rows.apply(&Command::Insert(tuple_of(5), 9))?;
+    let again = rows.apply(&Command::Insert(tuple_of(5), 10))?;
+    assert_eq!(rt; again, Reply::Present(9));
+    assert_eq!(rt; rows.apply(&Command::Get(tuple_of(5)))?, Reply::Found(9));
+    Ok(())
+}
+
+#[test]
+fn a_removed_row_is_absent(rt: HostRuntime) -> Result<(), Fail> {
+    let mut rows = SortedRows::new(rt.alloc());
+    rows.apply(&Command::Insert(tuple_of(5), 9))?;
+    let removed = rows.apply(&Command::Remove(tuple_of(5)))?;
+    assert_eq!(rt; removed, Reply::Removed(9));
+    let again = rows.apply(&Command::Remove(tuple_of(5)))?;
+    assert_eq!(rt; again, Reply::Absent);
+    assert_eq!(rt; rows.apply(&Command::Get(tuple_of(5)))?, Reply::Absent);
+    Ok(())
+}
+
+#[test]
+fn a_scan_lists_the_first_rows_of_its_range(rt: HostRuntime) -> Result<(), Fail> {
+    let mut rows = SortedRows::new(rt.alloc());
+    for number in [3, 1, 2] {
+        rows.apply(&Command::Insert(tuple_of(number), 7))?;
+    }
+    let two = scan(&rt, &mut rows, 0, 9, 2)?;
+    assert_eq!(rt; two, listed(&rt, &[1, 2], true));
+    let both_ends = scan(&rt, &mut rows, 2, 3, 100)?;
+    assert_eq!(rt; both_ends, listed(&rt, &[2, 3], false));
+    let none = scan(&rt, &mut rows, 4, 9, 5)?;
+    assert_eq!(rt; none, listed(&rt, &[], false));
+    Ok(())
+}
+
+#[test]
+fn values_stand_in_order(rt: HostRuntime) {
+    let texts = [
+        Text::new(""),
+        Text::new("a"),
+        Text::new("b"),
+        Text::new("\u{e9}"),
+    ];
+    let mut values: ArrayVec<Value, 8> = ArrayVec::new();
+    values.push(Value::Bool(false));
+    values.push(Value::Bool(true));
+    values.push(Value::Int(-1));
+    values.push(Value::Int(0));
+    for text in texts {
+        let text = text.expect(&rt, "a short text");
+        assert!(rt; !values.is_full());
+        values.push(Value::Text(text));
+    }
+    for (earlier, later) in values
+        .as_slice()
+        .iter()
+        .zip(values.as_slice().iter().skip(1))
+    {
+        assert!(rt; earlier < later);
+    }
+}
+
+#[test]
+fn a_text_has_at_most_twenty_four_bytes(rt: HostRuntime) {
+    let longest = Text::new("123456789012345678901234");
+    assert_eq!(rt;
+        longest.expect(&rt, "24 bytes").as_str(),
+        "123456789012345678901234"
+    );
+    assert_eq!(rt; Text::new("1234567890123456789012345"), None);
+}

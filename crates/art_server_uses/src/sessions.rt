@@ -1,0 +1,240 @@
+//! Sessions over readers and writers that fail, are interrupted, or give and take a little at a time.
+ghost use Rattle.art_table.specs.Contents.{IsPassOf};
+
+use art_key::Schema;
+use art_server::{Counted, EndCause, SessionEnd, session};
+use art_table::{Config, Pass, Table, open};
+use std::alloc::Global;
+use std::io::{self, ErrorKind, Read, Write};
+use std::process::Abort;
+use std::test::Fail;
+
+/// Gives at most so many bytes at a read, and after so many reads fails.
+#[derive(Drop)]
+struct Pieces<'a> {
+    rest: &'a [u8],
+    most: usize,
+    reads: u32,
+    fault: ErrorKind,
+}
+
+impl Read for Pieces<'_> {
+    fn read(&mut self, buf: &mut [u8]) -> io::Result<usize> {
+        if self.reads == 0 {
+            return Err(io::Error::from(self.fault));
+        }
+        self.reads -= 1;
+        let count = self.rest.len().min(self.most).min(buf.len());
+        let (piece, rest) = self.rest.split_at(count);
+        buf[..count].copy_from_slice(piece);
+        self.rest = rest;
+        Ok(count)
+    }
+}
+
+/// Gives this byte at each read, and counts the reads.
+#[derive(Drop)]
+struct Endless {
+    byte: u8,
+    reads: u64,
+}
+
+impl Read for Endless {
+    fn read(&mut self, buf: &mut [u8]) -> io::Result<usize> {
+        self.reads = self.reads.saturating_add(1);
+        if buf.is_empty() {
+            return Ok(0);
+        }
+        buf[0] = self.byte;
+        Ok(1)
+    }
+}
+
+/// Takes so many bytes, at most three at a call. After them it fails, or takes no byte where there is no fault.
+#[derive(Drop)]
+struct Short {
+    held: Vec<u8>,
+    room: usize,
+    fault: Option<ErrorKind>,
+}
+
+impl Write for Short {
+    fn write(&mut self, buf: &[u8]) -> io::Result<usize> {
+        if self.room == 0 {
+            return match self.fault {
+                Some(kind) => Err(io::Error::from(kind)),
+                None => Ok(0),
+            };
+        }
+        let count = buf.len().min(self.room).min(3);
+        self.held.extend_from_slice(&buf[..count])?;
+        self.room -= count;
+        Ok(count)
+    }
+
+    fn flush(&mut self) -> io::Result<()> {
+        Ok(())
+    }
+}
+
+/// Counts what is written, and holds nothing.
+#[derive(Drop)]
+struct Sink {
+    bytes: u64,
+}
+
+impl Write for Sink {
+    fn write(&mut self, buf: &[u8]) -> io::Result<usize> {
+        self.bytes = self.bytes.saturating_add(buf.len() as u64);
+        Ok(buf.len())
+    }
+
+    fn flush(&mut self) -> io::Result<()> {
+        Ok(())
+    }
+}
+
+const SIZES: Config = Config {
+    leaves: 1,
+    n4: 1,
+    n16: 1,
+    n48: 1,
+    n256: 1,
+    passes: 1,
+    counter_start: 0,
+};
+
+/// A table of one leaf, and its one pass.
+fn opened(rt: &impl Abort, alloc: Global) -> (Table, Pass)
+    ensures { IsPassOf result.0 result.1 }
+{
+    let schema = Schema::parse("u64").expect(rt, "a schema");
+    let (table, mut passes) = open(alloc, schema, SIZES).expect(rt, "a table");
+    let pass = passes.pop().expect(rt, "a pass");
+    (table, pass)
+}
+
+/// How a session from the reader to the writer ends, on a table of one leaf.
+fn end_of<R: Read, W: Write>(
+    rt: &impl Abort,
+    alloc: Global,
+    reader: &mut Counted<R>,
+    writer: &mut W,
+) -> SessionEnd {
+    let (mut table, pass) = opened(rt, alloc);
+    let (_, end) = session(alloc, &mut table, pass, reader, writer);
+    end
+}
+
+fn ended(why: EndCause, answered: u64, pending: bool) -> SessionEnd {
+    SessionEnd {
+        why,
+        answered,
+        pending,
+    }
+}
+
+#[test]
+fn answers_lines_in_turn(rt: HostRuntime) {
+    let said = b"[\"get\",[5]]\n[\"insert\",[5],9]\n[\"get\",[5]]\n[\"insert\",[5],10]\n\
+        [\"remove\",[6]]\n[\"insert\",[6],1]\n[\"remove\",[5]]\n[\"get\",[5]]\n\
+        [\"insert\",[6],1]\n[\"scan\",[1],[9],3]\n[\"get\",[null]]\n";
+    let mut reader = Counted::new(said.as_slice());
+    let mut heard = Vec::new(rt.alloc());
+    let end = end_of(&rt, rt.alloc(), &mut reader, &mut heard);
+    assert_eq!(rt; end, ended(EndCause::Ended, 11, false));
+    let want = "[\"absent\"]\n[\"inserted\"]\n[\"found\",9]\n[\"present\",9]\n\
+        [\"absent\"]\n[\"refused\",11,\"Full\"]\n[\"removed\",9]\n[\"absent\"]\n\
+        [\"inserted\"]\n[\"refused\",3,\"BadCommand\"]\n[\"refused\",5,\"WrongType\"]\n";
+    assert!(rt; heard.as_slice() == want.as_bytes());
+}
+
+#[test]
+fn refuses_bad_lines_and_answers_the_last(rt: HostRuntime) -> Result<(), Fail> {
+    let mut text = Vec::new(rt.alloc());
+    text.extend_from_slice(b"\n{\n[\"get\"]\n")?;
+    text.extend_from_slice(&[b'x'; 4097])?;
+    text.extend_from_slice(b"\n[\"get\",[7]]")?;
+    let mut reader = Counted::new(Pieces {
+        rest: text.as_slice(),
+        most: 1000,
+        reads: 99,
+        fault: ErrorKind::Other,
+    });
+    let mut heard = Vec::new(rt.alloc());
+    let end = end_of(&rt, rt.alloc(), &mut reader, &mut heard);
+    assert_eq!(rt; end, ended(EndCause::Ended, 5, false));
+    let want = "[\"refused\",1,\"BadLine\"]\n[\"refused\",1,\"BadLine\"]\n\
+        [\"refused\",3,\"BadCommand\"]\n[\"refused\",2,\"LineTooLong\"]\n[\"absent\"]\n";
+    assert!(rt; heard.as_slice() == want.as_bytes());
+    Ok(())
+}
+
+/// How a session ends of which the fourth read fails, in the middle of its second line.
+fn end_at_a_read(rt: &impl Abort, alloc: Global, fault: ErrorKind) -> (SessionEnd, Vec<u8>) {
+    let mut reader = Counted::new(Pieces {
+        rest: b"[\"get\",[5]]\n[\"get\",[6]]\n",
+        most: 7,
+        reads: 3,
+        fault,
+    });
+    let mut heard = Vec::new(alloc);
+    let end = end_of(rt, alloc, &mut reader, &mut heard);
+    (end, heard)
+}
+
+#[test]
+fn a_read_that_fails_or_is_interrupted_ends_behind_the_whole_lines(rt: HostRuntime) {
+    for fault in [ErrorKind::BrokenPipe, ErrorKind::Interrupted] {
+        let (end, heard) = end_at_a_read(&rt, rt.alloc(), fault);
+        assert_eq!(rt; end, ended(EndCause::ReadFault, 1, false));
+        assert!(rt; heard.as_slice() == "[\"absent\"]\n".as_bytes());
+    }
+}
+
+/// How a session ends whose writer has room for a reply and a part of the next, and what a look shows after it.
+fn end_at_a_write(
+    rt: &impl Abort,
+    alloc: Global,
+    fault: Option<ErrorKind>,
+) -> (SessionEnd, Vec<u8>, Vec<u8>) {
+    let (mut table, pass) = opened(rt, alloc);
+    let said = b"[\"get\",[5]]\n[\"insert\",[5],9]\n[\"get\",[5]]\n";
+    let mut cut = Short {
+        held: Vec::new(alloc),
+        room: 15,
+        fault,
+    };
+    let mut reader = Counted::new(said.as_slice());
+    let (pass, end) = session(alloc, &mut table, pass, &mut reader, &mut cut);
+    let mut after = Vec::new(alloc);
+    let mut reader = Counted::new(b"[\"get\",[5]]".as_slice());
+    let _ = session(alloc, &mut table, pass, &mut reader, &mut after);
+    (end, cut.held, after)
+}
+
+#[test]
+fn a_write_that_fails_is_interrupted_or_takes_nothing_leaves_the_change(rt: HostRuntime) {
+    for fault in [
+        Some(ErrorKind::BrokenPipe),
+        Some(ErrorKind::Interrupted),
+        None,
+    ] {
+        let (end, held, after) = end_at_a_write(&rt, rt.alloc(), fault);
+        assert_eq!(rt; end, ended(EndCause::WriteFault, 1, true));
+        assert!(rt; held.as_slice() == "[\"absent\"]\n[\"in".as_bytes());
+        assert!(rt; after.as_slice() == "[\"found\",9]\n".as_bytes());
+    }
+}
+
+#[test]
+fn a_million_reads_are_made_of_an_input_with_no_end(rt: HostRuntime) {
+    for (byte, answered, bytes) in [(b'x', 0, 0), (b'\n', 1_000_000, 24_000_000)] {
+        let mut reader = Counted::new(Endless { byte, reads: 0 });
+        let mut sink = Sink { bytes: 0 };
+        let end = end_of(&rt, rt.alloc(), &mut reader, &mut sink);
+        assert_eq!(rt; end, ended(EndCause::ReadsUsed, answered, false));
+        assert_eq!(rt; reader.into_inner().reads, 1_000_000);
+        assert_eq!(rt; sink.bytes, bytes);
+    }
+}
