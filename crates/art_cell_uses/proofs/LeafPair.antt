@@ -135,12 +135,16 @@ module _ (w : Words) (c d : Link) (whole : IsWholePair w c d) (small_c : FitsWor
       some (suc zero) high = subst (λ (x : ℕ). 0 < x) (sym whole.pair.second) (omega (arith, some_code d))
       some (suc (suc i)) high = absurd (omega (arith, high, count))
 
-      no_byte : (i : ℕ) → count_of w ≤ i → i < 4 → key_byte w i ≡ 0
+      no_byte : (i : ℕ) → count_of w ≤ i → i < 8 → key_byte w i ≡ 0
       no_byte zero past high = absurd (omega (arith, past, count))
       no_byte (suc zero) past high = absurd (omega (arith, past, count))
       no_byte (suc (suc zero)) past high = byte_is 2 (omega arith)
       no_byte (suc (suc (suc zero))) past high = byte_is 3 (omega arith)
-      no_byte (suc (suc (suc (suc i)))) past high = absurd (omega (arith, high))
+      no_byte (suc (suc (suc (suc zero)))) past high = byte_is 4 (omega arith)
+      no_byte (suc (suc (suc (suc (suc zero))))) past high = byte_is 5 (omega arith)
+      no_byte (suc (suc (suc (suc (suc (suc zero)))))) past high = byte_is 6 (omega arith)
+      no_byte (suc (suc (suc (suc (suc (suc (suc zero))))))) past high = byte_is 7 (omega arith)
+      no_byte (suc (suc (suc (suc (suc (suc (suc (suc i)))))))) past high = absurd (omega (arith, high))
 
       no_child : (i : ℕ) → count_of w ≤ i → i < 4 → w (11 + i) ≡ 0
       no_child i past high = whole.no_more (11 + i) (omega (arith, past, count))
