@@ -6,7 +6,7 @@ use crate::bodies::WORDS;
 use std::marker::Model;
 
 /// The words of one cell that were read, by their places: each at most once, and at most 266.
-#[derive(Clone, Copy, Debug, PartialEq, Eq)]
+#[derive(Drop)]
 pub struct Reads {
     words: [Option<u64>; WORDS],
 }
