@@ -22,3 +22,5 @@ mod node48;
 mod nodes;
 #[cfg(test)]
 mod plans;
+#[cfg(test)]
+mod reads;
