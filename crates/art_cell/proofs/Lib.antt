@@ -1,1 +1,2 @@
 pub mod ChangedWords
+pub mod KnownLemmas

@@ -1,5 +1,5 @@
 -- Which words are the body of a node.
-use Rattle.std.specs.Prelude.{◌≡◌, ℕ, zero, suc, ◌+◌, ◌^◌, ◌<◌, ◌≤◌, length, Option}
+use Rattle.std.specs.Prelude.{◌≡◌, ℕ, zero, suc, ◌+◌, ◌-◌, ◌*◌, ◌^◌, ◌<◌, ◌≤◌, length, Option}
 use Rattle.art_cell.specs.declared.layouts.Layout.{Layout}
 use Rattle.art_cell.specs.declared.layouts.Layout.TheVariants.{Node4, Node16, Node48, Node256}
 use Rattle.art_cell.specs.Words.{Words, places, count_of, prefix_len, is_used, packed, prefix_of, key_byte, child_of, entries}
@@ -9,13 +9,14 @@ pub record HasPrefix (w : Words) : Type 0 where
   pub short : prefix_len w ≤ 64
   pub unused : (i : ℕ) → prefix_len w ≤ i → i < 64 → packed w 2 i ≡ 0
 
--- the first positions are in use, in ascending order of their bytes, and what stands after them is 0
+-- the first positions are in use, in ascending order of their bytes, and all that stands after them is 0: children, and
+-- bytes to the end of the key words, which stand from place 10 to the first child
 pub record IsSorted (slots first : ℕ) (w : Words) : Type 0 where
   pub header : w 1 < 2 ^ 16
   pub few : count_of w ≤ slots
   pub ascends : (i j : ℕ) → i < j → j < count_of w → key_byte w i < key_byte w j
   pub some : (i : ℕ) → i < count_of w → 0 < w (first + i)
-  pub no_byte : (i : ℕ) → count_of w ≤ i → i < slots → key_byte w i ≡ 0
+  pub no_byte : (i : ℕ) → count_of w ≤ i → i < 8 * (first - 10) → key_byte w i ≡ 0
   pub no_child : (i : ℕ) → count_of w ≤ i → i < slots → w (first + i) ≡ 0
 
 -- how many of the first places are in use

@@ -1,5 +1,6 @@
 pub mod Bodies
 pub mod Children
+pub mod KnownWords
 pub mod Leaves
 pub mod Lemmas
 pub mod Reads

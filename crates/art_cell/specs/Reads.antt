@@ -22,9 +22,9 @@ word_read reads place = get_or reads place None
 abbrev pub Agrees : List (Option ℕ) → Words → Type 0
 Agrees reads w = (place value : ℕ) → word_read reads place ≡ Some value → w place ≡ value
 
--- a word of the cell that was not read
+-- a word of the cell, after its version, that was not read
 abbrev pub IsUnread : Layout → List (Option ℕ) → ℕ → Type 0
-IsUnread k reads place = (place < size k) × (word_read reads place ≡ None)
+IsUnread k reads place = (0 < place) × (place < size k) × (word_read reads place ≡ None)
 
 -- ---- probes
 

@@ -5,7 +5,7 @@ use crate::{Body, Reads, Writes, changes};
 use arrayvec::ArrayVec;
 
 /// What is known of the child of a byte.
-#[derive(Clone, Copy, Debug, PartialEq, Eq)]
+#[derive(Clone, Copy, Debug, PartialEq)]
 pub enum Probe {
     /// The word at this place must be read first.
     Need(usize),
@@ -16,14 +16,14 @@ pub enum Probe {
 }
 
 /// A byte and its child word.
-#[derive(Clone, Copy, Debug, Default, PartialEq, Eq)]
+#[derive(Clone, Copy, Debug, Default, PartialEq)]
 pub struct Entry {
     pub byte: u8,
     pub child: u64,
 }
 
 /// What is known of the least entry at a byte or above.
-#[derive(Clone, Copy, Debug, PartialEq, Eq)]
+#[derive(Clone, Copy, Debug, PartialEq)]
 pub enum NextProbe {
     /// The word at this place must be read first.
     Need(usize),

@@ -7,7 +7,7 @@ use crate::bodies::WORDS;
 use arrayvec::ArrayVec;
 
 /// A word, and the place that it goes to.
-#[derive(Clone, Copy, Debug, Default, PartialEq, Eq)]
+#[derive(Clone, Copy, Debug, Default, PartialEq)]
 pub struct Write {
     pub place: usize,
     pub value: u64,

@@ -2,4 +2,3 @@ pub mod Copies
 pub mod KeyBytes
 pub mod LeafWords
 pub mod Lookups
-pub mod Searches

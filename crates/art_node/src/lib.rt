@@ -8,8 +8,6 @@
 mod leaves;
 mod nodes;
 mod relaid;
-#[cfg(test)]
-mod tests;
 mod words;
 
 pub use leaves::{pack, unpack};

@@ -11,7 +11,7 @@ use art_cell::{Layout, Link, Reads};
 use art_key::Key;
 
 /// What a header says.
-#[derive(Clone, Copy, Debug, PartialEq, Eq)]
+#[derive(Clone, Copy, Debug, PartialEq)]
 pub struct Header {
     /// How many children there are.
     pub count: usize,

@@ -3,9 +3,6 @@
 
 ghost use Rattle.std.specs.Prelude.{◌≡◌, ◌<◌, ◌↔◌, ℕ, Some, None, true, false};
 
-#[cfg(test)]
-mod tests;
-
 use art_cell::{Body, Entries, NextProbe, NodeKind, Probe, Reads};
 use art_sorted::Sorted;
 

@@ -7,6 +7,3 @@
 mod kind;
 
 pub use kind::Node256;
-
-#[cfg(test)]
-mod tests;

@@ -4,6 +4,3 @@
 mod node48;
 
 pub use node48::Node48;
-
-#[cfg(test)]
-mod tests;

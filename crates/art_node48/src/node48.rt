@@ -139,7 +139,7 @@ fn free_place(header: u64) -> Option<usize>
 }
 
 /// The child of a byte.
-pub(crate) fn child_in(body: &Body, byte: u8) -> Option<u64>
+fn child_in(body: &Body, byte: u8) -> Option<u64>
     requires { IsBodyOf Layout.Node48 body.now }
     ensures { result ≡ indexed_child (word_of body.now) byte }
 {

@@ -1,5 +1,5 @@
 -- The words of a node with sorted bytes, and the entries that they hold.
-use Rattle.std.proofs.Common.{◌≡◌, ◌≢◌, ◌⊎◌, ℕ, zero, suc, ◌+◌, ◌/◌, ◌%◌, ◌^◌, ◌<◌, ◌≤◌, cond, eqb, List, [], ◌∷◌, ◌++◌, length, get_or, map, Option, Some, None, refl, sym, ap, subst, ◌∙◌, inl, inr, arith, eq-eqb, ne_eqb, get_or-set_other, get_or-set_same}
+use Rattle.std.proofs.Common.{◌≡◌, ◌≢◌, ◌⊎◌, ℕ, zero, suc, ◌+◌, ◌-◌, ◌*◌, ◌/◌, ◌%◌, ◌^◌, ◌<◌, ◌≤◌, cond, eqb, List, [], ◌∷◌, ◌++◌, length, get_or, map, Option, Some, None, refl, sym, ap, subst, ◌∙◌, inl, inr, arith, eq-eqb, ne_eqb, get_or-set_other, get_or-set_same}
 use Rattle.std.specs.Prelude.{set, find}
 use Rattle.std.specs.List.{range_with_len, insert, remove}
 use Rattle.std.specs.Option.{option_and_then}
@@ -26,12 +26,13 @@ use Rattle.art_sorted.proofs.Ascending.{Ascends, lookup, listed-lookup, ascends_
 pub record Fits (k : Layout) : Type 0 where
   pub few : places k ≤ 16
   pub low : 11 ≤ first_child k
-  pub after_keys : (i : ℕ) → i < places k → 10 + i / 8 < first_child k
+  pub keys : places k ≤ 8 * (first_child k - 10)
+  pub after_keys : (i : ℕ) → i < 8 * (first_child k - 10) → 10 + i / 8 < first_child k
   pub last : first_child k + places k ≡ size k
 
 pub fits : (s : Sorted) → Fits (layout_of s)
-fits Four = record { few = omega arith; low = omega arith; after_keys = λ i h. omega arith; last = refl }
-fits Sixteen = record { few = omega arith; low = omega arith; after_keys = λ i h. omega arith; last = refl }
+fits Four = record { few = omega arith; low = omega arith; keys = omega arith; after_keys = λ i h. omega arith; last = refl }
+fits Sixteen = record { few = omega arith; low = omega arith; keys = omega arith; after_keys = λ i h. omega arith; last = refl }
 
 -- the form of these layouts, of which the layout is an argument
 abbrev pub IsSortedOf : Layout → Words → Type 0
@@ -112,8 +113,8 @@ child_body s w b body =
 pub holds_body : (s : Sorted) (w : Words) → IsBody (layout_of s) w → Holds (layout_of s) w (entries (layout_of s) w) w
 holds_body s w body = subst (λ (xs : List Entry). Holds (layout_of s) w xs w) (sym (entries_is s w form)) (record {
   header = header;
-  keys = λ i h. ap (λ (e : Entry). e.byte) (at i h);
-  children = λ i h. ap (λ (e : Entry). e.child) (at i h);
+  keys = keys;
+  children = children;
   prefix = λ p l h. refl;
   outside = (refl, λ p h. refl);
 })
@@ -127,13 +128,24 @@ holds_body s w body = subst (λ (xs : List Entry). Holds (layout_of s) w xs w) (
     header : w 1 ≡ with_count (w 1) (length (entries_here (layout_of s) w))
     header = omega (arith, many)
 
-    at : (i : ℕ) → i < places (layout_of s) → entry_here (first_child (layout_of s)) w i ≡ entry_or_none (entries_here (layout_of s) w) i
-    at i h =
+    used : (i : ℕ) → i < count_of w → entry_here (first_child (layout_of s)) w i ≡ entry_or_none (entries_here (layout_of s) w) i
+    used i h = sym (get_or-map-range_with_len (entry_here (first_child (layout_of s)) w) 0 (count_of w) i i no_entry h (omega arith))
+
+    unused : (i : ℕ) → count_of w ≤ i → no_entry ≡ entry_or_none (entries_here (layout_of s) w) i
+    unused i h = sym (get_or_past (entries_here (layout_of s) w) i no_entry (omega (arith, many)))
+
+    keys : (i : ℕ) → i < 8 * (first_child (layout_of s) - 10) → key_byte w i ≡ (entry_or_none (entries_here (layout_of s) w) i).byte
+    keys i h =
         elim (cases_lt i (count_of w)) [
-          | inl used ↦ sym (get_or-map-range_with_len (entry_here (first_child (layout_of s)) w) 0 (count_of w) i i no_entry used (omega arith))
-          | inr free ↦
-              let past : entry_or_none (entries_here (layout_of s) w) i ≡ no_entry = get_or_past (entries_here (layout_of s) w) i no_entry (omega (arith, many)) in
-              (λ j. record { byte = form.no_byte i free h j; child = form.no_child i free h j }) ∙ sym past
+          | inl here ↦ ap (λ (e : Entry). e.byte) (used i here)
+          | inr past ↦ form.no_byte i past h ∙ ap (λ (e : Entry). e.byte) (unused i past)
+        ]
+
+    children : (i : ℕ) → i < places (layout_of s) → w (first_child (layout_of s) + i) ≡ (entry_or_none (entries_here (layout_of s) w) i).child
+    children i h =
+        elim (cases_lt i (count_of w)) [
+          | inl here ↦ ap (λ (e : Entry). e.child) (used i here)
+          | inr past ↦ form.no_child i past h ∙ ap (λ (e : Entry). e.child) (unused i past)
         ]
 
 -- ---- the words after a write
@@ -151,7 +163,7 @@ form_held s w after xs small few ascends holds =
       few = omega (arith, count);
       ascends = λ i j lt h.
           let less = ascends_at 0 xs i j ascends lt (omega (arith, count)) in
-          omega (arith, less, holds.keys i (omega (arith, count)), holds.keys j (omega (arith, count)));
+          omega (arith, less, holds.keys i (omega (arith, count, (fits s).keys)), holds.keys j (omega (arith, count, (fits s).keys)));
       some = λ i h.
           let some = some_at 0 xs i ascends (omega (arith, count)) in
           omega (arith, some, holds.children i (omega (arith, count)));
@@ -164,7 +176,7 @@ here_held s w after xs few holds =
     let count = count_held (layout_of s) w after xs (omega (arith, (fits s).few)) holds in
     sym (fill_by_all (entry_here (first_child (layout_of s)) after) xs (count_of after) no_entry (sym count) (λ i h.
     let within : i < places (layout_of s) = omega (arith, count) in
-    λ j. record { byte = sym (holds.keys i within) j; child = sym (holds.children i within) j }))
+    λ j. record { byte = sym (holds.keys i (omega (arith, within, (fits s).keys))) j; child = sym (holds.children i within) j }))
 
 same_range : {X : Type 0} (f g : ℕ → X) (from count : ℕ) → ((i : ℕ) → from ≤ i → i < from + count → f i ≡ g i) → map f (range_with_len from count) ≡ map g (range_with_len from count)
 same_range f g from zero same = refl
@@ -254,7 +266,7 @@ holds_child s w after xs i byte c holds within place at differs = record {
     entry : Entry
     entry = record { byte = byte; child = c }
 
-    keys : (j : ℕ) → j < places (layout_of s) → key_byte after j ≡ (entry_or_none (set xs i (record { byte = byte; child = c })) j).byte
+    keys : (j : ℕ) → j < 8 * (first_child (layout_of s) - 10) → key_byte after j ≡ (entry_or_none (set xs i (record { byte = byte; child = c })) j).byte
     keys j h =
         let same = packed_same w after 10 j (differs.elsewhere (10 + j / 8) (λ e. omega (arith, e, (fits s).after_keys j h))) in
         elim (cases_eq j i) [

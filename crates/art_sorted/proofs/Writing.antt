@@ -46,7 +46,7 @@ keys_more words xs place v low within bytes so_far i h =
 
 -- the words of key bytes are written, and no others
 pub record KeysWritten (s : Sorted) (w after : Words) (xs : List Entry) : Type 0 where
-  pub keys : (i : ℕ) → i < places (layout_of s) → key_byte after i ≡ (entry_or_none xs i).byte
+  pub keys : (i : ℕ) → i < 8 * (first_child (layout_of s) - 10) → key_byte after i ≡ (entry_or_none xs i).byte
   pub before : (p : ℕ) → p < 10 → after p ≡ w p
   pub after_keys : (p : ℕ) → first_child (layout_of s) ≤ p → after p ≡ w p
 

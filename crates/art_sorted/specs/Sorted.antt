@@ -1,5 +1,5 @@
 -- What the functions over sorted bytes say.
-use Rattle.std.specs.Prelude.{◌≡◌, ℕ, ◌+◌, ◌<◌, ◌≤◌, List, Option, length, slice_index_or, ⊤}
+use Rattle.std.specs.Prelude.{◌≡◌, ℕ, ◌+◌, ◌-◌, ◌*◌, ◌<◌, ◌≤◌, List, Option, length, slice_index_or, ⊤}
 use Rattle.art_cell.specs.declared.layouts.Layout.{Layout}
 use Rattle.art_cell.specs.declared.layouts.Layout.TheVariants.{Node4, Node16}
 use Rattle.art_cell.specs.declared.node_kinds.Entry.{Entry}
@@ -52,10 +52,10 @@ pub record IsPosition (xs : List Entry) (byte index : ℕ) : Type 0 where
   pub before : (i : ℕ) → i < index → (entry_or_none xs i).byte < byte
   pub above : index < length xs → byte ≤ (entry_or_none xs index).byte
 
--- the words after the entries were written: nothing else changed
+-- the words after the entries were written, with 0 for each byte and child after them: nothing else changed
 pub record Holds (k : Layout) (w : Words) (xs : List Entry) (after : Words) : Type 0 where
   pub header : after 1 ≡ with_count (w 1) (length xs)
-  pub keys : (i : ℕ) → i < places k → key_byte after i ≡ (entry_or_none xs i).byte
+  pub keys : (i : ℕ) → i < 8 * (first_child k - 10) → key_byte after i ≡ (entry_or_none xs i).byte
   pub children : (i : ℕ) → i < places k → after (first_child k + i) ≡ (entry_or_none xs i).child
   pub prefix : (p : ℕ) → 2 ≤ p → p < 10 → after p ≡ w p
   pub outside : SameOutside k w after

@@ -1,5 +1,5 @@
 //! The words of a node, written from a list of its children.
-ghost use Rattle.std.specs.Prelude.{◌≡◌, ◌≤◌, ◌<◌, ◌+◌, ◌^◌, length, ℕ};
+ghost use Rattle.std.specs.Prelude.{◌≡◌, ◌≤◌, ◌<◌, ◌+◌, ◌-◌, ◌*◌, ◌^◌, length, ℕ};
 ghost use Rattle.art_cell.specs.Words.{byte_of, places, first_child, key_byte};
 ghost use Rattle.art_cell.specs.Reads.{word_of};
 ghost use Rattle.art_sorted.specs.Sorted.{layout_of, entry_or_none, Holds};
@@ -23,7 +23,7 @@ fn key_word(list: &Entries, from: usize) -> u64
 
 /// Writes the words of key bytes.
 fn write_keys(sorted: Sorted, body: &mut Body, list: &Entries)
-    ensures keys { (i : ℕ) → i < places (layout_of sorted) → key_byte (word_of body.new) i ≡ (entry_or_none list.now.items i).byte }
+    ensures keys { (i : ℕ) → i < 8 * (first_child (layout_of sorted) - 10) → key_byte (word_of body.new) i ≡ (entry_or_none list.now.items i).byte }
     ensures before { (p : ℕ) → p < 10 → word_of body.new p ≡ word_of body.old p }
     ensures after { (p : ℕ) → first_child (layout_of sorted) ≤ p → word_of body.new p ≡ word_of body.old p }
     ensures fits { ((p : ℕ) → word_of body.old p < 2 ^ 64) → (p : ℕ) → word_of body.new p < 2 ^ 64 }

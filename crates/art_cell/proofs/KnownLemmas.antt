@@ -1,0 +1,107 @@
+-- The words that are known: none, one more, and that at a place.
+use Rattle.std.proofs.Common.{◌≡◌, ◌≢◌, ℕ, zero, suc, ◌*◌, ◌/◌, ◌%◌, ◌^◌, ◌<◌, ◌≤◌, List, length, get_or, set, replicate, Option, Some, None, cond, eqb, refl, sym, ap, ap₂, ◌∙◌, inl, inr, arith, eq-eqb, ne_eqb, get_or-set_other, get_or-set_same}
+use Rattle.std.proofs.lemmas.Bool.{cases_eq}
+use Rattle.std.proofs.lemmas.List.{length-set, length-replicate, get_or_past, get_or-replicate}
+use Rattle.std.proofs.lemmas.List.FromFn.{length-map-range_with_len, get_or-map-range_with_len, fill_by_all}
+use Rattle.std.proofs.lemmas.Nat.Bits.{bit_at-zero, bit_at_set_same, bit_at_set_other}
+use Rattle.std.specs.Int.{w64, bit_at}
+use Rattle.std.specs.Int.RustNames.{bit_or}
+use Rattle.art_cell.specs.KnownWords.{known_bit, known_word, known_words}
+
+module _ (words bits : List ℕ) where
+  length-known_words : length (known_words words bits) ≡ 266
+  unfolding known_words
+  length-known_words = length-map-range_with_len (known_word words bits) 0 266
+
+  -- the word at a place, and none past the last
+  pub at_place : (place : ℕ) → place < 266 → get_or (known_words words bits) place None ≡ known_word words bits place
+  unfolding known_words
+  at_place place low = get_or-map-range_with_len (known_word words bits) 0 266 place place None low (omega arith)
+
+  pub past_places : (place : ℕ) → 266 ≤ place → get_or (known_words words bits) place None ≡ None
+  past_places place high = get_or_past (known_words words bits) place None (omega (arith, length-known_words))
+
+-- words are known as a list says
+same_words : (words bits : List ℕ) (xs : List (Option ℕ)) → length xs ≡ 266 → ((place : ℕ) → place < 266 → get_or xs place None ≡ known_word words bits place) → known_words words bits ≡ xs
+unfolding known_words
+same_words words bits xs long each = sym (fill_by_all (known_word words bits) xs 266 None long each)
+
+no_bits : (n place : ℕ) → get_or {A = ℕ} (replicate n 0) place 0 ≡ 0
+no_bits zero place = refl
+no_bits (suc n) zero = refl
+no_bits (suc n) (suc place) = no_bits n place
+
+unknown : (words bits : List ℕ) (place : ℕ) → known_bit bits place ≢ 1 → known_word words bits place ≡ None
+unknown words bits place none = rw (ne_eqb (known_bit bits place) 1 none) refl
+
+known : (words bits : List ℕ) (place : ℕ) → known_bit bits place ≡ 1 → known_word words bits place ≡ Some (get_or words place 0)
+known words bits place is = rw (eq-eqb (known_bit bits place) 1 is) refl
+
+-- what is read at a place whose bit is set, at one whose bit is not, and past the last
+pub read_known : (words bits : List ℕ) (xs : List (Option ℕ)) (place : ℕ) → known_words words bits ≡ xs → place < 266 → known_bit bits place ≡ 1 → Some (get_or words place 0) ≡ get_or xs place None
+read_known words bits xs place same low is = sym (at_place words bits place low ∙ known words bits place is) ∙ ap (λ (ys : List (Option ℕ)). get_or ys place None) same
+
+pub read_unknown : (words bits : List ℕ) (xs : List (Option ℕ)) (place : ℕ) → known_words words bits ≡ xs → place < 266 → known_bit bits place ≢ 1 → None ≡ get_or xs place None
+read_unknown words bits xs place same low none = sym (at_place words bits place low ∙ unknown words bits place none) ∙ ap (λ (ys : List (Option ℕ)). get_or ys place None) same
+
+pub read_past : (words bits : List ℕ) (xs : List (Option ℕ)) (place : ℕ) → known_words words bits ≡ xs → 266 ≤ place → None ≡ get_or xs place None
+read_past words bits xs place same high = sym (past_places words bits place high) ∙ ap (λ (ys : List (Option ℕ)). get_or ys place None) same
+
+-- with no bit nothing is known
+pub none_known : (words : List ℕ) → known_words words (replicate 5 0) ≡ replicate 266 None
+none_known words = same_words words (replicate 5 0) (replicate 266 None) (length-replicate {A = Option ℕ} 266 None) each
+  where
+    no_bit : (place : ℕ) → known_bit (replicate 5 0) place ≢ 1
+    no_bit place e = let zero_bit = ap (λ (n : ℕ). bit_at n (place % 64)) (no_bits 5 (place / 64)) ∙ bit_at-zero (place % 64) in omega (arith, zero_bit, e)
+
+    each : (place : ℕ) → place < 266 → get_or (replicate 266 None) place None ≡ known_word words (replicate 5 0) place
+    each place low =
+        get_or-replicate 266 place None None low
+        ∙ sym (unknown words (replicate 5 0) place (λ e. no_bit place e))
+
+-- the bits with that of a place set
+abbrev pub with_bit : List ℕ → ℕ → List ℕ
+with_bit bits place = set bits (place / 64) (bit_or (get_or bits (place / 64) 0) (1 * 2 ^ (place % 64) % 2 ^ 64))
+
+bit_here : (bits : List ℕ) (place : ℕ) → place / 64 < length bits → known_bit (with_bit bits place) place ≡ 1
+bit_here bits place within =
+    let n = get_or bits (place / 64) 0 in
+    ap (λ (m : ℕ). bit_at m (place % 64)) (get_or-set_same bits (place / 64) (bit_or n (1 * 2 ^ (place % 64) % 2 ^ 64)) 0 within)
+    ∙ bit_at_set_same w64 n (place % 64) (omega arith)
+
+bit_elsewhere : (bits : List ℕ) (place p : ℕ) → place / 64 < length bits → p ≢ place → known_bit (with_bit bits place) p ≡ known_bit bits p
+bit_elsewhere bits place p within apart =
+    let n = get_or bits (place / 64) 0 in
+    let m = bit_or n (1 * 2 ^ (place % 64) % 2 ^ 64) in
+    elim (cases_eq (p / 64) (place / 64)) [
+      | inl here ↦
+          let other : p % 64 ≢ place % 64 = (λ e. apart (omega (arith, e, here))) in
+          ap (λ (q : ℕ). bit_at (get_or (set bits (place / 64) m) q 0) (p % 64)) here
+          ∙ ap (λ (k : ℕ). bit_at k (p % 64)) (get_or-set_same bits (place / 64) m 0 within)
+          ∙ bit_at_set_other w64 n (place % 64) (omega arith) (p % 64) other
+          ∙ ap (λ (q : ℕ). bit_at (get_or bits q 0) (p % 64)) (sym here)
+      | inr other ↦ ap (λ (k : ℕ). bit_at k (p % 64)) (get_or-set_other bits (place / 64) (p / 64) m 0 other)
+    ]
+
+-- a word that is noted
+pub one_more_known : (words bits : List ℕ) (place word : ℕ) → place < length words → place < 266 → place / 64 < length bits
+    → known_words (set words place word) (with_bit bits place) ≡ set (known_words words bits) place (Some word)
+one_more_known words bits place word within low bit_within =
+    same_words (set words place word) (with_bit bits place) (set xs place (Some word)) (length-set xs place (Some word) ∙ length-known_words words bits) each
+  where
+    xs : List (Option ℕ)
+    xs = known_words words bits
+
+    each : (p : ℕ) → p < 266 → get_or (set xs place (Some word)) p None ≡ known_word (set words place word) (with_bit bits place) p
+    each p below =
+        elim (cases_eq p place) [
+          | inl here ↦
+              ap (λ (q : ℕ). get_or (set xs place (Some word)) q None) here
+              ∙ get_or-set_same xs place (Some word) None (omega (arith, length-known_words words bits))
+              ∙ sym (known (set words place word) (with_bit bits place) place (bit_here bits place bit_within) ∙ ap (λ (n : ℕ). Some n) (get_or-set_same words place word 0 within))
+              ∙ ap (known_word (set words place word) (with_bit bits place)) (sym here)
+          | inr apart ↦
+              get_or-set_other xs place p (Some word) None apart
+              ∙ at_place words bits p below
+              ∙ ap₂ (λ (n v : ℕ). cond (eqb n 1) (Some v) None) (sym (bit_elsewhere bits place p bit_within apart)) (sym (get_or-set_other words place p word 0 apart))
+        ]

@@ -1,0 +1,26 @@
+//! Tests of the four layouts, of nodes whatever their layout, and of leaves.
+//!
+//! What the layouts share is tested by functions over any `NodeKind`: `kinds` has them, and `fills` calls them at each
+//! layout. Beside them stand worked words of each layout, of nodes that grow and shrink, and of leaves.
+#![tactic(auto)]
+
+#[cfg(test)]
+mod fills;
+#[cfg(test)]
+mod kinds;
+#[cfg(test)]
+mod leaves;
+#[cfg(test)]
+mod node16;
+#[cfg(test)]
+mod node256;
+#[cfg(test)]
+mod node4;
+#[cfg(test)]
+mod node48;
+#[cfg(test)]
+mod nodes;
+#[cfg(test)]
+mod plans;
+#[cfg(test)]
+mod reads;

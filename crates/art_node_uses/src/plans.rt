@@ -1,0 +1,59 @@
+//! Plans of a Node256, by the words that they write.
+ghost use Rattle.std.specs.Prelude.{◌≡◌, ◌<◌};
+ghost use Rattle.art_cell.specs.declared.layouts.Layout.TheVariants as layouts;
+ghost use Rattle.art_cell.specs.Reads.{IsBodyOf};
+
+use crate::kinds::{child, empty, give};
+use art_cell::{Body, Layout, Write};
+use art_node::{plan_add, plan_drop, plan_set};
+use art_node256::Node256;
+use std::process::Abort;
+use std::test::*;
+
+/// The words to write for a child more.
+fn check_add(rt: &impl Abort, body: &Body, byte: u8, word: u64, wanted: &[Write])
+    requires body { IsBodyOf layouts.Node256 body.now }
+    requires child { 0 < word }
+{
+    if let Some(_) = child::<Node256>(rt, body, byte) {
+        panic!(rt; "a byte has a child already");
+    }
+    let writes = plan_add(body, byte, word).expect(rt, "room");
+    assert_eq!(rt; writes.as_slice(), wanted);
+}
+
+/// The words to write for another child.
+fn check_set(rt: &impl Abort, body: &Body, byte: u8, word: u64, wanted: &[Write])
+    requires body { IsBodyOf layouts.Node256 body.now }
+    requires child { 0 < word }
+{
+    let Some(_) = child::<Node256>(rt, body, byte) else {
+        panic!(rt; "a byte has no child");
+    };
+    assert_eq!(rt; plan_set(body, byte, word).as_slice(), wanted);
+}
+
+/// The words to write for a child less.
+fn check_drop(rt: &impl Abort, body: &Body, byte: u8, wanted: &[Write])
+    requires { IsBodyOf layouts.Node256 body.now }
+{
+    let Some(_) = child::<Node256>(rt, body, byte) else {
+        panic!(rt; "a byte has no child");
+    };
+    assert_eq!(rt; plan_drop(body, byte).as_slice(), wanted);
+}
+
+/// A word to write.
+fn word(place: usize, value: u64) -> Write {
+    Write { place, value }
+}
+
+#[test]
+fn plans_write_the_words_that_differ(rt: HostRuntime) {
+    let mut body = empty::<Node256>(Layout::Node256);
+    check_add(&rt, &body, 3, 9, &[word(1, 513), word(13, 9)]);
+    assert!(rt; give::<Node256>(&rt, &mut body, 3, 9));
+    check_set(&rt, &body, 3, 8, &[word(13, 8)]);
+    check_set(&rt, &body, 3, 9, &[]);
+    check_drop(&rt, &body, 3, &[word(1, 512), word(13, 0)]);
+}
