@@ -1,7 +1,8 @@
 -- What the words of all cells mean: a heap.
-use Rattle.std.specs.Prelude.{◌≡◌, ℕ, List, [], nat_lt, if◌then◌else◌, Option, None}
+use Rattle.std.specs.Prelude.{◌≡◌, ℕ, ◌<◌, ◌≤◌, List, [], nat_lt, if◌then◌else◌, Option, None}
 use Rattle.std.specs.Option.{option_and_then}
 use Rattle.art_cell.specs.declared.layouts.Layout.{Layout}
+use Rattle.art_cell.specs.declared.cells.Node.{Node}
 use Rattle.art_cell.specs.declared.cells.Link.{Link}
 use Rattle.art_cell.specs.declared.cells.Cell.{Cell}
 use Rattle.art_cell.specs.declared.cells.Cell.TheVariants as cell
@@ -35,6 +36,19 @@ heap_of cells = record {
   key = λ l. key_of (cells (cell.Leaf l));
   value = λ l. cells (cell.Leaf l) 0;
 }
+
+-- what the heap says of each cell is read off its words: the root; of a node with a prefix of at most 64 bytes the prefix, and
+-- the child at each byte; of a leaf the value, and of one with a key of at most 64 bytes the key
+pub record WordsMean (cells : Cells) : Type 0 where
+  pub root : (heap_of cells).root ≡ link_of (cells cell.Anchor 1)
+  pub prefix : (n : Node) → prefix_len (cells (cell.Node n)) ≤ 64 → (heap_of cells).prefix n ≡ prefix_of (cells (cell.Node n))
+  pub child : (n : Node) (b : ℕ) → b < 256 → (heap_of cells).child n b ≡ option_and_then link_of (child_of n.layout (cells (cell.Node n)) b)
+  pub key : (l : ℕ) → cells (cell.Leaf l) 1 ≤ 64 → (heap_of cells).key l ≡ leaf_key (cells (cell.Leaf l))
+  pub value : (l : ℕ) → (heap_of cells).value l ≡ cells (cell.Leaf l) 0
+
+-- of all cells, whatever their words
+abbrev pub WordsMeanCells : Type 0
+WordsMeanCells = (cells : Cells) → WordsMean cells
 
 -- the words mean the same as those of the cell before
 abbrev pub MeansTheSame : Cell → Words → Words → Type 0

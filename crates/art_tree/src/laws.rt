@@ -11,7 +11,7 @@ ghost use Rattle.art_tree.specs.Below.{RowsStandBelow};
 ghost use Rattle.art_tree.specs.Changes.{IsUnlinked, SameTree};
 ghost use Rattle.art_cell.specs.Children.{child_word, link_of, number_of};
 ghost use Rattle.art_tree.specs.Descents.{BeginsNone, Descends, Parts};
-ghost use Rattle.art_tree.specs.Heaps.{Cells, heap_of, MeansTheSame};
+ghost use Rattle.art_tree.specs.Heaps.{Cells, heap_of, MeansTheSame, WordsMeanCells};
 ghost use Rattle.art_tree.specs.Laws.{AddLaw, CopyLaw, DropLaw, ForkLaw, FrameLaw, GrowLaw, IsAscending, ListsRows, MergeLaw, ReplaceLaw, RowFrom, ShrinkLaw};
 ghost use Rattle.art_tree.specs.Looks.{AfterCaps, AfterIsExact, AfterIsLeast, AreBytes, LooksAtAnchor, LooksAtNode};
 ghost use Rattle.art_tree.specs.Rows.{ByteMap, HasRows, IsOneToOne};
@@ -128,6 +128,11 @@ pub fn nodes_are_merged_away()
 {}
 
 // ---- words
+
+/// What a heap says of a cell is read off the cell's words: the root, prefixes and children, keys and values.
+pub fn words_mean_cells()
+    ensures { WordsMeanCells }
+{}
 
 /// Words that a change writes make the change of the tree that they stand for.
 pub fn words_change_the_tree()

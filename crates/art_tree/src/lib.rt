@@ -11,5 +11,5 @@ pub use laws::{
     new_keys_part, no_root_has_no_row, nodes_are_copied, nodes_are_merged_away, nodes_come_between,
     nodes_grow, nodes_shrink, rows_are_of_one_map, rows_stand_below_the_root,
     same_words_are_the_same_tree, unlinked_cells_do_not_matter, words_change_the_tree,
-    words_mean_bytes,
+    words_mean_bytes, words_mean_cells,
 };
