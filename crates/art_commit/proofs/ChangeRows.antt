@@ -9,12 +9,12 @@ use Rattle.art_step.specs.declared.views.Answer.TheVariants.{Inserted, Present, 
 use Rattle.art_step.specs.declared.views.Asked.TheVariants.{Insert, Remove}
 use Rattle.art_step.specs.declared.views.Sizes.{Sizes}
 use Rattle.art_step.specs.declared.views.View.{View}
-use Rattle.art_step.specs.declared.views.What.{What}
 use Rattle.art_step.specs.declared.views.What.TheVariants.{Done}
 use Rattle.art_tree.specs.Changes.{IsUnlinked}
+use Rattle.art_commit.specs.AnyChange.{RowsBy}
 use Rattle.art_commit.specs.CommitLaws.{HasLeaf, HasNode}
 use Rattle.art_tree.specs.Heaps.{Cells, heap_of}
-use Rattle.art_step.specs.Histories.{by_value, IsAnswered, becomes}
+use Rattle.art_step.specs.Histories.{by_value}
 use Rattle.art_step.specs.Knowledge.{IsLeafCell}
 use Rattle.art_cell.specs.Leaves.{leaf_key, IsLeaf}
 use Rattle.art_tree.specs.Rows.{ByteMap, HasRows, IsAbsent}
@@ -22,10 +22,6 @@ use Rattle.art_step.specs.StepRows.{Knows}
 use Rattle.art_tree.specs.Tree.{Heap, StandsAt, Row}
 
 -- ---- rows
-
--- the map answers as the event says, and the rows are those after it
-abbrev pub RowsBy : Heap → Heap → What → Type 0
-RowsBy h h' what = (m : ByteMap) → HasRows h m → IsAnswered m what × HasRows h' (becomes m what)
 
 -- an absent key is not in the map
 absent_get : (h : Heap) (m : ByteMap) (k : List ℕ) → HasRows h m → IsAbsent h k → get m k ≡ None
@@ -67,7 +63,7 @@ module _ (z : Sizes) (v : View) (s : Cells) (l : ℕ) (k : List ℕ) (value : �
   pub leaf_has_key : (heap_of s).key l ≡ k
   leaf_has_key = key_in_words s l k value leaf_words has.short
 
-  leaf_has_value : (heap_of s).value l ≡ value
+  pub leaf_has_value : (heap_of s).value l ≡ value
   leaf_has_value = value_in_words s l k value leaf_words
 
   -- and it is not linked

@@ -1,6 +1,7 @@
 -- Each change of the tree, written by a pass that holds the cells which it changes and no others, is a commit of its
 -- command: what the commit's premise asks follows from the words that are written.
 use Rattle.std.specs.Prelude.{◌≡◌, ◌≢◌, ◌⊎◌, ℕ, ◌<◌, ◌≤◌, List, [], ◌∷◌, ◌++◌, length, Some, None}
+use Rattle.std.specs.FinMap.{insert}
 use Rattle.art_cell.specs.declared.cells.Node.{Node}
 use Rattle.art_cell.specs.declared.cells.Cell.{Cell}
 use Rattle.art_cell.specs.declared.cells.Cell.TheVariants as cell
@@ -13,13 +14,16 @@ use Rattle.art_step.specs.declared.views.InHand.{InHand}
 use Rattle.art_step.specs.declared.views.Sizes.{Sizes}
 use Rattle.art_step.specs.declared.views.View.{View}
 use Rattle.art_step.specs.declared.views.What.{What}
-use Rattle.art_step.specs.declared.views.What.TheVariants.{Done}
+use Rattle.art_step.specs.declared.views.What.TheVariants.{Done, Look}
+use Rattle.art_tree.specs.declared.bounds.Bound.TheVariants.{To}
+use Rattle.art_commit.specs.AnyChange.{IsInHand, IsHeld, IsClaimed, Touches, Forms, RowsBy}
+use Rattle.art_tree.specs.Changes.{Moves}
 use Rattle.art_tree.specs.Heaps.{Cells, node_prefix, heap_of}
 use Rattle.art_step.specs.Histories.{IsAnswered, becomes}
 use Rattle.art_step.specs.Knowledge.{IsShape}
 use Rattle.art_cell.specs.Leaves.{IsLeaf}
 use Rattle.art_tree.specs.Rows.{ByteMap, HasRows}
-use Rattle.art_step.specs.StepRows.{Knows, AllNew, Commits}
+use Rattle.art_step.specs.StepRows.{Knows, AllNew, IsLinked, IsOnce, Commits}
 use Rattle.art_tree.specs.Tree.{Place, Slot, child_at_place, path_past, PlaceAt, Begins, HasTwo}
 use Rattle.art_step.specs.Views.{Member, IsNumber, words_in}
 use Rattle.art_tree.specs.WordChanges.{FitsWord, at_byte, WritesPlace, WritesNode, two_children, cell_of, KeepsChildren}
@@ -64,7 +68,17 @@ ClaimedAmong v P = (h : Holding) (n : Node) → Member h v.held → h.stamped �
 abbrev pub IsItsNode : Link → Cell → Type 0
 IsItsNode c d = (k : Node) × (c ≡ node k) × (d ≡ cell.Node k)
 
--- ---- the laws: x is the place that is written, r its path
+-- ---- the law of all changes
+
+-- a change that touches the cells of ts, which stand where es says afterwards, each with its path, is a commit
+abbrev pub AnyCommits : Type 0
+AnyCommits = (z : Sizes) (v : View) (s s' : Cells) (what : What) (us ls ts : List Link) (es : List (Link × List ℕ)) → Before z v s s' →
+    ClaimedAmong v (λ n. Member (node n) ls) → IsOnce us →
+    Moves (heap_of s) (heap_of s') (λ d. Member d ts) (λ d p. Member (d, p) es) → RowsBy (heap_of s) (heap_of s') what →
+    Touches v us ls s (λ d. Member d ts) (λ d p. Member (d, p) es) → Forms z ls s s' (IsHeld v) →
+    Commits z v what us ls s s'
+
+-- ---- each change: x is the place that is written, r its path
 
 -- a leaf comes to a free place
 abbrev pub AddCommits : Type 0
@@ -80,6 +94,14 @@ DropCommits = (z : Sizes) (v : View) (s s' : Cells) (x : Place) (r : List ℕ) (
     WritesPlace s s' x None → PlaceAt (heap_of s) x r → child_at_place (heap_of s) x ≡ Some (leaf l) →
     ((n : Node) (b : ℕ) → x ≡ Slot n b → HasTwo (heap_of s') n) →
     Commits z v (Done (Remove ((heap_of s).key l)) (Removed ((heap_of s).value l))) (leaf l ∷ []) [] s s'
+
+-- a leaf gives way to another with its key: the event is one that gives the key the other's value
+abbrev pub ReplaceCommits : Type 0
+ReplaceCommits = (z : Sizes) (v : View) (s s' : Cells) (x : Place) (r : List ℕ) (l i : ℕ) (k : List ℕ) (value : ℕ) (what : What) → Before z v s s' →
+    HasLeaf z v i k value → HoldsJust v (λ c. c ≡ cell_of x) → ClaimedAmong v (λ n. ⊥) →
+    WritesPlace s s' x (Some (leaf i)) → PlaceAt (heap_of s) x r → child_at_place (heap_of s) x ≡ Some (leaf l) → (heap_of s).key l ≡ k →
+    ((f : ByteMap) → HasRows (heap_of s) f → IsAnswered f what × (becomes f what ≡ insert f k value)) →
+    Commits z v what (leaf l ∷ []) (leaf i ∷ []) s s'
 
 -- node n at x gives way to m, which has its children and one leaf more
 abbrev pub GrowCommits : Type 0
@@ -128,3 +150,31 @@ MergeCommits = (z : Sizes) (v : View) (s s' : Cells) (x : Place) (r : List ℕ) 
     PlaceAt (heap_of s) x r → child_at_place (heap_of s) x ≡ Some (node n) → child_at_place (heap_of s) (Slot n a) ≡ Some c → child_at_place (heap_of s) (Slot n b) ≡ Some (leaf l) → a ≢ b →
     ((e : ℕ) → e ≢ a → e ≢ b → child_at_place (heap_of s) (Slot n e) ≡ None) →
     Commits z v (Done (Remove ((heap_of s).key l)) (Removed ((heap_of s).value l))) (node n ∷ leaf l ∷ []) [] s s'
+
+-- ---- two changes at once
+
+-- what the pass holds and has in hand for two changes, it holds and has in hand, and each node that it claimed it claimed for one
+-- of them. A cell that both write is held for each, for the second with the words that the first gives it
+pub record HasBoth (v one two : View) : Type 0 where
+  pub held : (c : Cell) → IsHeld one c ⊎ IsHeld two c → IsHeld v c
+  pub hand : (d : Link) → IsInHand one d ⊎ IsInHand two d → IsInHand v d
+  pub claimed : (n : Node) → IsClaimed v n → IsClaimed one n ⊎ IsClaimed two n
+
+-- what the two events say, one after the other, the one event says
+abbrev pub SaysBoth : Cells → What → What → What → Type 0
+SaysBoth s first second what = (f : ByteMap) → HasRows (heap_of s) f → IsAnswered f first → IsAnswered (becomes f first) second →
+    IsAnswered f what × (becomes f what ≡ becomes (becomes f first) second)
+
+-- a commit from s to t and one from t to s' are one commit from s to s'; what the second unlinks was linked before the first
+abbrev pub JoinedCommits : Type 0
+JoinedCommits = (z : Sizes) (v one two : View) (s t s' : Cells) (first second what : What) (us ls us' ls' : List Link) → Knows v s → HasBoth v one two →
+    Commits z one first us ls s t → Commits z two second us' ls' t s' → ((d : Link) → Member d us' → IsLinked s d) → SaysBoth s first second what →
+    Commits z v what (us ++ us') (ls ++ ls') s s'
+
+-- a look of a range that has no keys: what a change does that does nothing else, as a copy
+abbrev pub empty_look : What
+empty_look = Look [] (To []) None
+
+-- it is so of every map, and changes no row
+abbrev pub EmptyLookStays : Type 0
+EmptyLookStays = (f : ByteMap) → IsAnswered f empty_look × (becomes f empty_look ≡ f)

@@ -1,1 +1,2 @@
+pub mod AnyChange
 pub mod CommitLaws

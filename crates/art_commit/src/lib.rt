@@ -3,4 +3,4 @@
 
 mod commit_laws;
 
-pub use commit_laws::changes_commit;
+pub use commit_laws::{changes_commit, two_changes_commit_as_one};
