@@ -7,6 +7,7 @@ pub mod Histories
 pub mod Kept
 pub mod Moves
 pub mod OpeningWords
+pub mod Shows
 pub mod StepCommits
 pub mod StepLocks
 pub mod StepNotes

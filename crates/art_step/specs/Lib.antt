@@ -5,6 +5,7 @@ pub mod Instants
 pub mod Knowledge
 pub mod OpeningWords
 pub mod Shown
+pub mod Shows
 pub mod Sound
 pub mod StepKinds
 pub mod StepLaws
