@@ -66,7 +66,7 @@ ClaimedAmong v P = (h : Holding) (n : Node) → Member h v.held → h.stamped �
 
 -- the node that a link names, if it does
 abbrev pub IsItsNode : Link → Cell → Type 0
-IsItsNode c d = (k : Node) × (c ≡ node k) × (d ≡ cell.Node k)
+IsItsNode c d = (n : Node) × (c ≡ node n) × (d ≡ cell.Node n)
 
 -- ---- the law of all changes
 
@@ -106,7 +106,7 @@ ReplaceCommits = (z : Sizes) (v : View) (s s' : Cells) (x : Place) (r : List ℕ
 -- node n at x gives way to m, which has its children and one leaf more
 abbrev pub GrowCommits : Type 0
 GrowCommits = (z : Sizes) (v : View) (s s' : Cells) (x : Place) (r : List ℕ) (n m : Node) (b l : ℕ) (k : List ℕ) (value : ℕ) → Before z v s s' →
-    HasLeaf z v l k value → HasNode z v m → HoldsJust v (λ c. (c ≡ cell.Node n) ⊎ ((c ≡ cell.Node m) ⊎ (c ≡ cell_of x))) → ClaimedAmong v (λ i. i ≡ m) →
+    HasLeaf z v l k value → HasNode z v m → HoldsJust v (λ c. (c ≡ cell.Node n) ⊎ ((c ≡ cell.Node m) ⊎ (c ≡ cell_of x))) → ClaimedAmong v (λ o. o ≡ m) →
     s' (cell.Node n) ≡ s (cell.Node n) → WritesPlace s s' x (Some (node m)) →
     WritesNode m.layout (s' (cell.Node m)) (node_prefix (s (cell.Node n))) (at_byte (child_of n.layout (s (cell.Node n))) b (Some (leaf l))) →
     PlaceAt (heap_of s) x r → child_at_place (heap_of s) x ≡ Some (node n) → b < 256 → child_at_place (heap_of s) (Slot n b) ≡ None → Begins (path_past (heap_of s) n r b) k →
@@ -115,7 +115,7 @@ GrowCommits = (z : Sizes) (v : View) (s s' : Cells) (x : Place) (r : List ℕ) (
 -- node n at x gives way to m, which has its children but for one leaf, and two still
 abbrev pub ShrinkCommits : Type 0
 ShrinkCommits = (z : Sizes) (v : View) (s s' : Cells) (x : Place) (r : List ℕ) (n m : Node) (b l : ℕ) → Before z v s s' →
-    HasNode z v m → HoldsJust v (λ c. (c ≡ cell.Node n) ⊎ ((c ≡ cell.Node m) ⊎ (c ≡ cell_of x))) → ClaimedAmong v (λ i. i ≡ m) →
+    HasNode z v m → HoldsJust v (λ c. (c ≡ cell.Node n) ⊎ ((c ≡ cell.Node m) ⊎ (c ≡ cell_of x))) → ClaimedAmong v (λ o. o ≡ m) →
     s' (cell.Node n) ≡ s (cell.Node n) → WritesPlace s s' x (Some (node m)) →
     WritesNode m.layout (s' (cell.Node m)) (node_prefix (s (cell.Node n))) (at_byte (child_of n.layout (s (cell.Node n))) b None) →
     PlaceAt (heap_of s) x r → child_at_place (heap_of s) x ≡ Some (node n) → child_at_place (heap_of s) (Slot n b) ≡ Some (leaf l) → HasTwo (heap_of s') m →
@@ -124,7 +124,7 @@ ShrinkCommits = (z : Sizes) (v : View) (s s' : Cells) (x : Place) (r : List ℕ)
 -- node n at x gives way to m, which has its children: the rows stay, so the event is one that changes no row
 abbrev pub CopyCommits : Type 0
 CopyCommits = (z : Sizes) (v : View) (s s' : Cells) (x : Place) (r : List ℕ) (n m : Node) (what : What) → Before z v s s' →
-    HasNode z v m → HoldsJust v (λ c. (c ≡ cell.Node n) ⊎ ((c ≡ cell.Node m) ⊎ (c ≡ cell_of x))) → ClaimedAmong v (λ i. i ≡ m) →
+    HasNode z v m → HoldsJust v (λ c. (c ≡ cell.Node n) ⊎ ((c ≡ cell.Node m) ⊎ (c ≡ cell_of x))) → ClaimedAmong v (λ o. o ≡ m) →
     s' (cell.Node n) ≡ s (cell.Node n) → WritesPlace s s' x (Some (node m)) →
     WritesNode m.layout (s' (cell.Node m)) (node_prefix (s (cell.Node n))) (child_of n.layout (s (cell.Node n))) →
     PlaceAt (heap_of s) x r → child_at_place (heap_of s) x ≡ Some (node n) →
@@ -134,7 +134,7 @@ CopyCommits = (z : Sizes) (v : View) (s s' : Cells) (x : Place) (r : List ℕ) (
 -- node m comes between x and the cell c, with the prefix q, c at byte a and the new leaf at byte b; a node c loses q and a
 abbrev pub ForkCommits : Type 0
 ForkCommits = (z : Sizes) (v : View) (s s' : Cells) (x : Place) (r : List ℕ) (c : Link) (m : Node) (l a b : ℕ) (q k : List ℕ) (value : ℕ) → Before z v s s' →
-    HasLeaf z v l k value → HasNode z v m → HoldsJust v (λ d. (d ≡ cell.Node m) ⊎ ((d ≡ cell_of x) ⊎ IsItsNode c d)) → ClaimedAmong v (λ i. i ≡ m) →
+    HasLeaf z v l k value → HasNode z v m → HoldsJust v (λ d. (d ≡ cell.Node m) ⊎ ((d ≡ cell_of x) ⊎ IsItsNode c d)) → ClaimedAmong v (λ o. o ≡ m) →
     WritesPlace s s' x (Some (node m)) → WritesNode m.layout (s' (cell.Node m)) q (two_children a c b (leaf l)) →
     KeepsChildren s s' c (λ n p. node_prefix (s (cell.Node n)) ≡ q ++ a ∷ p) →
     PlaceAt (heap_of s) x r → child_at_place (heap_of s) x ≡ Some c → a < 256 → b < 256 → a ≢ b →
@@ -144,9 +144,9 @@ ForkCommits = (z : Sizes) (v : View) (s s' : Cells) (x : Place) (r : List ℕ) (
 -- node n at x, which has the cell c at a and the leaf l at b alone, gives way to c; a node c gains n's prefix and a
 abbrev pub MergeCommits : Type 0
 MergeCommits = (z : Sizes) (v : View) (s s' : Cells) (x : Place) (r : List ℕ) (c : Link) (n : Node) (l a b : ℕ) → Before z v s s' →
-    HoldsJust v (λ d. (d ≡ cell.Node n) ⊎ ((d ≡ cell_of x) ⊎ IsItsNode c d)) → ClaimedAmong v (λ i. ⊥) →
+    HoldsJust v (λ d. (d ≡ cell.Node n) ⊎ ((d ≡ cell_of x) ⊎ IsItsNode c d)) → ClaimedAmong v (λ n. ⊥) →
     s' (cell.Node n) ≡ s (cell.Node n) → WritesPlace s s' x (Some c) →
-    KeepsChildren s s' c (λ i p. p ≡ node_prefix (s (cell.Node n)) ++ a ∷ node_prefix (s (cell.Node i))) →
+    KeepsChildren s s' c (λ o p. p ≡ node_prefix (s (cell.Node n)) ++ a ∷ node_prefix (s (cell.Node o))) →
     PlaceAt (heap_of s) x r → child_at_place (heap_of s) x ≡ Some (node n) → child_at_place (heap_of s) (Slot n a) ≡ Some c → child_at_place (heap_of s) (Slot n b) ≡ Some (leaf l) → a ≢ b →
     ((e : ℕ) → e ≢ a → e ≢ b → child_at_place (heap_of s) (Slot n e) ≡ None) →
     Commits z v (Done (Remove ((heap_of s).key l)) (Removed ((heap_of s).value l))) (node n ∷ leaf l ∷ []) [] s s'
