@@ -6,3 +6,5 @@ pub mod ChangeRows
 pub mod ChangeShapes
 pub mod ChangeWays
 pub mod TwoChanges
+pub mod Members
+pub mod TwoParts

@@ -8,7 +8,7 @@ use Rattle.art_step.specs.declared.views.Sizes.{Sizes}
 use Rattle.art_step.specs.declared.views.View.{View}
 use Rattle.art_step.specs.declared.views.What.{What}
 use Rattle.art_commit.specs.AnyChange.{IsInHand, IsClaimed}
-use Rattle.art_commit.specs.CommitLaws.{HasBoth, SaysBoth, JoinedCommits, EmptyLookStays}
+use Rattle.art_commit.specs.TwoChanges.{HasBoth, SaysBoth, JoinedCommits, EmptyLookStays}
 use Rattle.art_tree.specs.Heaps.{Cells, heap_of}
 use Rattle.art_tree.specs.Rows.{HasRows}
 use Rattle.art_tree.specs.Tree.{StandsAt}

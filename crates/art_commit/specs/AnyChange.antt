@@ -1,5 +1,5 @@
 -- Any change of the tree: what it touches, what it writes, and what it makes of the rows.
-use Rattle.std.specs.Prelude.{◌≡◌, ◌⊎◌, ℕ, List, None}
+use Rattle.std.specs.Prelude.{◌≡◌, ◌⊎◌, ◌↔◌, ℕ, List, None}
 use Rattle.art_cell.specs.declared.cells.Node.{Node}
 use Rattle.art_cell.specs.declared.cells.Cell.{Cell}
 use Rattle.art_cell.specs.declared.cells.Cell.TheVariants as cell
@@ -33,6 +33,10 @@ abbrev pub IsClaimed : View → Node → Type 0
 IsClaimed v n = (h : Holding) × Member h v.held × (h.stamped ≡ None) × (h.cell ≡ cell.Node n)
 
 -- ---- what it touches
+
+-- the lists have the same members
+abbrev pub SameMembers : List Link → List Link → Type 0
+SameMembers ds es = (d : Link) → Member d ds ↔ Member d es
 
 -- T are the touched cells, and E says where they stand after the change: those of us were linked and stand nowhere then,
 -- those of ls are in hand and stand somewhere, the others that were linked stand somewhere, and no others do; a linked node

@@ -14,16 +14,15 @@ use Rattle.art_step.specs.declared.views.InHand.{InHand}
 use Rattle.art_step.specs.declared.views.Sizes.{Sizes}
 use Rattle.art_step.specs.declared.views.View.{View}
 use Rattle.art_step.specs.declared.views.What.{What}
-use Rattle.art_step.specs.declared.views.What.TheVariants.{Done, Look}
-use Rattle.art_tree.specs.declared.bounds.Bound.TheVariants.{To}
-use Rattle.art_commit.specs.AnyChange.{IsInHand, IsHeld, IsClaimed, Touches, Forms, RowsBy}
+use Rattle.art_step.specs.declared.views.What.TheVariants.{Done}
+use Rattle.art_commit.specs.AnyChange.{IsHeld, SameMembers, Touches, Forms, RowsBy}
 use Rattle.art_tree.specs.Changes.{Moves}
 use Rattle.art_tree.specs.Heaps.{Cells, node_prefix, heap_of}
 use Rattle.art_step.specs.Histories.{IsAnswered, becomes}
 use Rattle.art_step.specs.Knowledge.{IsShape}
 use Rattle.art_cell.specs.Leaves.{IsLeaf}
 use Rattle.art_tree.specs.Rows.{ByteMap, HasRows}
-use Rattle.art_step.specs.StepRows.{Knows, AllNew, IsLinked, IsOnce, Commits}
+use Rattle.art_step.specs.StepRows.{Knows, AllNew, IsOnce, Commits}
 use Rattle.art_tree.specs.Tree.{Place, Slot, child_at_place, path_past, PlaceAt, Begins, HasTwo}
 use Rattle.art_step.specs.Views.{Member, IsNumber, words_in}
 use Rattle.art_tree.specs.WordChanges.{FitsWord, at_byte, WritesPlace, WritesNode, two_children, cell_of, KeepsChildren}
@@ -77,6 +76,11 @@ AnyCommits = (z : Sizes) (v : View) (s s' : Cells) (what : What) (us ls ts : Lis
     Moves (heap_of s) (heap_of s') (λ d. Member d ts) (λ d p. Member (d, p) es) → RowsBy (heap_of s) (heap_of s') what →
     Touches v us ls s (λ d. Member d ts) (λ d p. Member (d, p) es) → Forms z ls s s' (IsHeld v) →
     Commits z v what us ls s s'
+
+-- a commit looks at the members of what leaves and of what comes, not at their order
+abbrev pub SameCommits : Type 0
+SameCommits = (z : Sizes) (v : View) (what : What) (us us' ls ls' : List Link) (s s' : Cells) → SameMembers us us' → IsOnce us' → SameMembers ls ls' →
+    Commits z v what us ls s s' → Commits z v what us' ls' s s'
 
 -- ---- each change: x is the place that is written, r its path
 
@@ -150,31 +154,3 @@ MergeCommits = (z : Sizes) (v : View) (s s' : Cells) (x : Place) (r : List ℕ) 
     PlaceAt (heap_of s) x r → child_at_place (heap_of s) x ≡ Some (node n) → child_at_place (heap_of s) (Slot n a) ≡ Some c → child_at_place (heap_of s) (Slot n b) ≡ Some (leaf l) → a ≢ b →
     ((e : ℕ) → e ≢ a → e ≢ b → child_at_place (heap_of s) (Slot n e) ≡ None) →
     Commits z v (Done (Remove ((heap_of s).key l)) (Removed ((heap_of s).value l))) (node n ∷ leaf l ∷ []) [] s s'
-
--- ---- two changes at once
-
--- what the pass holds and has in hand for two changes, it holds and has in hand, and each node that it claimed it claimed for one
--- of them. A cell that both write is held for each, for the second with the words that the first gives it
-pub record HasBoth (v one two : View) : Type 0 where
-  pub held : (c : Cell) → IsHeld one c ⊎ IsHeld two c → IsHeld v c
-  pub hand : (d : Link) → IsInHand one d ⊎ IsInHand two d → IsInHand v d
-  pub claimed : (n : Node) → IsClaimed v n → IsClaimed one n ⊎ IsClaimed two n
-
--- what the two events say, one after the other, the one event says
-abbrev pub SaysBoth : Cells → What → What → What → Type 0
-SaysBoth s first second what = (f : ByteMap) → HasRows (heap_of s) f → IsAnswered f first → IsAnswered (becomes f first) second →
-    IsAnswered f what × (becomes f what ≡ becomes (becomes f first) second)
-
--- a commit from s to t and one from t to s' are one commit from s to s'; what the second unlinks was linked before the first
-abbrev pub JoinedCommits : Type 0
-JoinedCommits = (z : Sizes) (v one two : View) (s t s' : Cells) (first second what : What) (us ls us' ls' : List Link) → Knows v s → HasBoth v one two →
-    Commits z one first us ls s t → Commits z two second us' ls' t s' → ((d : Link) → Member d us' → IsLinked s d) → SaysBoth s first second what →
-    Commits z v what (us ++ us') (ls ++ ls') s s'
-
--- a look of a range that has no keys: what a change does that does nothing else, as a copy
-abbrev pub empty_look : What
-empty_look = Look [] (To []) None
-
--- it is so of every map, and changes no row
-abbrev pub EmptyLookStays : Type 0
-EmptyLookStays = (f : ByteMap) → IsAnswered f empty_look × (becomes f empty_look ≡ f)

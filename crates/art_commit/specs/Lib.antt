@@ -1,2 +1,3 @@
 pub mod AnyChange
 pub mod CommitLaws
+pub mod TwoChanges

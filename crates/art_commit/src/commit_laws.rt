@@ -1,10 +1,12 @@
 //! Changes of the tree are commits: each law is the contract of a function with nothing to do.
-ghost use Rattle.art_commit.specs.CommitLaws.{AddCommits, AnyCommits, CopyCommits, DropCommits, EmptyLookStays, ForkCommits, GrowCommits, JoinedCommits, MergeCommits, ReplaceCommits, ShrinkCommits};
+ghost use Rattle.art_commit.specs.CommitLaws.{AddCommits, AnyCommits, CopyCommits, DropCommits, ForkCommits, GrowCommits, MergeCommits, ReplaceCommits, SameCommits, ShrinkCommits};
+ghost use Rattle.art_commit.specs.TwoChanges.{EmptyLookStays, JoinedCommits, TwoPartsCommit};
 
 /// A change of the tree, written by a pass that holds just what it writes, is a commit of its command: any change, by
 /// what it touches and where that stands afterwards, and each change of an insert, a removal or a put.
 pub fn changes_commit()
     ensures general { AnyCommits }
+    ensures members { SameCommits }
     ensures add { AddCommits }
     ensures drop { DropCommits }
     ensures replace { ReplaceCommits }
@@ -19,5 +21,6 @@ pub fn changes_commit()
 /// node; an event that says nothing serves the one that changes no row.
 pub fn two_changes_commit_as_one()
     ensures joined { JoinedCommits }
+    ensures parts { TwoPartsCommit }
     ensures nothing { EmptyLookStays }
 {}
