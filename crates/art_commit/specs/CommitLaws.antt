@@ -1,6 +1,6 @@
 -- Each change of the tree, written by a pass that holds the cells which it changes and no others, is a commit of its
 -- command: what the commit's premise asks follows from the words that are written.
-use Rattle.std.specs.Prelude.{◌≡◌, ◌≢◌, ◌⊎◌, ℕ, ◌<◌, ◌≤◌, List, [], ◌∷◌, ◌++◌, length, Some, None}
+use Rattle.std.specs.Prelude.{◌≡◌, ◌≢◌, ◌⊎◌, ◌↔◌, ℕ, ◌<◌, ◌≤◌, List, [], ◌∷◌, ◌++◌, length, Option, Some, None}
 use Rattle.std.specs.FinMap.{insert}
 use Rattle.art_cell.specs.declared.cells.Node.{Node}
 use Rattle.art_cell.specs.declared.cells.Cell.{Cell}
@@ -15,13 +15,14 @@ use Rattle.art_step.specs.declared.views.Sizes.{Sizes}
 use Rattle.art_step.specs.declared.views.View.{View}
 use Rattle.art_step.specs.declared.views.What.{What}
 use Rattle.art_step.specs.declared.views.What.TheVariants.{Done}
-use Rattle.art_commit.specs.AnyChange.{IsHeld, SameMembers, Touches, Forms, RowsBy}
+use Rattle.art_commit.specs.AnyChange.{IsHeld, IsClaimed, SameMembers, Touches, Forms, RowsBy}
 use Rattle.art_tree.specs.Changes.{Moves}
 use Rattle.art_tree.specs.Heaps.{Cells, node_prefix, heap_of}
 use Rattle.art_step.specs.Histories.{IsAnswered, becomes}
 use Rattle.art_step.specs.Knowledge.{IsShape}
 use Rattle.art_cell.specs.Leaves.{IsLeaf}
 use Rattle.art_tree.specs.Rows.{ByteMap, HasRows}
+use Rattle.art_step.specs.Shown.{coming}
 use Rattle.art_step.specs.StepRows.{Knows, AllNew, IsOnce, Commits}
 use Rattle.art_tree.specs.Tree.{Place, Slot, child_at_place, path_past, PlaceAt, Begins, HasTwo}
 use Rattle.art_step.specs.Views.{Member, IsNumber, words_in}
@@ -81,6 +82,10 @@ AnyCommits = (z : Sizes) (v : View) (s s' : Cells) (what : What) (us ls ts : Lis
 abbrev pub SameCommits : Type 0
 SameCommits = (z : Sizes) (v : View) (what : What) (us us' ls ls' : List Link) (s s' : Cells) → SameMembers us us' → IsOnce us' → SameMembers ls ls' →
     Commits z v what us ls s s' → Commits z v what us' ls' s s'
+
+-- what comes with a commit is its leaf, where it has one, and each node that the pass claimed
+abbrev pub ClaimedNodesCome : Type 0
+ClaimedNodesCome = (v : View) (o : Option Link) (d : Link) → Member d (coming v o) ↔ ((o ≡ Some d) ⊎ ((n : Node) × (d ≡ node n) × IsClaimed v n))
 
 -- ---- each change: x is the place that is written, r its path
 

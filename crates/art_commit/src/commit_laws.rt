@@ -1,5 +1,5 @@
 //! Changes of the tree are commits: each law is the contract of a function with nothing to do.
-ghost use Rattle.art_commit.specs.CommitLaws.{AddCommits, AnyCommits, CopyCommits, DropCommits, ForkCommits, GrowCommits, MergeCommits, ReplaceCommits, SameCommits, ShrinkCommits};
+ghost use Rattle.art_commit.specs.CommitLaws.{AddCommits, AnyCommits, ClaimedNodesCome, CopyCommits, DropCommits, ForkCommits, GrowCommits, MergeCommits, ReplaceCommits, SameCommits, ShrinkCommits};
 ghost use Rattle.art_commit.specs.TwoChanges.{EmptyLookStays, JoinedCommits, TwoPartsCommit};
 
 /// A change of the tree, written by a pass that holds just what it writes, is a commit of its command: any change, by
@@ -7,6 +7,7 @@ ghost use Rattle.art_commit.specs.TwoChanges.{EmptyLookStays, JoinedCommits, Two
 pub fn changes_commit()
     ensures general { AnyCommits }
     ensures members { SameCommits }
+    ensures coming { ClaimedNodesCome }
     ensures add { AddCommits }
     ensures drop { DropCommits }
     ensures replace { ReplaceCommits }

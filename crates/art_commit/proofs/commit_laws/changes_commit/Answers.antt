@@ -3,7 +3,7 @@ use Rattle.art_commit.proofs.ChangeLeaves.{add_commits, drop_commits, replace_co
 use Rattle.art_commit.proofs.ChangeForks.{fork_commits}
 use Rattle.art_commit.proofs.ChangeMerges.{merge_commits}
 use Rattle.art_commit.proofs.ChangeWays.{grow_commits, shrink_commits, copy_commits}
-use Rattle.art_commit.proofs.Members.{same_commits}
+use Rattle.art_commit.proofs.Members.{same_commits, claimed_nodes_come}
 use Rattle.art_commit.proofs.commit_laws.changes_commit.Goals as goal
 
 pub returns-clause-general : goal.returns-clause-general
@@ -11,6 +11,9 @@ returns-clause-general c = any_commits
 
 pub returns-clause-members : goal.returns-clause-members
 returns-clause-members c = same_commits
+
+pub returns-clause-coming : goal.returns-clause-coming
+returns-clause-coming c = claimed_nodes_come
 
 pub returns-clause-add : goal.returns-clause-add
 returns-clause-add c = add_commits
