@@ -8,3 +8,4 @@ pub mod ChangeWays
 pub mod TwoChanges
 pub mod Members
 pub mod TwoParts
+pub mod AddedAndRenewed

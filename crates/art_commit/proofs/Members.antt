@@ -1,5 +1,5 @@
 -- A commit looks at the members of what leaves and of what comes; and what comes.
-use Rattle.std.proofs.Common.{◌≡◌, ◌⊎◌, ℕ, List, [], ◌∷◌, Option, Some, None, inl, inr, ⊎_elim, sym, refl, ap, ◌∙◌, subst, subst₂}
+use Rattle.std.proofs.Common.{◌≡◌, ℕ, List, [], ◌∷◌, Option, Some, None, inl, inr, ⊎_elim, sym, refl, ap, ◌∙◌, subst, subst₂}
 use Rattle.std.proofs.lemmas.Option.{same_Some}
 use Rattle.art_cell.specs.declared.cells.Node.{Node}
 use Rattle.art_cell.specs.declared.cells.Cell.{Cell}
@@ -8,9 +8,8 @@ use Rattle.art_cell.specs.declared.cells.Link.{Link}
 use Rattle.art_cell.specs.declared.cells.Link.TheVariants.{Node as node}
 use Rattle.art_step.specs.declared.views.Holding.{Holding}
 use Rattle.art_step.specs.declared.views.View.{View}
-use Rattle.art_commit.specs.AnyChange.{IsClaimed}
 use Rattle.art_commit.specs.CommitLaws.{SameCommits, ClaimedNodesCome}
-use Rattle.art_step.specs.Shown.{claimed_node, claimed_nodes, coming}
+use Rattle.art_step.specs.Shown.{claimed_node, claimed_nodes}
 use Rattle.art_step.specs.StepRows.{IsLinked}
 use Rattle.art_step.specs.Views.{Member}
 
