@@ -25,7 +25,7 @@ use Rattle.art_commit.proofs.TwoChanges.{empty_look_stays}
 use Rattle.art_commit.proofs.TwoParts.{two_parts_commit}
 
 -- n's words before it gives way are those between the two, and so are those of y's cell, which may be x's
-pub record Renews (s' t : Cells) (y : Place) (q : List ℕ) (n m : Node) : Type 0 where
+pub record IsRenewed (s' t : Cells) (y : Place) (q : List ℕ) (n m : Node) : Type 0 where
   pub old : s' (cell.Node n) ≡ t (cell.Node n)
   pub put : WritesPlace t s' y (Some (node m))
   pub made : WritesNode m.layout (s' (cell.Node m)) (node_prefix (t (cell.Node n))) (child_of n.layout (t (cell.Node n)))
@@ -37,7 +37,7 @@ module _ (z : Sizes) (v : View) (s s' : Cells) (x y : Place) (r q k : List ℕ) 
     (holds_x : HoldsJust (for_first v mid hs) (λ c. c ≡ cell_of x)) (claims_none : ClaimedAmong (for_first v mid hs) (λ o. ⊥))
     (holds_y : HoldsJust (for_second v mid hs' xs) (λ c. (c ≡ cell.Node n) ⊎ ((c ≡ cell.Node m) ⊎ (c ≡ cell_of y)))) (claims_m : ClaimedAmong (for_second v mid hs' xs) (λ o. o ≡ m))
     (put : (t : Cells) → AllNew (held_until mid hs) s t → WritesPlace s t x (Some (leaf l))) (at : PlaceAt (heap_of s) x r) (free : child_at_place (heap_of s) x ≡ None) (begins : Begins r k)
-    (renews : (t : Cells) → AllNew (held_until mid hs) s t → Renews s' t y q n m) (stood : StandsAt (heap_of s) (node n) q) where
+    (renews : (t : Cells) → AllNew (held_until mid hs) s t → IsRenewed s' t y q n m) (stood : StandsAt (heap_of s) (node n) q) where
   leaf_first : HasLeaf z (for_first v mid hs) l k value
   leaf_first = record { hand = has.hand; has = has.has; link = has.link; words = has.words; short = has.short; number = has.number; fits = has.fits }
 

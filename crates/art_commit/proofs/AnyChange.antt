@@ -1,5 +1,5 @@
 -- A change of the tree is a commit, by what it touches, what it writes and what it makes of the rows.
-use Rattle.std.proofs.Common.{◌≡◌, ◌⊎◌, ℕ, List, [], ◌∷◌, refl, sym, subst, inl, inr, ⊎_elim}
+use Rattle.std.proofs.Common.{◌≡◌, ◌⊎◌, ◌↔◌, ℕ, List, [], ◌∷◌, refl, sym, subst, inl, inr, ⊎_elim}
 use Rattle.art_cell.specs.declared.cells.Node.{Node}
 use Rattle.art_cell.specs.declared.cells.Cell.{Cell}
 use Rattle.art_cell.specs.declared.cells.Cell.TheVariants as cell
@@ -12,7 +12,7 @@ use Rattle.art_tree.specs.Changes.{Moves}
 use Rattle.art_tree.specs.Heaps.{Cells, heap_of}
 use Rattle.art_step.specs.Knowledge.{IsNodeCell, IsShape}
 use Rattle.art_step.specs.StepRows.{IsNotHeld, IsLinked, IsOnce, Commits}
-use Rattle.art_tree.specs.Tree.{StandsAt}
+use Rattle.art_tree.specs.Tree.{Heap, StandsAt}
 use Rattle.art_step.specs.Views.{Member, IsNumber}
 use Rattle.art_tree.specs.WordChanges.{WritesOnly}
 use Rattle.art_step.proofs.StepCommits.{either_held}
@@ -89,3 +89,15 @@ module _ (z : Sizes) (v : View) (s s' : Cells) (P : Cell → Type 0) (b : Before
 pub any_commits : AnyCommits
 any_commits z v s s' what us ls ts es b among once moves rows touches forms =
     commits_by z v s s' (IsHeld v) b (record { each = λ c i. i; only = λ h i. (h, i, refl) }) what us ls (λ d. Member d ts) (λ d p. Member (d, p) es) moves rows touches forms (λ n. Member (node n) ls) among (λ n i. i) once
+
+-- what moves, with the touched cells and their paths said otherwise, as by the lists that the law of all changes takes
+pub moves_as : (h h' : Heap) (T T' : Link → Type 0) (E E' : Link → List ℕ → Type 0) → ((d : Link) → T d ↔ T' d) → ((d : Link) (p : List ℕ) → E d p ↔ E' d p) → Moves h h' T E → Moves h h' T' E'
+moves_as h h' T T' E E' same_T same_E m = record {
+  sound = m.sound;
+  others = λ d r free. m.others d r (λ t. free ((same_T d).0 t));
+  linked = λ d r at. ⊎_elim
+      (λ (o : T d × E d r). inl ((same_T d).0 o.0, (same_E d r).0 o.1))
+      (λ (o : (T d → ⊥) × StandsAt h d r). inr (λ t. o.0 ((same_T d).1 t), o.1))
+      (m.linked d r at);
+  touched = λ d r e. m.touched d r ((same_E d r).1 e);
+}

@@ -1,3 +1,4 @@
+pub mod AddedAndRenewed
 pub mod AnyChange
 pub mod ChangeForks
 pub mod ChangeLeaves
@@ -5,7 +6,6 @@ pub mod ChangeMerges
 pub mod ChangeRows
 pub mod ChangeShapes
 pub mod ChangeWays
-pub mod TwoChanges
 pub mod Members
+pub mod TwoChanges
 pub mod TwoParts
-pub mod AddedAndRenewed

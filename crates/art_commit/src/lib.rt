@@ -11,12 +11,16 @@
 //! words that it wrote (`WritesPlace`, `WritesNode`, `KeepsChildren`), the leaf and the node in its hand (`HasLeaf`,
 //! `HasNode`), that it holds just the cells of the change (`HoldsJust`), and what its stamps vouch for: the path of the
 //! place that is written and what it held. `AnyCommits` is the law of all changes, by what a change touches and where that
-//! stands afterwards; each other law is proved by it.
+//! stands afterwards: with it a new change of the tree needs no more than its own law of `art_tree`. What leaves and what
+//! comes are lists of which the members count (`SameCommits`), and what a commit brings are its leaf and the nodes that
+//! were claimed (`ClaimedNodesCome`).
 //!
-//! Two changes at once are one commit (`JoinedCommits`), as a removal that also renews a worn node on its way: s becomes t
-//! by the one and t becomes s' by the other, where t is words that nobody ever writes. Each is a commit of its own for a
-//! view that holds what that change needs (`HasBoth`); the change that does nothing to the rows is an event that says
-//! nothing (`empty_look`).
+//! Two changes at once are one commit (`JoinedCommits`), as an insert that also renews a worn node on its way: s becomes t
+//! by the one and t becomes s' by the other, where t is words that never stand in the cells. Each is a commit of its own
+//! for a view that holds what that change needs (`HasBoth`); the change that does nothing to the rows has an event that
+//! says nothing (`empty_look`). `TwoPartsCommit` makes t and both views out of the pass's own: a cell that both write is
+//! held for the first with the words between the two as its new ones, and for the second with these as its old ones.
+//! `proofs/AddedAndRenewed.antt` has it at work, for a leaf that comes while a node gives way to its copy.
 //!
 //! # Letters
 //!
