@@ -72,7 +72,7 @@ for_second v mid hs xs = record v { held = held_from mid hs; notes = []; hand = 
 pub record IsInTwo (v : View) (hs hs' : List Holding) (xs : List InHand) (mid : Cell → List ℕ) : Type 0 where
   pub held : (h : Holding) → Member h v.held ↔ (Member h hs ⊎ Member h hs')
   pub no_leaf : (h : Holding) (l : ℕ) → Member h v.held → h.cell ≡ cell.Leaf l → ⊥
-  pub hand : (x : InHand) → Member x xs → Member x v.hand
+  pub hand : (i : InHand) → Member i xs → Member i v.hand
   pub first_alone : (h : Holding) → Member h hs → IsNotHeld hs' h.cell → mid h.cell ≡ h.new
   pub second_alone : (h : Holding) → Member h hs' → IsNotHeld hs h.cell → mid h.cell ≡ h.old
 
@@ -80,7 +80,7 @@ pub record IsInTwo (v : View) (hs hs' : List Holding) (xs : List InHand) (mid : 
 -- the first links is not in hand for the second
 abbrev pub TwoPartsCommit : Type 0
 TwoPartsCommit = (z : Sizes) (v : View) (s s' : Cells) (hs hs' : List Holding) (xs : List InHand) (mid : Cell → List ℕ) (first second what : What) (us ls us' ls' : List Link) →
-    Before z v s s' → IsInTwo v hs hs' xs mid → ((x : InHand) → Member x xs → Member x.link ls → ⊥) → ((d : Link) → Member d us' → IsLinked s d) → SaysBoth s first second what →
+    Before z v s s' → IsInTwo v hs hs' xs mid → ((i : InHand) → Member i xs → Member i.link ls → ⊥) → ((d : Link) → Member d us' → IsLinked s d) → SaysBoth s first second what →
     ((t : Cells) → Before z (for_first v mid hs) s t → Commits z (for_first v mid hs) first us ls s t) →
     ((t : Cells) → AllNew (held_until mid hs) s t → Commits z (for_first v mid hs) first us ls s t → Before z (for_second v mid hs' xs) t s' → Commits z (for_second v mid hs' xs) second us' ls' t s') →
     Commits z v what (us ++ us') (ls ++ ls') s s'

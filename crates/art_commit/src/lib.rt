@@ -33,6 +33,9 @@
 //! | s, t, s' | the words of all cells before, between two changes, and after |
 //! | us, ls | the cells that leave the tree, and those that come into it |
 //! | ts, es | the touched cells, and where they stand after the change, each with its path |
+//! | hs, hs'; h | cells that are held for the first change, and for the second; one that is held |
+//! | xs; i | numbers in hand; one of them, or a leaf |
+//! | mid | the words of each held cell between two changes |
 #![tactic(auto)]
 
 mod commit_laws;
