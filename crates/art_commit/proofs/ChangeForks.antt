@@ -21,9 +21,10 @@ use Rattle.art_step.specs.Steps.Commit.{Commits}
 use Rattle.art_tree.specs.Tree.{Place, Heap, child_at_place, path_past, StandsAt, PlaceAt, Begins}
 use Rattle.art_step.specs.Views.{IsNumber}
 use Rattle.art_tree.specs.WordChanges.{FitsWord, WritesPlace, WritesNode, two_children, cell_of, KeepsChildren}
-use Rattle.art_commit.proofs.ChangeCommits.{Touches, Forms, in_hand, same_words, only_written, commits_by}
+use Rattle.art_commit.specs.AnyChange.{Touches, Forms, IsFormed}
+use Rattle.art_commit.proofs.AnyChange.{in_hand, same_words, only_written, commits_by}
 use Rattle.art_commit.proofs.ChangeRows.{inserted_rows, leaf_has_key, leaf_unlinked, leaf_formed, node_unlinked}
-use Rattle.art_commit.proofs.ChangeShapes.{held_fits, two_children_name, IsFormed, written_formed, kept_formed, place_formed, anchor_formed}
+use Rattle.art_commit.proofs.ChangeShapes.{held_fits, two_children_name, written_formed, kept_formed, place_formed, anchor_formed}
 use Rattle.art_tree.proofs.Fork.{absent_forked}
 use Rattle.art_tree.proofs.Meanings.{no_leaf}
 use Rattle.art_tree.proofs.Places.{at_place, same_link}

@@ -20,7 +20,8 @@ use Rattle.art_tree.specs.Rows.{ByteMap}
 use Rattle.art_step.specs.Steps.Commit.{Commits}
 use Rattle.art_tree.specs.Tree.{Place, Slot, Heap, child_at_place, path_past, StandsAt, down, PlaceAt}
 use Rattle.art_tree.specs.WordChanges.{FitsWord, WritesPlace, cell_of, KeepsChildren}
-use Rattle.art_commit.proofs.ChangeCommits.{Touches, Forms, same_words, only_written, once_two, commits_by}
+use Rattle.art_commit.specs.AnyChange.{Touches, Forms}
+use Rattle.art_commit.proofs.AnyChange.{same_words, only_written, once_two, commits_by}
 use Rattle.art_commit.proofs.ChangeRows.{remove_rows}
 use Rattle.art_commit.proofs.ChangeShapes.{held_fits, kept_formed, place_formed, anchor_formed}
 use Rattle.art_tree.proofs.Meanings.{no_leaf}

@@ -1,6 +1,5 @@
 -- What a change makes of the rows, and the leaf that the pass has in hand.
-use Rattle.std.proofs.Common.{◌≡◌, ℕ, ◌≤◌, cond, List, [], length, Option, Some, None, refl, sym, ap, ◌∙◌, subst, subst₂, arith}
-use Rattle.std.proofs.lemmas.Bool.{le-ltb}
+use Rattle.std.proofs.Common.{◌≡◌, ℕ, List, Option, Some, None, refl, sym, ap, ◌∙◌, subst, subst₂, arith}
 use Rattle.std.specs.FinMap.{get, insert, remove}
 use Rattle.art_cell.specs.declared.cells.Cell.TheVariants as cell
 use Rattle.art_cell.specs.declared.cells.Link.TheVariants.{Leaf as leaf, Node as node}
@@ -9,23 +8,20 @@ use Rattle.art_step.specs.declared.views.Answer.TheVariants.{Inserted, Present, 
 use Rattle.art_step.specs.declared.views.Asked.TheVariants.{Insert, Remove}
 use Rattle.art_step.specs.declared.views.Sizes.{Sizes}
 use Rattle.art_step.specs.declared.views.View.{View}
-use Rattle.art_step.specs.declared.views.What.{What}
 use Rattle.art_step.specs.declared.views.What.TheVariants.{Done}
 use Rattle.art_tree.specs.Changes.{IsUnlinked}
+use Rattle.art_commit.specs.AnyChange.{RowsBy}
 use Rattle.art_commit.specs.CommitLaws.{HasLeaf, HasNode}
 use Rattle.art_tree.specs.Heaps.{Cells, heap_of}
-use Rattle.art_step.specs.Histories.{by_value, IsAnswered, becomes}
+use Rattle.art_step.specs.Histories.{by_value}
 use Rattle.art_step.specs.Knowledge.{IsLeafCell}
-use Rattle.art_cell.specs.Leaves.{leaf_key, IsLeaf}
+use Rattle.art_cell.specs.Leaves.{IsLeaf}
 use Rattle.art_tree.specs.Rows.{ByteMap, HasRows, IsAbsent}
 use Rattle.art_step.specs.Steps.Commit.{Knows}
 use Rattle.art_tree.specs.Tree.{Heap, StandsAt, Row}
+use Rattle.art_tree.proofs.Meanings.{words_mean}
 
 -- ---- rows
-
--- the map answers as the event says, and the rows are those after it
-abbrev pub RowsBy : Heap → Heap → What → Type 0
-RowsBy h h' what = (m : ByteMap) → HasRows h m → IsAnswered m what × HasRows h' (becomes m what)
 
 -- an absent key is not in the map
 absent_get : (h : Heap) (m : ByteMap) (k : List ℕ) → HasRows h m → IsAbsent h k → get m k ≡ None
@@ -50,14 +46,6 @@ remove_rows h h' l p at after m rows =
 
 -- ---- the leaf in hand
 
-key_in_words : (s : Cells) (l : ℕ) (k : List ℕ) (value : ℕ) → IsLeaf (s (cell.Leaf l)) k value → length k ≤ 64 → (heap_of s).key l ≡ k
-unfolding heap_of
-key_in_words s l k value w short = ap (λ t. cond t [] (leaf_key (s (cell.Leaf l)))) (le-ltb 64 (s (cell.Leaf l) 1) (omega (arith, w.len, short))) ∙ w.key
-
-value_in_words : (s : Cells) (l : ℕ) (k : List ℕ) (value : ℕ) → IsLeaf (s (cell.Leaf l)) k value → (heap_of s).value l ≡ value
-unfolding heap_of
-value_in_words s l k value w = w.value
-
 module _ (z : Sizes) (v : View) (s : Cells) (l : ℕ) (k : List ℕ) (value : ℕ) (knows : Knows v s) (has : HasLeaf z v l k value) where
   -- it has its words
   leaf_words : IsLeaf (s (cell.Leaf l)) k value
@@ -65,10 +53,10 @@ module _ (z : Sizes) (v : View) (s : Cells) (l : ℕ) (k : List ℕ) (value : �
 
   -- which say its key and its value
   pub leaf_has_key : (heap_of s).key l ≡ k
-  leaf_has_key = key_in_words s l k value leaf_words has.short
+  leaf_has_key = (words_mean s).key l (omega (arith, leaf_words.len, has.short)) ∙ leaf_words.key
 
-  leaf_has_value : (heap_of s).value l ≡ value
-  leaf_has_value = value_in_words s l k value leaf_words
+  pub leaf_has_value : (heap_of s).value l ≡ value
+  leaf_has_value = (words_mean s).value l ∙ leaf_words.value
 
   -- and it is not linked
   pub leaf_unlinked : IsUnlinked (heap_of s) (leaf l)

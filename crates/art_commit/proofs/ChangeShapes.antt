@@ -7,11 +7,12 @@ use Rattle.art_cell.specs.declared.cells.Node.{Node}
 use Rattle.art_cell.specs.declared.cells.Cell.{Cell}
 use Rattle.art_cell.specs.declared.cells.Cell.TheVariants as cell
 use Rattle.art_cell.specs.declared.cells.Link.{Link}
-use Rattle.art_cell.specs.declared.cells.Link.TheVariants.{Leaf as leaf, Node as node}
+use Rattle.art_cell.specs.declared.cells.Link.TheVariants.{Node as node}
 use Rattle.art_step.specs.declared.views.Sizes.{Sizes}
 use Rattle.art_cell.specs.Children.{child_word, link_of}
 use Rattle.art_tree.specs.Heaps.{Cells, node_prefix, node_child, key_of, heap_of, MeansTheSame}
-use Rattle.art_step.specs.Knowledge.{NamesCell, IsNodeCell, IsLeafCell, IsShape}
+use Rattle.art_step.specs.Knowledge.{NamesCell, IsNodeCell, IsShape}
+use Rattle.art_commit.specs.AnyChange.{IsAnchorFormed}
 use Rattle.art_cell.specs.Reads.{with_child, without_child}
 use Rattle.art_tree.specs.Tree.{Place, Top, Slot, child_at_place, PlaceAt}
 use Rattle.art_tree.specs.WordChanges.{FitsWord, at_byte, WritesPlace, WritesNode, two_children, cell_of, KeepsChildren}
@@ -75,15 +76,6 @@ two_children_name a c b d c-fits d-fits e word low is = ⊎_elim
     (cases_eq e a)
 
 -- ---- forms
-
--- the cell of the link has its form
-abbrev pub IsFormed : Cells → Link → Type 0
-IsFormed s (leaf l) = IsLeafCell (s (cell.Leaf l))
-IsFormed s (node n) = IsNodeCell n (s (cell.Node n))
-
--- the anchor names a cell, or none
-abbrev pub IsAnchorFormed : Cells → Type 0
-IsAnchorFormed s = (s cell.Anchor 1 ≡ 0) ⊎ NamesCell (s cell.Anchor 1)
 
 -- a node that is written whole has its form
 pub written_formed : (s : Cells) (n : Node) (p : List ℕ) (child : ℕ → Option ℕ) → WritesNode n.layout (s (cell.Node n)) p child → NameCells child → IsNodeCell n (s (cell.Node n))

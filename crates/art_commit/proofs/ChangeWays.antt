@@ -24,9 +24,10 @@ use Rattle.art_tree.specs.Tree.{Place, Slot, Heap, child_at_place, path_past, St
 use Rattle.art_step.specs.Views.{Member, IsNumber}
 use Rattle.art_tree.specs.WordChanges.{at_byte, WritesPlace, WritesNode, cell_of, WayByWords, WayPremises}
 use Rattle.art_cell.specs.Words.{child_of}
-use Rattle.art_commit.proofs.ChangeCommits.{IsInHand, IsHeld, Touches, Forms, in_hand, same_words, only_written, once_one, once_two, commits_by}
+use Rattle.art_commit.specs.AnyChange.{IsInHand, IsHeld, Touches, Forms, IsFormed}
+use Rattle.art_commit.proofs.AnyChange.{in_hand, same_words, only_written, once_one, once_two, commits_by}
 use Rattle.art_commit.proofs.ChangeRows.{remove_rows, inserted_rows, leaf_has_key, leaf_unlinked, leaf_formed, node_unlinked}
-use Rattle.art_commit.proofs.ChangeShapes.{NameCells, at_byte_names, IsFormed, written_formed, place_formed, anchor_formed}
+use Rattle.art_commit.proofs.ChangeShapes.{NameCells, at_byte_names, written_formed, place_formed, anchor_formed}
 use Rattle.art_tree.proofs.Lookup.{absent_free}
 use Rattle.art_tree.proofs.Meanings.{Fits, no_leaf}
 use Rattle.art_tree.proofs.Places.{at_place, same_cell, same_link}

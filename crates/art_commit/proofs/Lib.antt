@@ -1,6 +1,11 @@
-pub mod ChangeCommits
+pub mod AddedAndRenewed
+pub mod AnyChange
 pub mod ChangeForks
+pub mod ChangeLeaves
 pub mod ChangeMerges
 pub mod ChangeRows
 pub mod ChangeShapes
 pub mod ChangeWays
+pub mod Members
+pub mod TwoChanges
+pub mod TwoParts

@@ -1,1 +1,3 @@
+pub mod AnyChange
 pub mod CommitLaws
+pub mod TwoChanges

@@ -9,6 +9,7 @@ pub mod Kept
 pub mod Moves
 pub mod NumberMoves
 pub mod OpeningWords
+pub mod Shows
 pub mod StepCommits
 pub mod StepLocks
 pub mod StepNotes

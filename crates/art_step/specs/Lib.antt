@@ -6,6 +6,7 @@ pub mod Histories
 pub mod Knowledge
 pub mod Opening
 pub mod OpeningWords
+pub mod Shows
 pub mod Sound
 pub mod StepNames
 pub mod Steps

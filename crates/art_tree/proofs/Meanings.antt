@@ -1,4 +1,4 @@
--- What words mean after a change.
+-- What words mean, and what they mean after a change.
 use Rattle.std.proofs.Common.{◌≡◌, ◌≢◌, ℕ, ◌<◌, ◌≤◌, Bool, true, false, cond, ltb, List, [], length, Option, Some, None, refl, sym, ap, ◌∙◌, subst, ⊎_elim, arith, ne_eqb}
 use Rattle.std.proofs.lemmas.Bool.{cases_lt, lt-ltb, le-ltb}
 use Rattle.std.proofs.lemmas.List.FromFn.{length-map-range_with_len}
@@ -12,14 +12,61 @@ use Rattle.art_cell.specs.declared.cells.Cell.TheVariants as cell
 use Rattle.art_cell.specs.Bodies.{Becomes}
 use Rattle.art_tree.specs.Changes.{SameLeaves, SameTree}
 use Rattle.art_cell.specs.Children.{child_word, link_of}
+use Rattle.art_cell.specs.Leaves.{leaf_key}
 use Rattle.art_cell.specs.Lemmas.Entries.{with_here, without_here}
-use Rattle.art_tree.specs.Heaps.{Cells, node_prefix, heap_of, MeansTheSame}
+use Rattle.art_tree.specs.Heaps.{Cells, node_prefix, key_of, heap_of, WordsMeanCells, MeansTheSame}
 use Rattle.art_cell.specs.Reads.{with_child, without_child}
 use Rattle.art_tree.specs.Tree.{Place, Top, Slot, child_at_place}
 use Rattle.art_tree.specs.WordChanges.{FitsWord, at_byte, WritesPlace, WritesNode, cell_of, WritesOnly, KeepsChildren, SameByWords}
 use Rattle.art_cell.specs.Words.{Words, prefix_len, packed, prefix_of, child_of}
 use Rattle.art_tree.proofs.ChildWords.{link_back}
 use Rattle.art_tree.proofs.Places.{same_cell, same_link}
+
+-- ---- what words mean
+
+-- the child that a map of child words has at a byte
+abbrev pub child_at : (ℕ → Option ℕ) → ℕ → Option Link
+child_at child b = cond (ltb b 256) (option_and_then link_of (child b)) None
+
+root_is : (cells : Cells) → (heap_of cells).root ≡ link_of (cells cell.Anchor 1)
+unfolding heap_of
+root_is cells = refl
+
+-- the node's child at a byte, by its child words
+pub child_is : (cells : Cells) (n : Node) (b : ℕ) → (heap_of cells).child n b ≡ child_at (child_of n.layout (cells (cell.Node n))) b
+unfolding heap_of
+child_is cells n b = refl
+
+-- the node's prefix, by its words
+pub prefix_is : (cells : Cells) (n : Node) → (heap_of cells).prefix n ≡ node_prefix (cells (cell.Node n))
+unfolding heap_of
+prefix_is cells n = refl
+
+key_is : (cells : Cells) (l : ℕ) → (heap_of cells).key l ≡ key_of (cells (cell.Leaf l))
+unfolding heap_of
+key_is cells l = refl
+
+value_is : (cells : Cells) (l : ℕ) → (heap_of cells).value l ≡ cells (cell.Leaf l) 0
+unfolding heap_of
+value_is cells l = refl
+
+low_child : (child : ℕ → Option ℕ) (b : ℕ) → b < 256 → child_at child b ≡ option_and_then link_of (child b)
+low_child child b low = ap (λ t. cond t (option_and_then link_of (child b)) None) (lt-ltb b 256 low)
+
+short_prefix : (w : Words) → prefix_len w ≤ 64 → node_prefix w ≡ prefix_of w
+short_prefix w short = ap (λ t. cond t [] (prefix_of w)) (le-ltb 64 (prefix_len w) short)
+
+short_key : (w : Words) → w 1 ≤ 64 → key_of w ≡ leaf_key w
+short_key w short = ap (λ t. cond t [] (leaf_key w)) (le-ltb 64 (w 1) short)
+
+pub words_mean : WordsMeanCells
+words_mean cells = record {
+  root = root_is cells;
+  prefix = λ n short. prefix_is cells n ∙ short_prefix (cells (cell.Node n)) short;
+  child = λ n b low. child_is cells n b ∙ low_child (child_of n.layout (cells (cell.Node n))) b low;
+  key = λ l short. key_is cells l ∙ short_key (cells (cell.Leaf l)) short;
+  value = value_is cells;
+}
 
 -- ---- cells that mean the same
 
@@ -61,24 +108,6 @@ same_leaves cells after written rest none = record {
 
 -- ---- a node that is written whole
 
--- the child that a map of child words has at a byte
-abbrev pub child_at : (ℕ → Option ℕ) → ℕ → Option Link
-child_at child b = cond (ltb b 256) (option_and_then link_of (child b)) None
-
--- the node's child at a byte, by its child words
-pub child_is : (cells : Cells) (n : Node) (b : ℕ) → (heap_of cells).child n b ≡ child_at (child_of n.layout (cells (cell.Node n))) b
-unfolding heap_of
-child_is cells n b = refl
-
-root_is : (cells : Cells) → (heap_of cells).root ≡ link_of (cells cell.Anchor 1)
-unfolding heap_of
-root_is cells = refl
-
--- the node's prefix, by its words
-pub prefix_is : (cells : Cells) (n : Node) → (heap_of cells).prefix n ≡ node_prefix (cells (cell.Node n))
-unfolding heap_of
-prefix_is cells n = refl
-
 same_below : (child other : ℕ → Option ℕ) (b : ℕ) → (b < 256 → other b ≡ child b) → child_at other b ≡ child_at child b
 same_below child other b same = ⊎_elim
     (λ (low : b < 256). ap (λ o. cond (ltb b 256) (option_and_then link_of o) None) (same low))
@@ -87,9 +116,6 @@ same_below child other b same = ⊎_elim
   where
     none : (some : ℕ → Option ℕ) → 256 ≤ b → child_at some b ≡ None
     none some high = ap (λ t. cond t (option_and_then link_of (some b)) None) (le-ltb b 256 high)
-
-short_prefix : (w : Words) → prefix_len w ≤ 64 → node_prefix w ≡ prefix_of w
-short_prefix w short = ap (λ t. cond t [] (prefix_of w)) (le-ltb 64 (prefix_len w) short)
 
 -- its children are those of the child words
 pub written_child : (after : Cells) (n : Node) (p : List ℕ) (child : ℕ → Option ℕ) (b : ℕ) → WritesNode n.layout (after (cell.Node n)) p child → (heap_of after).child n b ≡ child_at child b
@@ -119,7 +145,7 @@ Fits None = Unit {0}
 
 -- a byte whose child word was written for a link has that link
 pub child_named : (child : ℕ → Option ℕ) (b : ℕ) (c : Link) → b < 256 → FitsWord c → child b ≡ Some (child_word c) → child_at child b ≡ Some c
-child_named child b c low fits is = ap (λ t. cond t (option_and_then link_of (child b)) None) (lt-ltb b 256 low) ∙ ap (option_and_then link_of) is ∙ link_back c fits
+child_named child b c low fits is = low_child child b low ∙ ap (option_and_then link_of) is ∙ link_back c fits
 
 -- and one with no child word has none
 pub no_child : (child : ℕ → Option ℕ) (b : ℕ) → child b ≡ None → child_at child b ≡ None

@@ -42,7 +42,7 @@ pub record GivesWay (h h' : Heap) (x : Place) (n m : Node) : Type 0 where
   pub now : child_at_place h' x ≡ Some (node m)
   pub prefix : h'.prefix m ≡ h.prefix n
   pub rest : (y : Place) → y ≢ x → ((a : ℕ) → y ≢ Slot m a) → child_at_place h' y ≡ child_at_place h y
-  pub prefixes : (k : Node) → k ≢ m → h'.prefix k ≡ h.prefix k
+  pub prefixes : (o : Node) → o ≢ m → h'.prefix o ≡ h.prefix o
   pub leaves : SameLeaves h h'
   pub fresh : IsUnlinked h (node m)
 
@@ -69,7 +69,7 @@ pub record Forks (h h' : Heap) (x : Place) (c : Link) (m : Node) (l a b : ℕ) :
   pub apart : a ≢ b
   pub short : (n : Node) → c ≡ node n → h.prefix n ≡ h'.prefix m ++ a ∷ h'.prefix n
   pub rest : (y : Place) → y ≢ x → ((e : ℕ) → y ≢ Slot m e) → child_at_place h' y ≡ child_at_place h y
-  pub prefixes : (k : Node) → k ≢ m → c ≢ node k → h'.prefix k ≡ h.prefix k
+  pub prefixes : (o : Node) → o ≢ m → c ≢ node o → h'.prefix o ≡ h.prefix o
   pub leaves : SameLeaves h h'
   pub fresh : IsUnlinked h (node m)
   pub new : IsUnlinked h (leaf l)
@@ -82,9 +82,9 @@ pub record Merges (h h' : Heap) (x : Place) (c : Link) (n : Node) (l a b : ℕ) 
   pub none : (e : ℕ) → e ≢ a → e ≢ b → h.child n e ≡ None
   pub apart : a ≢ b
   pub now : child_at_place h' x ≡ Some c
-  pub longer : (k : Node) → c ≡ node k → h'.prefix k ≡ h.prefix n ++ a ∷ h.prefix k
+  pub longer : (o : Node) → c ≡ node o → h'.prefix o ≡ h.prefix n ++ a ∷ h.prefix o
   pub rest : (y : Place) → y ≢ x → child_at_place h' y ≡ child_at_place h y
-  pub prefixes : (k : Node) → c ≢ node k → h'.prefix k ≡ h.prefix k
+  pub prefixes : (o : Node) → c ≢ node o → h'.prefix o ≡ h.prefix o
   pub leaves : SameLeaves h h'
 
 -- after a change: the touched cells are where E says, all others where they were, and it is a tree

@@ -23,37 +23,37 @@ abbrev pub EditTouched : ℕ → Link → Type 0
 EditTouched l d = d ≡ leaf l
 
 abbrev pub EditPaths : Heap → Place → ℕ → List ℕ → Link → List ℕ → Type 0
-EditPaths h' x l r d s = (d ≡ leaf l) × (s ≡ r) × (child_at_place h' x ≡ Some (leaf l))
+EditPaths h' x l r d p = (d ≡ leaf l) × (p ≡ r) × (child_at_place h' x ≡ Some (leaf l))
 
 abbrev pub ReplaceTouched : ℕ → ℕ → Link → Type 0
 ReplaceTouched l i d = (d ≡ leaf l) ⊎ (d ≡ leaf i)
 
 abbrev pub ReplacePaths : ℕ → List ℕ → Link → List ℕ → Type 0
-ReplacePaths i r d s = (d ≡ leaf i) × (s ≡ r)
+ReplacePaths i r d p = (d ≡ leaf i) × (p ≡ r)
 
 abbrev pub RenewTouched : Node → Node → ℕ → Link → Type 0
 RenewTouched n m l d = (d ≡ node n) ⊎ ((d ≡ node m) ⊎ (d ≡ leaf l))
 
 abbrev pub RenewPaths : Heap → Heap → Node → Node → ℕ → ℕ → List ℕ → Link → List ℕ → Type 0
-RenewPaths h h' n m b l r d s = ((d ≡ node m) × (s ≡ r)) ⊎ ((d ≡ leaf l) × (s ≡ path_past h n r b) × (h'.child m b ≡ Some (leaf l)))
+RenewPaths h h' n m b l r d p = ((d ≡ node m) × (p ≡ r)) ⊎ ((d ≡ leaf l) × (p ≡ path_past h n r b) × (h'.child m b ≡ Some (leaf l)))
 
 abbrev pub CopyTouched : Node → Node → Link → Type 0
 CopyTouched n m d = (d ≡ node n) ⊎ (d ≡ node m)
 
 abbrev pub CopyPaths : Node → List ℕ → Link → List ℕ → Type 0
-CopyPaths m r d s = (d ≡ node m) × (s ≡ r)
+CopyPaths m r d p = (d ≡ node m) × (p ≡ r)
 
 abbrev pub ForkTouched : Link → Node → ℕ → Link → Type 0
 ForkTouched c m l d = (d ≡ c) ⊎ ((d ≡ node m) ⊎ (d ≡ leaf l))
 
 abbrev pub ForkPaths : Heap → Link → Node → ℕ → ℕ → ℕ → List ℕ → Link → List ℕ → Type 0
-ForkPaths h' c m l a b r d s = ((d ≡ c) × (s ≡ path_past h' m r a)) ⊎ (((d ≡ node m) × (s ≡ r)) ⊎ ((d ≡ leaf l) × (s ≡ path_past h' m r b)))
+ForkPaths h' c m l a b r d p = ((d ≡ c) × (p ≡ path_past h' m r a)) ⊎ (((d ≡ node m) × (p ≡ r)) ⊎ ((d ≡ leaf l) × (p ≡ path_past h' m r b)))
 
 abbrev pub MergeTouched : Link → Node → ℕ → Link → Type 0
 MergeTouched c n l d = (d ≡ node n) ⊎ ((d ≡ leaf l) ⊎ (d ≡ c))
 
 abbrev pub MergePaths : Link → List ℕ → Link → List ℕ → Type 0
-MergePaths c r d s = (d ≡ c) × (s ≡ r)
+MergePaths c r d p = (d ≡ c) × (p ≡ r)
 
 -- ---- the changes
 
@@ -95,7 +95,7 @@ CopyLaw = (h h' : Heap) (x : Place) (n m : Node) (r : List ℕ) (f : ByteMap) �
 -- a node comes between a place and what it held, a leaf or a node
 abbrev pub ForkLaw : Type 0
 ForkLaw = (h h' : Heap) (x : Place) (c : Link) (m : Node) (l a b : ℕ) (r : List ℕ) (f : ByteMap) → IsTree h → PlaceAt h x r → Forks h h' x c m l a b →
-    ((k : ℕ) → c ≡ leaf k → Begins (path_past h' m r a) (h.key k)) → Begins (path_past h' m r b) (h.key l) → length (h.key l) ≤ 64 →
+    ((i : ℕ) → c ≡ leaf i → Begins (path_past h' m r a) (h.key i)) → Begins (path_past h' m r b) (h.key l) → length (h.key l) ≤ 64 →
     Does h h' (ForkTouched c m l) (ForkPaths h' c m l a b r) f (insert f (h.key l) (h.value l))
 
 -- a node that would come down to one child gives way to it
@@ -109,7 +109,7 @@ MergeLaw = (h h' : Heap) (x : Place) (c : Link) (n : Node) (l a b : ℕ) (r : Li
 pub record FrameLaw (h h' : Heap) : Type 0 where
   pub paths : (c : Link) (r : List ℕ) → StandsAt h c r ↔ StandsAt h' c r
   pub sound : IsTree h → IsTree h'
-  pub rows : (m : ByteMap) → HasRows h m → HasRows h' m
+  pub rows : (f : ByteMap) → HasRows h f → HasRows h' f
 
 -- an ascending list of keys and values, each once
 abbrev pub IsAscending : List (List ℕ × ℕ) → Type 0

@@ -13,7 +13,7 @@ abbrev pub Before : List ℕ → List ℕ → Type 0
 Before j k = slice_cmp nat_cmp j k ≡ Less
 
 abbrev pub IsBelow : List ℕ → Bound → Type 0
-IsBelow k (To z) = Before k z
+IsBelow k (To q) = Before k q
 IsBelow k End = ⊤
 
 -- the range from lo on, before hi
@@ -36,7 +36,7 @@ Caps h p hi = (k : List ℕ) (v : ℕ) → Row h k v → IsBelow k hi → Before
 
 -- the byte, and then the bound; where there is none, the next byte, if there is one
 abbrev pub raise : ℕ → Bound → Bound
-raise a (To z) = To (a ∷ z)
+raise a (To q) = To (a ∷ q)
 raise a End = if nat_lt a 255 then To ((a + 1) ∷ []) else End
 
 -- the last byte below 255 is raised, and what follows it goes
@@ -54,7 +54,7 @@ AfterIsExact = (p k : List ℕ) → AreBytes p → AreBytes k → IsBelow k (aft
 
 -- no byte text below `after p` is above all byte texts that begin with p
 abbrev pub AfterIsLeast : Type 0
-AfterIsLeast = (p z : List ℕ) → AreBytes p → AreBytes z → IsBelow z (after p) → ((k : List ℕ) → AreBytes k → Begins p k → Before k z) → ⊥
+AfterIsLeast = (p q : List ℕ) → AreBytes p → AreBytes q → IsBelow q (after p) → ((k : List ℕ) → AreBytes k → Begins p k → Before k q) → ⊥
 
 -- where keys are bytes, `after p` caps p
 abbrev pub AfterCaps : Type 0

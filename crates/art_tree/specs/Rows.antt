@@ -12,7 +12,7 @@ ByteMap = FinMap (slice_cmp nat_cmp) ℕ
 
 -- the rows of the heap are those of the map
 abbrev pub HasRows : Heap → ByteMap → Type 0
-HasRows h m = (k : List ℕ) (v : ℕ) → Row h k v ↔ (get m k ≡ Some v)
+HasRows h f = (k : List ℕ) (v : ℕ) → Row h k v ↔ (get f k ≡ Some v)
 
 -- no row has the key
 abbrev pub IsAbsent : Heap → List ℕ → Type 0

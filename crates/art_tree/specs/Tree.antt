@@ -58,7 +58,7 @@ HasTwo h n = (a b : ℕ) × (c d : Link) × (a < b) × (h.child n a ≡ Some c) 
 
 -- two places of the tree that hold one cell are one place
 abbrev pub NamesOnce : Heap → Type 0
-NamesOnce h = (x y : Place) (r s : List ℕ) (c : Link) → PlaceAt h x r → PlaceAt h y s → child_at_place h x ≡ Some c → child_at_place h y ≡ Some c → x ≡ y
+NamesOnce h = (x y : Place) (r p : List ℕ) (c : Link) → PlaceAt h x r → PlaceAt h y p → child_at_place h x ≡ Some c → child_at_place h y ≡ Some c → x ≡ y
 
 -- what holds of every tree: each linked cell is named once, each linked node has two children, its path with its prefix
 -- is shorter than a key can be, and the path of each linked leaf begins its key

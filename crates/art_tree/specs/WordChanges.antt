@@ -32,14 +32,14 @@ word_of_child None = 0
 
 -- the words of the place's cell now name this child there, or none, and mean else what they meant
 abbrev pub WritesPlace : Cells → Cells → Place → Option Link → Type 0
-WritesPlace cells after Top o = after cell.Anchor 1 ≡ word_of_child o
-WritesPlace cells after (Slot n b) o = (b < 256) × Becomes n.layout (cells (cell.Node n)) (after (cell.Node n)) (at_byte (child_of n.layout (cells (cell.Node n))) b o)
+WritesPlace s s' Top o = s' cell.Anchor 1 ≡ word_of_child o
+WritesPlace s s' (Slot n b) o = (b < 256) × Becomes n.layout (s (cell.Node n)) (s' (cell.Node n)) (at_byte (child_of n.layout (s (cell.Node n))) b o)
 
 -- the words are those of a node with this prefix and these child words
-pub record WritesNode (k : Layout) (after : Words) (p : List ℕ) (child : ℕ → Option ℕ) : Type 0 where
-  pub body : IsBody k after
-  pub prefix : prefix_of after ≡ p
-  pub children : (b : ℕ) → b < 256 → child_of k after b ≡ child b
+pub record WritesNode (layout : Layout) (w : Words) (p : List ℕ) (child : ℕ → Option ℕ) : Type 0 where
+  pub body : IsBody layout w
+  pub prefix : prefix_of w ≡ p
+  pub children : (b : ℕ) → b < 256 → child_of layout w b ≡ child b
 
 -- child words of two bytes alone
 abbrev pub two_children : ℕ → Link → ℕ → Link → ℕ → Option ℕ
@@ -52,100 +52,100 @@ cell_of (Slot n b) = cell.Node n
 
 -- all cells but the written ones mean what they meant
 abbrev pub WritesOnly : Cells → Cells → (Cell → Type 0) → Type 0
-WritesOnly cells after written = (c : Cell) → (written c → ⊥) → MeansTheSame c (cells c) (after c)
+WritesOnly s s' written = (c : Cell) → (written c → ⊥) → MeansTheSame c (s c) (s' c)
 
 -- ---- the changes
 
 -- the child at x becomes the leaf l, or none
-pub record PlaceByWords (cells after : Cells) (x : Place) (o : Option Link) : Type 0 where
-  pub put : WritesPlace cells after x o
-  pub rest : WritesOnly cells after (λ c. c ≡ cell_of x)
+pub record PlaceByWords (s s' : Cells) (x : Place) (o : Option Link) : Type 0 where
+  pub put : WritesPlace s s' x o
+  pub rest : WritesOnly s s' (λ c. c ≡ cell_of x)
 
 -- node m comes to x, with n's prefix and these child words
-pub record WayByWords (cells after : Cells) (x : Place) (n m : Node) (child : ℕ → Option ℕ) : Type 0 where
-  pub put : WritesPlace cells after x (Some (node m))
-  pub made : WritesNode m.layout (after (cell.Node m)) (node_prefix (cells (cell.Node n))) child
-  pub rest : WritesOnly cells after (λ c. (c ≡ cell.Node m) ⊎ (c ≡ cell_of x))
+pub record WayByWords (s s' : Cells) (x : Place) (n m : Node) (child : ℕ → Option ℕ) : Type 0 where
+  pub put : WritesPlace s s' x (Some (node m))
+  pub made : WritesNode m.layout (s' (cell.Node m)) (node_prefix (s (cell.Node n))) child
+  pub rest : WritesOnly s s' (λ c. (c ≡ cell.Node m) ⊎ (c ≡ cell_of x))
 
 -- a node c is written again with the prefix p and its own children
 abbrev pub KeepsChildren : Cells → Cells → Link → (Node → List ℕ → Type 0) → Type 0
-KeepsChildren cells after (leaf l) P = ⊤
-KeepsChildren cells after (node n) P = (p : List ℕ) × P n p × WritesNode n.layout (after (cell.Node n)) p (child_of n.layout (cells (cell.Node n)))
+KeepsChildren s s' (leaf l) P = ⊤
+KeepsChildren s s' (node n) P = (p : List ℕ) × P n p × WritesNode n.layout (s' (cell.Node n)) p (child_of n.layout (s (cell.Node n)))
 
 -- node m comes between x and the cell c, with the prefix q; a node c loses q and a
-pub record ForkByWords (cells after : Cells) (x : Place) (c : Link) (m : Node) (l a b : ℕ) (q : List ℕ) : Type 0 where
-  pub put : WritesPlace cells after x (Some (node m))
-  pub made : WritesNode m.layout (after (cell.Node m)) q (two_children a c b (leaf l))
-  pub cut : KeepsChildren cells after c (λ n p. node_prefix (cells (cell.Node n)) ≡ q ++ a ∷ p)
-  pub rest : WritesOnly cells after (λ d. (d ≡ cell.Node m) ⊎ ((d ≡ cell_of x) ⊎ ((k : Node) × (c ≡ node k) × (d ≡ cell.Node k))))
+pub record ForkByWords (s s' : Cells) (x : Place) (c : Link) (m : Node) (l a b : ℕ) (q : List ℕ) : Type 0 where
+  pub put : WritesPlace s s' x (Some (node m))
+  pub made : WritesNode m.layout (s' (cell.Node m)) q (two_children a c b (leaf l))
+  pub cut : KeepsChildren s s' c (λ n p. node_prefix (s (cell.Node n)) ≡ q ++ a ∷ p)
+  pub rest : WritesOnly s s' (λ d. (d ≡ cell.Node m) ⊎ ((d ≡ cell_of x) ⊎ ((o : Node) × (c ≡ node o) × (d ≡ cell.Node o))))
 
 -- the cell c comes to x in place of node n; a node c gains n's prefix and a
-pub record MergeByWords (cells after : Cells) (x : Place) (c : Link) (n : Node) (a : ℕ) : Type 0 where
-  pub put : WritesPlace cells after x (Some c)
-  pub gains : KeepsChildren cells after c (λ k p. p ≡ node_prefix (cells (cell.Node n)) ++ a ∷ node_prefix (cells (cell.Node k)))
-  pub rest : WritesOnly cells after (λ d. (d ≡ cell_of x) ⊎ ((k : Node) × (c ≡ node k) × (d ≡ cell.Node k)))
+pub record MergeByWords (s s' : Cells) (x : Place) (c : Link) (n : Node) (a : ℕ) : Type 0 where
+  pub put : WritesPlace s s' x (Some c)
+  pub gains : KeepsChildren s s' c (λ o p. p ≡ node_prefix (s (cell.Node n)) ++ a ∷ node_prefix (s (cell.Node o)))
+  pub rest : WritesOnly s s' (λ d. (d ≡ cell_of x) ⊎ ((o : Node) × (c ≡ node o) × (d ≡ cell.Node o)))
 
 -- ---- the laws: written words make the changes of the tree
 
 abbrev pub AddByWords : Type 0
-AddByWords = (cells after : Cells) (x : Place) (l : ℕ) → PlaceByWords cells after x (Some (leaf l)) → FitsWord (leaf l) →
-    child_at_place (heap_of cells) x ≡ None → IsUnlinked (heap_of cells) (leaf l) →
-    Edits (heap_of cells) (heap_of after) x l × (child_at_place (heap_of after) x ≡ Some (leaf l))
+AddByWords = (s s' : Cells) (x : Place) (l : ℕ) → PlaceByWords s s' x (Some (leaf l)) → FitsWord (leaf l) →
+    child_at_place (heap_of s) x ≡ None → IsUnlinked (heap_of s) (leaf l) →
+    Edits (heap_of s) (heap_of s') x l × (child_at_place (heap_of s') x ≡ Some (leaf l))
 
 abbrev pub DropByWords : Type 0
-DropByWords = (cells after : Cells) (x : Place) (l : ℕ) (r : List ℕ) → PlaceByWords cells after x None →
-    NamesOnce (heap_of cells) → PlaceAt (heap_of cells) x r → child_at_place (heap_of cells) x ≡ Some (leaf l) →
-    Edits (heap_of cells) (heap_of after) x l × (child_at_place (heap_of after) x ≡ None)
+DropByWords = (s s' : Cells) (x : Place) (l : ℕ) (r : List ℕ) → PlaceByWords s s' x None →
+    NamesOnce (heap_of s) → PlaceAt (heap_of s) x r → child_at_place (heap_of s) x ≡ Some (leaf l) →
+    Edits (heap_of s) (heap_of s') x l × (child_at_place (heap_of s') x ≡ None)
 
 abbrev pub ReplaceByWords : Type 0
-ReplaceByWords = (cells after : Cells) (x : Place) (l i : ℕ) → PlaceByWords cells after x (Some (leaf i)) → FitsWord (leaf i) →
-    child_at_place (heap_of cells) x ≡ Some (leaf l) → IsUnlinked (heap_of cells) (leaf i) →
-    Replaces (heap_of cells) (heap_of after) x l i
+ReplaceByWords = (s s' : Cells) (x : Place) (l i : ℕ) → PlaceByWords s s' x (Some (leaf i)) → FitsWord (leaf i) →
+    child_at_place (heap_of s) x ≡ Some (leaf l) → IsUnlinked (heap_of s) (leaf i) →
+    Replaces (heap_of s) (heap_of s') x l i
 
 -- what is asked of a node that gives way to another
 abbrev pub WayPremises : Cells → Place → List ℕ → Node → Node → Type 0
-WayPremises cells x r n m = NamesOnce (heap_of cells) × PlaceAt (heap_of cells) x r × (child_at_place (heap_of cells) x ≡ Some (node n)) × IsUnlinked (heap_of cells) (node m) × FitsWord (node m)
+WayPremises s x r n m = NamesOnce (heap_of s) × PlaceAt (heap_of s) x r × (child_at_place (heap_of s) x ≡ Some (node n)) × IsUnlinked (heap_of s) (node m) × FitsWord (node m)
 
 abbrev pub GrowByWords : Type 0
-GrowByWords = (cells after : Cells) (x : Place) (r : List ℕ) (n m : Node) (b l : ℕ) →
-    WayByWords cells after x n m (at_byte (child_of n.layout (cells (cell.Node n))) b (Some (leaf l))) → WayPremises cells x r n m →
-    b < 256 → FitsWord (leaf l) → IsUnlinked (heap_of cells) (leaf l) → child_at_place (heap_of cells) (Slot n b) ≡ None →
-    Renews (heap_of cells) (heap_of after) x n m b l × (child_at_place (heap_of after) (Slot m b) ≡ Some (leaf l))
+GrowByWords = (s s' : Cells) (x : Place) (r : List ℕ) (n m : Node) (b l : ℕ) →
+    WayByWords s s' x n m (at_byte (child_of n.layout (s (cell.Node n))) b (Some (leaf l))) → WayPremises s x r n m →
+    b < 256 → FitsWord (leaf l) → IsUnlinked (heap_of s) (leaf l) → child_at_place (heap_of s) (Slot n b) ≡ None →
+    Renews (heap_of s) (heap_of s') x n m b l × (child_at_place (heap_of s') (Slot m b) ≡ Some (leaf l))
 
 abbrev pub ShrinkByWords : Type 0
-ShrinkByWords = (cells after : Cells) (x : Place) (r : List ℕ) (n m : Node) (b l : ℕ) →
-    WayByWords cells after x n m (at_byte (child_of n.layout (cells (cell.Node n))) b None) → WayPremises cells x r n m →
-    child_at_place (heap_of cells) (Slot n b) ≡ Some (leaf l) →
-    Renews (heap_of cells) (heap_of after) x n m b l × (child_at_place (heap_of after) (Slot m b) ≡ None)
+ShrinkByWords = (s s' : Cells) (x : Place) (r : List ℕ) (n m : Node) (b l : ℕ) →
+    WayByWords s s' x n m (at_byte (child_of n.layout (s (cell.Node n))) b None) → WayPremises s x r n m →
+    child_at_place (heap_of s) (Slot n b) ≡ Some (leaf l) →
+    Renews (heap_of s) (heap_of s') x n m b l × (child_at_place (heap_of s') (Slot m b) ≡ None)
 
 abbrev pub CopyByWords : Type 0
-CopyByWords = (cells after : Cells) (x : Place) (r : List ℕ) (n m : Node) →
-    WayByWords cells after x n m (child_of n.layout (cells (cell.Node n))) → WayPremises cells x r n m →
-    Copies (heap_of cells) (heap_of after) x n m
+CopyByWords = (s s' : Cells) (x : Place) (r : List ℕ) (n m : Node) →
+    WayByWords s s' x n m (child_of n.layout (s (cell.Node n))) → WayPremises s x r n m →
+    Copies (heap_of s) (heap_of s') x n m
 
 -- the new node's prefix is q
 abbrev pub ForkedByWords : Type 0
-ForkedByWords = (cells after : Cells) (x : Place) (r : List ℕ) (c : Link) (m : Node) (l a b : ℕ) (q : List ℕ) →
-    ForkByWords cells after x c m l a b q → NamesOnce (heap_of cells) → PlaceAt (heap_of cells) x r → child_at_place (heap_of cells) x ≡ Some c →
-    IsUnlinked (heap_of cells) (node m) → IsUnlinked (heap_of cells) (leaf l) → a < 256 → b < 256 → a ≢ b →
+ForkedByWords = (s s' : Cells) (x : Place) (r : List ℕ) (c : Link) (m : Node) (l a b : ℕ) (q : List ℕ) →
+    ForkByWords s s' x c m l a b q → NamesOnce (heap_of s) → PlaceAt (heap_of s) x r → child_at_place (heap_of s) x ≡ Some c →
+    IsUnlinked (heap_of s) (node m) → IsUnlinked (heap_of s) (leaf l) → a < 256 → b < 256 → a ≢ b →
     FitsWord c → FitsWord (node m) → FitsWord (leaf l) →
-    Forks (heap_of cells) (heap_of after) x c m l a b × ((heap_of after).prefix m ≡ q)
+    Forks (heap_of s) (heap_of s') x c m l a b × ((heap_of s').prefix m ≡ q)
 
 abbrev pub MergedByWords : Type 0
-MergedByWords = (cells after : Cells) (x : Place) (r : List ℕ) (c : Link) (n : Node) (l a b : ℕ) →
-    MergeByWords cells after x c n a → NamesOnce (heap_of cells) → PlaceAt (heap_of cells) x r → child_at_place (heap_of cells) x ≡ Some (node n) →
-    child_at_place (heap_of cells) (Slot n a) ≡ Some c → child_at_place (heap_of cells) (Slot n b) ≡ Some (leaf l) → a ≢ b →
-    ((e : ℕ) → e ≢ a → e ≢ b → child_at_place (heap_of cells) (Slot n e) ≡ None) → FitsWord c →
-    Merges (heap_of cells) (heap_of after) x c n l a b
+MergedByWords = (s s' : Cells) (x : Place) (r : List ℕ) (c : Link) (n : Node) (l a b : ℕ) →
+    MergeByWords s s' x c n a → NamesOnce (heap_of s) → PlaceAt (heap_of s) x r → child_at_place (heap_of s) x ≡ Some (node n) →
+    child_at_place (heap_of s) (Slot n a) ≡ Some c → child_at_place (heap_of s) (Slot n b) ≡ Some (leaf l) → a ≢ b →
+    ((e : ℕ) → e ≢ a → e ≢ b → child_at_place (heap_of s) (Slot n e) ≡ None) → FitsWord c →
+    Merges (heap_of s) (heap_of s') x c n l a b
 
 -- linked cells that mean what they meant are the same tree
-pub record SameByWords (cells after : Cells) : Type 0 where
-  pub anchor : MeansTheSame cell.Anchor (cells cell.Anchor) (after cell.Anchor)
-  pub leaves : (l : ℕ) (p : List ℕ) → StandsAt (heap_of cells) (leaf l) p → MeansTheSame (cell.Leaf l) (cells (cell.Leaf l)) (after (cell.Leaf l))
-  pub nodes : (n : Node) (p : List ℕ) → StandsAt (heap_of cells) (node n) p → MeansTheSame (cell.Node n) (cells (cell.Node n)) (after (cell.Node n))
+pub record SameByWords (s s' : Cells) : Type 0 where
+  pub anchor : MeansTheSame cell.Anchor (s cell.Anchor) (s' cell.Anchor)
+  pub leaves : (l : ℕ) (p : List ℕ) → StandsAt (heap_of s) (leaf l) p → MeansTheSame (cell.Leaf l) (s (cell.Leaf l)) (s' (cell.Leaf l))
+  pub nodes : (n : Node) (p : List ℕ) → StandsAt (heap_of s) (node n) p → MeansTheSame (cell.Node n) (s (cell.Node n)) (s' (cell.Node n))
 
 -- words that are the same after the version mean the same: a leaf has no version
 abbrev pub SameBody : Cell → Words → Words → Type 0
-SameBody (cell.Leaf l) w after = (place : ℕ) → after place ≡ w place
-SameBody cell.Anchor w after = (place : ℕ) → 0 < place → after place ≡ w place
-SameBody (cell.Node n) w after = (place : ℕ) → 0 < place → after place ≡ w place
+SameBody (cell.Leaf l) w w' = (place : ℕ) → w' place ≡ w place
+SameBody cell.Anchor w w' = (place : ℕ) → 0 < place → w' place ≡ w place
+SameBody (cell.Node n) w w' = (place : ℕ) → 0 < place → w' place ≡ w place

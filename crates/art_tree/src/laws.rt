@@ -11,7 +11,7 @@ ghost use Rattle.art_tree.specs.Below.{RowsStandBelow};
 ghost use Rattle.art_tree.specs.Changes.{IsUnlinked, SameTree};
 ghost use Rattle.art_cell.specs.Children.{child_word, link_of, number_of};
 ghost use Rattle.art_tree.specs.Descents.{BeginsNone, Descends, Parts};
-ghost use Rattle.art_tree.specs.Heaps.{Cells, heap_of, MeansTheSame};
+ghost use Rattle.art_tree.specs.Heaps.{Cells, heap_of, MeansTheSame, WordsMeanCells};
 ghost use Rattle.art_tree.specs.Laws.{AddLaw, CopyLaw, DropLaw, ForkLaw, FrameLaw, GrowLaw, IsAscending, ListsRows, MergeLaw, ReplaceLaw, RowFrom, ShrinkLaw};
 ghost use Rattle.art_tree.specs.Looks.{AfterCaps, AfterIsExact, AfterIsLeast, AreBytes, LooksAtAnchor, LooksAtNode};
 ghost use Rattle.art_tree.specs.Rows.{ByteMap, HasRows, IsOneToOne};
@@ -129,6 +129,11 @@ pub fn nodes_are_merged_away()
 
 // ---- words
 
+/// What a heap says of a cell is read off the cell's words: the root, prefixes and children, keys and values.
+pub fn words_mean_cells()
+    ensures { WordsMeanCells }
+{}
+
 /// Words that a change writes make the change of the tree that they stand for.
 pub fn words_change_the_tree()
     ensures add { AddByWords }
@@ -144,13 +149,13 @@ pub fn words_change_the_tree()
 /// Linked cells whose words mean what they meant are the same tree, and words that are the same after the version mean
 /// the same.
 pub fn same_words_are_the_same_tree()
-    ensures tree { (cells after : Cells) → SameByWords cells after → SameTree (heap_of cells) (heap_of after) }
-    ensures words { (c : CellOf) (w after : Words) → SameBody c w after → MeansTheSame c w after }
+    ensures tree { (s s' : Cells) → SameByWords s s' → SameTree (heap_of s) (heap_of s') }
+    ensures words { (c : CellOf) (w w' : Words) → SameBody c w w' → MeansTheSame c w w' }
 {}
 
 /// Keys, prefixes and paths are texts of bytes, whatever the words.
 pub fn words_mean_bytes()
-    ensures keys { (cells : Cells) (l : ℕ) → AreBytes ((heap_of cells).key l) }
-    ensures prefixes { (cells : Cells) (n : NodeOf) → AreBytes ((heap_of cells).prefix n) }
-    ensures paths { (cells : Cells) (c : LinkOf) (p : List ℕ) → StandsAt (heap_of cells) c p → AreBytes p }
+    ensures keys { (s : Cells) (l : ℕ) → AreBytes ((heap_of s).key l) }
+    ensures prefixes { (s : Cells) (n : NodeOf) → AreBytes ((heap_of s).prefix n) }
+    ensures paths { (s : Cells) (c : LinkOf) (p : List ℕ) → StandsAt (heap_of s) c p → AreBytes p }
 {}
