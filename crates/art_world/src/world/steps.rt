@@ -93,7 +93,7 @@ impl Steps for Stepper<'_> {
             return Err(UpgradeFault::Exhausted(stamp.cell));
         }
         let found = self.world.version(stamp.cell).word;
-        if found != stamp.version {
+        if stamp.version != found {
             self.world
                 .find::<Brand, (Stamp, u64)>(self.pass, &(stamp, found));
             return Err(UpgradeFault::Changed(changed(stamp, found)));

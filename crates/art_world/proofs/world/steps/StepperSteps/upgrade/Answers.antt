@@ -24,7 +24,7 @@ pub find-requires-clause-moves : goal.find-requires-clause-moves
 find-requires-clause-moves c i =
     let s = c.args.self.now in
     let k = world_of s in
-    moves_fails k.sizes k.words (views_of k.views) (pass_of s) (view_of s) i.sound (at_view k.views (pass_of s) s.inside) i.long c.args.stamp c.version-found.result.word c.version-found.ensures c.requires.stamp c.if-found-stamp.true
+    moves_fails k.sizes k.words (views_of k.views) (pass_of s) (view_of s) i.sound (at_view k.views (pass_of s) s.inside) i.long c.args.stamp c.version-found.result.word c.version-found.ensures c.requires.stamp c.if-stamp-found.true
 
 pub put-requires-clause-place : goal.put-requires-clause-place
 put-requires-clause-place c i =
@@ -36,4 +36,4 @@ put-requires-clause-moves c i =
     let s = c.args.self.now in
     let k = world_of s in
     let may : upgrade.May (view_of s) c.args.stamp = record { stamp = c.requires.stamp; path = c.requires.path; limit = not_last _ _ c.is_last.ensures c.if-is_last.false; early = c.requires.early; unclaimed = c.requires.unclaimed } in
-    rw (c.place_of-place.ensures, c.sizes.ensures, c.locked.ensures) (moves_upgrades k.sizes k.words (views_of k.views) (pass_of s) (view_of s) i.sound (at_view k.views (pass_of s) s.inside) i.long c.args.stamp (inside_of k.sizes c.args.stamp.cell c.requires.inside) (sym c.version-found.ensures ∙ c.if-found-stamp.false) may)
+    rw (c.place_of-place.ensures, c.sizes.ensures, c.locked.ensures) (moves_upgrades k.sizes k.words (views_of k.views) (pass_of s) (view_of s) i.sound (at_view k.views (pass_of s) s.inside) i.long c.args.stamp (inside_of k.sizes c.args.stamp.cell c.requires.inside) (sym c.version-found.ensures ∙ c.if-stamp-found.false) may)
