@@ -1,5 +1,4 @@
 //! A byte's child, and the least entry at a byte or above, as far as the words that were read tell.
-ghost use Rattle.std.specs.Prelude.{◌≡◌, ◌≤◌, ◌<◌, ◌+◌, ℕ};
 ghost use Rattle.art_cell.specs.Words.{Words, child_of};
 ghost use Rattle.art_cell.specs.Bodies.{IsBody};
 ghost use Rattle.art_cell.specs.Reads.{Agrees, ProbeNeeds, ProbeTells, NextNeeds, NextTells};

@@ -1,5 +1,5 @@
 //! The first key byte at a byte or above, among words that were read one by one.
-ghost use Rattle.std.specs.Prelude.{◌≡◌, ◌≤◌, ◌<◌, ◌+◌, ◌/◌, ℕ};
+ghost use Rattle.std.specs.Prelude.{◌≡◌, ◌≤◌, ◌<◌};
 ghost use Rattle.art_cell.specs.Words.{Words, byte_of, places, count_of};
 ghost use Rattle.art_cell.specs.Reads.{Agrees};
 ghost use Rattle.art_sorted.specs.Sorted.{layout_of, SearchNeeds, SearchTells};
