@@ -8,7 +8,7 @@ use crate::Sorted;
 use art_cell::Reads;
 
 /// Where the first key byte at a byte or above stands, as far as the words that were read tell.
-#[derive(Clone, Copy)]
+#[derive(Drop)]
 pub(crate) enum Search {
     /// The word at this place must be read first.
     Need(usize),
