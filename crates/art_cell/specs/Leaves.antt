@@ -39,7 +39,8 @@ key_byte_read reads i = option_map (λ word. byte_of word (i % 8)) (word_read re
 -- so many bytes of the key from one on, as they were read
 abbrev pub key_read : List (Option ℕ) → ℕ → ℕ → Option (List ℕ)
 key_read reads from zero = Some []
-key_read reads from (suc n) = option_and_then (λ b. option_map (λ bytes. b ∷ bytes) (key_read reads (from + 1) n)) (key_byte_read reads from)
+key_read reads from (suc n) =
+    option_and_then (λ b. option_map (λ bytes. b ∷ bytes) (key_read reads (from + 1) n)) (key_byte_read reads from)
 
 -- a key of a length that a leaf can have
 abbrev pub key_of_length : List (Option ℕ) → ℕ → Option (List ℕ)
@@ -47,7 +48,8 @@ key_of_length reads n = if nat_lt 64 n then None else key_read reads 0 n
 
 -- the key and the value that the words read mean, where the length is at most 64 and no word that is needed is missing
 abbrev pub leaf_read : List (Option ℕ) → Option (List ℕ × ℕ)
-leaf_read reads = option_and_then (λ value. option_map (λ key. (key, value)) (option_and_then (key_of_length reads) (word_read reads 1))) (word_read reads 0)
+leaf_read reads =
+    option_and_then (λ value. option_map (λ key. (key, value)) (option_and_then (key_of_length reads) (word_read reads 1))) (word_read reads 0)
 
 -- the key and the value are what words mean whose key has at most 64 bytes
 pub record MeansLeaf (w : Words) (leaf : List ℕ × ℕ) : Type 0 where

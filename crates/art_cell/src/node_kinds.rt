@@ -44,7 +44,8 @@ pub trait NodeKind {
     ghost use Rattle.art_cell.specs.declared.layouts.Layout.{Layout};
     ghost use Rattle.art_cell.specs.Words.{Words, child_of, entries};
     ghost use Rattle.art_cell.specs.Bodies.{IsBody, IsFull, Becomes};
-    ghost use Rattle.art_cell.specs.Reads.{Agrees, ProbeNeeds, ProbeTells, NextNeeds, NextTells, word_of, IsBodyOf, SameOutside, IsPlan, with_child, without_child};
+    ghost use Rattle.art_cell.specs.Reads.{Agrees, ProbeNeeds, ProbeTells, NextNeeds, NextTells};
+    ghost use Rattle.art_cell.specs.Reads.{word_of, IsBodyOf, SameOutside, IsPlan, with_child, without_child};
 
     ghost layout: { Layout };
 
@@ -64,7 +65,8 @@ pub trait NodeKind {
         requires free { child_of layout (word_of body.old) byte ≡ None }
         requires child { 0 < child }
         ensures full { (result ≡ false) ↔ IsFull layout (word_of body.old) }
-        ensures added { result ≡ true → Becomes layout (word_of body.old) (word_of body.new) (with_child (child_of layout (word_of body.old)) byte child) }
+        ensures added { result ≡ true → Becomes layout (word_of body.old) (word_of body.new)
+            (with_child (child_of layout (word_of body.old)) byte child) }
         ensures refused { result ≡ false → body.new ≡ body.old }
         ensures layout { body.new.layout ≡ body.old.layout }
         ensures outside { SameOutside layout (word_of body.old) (word_of body.new) };
@@ -97,7 +99,8 @@ pub trait NodeKind {
         requires free { child_of layout (word_of body.now) byte ≡ None }
         requires child { 0 < child }
         ensures full { IsNone result ↔ IsFull layout (word_of body.now) }
-        ensures plan { IfSome result (λ writes. IsPlan layout (word_of body.now) writes.items (with_child (child_of layout (word_of body.now)) byte child)) }
+        ensures plan { IfSome result (λ writes. IsPlan layout (word_of body.now) writes.items
+            (with_child (child_of layout (word_of body.now)) byte child)) }
     {
         let mut after = *body;
         if Self::add(&mut after, byte, child) {

@@ -1,8 +1,6 @@
 //! Nodes of at most 16 children, in ascending order of their bytes, in 28 words.
 #![tactic(auto)]
 
-ghost use Rattle.std.specs.Prelude.{◌≡◌, ◌<◌, ◌↔◌, ℕ, Some, None, true, false};
-
 use art_cell::{Body, Entries, NextProbe, NodeKind, Probe, Reads};
 use art_sorted::Sorted;
 

@@ -1,8 +1,6 @@
 //! The smallest nodes: at most 4 children, in ascending order of their bytes, in 15 words.
 #![tactic(auto)]
 
-ghost use Rattle.std.specs.Prelude.{◌≡◌, ◌<◌, ◌↔◌, ℕ, Some, None, true, false};
-
 use art_cell::{Body, Entries, NextProbe, NodeKind, Probe, Reads};
 use art_sorted::Sorted;
 

@@ -1,5 +1,5 @@
 //! The layout of 48 places behind an index.
-ghost use Rattle.std.specs.Prelude.{◌≡◌, ◌<◌, ◌≤◌, ◌+◌, ◌%◌, ℕ, Some, None};
+ghost use Rattle.std.specs.Prelude.{◌≡◌, ◌<◌, ◌≤◌, ◌%◌};
 ghost use Rattle.art_cell.specs.Words.{byte_of, key_byte, indexed_child};
 ghost use Rattle.art_cell.specs.Lemmas.Packed.{with_byte};
 ghost use Rattle.art_cell.specs.Reads.{word_of, IsBodyOf};

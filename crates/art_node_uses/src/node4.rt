@@ -1,5 +1,4 @@
 //! Worked words of a Node4.
-ghost use Rattle.std.specs.Prelude.{◌<◌};
 ghost use Rattle.art_cell.specs.declared.layouts.Layout.TheVariants as layouts;
 ghost use Rattle.art_cell.specs.Reads.{IsBodyOf};
 

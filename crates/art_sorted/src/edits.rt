@@ -16,7 +16,8 @@ pub fn add(sorted: Sorted, body: &mut Body, byte: u8, child: u64) -> bool
     requires free { child_of (layout_of sorted) (word_of body.old) byte ≡ None }
     requires child { 0 < child }
     ensures full { (result ≡ false) ↔ IsFull (layout_of sorted) (word_of body.old) }
-    ensures added { result ≡ true → Becomes (layout_of sorted) (word_of body.old) (word_of body.new) (with_child (child_of (layout_of sorted) (word_of body.old)) byte child) }
+    ensures added { result ≡ true → Becomes (layout_of sorted) (word_of body.old) (word_of body.new)
+        (with_child (child_of (layout_of sorted) (word_of body.old)) byte child) }
     ensures refused { result ≡ false → body.new ≡ body.old }
     ensures layout { body.new.layout ≡ body.old.layout }
     ensures outside { SameOutside (layout_of sorted) (word_of body.old) (word_of body.new) }
@@ -36,7 +37,8 @@ pub fn set(sorted: Sorted, body: &mut Body, byte: u8, child: u64)
     requires body { IsBodyOf (layout_of sorted) body.old }
     requires there { (c : ℕ) × (child_of (layout_of sorted) (word_of body.old) byte ≡ Some c) }
     requires child { 0 < child }
-    ensures set { Becomes (layout_of sorted) (word_of body.old) (word_of body.new) (with_child (child_of (layout_of sorted) (word_of body.old)) byte child) }
+    ensures set { Becomes (layout_of sorted) (word_of body.old) (word_of body.new)
+        (with_child (child_of (layout_of sorted) (word_of body.old)) byte child) }
     ensures layout { body.new.layout ≡ body.old.layout }
     ensures outside { SameOutside (layout_of sorted) (word_of body.old) (word_of body.new) }
 {
@@ -48,7 +50,8 @@ pub fn set(sorted: Sorted, body: &mut Body, byte: u8, child: u64)
 pub fn take(sorted: Sorted, body: &mut Body, byte: u8)
     requires body { IsBodyOf (layout_of sorted) body.old }
     requires there { (c : ℕ) × (child_of (layout_of sorted) (word_of body.old) byte ≡ Some c) }
-    ensures taken { Becomes (layout_of sorted) (word_of body.old) (word_of body.new) (without_child (child_of (layout_of sorted) (word_of body.old)) byte) }
+    ensures taken { Becomes (layout_of sorted) (word_of body.old) (word_of body.new)
+        (without_child (child_of (layout_of sorted) (word_of body.old)) byte) }
     ensures layout { body.new.layout ≡ body.old.layout }
     ensures outside { SameOutside (layout_of sorted) (word_of body.old) (word_of body.new) }
 {

@@ -1,5 +1,5 @@
 //! The two layouts, by how many positions they have.
-ghost use Rattle.std.specs.Prelude.{◌≡◌, ◌≤◌, ◌<◌, ◌+◌, ◌/◌};
+ghost use Rattle.std.specs.Prelude.{◌≡◌, ◌≤◌, ◌+◌, ◌/◌};
 ghost use Rattle.art_cell.specs.Words.{size, places, first_child};
 ghost use Rattle.art_sorted.specs.Sorted.{layout_of};
 

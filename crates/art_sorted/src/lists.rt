@@ -1,5 +1,5 @@
 //! The children of a node, as a list.
-ghost use Rattle.std.specs.Prelude.{◌≡◌, ◌≤◌, ◌<◌, ◌+◌, length};
+ghost use Rattle.std.specs.Prelude.{◌≡◌};
 ghost use Rattle.art_cell.specs.Words.{entries};
 ghost use Rattle.art_cell.specs.Reads.{word_of, IsBodyOf};
 ghost use Rattle.art_sorted.specs.Sorted.{layout_of, entry_or_none, IsPosition};

@@ -1,5 +1,4 @@
 //! A byte's child, and the least entry at a byte or above, as far as the words that were read tell.
-ghost use Rattle.std.specs.Prelude.{◌≡◌, ◌≤◌, ◌<◌, ◌+◌, ℕ};
 ghost use Rattle.art_cell.specs.Words.{Words, child_of};
 ghost use Rattle.art_cell.specs.Bodies.{IsBody};
 ghost use Rattle.art_cell.specs.Reads.{Agrees, ProbeNeeds, ProbeTells, NextNeeds, NextTells};
@@ -15,7 +14,8 @@ use art_cell::{Entry, NextProbe, Probe, Reads};
 /// found.
 pub fn probe(sorted: Sorted, byte: u8, reads: &Reads) -> Probe
     ensures needs { ProbeNeeds (layout_of sorted) reads.now result }
-    ensures tells { (w : Words) → IsBody (layout_of sorted) w → Agrees reads.now w → ProbeTells (child_of (layout_of sorted) w byte) result }
+    ensures tells { (w : Words) → IsBody (layout_of sorted) w → Agrees reads.now w →
+        ProbeTells (child_of (layout_of sorted) w byte) result }
 {
     match first_from(sorted, byte, reads) {
         Search::Need(place) => Probe::Need(place),
@@ -37,7 +37,8 @@ pub fn probe(sorted: Sorted, byte: u8, reads: &Reads) -> Probe
 /// The least entry at the byte or above, as far as the words that were read tell.
 pub fn at_least(sorted: Sorted, byte: u8, reads: &Reads) -> NextProbe
     ensures needs { NextNeeds (layout_of sorted) reads.now result }
-    ensures tells { (w : Words) → IsBody (layout_of sorted) w → Agrees reads.now w → NextTells (child_of (layout_of sorted) w) byte result }
+    ensures tells { (w : Words) → IsBody (layout_of sorted) w → Agrees reads.now w →
+        NextTells (child_of (layout_of sorted) w) byte result }
 {
     match first_from(sorted, byte, reads) {
         Search::Need(place) => NextProbe::Need(place),

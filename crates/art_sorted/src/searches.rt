@@ -1,5 +1,5 @@
 //! The first key byte at a byte or above, among words that were read one by one.
-ghost use Rattle.std.specs.Prelude.{◌≡◌, ◌≤◌, ◌<◌, ◌+◌, ◌/◌, ℕ};
+ghost use Rattle.std.specs.Prelude.{◌≡◌, ◌≤◌, ◌<◌};
 ghost use Rattle.art_cell.specs.Words.{Words, byte_of, places, count_of};
 ghost use Rattle.art_cell.specs.Reads.{Agrees};
 ghost use Rattle.art_sorted.specs.Sorted.{layout_of, SearchNeeds, SearchTells};
@@ -8,7 +8,7 @@ use crate::Sorted;
 use art_cell::Reads;
 
 /// Where the first key byte at a byte or above stands, as far as the words that were read tell.
-#[derive(Clone, Copy)]
+#[derive(Drop)]
 pub(crate) enum Search {
     /// The word at this place must be read first.
     Need(usize),

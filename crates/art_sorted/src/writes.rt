@@ -23,7 +23,8 @@ fn key_word(list: &Entries, from: usize) -> u64
 
 /// Writes the words of key bytes.
 fn write_keys(sorted: Sorted, body: &mut Body, list: &Entries)
-    ensures keys { (i : ℕ) → i < 8 * (first_child (layout_of sorted) - 10) → key_byte (word_of body.new) i ≡ (entry_or_none list.now.items i).byte }
+    ensures keys { (i : ℕ) → i < 8 * (first_child (layout_of sorted) - 10) →
+        key_byte (word_of body.new) i ≡ (entry_or_none list.now.items i).byte }
     ensures before { (p : ℕ) → p < 10 → word_of body.new p ≡ word_of body.old p }
     ensures after { (p : ℕ) → first_child (layout_of sorted) ≤ p → word_of body.new p ≡ word_of body.old p }
     ensures fits { ((p : ℕ) → word_of body.old p < 2 ^ 64) → (p : ℕ) → word_of body.new p < 2 ^ 64 }
@@ -36,7 +37,8 @@ fn write_keys(sorted: Sorted, body: &mut Body, list: &Entries)
 
 /// Writes the child words.
 fn write_children(sorted: Sorted, body: &mut Body, list: &Entries)
-    ensures children { (i : ℕ) → i < places (layout_of sorted) → word_of body.new (first_child (layout_of sorted) + i) ≡ (entry_or_none list.now.items i).child }
+    ensures children { (i : ℕ) → i < places (layout_of sorted) →
+        word_of body.new (first_child (layout_of sorted) + i) ≡ (entry_or_none list.now.items i).child }
     ensures before { (p : ℕ) → p < first_child (layout_of sorted) → word_of body.new p ≡ word_of body.old p }
     ensures after { (p : ℕ) → first_child (layout_of sorted) + places (layout_of sorted) ≤ p → word_of body.new p ≡ word_of body.old p }
     ensures fits { ((p : ℕ) → word_of body.old p < 2 ^ 64) → (p : ℕ) → word_of body.new p < 2 ^ 64 }
