@@ -14,7 +14,7 @@ use Rattle.art_step.specs.declared.views.What.TheVariants.{Done}
 use Rattle.art_commit.specs.CommitLaws.{Before, HasLeaf, HasNode, HoldsJust, ClaimedAmong}
 use Rattle.art_commit.specs.TwoChanges.{held_until, for_first, for_second, IsInTwo, empty_look}
 use Rattle.art_tree.specs.Heaps.{Cells, node_prefix, heap_of}
-use Rattle.art_step.specs.StepRows.{AllNew, Commits}
+use Rattle.art_step.specs.Steps.Commit.{AllNew, Commits}
 use Rattle.art_tree.specs.Tree.{Place, child_at_place, StandsAt, PlaceAt, Begins}
 use Rattle.art_step.specs.Views.{Member}
 use Rattle.art_tree.specs.WordChanges.{WritesPlace, WritesNode, cell_of}

@@ -17,7 +17,7 @@ use Rattle.art_tree.specs.Heaps.{Cells, node_prefix, heap_of}
 use Rattle.art_step.specs.Knowledge.{IsNodeCell}
 use Rattle.art_tree.specs.Laws.{Does, ForkTouched, ForkPaths}
 use Rattle.art_tree.specs.Rows.{ByteMap}
-use Rattle.art_step.specs.StepRows.{Commits}
+use Rattle.art_step.specs.Steps.Commit.{Commits}
 use Rattle.art_tree.specs.Tree.{Place, Heap, child_at_place, path_past, StandsAt, PlaceAt, Begins}
 use Rattle.art_step.specs.Views.{IsNumber}
 use Rattle.art_tree.specs.WordChanges.{FitsWord, WritesPlace, WritesNode, two_children, cell_of, KeepsChildren}

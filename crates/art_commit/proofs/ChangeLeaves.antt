@@ -17,7 +17,7 @@ use Rattle.art_commit.specs.CommitLaws.{Before, HasLeaf, HoldsJust, ClaimedAmong
 use Rattle.art_tree.specs.Heaps.{Cells, heap_of}
 use Rattle.art_tree.specs.Laws.{Does, EditTouched, EditPaths, ReplaceTouched, ReplacePaths}
 use Rattle.art_tree.specs.Rows.{ByteMap, HasRows}
-use Rattle.art_step.specs.StepRows.{Commits}
+use Rattle.art_step.specs.Steps.Commit.{Commits}
 use Rattle.art_tree.specs.Tree.{Place, Slot, Heap, child_at_place, StandsAt, PlaceAt, Begins, HasTwo}
 use Rattle.art_step.specs.Views.{Member, IsNumber}
 use Rattle.art_tree.specs.WordChanges.{WritesPlace, cell_of, WritesOnly}

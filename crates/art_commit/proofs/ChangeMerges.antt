@@ -17,7 +17,7 @@ use Rattle.art_tree.specs.Heaps.{Cells, node_prefix, heap_of}
 use Rattle.art_step.specs.Knowledge.{IsNodeCell}
 use Rattle.art_tree.specs.Laws.{Does, MergeTouched, MergePaths}
 use Rattle.art_tree.specs.Rows.{ByteMap}
-use Rattle.art_step.specs.StepRows.{Commits}
+use Rattle.art_step.specs.Steps.Commit.{Commits}
 use Rattle.art_tree.specs.Tree.{Place, Slot, Heap, child_at_place, path_past, StandsAt, down, PlaceAt}
 use Rattle.art_tree.specs.WordChanges.{FitsWord, WritesPlace, cell_of, KeepsChildren}
 use Rattle.art_commit.specs.AnyChange.{Touches, Forms}

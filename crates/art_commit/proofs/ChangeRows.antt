@@ -17,7 +17,7 @@ use Rattle.art_step.specs.Histories.{by_value}
 use Rattle.art_step.specs.Knowledge.{IsLeafCell}
 use Rattle.art_cell.specs.Leaves.{IsLeaf}
 use Rattle.art_tree.specs.Rows.{ByteMap, HasRows, IsAbsent}
-use Rattle.art_step.specs.StepRows.{Knows}
+use Rattle.art_step.specs.Steps.Commit.{Knows}
 use Rattle.art_tree.specs.Tree.{Heap, StandsAt, Row}
 use Rattle.art_tree.proofs.Meanings.{words_mean}
 

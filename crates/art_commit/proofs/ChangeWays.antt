@@ -19,7 +19,7 @@ use Rattle.art_step.specs.Histories.{IsAnswered, becomes}
 use Rattle.art_step.specs.Knowledge.{IsNodeCell}
 use Rattle.art_tree.specs.Laws.{Does, RenewTouched, RenewPaths, CopyTouched, CopyPaths}
 use Rattle.art_tree.specs.Rows.{ByteMap, HasRows}
-use Rattle.art_step.specs.StepRows.{IsLinked, Commits}
+use Rattle.art_step.specs.Steps.Commit.{IsLinked, Commits}
 use Rattle.art_tree.specs.Tree.{Place, Slot, Heap, child_at_place, path_past, StandsAt, down, PlaceAt, Begins, HasTwo}
 use Rattle.art_step.specs.Views.{Member, IsNumber}
 use Rattle.art_tree.specs.WordChanges.{at_byte, WritesPlace, WritesNode, cell_of, WayByWords, WayPremises}

@@ -9,8 +9,7 @@ use Rattle.art_cell.specs.declared.cells.Link.TheVariants.{Node as node}
 use Rattle.art_step.specs.declared.views.Holding.{Holding}
 use Rattle.art_step.specs.declared.views.View.{View}
 use Rattle.art_commit.specs.CommitLaws.{SameCommits, ClaimedNodesCome}
-use Rattle.art_step.specs.Shown.{claimed_node, claimed_nodes}
-use Rattle.art_step.specs.StepRows.{IsLinked}
+use Rattle.art_step.specs.Steps.Commit.{claimed_node, claimed_nodes, IsLinked}
 use Rattle.art_step.specs.Views.{Member}
 
 pub same_commits : SameCommits

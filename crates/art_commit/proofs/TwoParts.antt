@@ -13,7 +13,8 @@ use Rattle.art_commit.specs.CommitLaws.{Before}
 use Rattle.art_commit.specs.TwoChanges.{HasBoth, held_until, held_from, for_first, for_second, IsInTwo, TwoPartsCommit}
 use Rattle.art_tree.specs.Heaps.{Cells}
 use Rattle.art_step.specs.Knowledge.{Holds}
-use Rattle.art_step.specs.StepRows.{IsNotHeld, Knows, AllNew, IsLinked, Commits}
+use Rattle.art_step.specs.Views.{IsNotHeld}
+use Rattle.art_step.specs.Steps.Commit.{Knows, AllNew, IsLinked, Commits}
 use Rattle.art_step.specs.Views.{Member, words_in}
 use Rattle.art_commit.proofs.TwoChanges.{joined_commits}
 use Rattle.art_step.proofs.StepCommits.{either_held}

@@ -14,7 +14,7 @@ use Rattle.art_tree.specs.Heaps.{Cells}
 use Rattle.art_step.specs.Histories.{IsAnswered, becomes}
 use Rattle.art_step.specs.Knowledge.{NamesCell, IsNodeCell, IsLeafCell}
 use Rattle.art_tree.specs.Rows.{ByteMap, HasRows}
-use Rattle.art_step.specs.StepRows.{IsLinked}
+use Rattle.art_step.specs.Steps.Commit.{IsLinked}
 use Rattle.art_tree.specs.Tree.{Heap}
 use Rattle.art_step.specs.Views.{Member, IsNumber}
 

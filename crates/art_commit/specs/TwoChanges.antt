@@ -16,7 +16,8 @@ use Rattle.art_commit.specs.CommitLaws.{Before}
 use Rattle.art_tree.specs.Heaps.{Cells, heap_of}
 use Rattle.art_step.specs.Histories.{IsAnswered, becomes}
 use Rattle.art_tree.specs.Rows.{ByteMap, HasRows}
-use Rattle.art_step.specs.StepRows.{IsNotHeld, Knows, AllNew, IsLinked, Commits}
+use Rattle.art_step.specs.Views.{IsNotHeld}
+use Rattle.art_step.specs.Steps.Commit.{Knows, AllNew, IsLinked, Commits}
 use Rattle.art_step.specs.Views.{Member}
 
 -- ---- two commits
