@@ -48,7 +48,7 @@ rest_of v = record {
   limbo = v.limbo;
 }
 
--- from the view v to w the pass did nothing but begin, read, and check with no event
+-- from the view v to w nothing changed but what reading changes: the pass began, read, and checked with no event
 abbrev pub OnlyReads : View → View → Type 0
 OnlyReads v w = rest_of w ≡ rest_of v
 
