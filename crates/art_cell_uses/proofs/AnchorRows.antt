@@ -6,7 +6,7 @@ use Rattle.art_cell.specs.declared.cells.Link.{Link}
 use Rattle.art_cell.specs.declared.cells.Link.TheVariants.{Leaf as leaf}
 use Rattle.art_step.specs.declared.numbers.Number.{Number}
 use Rattle.art_step.specs.declared.steps.Held.{Held}
-use Rattle.art_step.specs.declared.views.Answer.TheVariants.{Inserted, Removed}
+use Rattle.art_model.specs.declared.commands.Answer.TheVariants.{Inserted, Removed}
 use Rattle.art_step.specs.declared.views.Asked.TheVariants.{Insert, Remove}
 use Rattle.art_step.specs.declared.views.Fact.TheVariants.{LeafWord}
 use Rattle.art_step.specs.declared.views.Holding.{Holding}

@@ -2,7 +2,7 @@
 //!
 //! A pass that has locked all cells which it changes, and written their new words, commits: at one step all of them have
 //! their new words, and one event joins the history. What it may commit is asked of every tree that is as the pass knows
-//! it (`MayCommit` of `art_step`): with s the words of such a tree, and s' the same but for the new words of the cells that
+//! it (`May` on the page of a commit, in `art_step`): with s the words of such a tree, and s' the same but for the new words of the cells that
 //! it holds (`Before`), `Commits` has to hold. That is: s' is a tree again, in words of their forms; its rows are those
 //! that the event leaves, and the event is so; each linked node that the pass does not hold keeps its path; and of all
 //! cells just those leave the tree that are said to, and just those come that are said to, out of the pass's hand.

@@ -3,8 +3,8 @@ use Rattle.std.specs.Prelude.{◌≡◌, ℕ, ◌+◌, List, [], ◌∷◌, ◌+
 use Rattle.std.specs.FinMap.{get, insert, remove, empty}
 use Rattle.art_step.specs.declared.views.Asked.{Asked}
 use Rattle.art_step.specs.declared.views.Asked.TheVariants.{Insert, Remove, Get}
-use Rattle.art_step.specs.declared.views.Answer.{Answer}
-use Rattle.art_step.specs.declared.views.Answer.TheVariants.{Inserted, Present, Removed, Absent, Found}
+use Rattle.art_model.specs.declared.commands.Answer.{Answer}
+use Rattle.art_model.specs.declared.commands.Answer.TheVariants.{Inserted, Present, Removed, Absent, Found}
 use Rattle.art_tree.specs.declared.bounds.Bound.{Bound}
 use Rattle.art_step.specs.declared.views.What.{What}
 use Rattle.art_step.specs.declared.views.What.TheVariants.{Done, Look}

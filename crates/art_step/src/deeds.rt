@@ -1,6 +1,6 @@
 //! What a pass says that it does at a step: an event, on byte keys.
-use crate::Answer;
 use art_key::{Bound, Key};
+use art_model::Answer;
 
 /// A command, on byte keys.
 #[derive(Clone, Debug, Drop, PartialEq, Eq)]

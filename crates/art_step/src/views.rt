@@ -1,5 +1,6 @@
 //! What a pass knows: the types that contracts speak of. Of most of them no value is ever made.
 use art_cell::{Cell, Link, Pool};
+use art_model::Answer;
 use art_tree::Bound;
 use std::collections::LinkedList;
 
@@ -8,16 +9,6 @@ pub enum Asked {
     Insert(LinkedList<u8>, u64),
     Remove(LinkedList<u8>),
     Get(LinkedList<u8>),
-}
-
-/// What a map of rows answers to a command.
-#[derive(Clone, Copy, Debug, PartialEq, Eq)]
-pub enum Answer {
-    Inserted,
-    Present(u64),
-    Removed(u64),
-    Absent,
-    Found(u64),
 }
 
 /// What an event says: a command with its answer, or a look of a range with the one row that it found, or none.

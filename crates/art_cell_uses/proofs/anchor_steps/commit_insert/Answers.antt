@@ -1,6 +1,6 @@
 use Rattle.std.proofs.Common.{[], ◌∷◌, List, ℕ, Some, arith, subst, sym}
 use Rattle.art_cell_uses.specs.declared.anchor_steps.TheConstants.{KEY, VALUE}
-use Rattle.art_step.specs.declared.views.Answer.TheVariants.{Inserted}
+use Rattle.art_model.specs.declared.commands.Answer.TheVariants.{Inserted}
 use Rattle.art_step.specs.declared.views.Asked.TheVariants.{Insert}
 use Rattle.art_step.specs.declared.views.What.TheVariants.{Done}
 use Rattle.art_step.specs.Steps.Commit.{coming}

@@ -1,7 +1,7 @@
 use Rattle.std.proofs.Common.{List, ℕ, None, arith, subst₂, sym}
 use Rattle.art_cell_uses.specs.declared.anchor_steps.TheConstants.{KEY, VALUE}
 use Rattle.art_cell.specs.declared.cells.Link.{Link}
-use Rattle.art_step.specs.declared.views.Answer.TheVariants.{Removed}
+use Rattle.art_model.specs.declared.commands.Answer.TheVariants.{Removed}
 use Rattle.art_step.specs.declared.views.Asked.TheVariants.{Remove}
 use Rattle.art_step.specs.declared.views.What.TheVariants.{Done}
 use Rattle.art_step.specs.Steps.Commit.{coming}
