@@ -1,5 +1,5 @@
 -- Lists with few members.
-use Rattle.std.proofs.Common.{◌≡◌, ◌⊎◌, List, [], ◌∷◌, inl, ⊎_elim, refl, ap, ◌∙◌}
+use Rattle.std.proofs.Common.{◌≡◌, List, [], ◌∷◌, inl, ⊎_elim, refl, ap, ◌∙◌}
 use Rattle.art_cell.specs.declared.cells.Cell.{Cell}
 use Rattle.art_step.specs.declared.views.Holding.{Holding}
 use Rattle.art_step.specs.Steps.Release.{Drops}

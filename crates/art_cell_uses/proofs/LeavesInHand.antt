@@ -12,7 +12,6 @@ use Rattle.art_cell.specs.declared.cells.Link.{Link}
 use Rattle.art_cell.specs.declared.cells.Link.TheVariants.{Leaf as leaf, Node as node}
 use Rattle.art_cell.specs.declared.layouts.Layout.TheVariants.{Node4, Node16, Node48, Node256}
 use Rattle.art_cell.specs.declared.layouts.Pool.TheVariants.{Leaves}
-use Rattle.art_cell.specs.declared.cells.Node.{Node}
 use Rattle.art_cell.specs.declared.layouts.Layout.{Layout}
 use Rattle.art_commit.specs.CommitLaws.{HasLeaf}
 use Rattle.art_step.specs.Steps.Take as take_free

@@ -110,7 +110,8 @@ pub(crate) fn take_leaf(stepper: &mut Stepper<'_>) -> Option<Number>
     ensures step { (view_of stepper.new).steps ≤ (view_of stepper.old).steps + 1 }
     ensures idle { IfNone result (IsIdle (view_of stepper.new)) }
     ensures away { IfSome result (λ _. IsAway (view_of stepper.new)) }
-    ensures fills { (key value : ℕ) → IfSome result (λ n. Fills (sizes_of stepper.new) (view_of stepper.new).hand n (key ∷ []) value 0) }
+    ensures fills { (key value : ℕ) → IfSome result (λ n.
+        Fills (sizes_of stepper.new) (view_of stepper.new).hand n (key ∷ []) value 0) }
 {
     let number = stepper.first_free(Pool::Leaves)?;
     Some(number)

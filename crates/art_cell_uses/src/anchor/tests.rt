@@ -45,6 +45,7 @@ fn visitors_take_turns(rt: HostRuntime) -> Result<(), Fail> {
         named = names;
     }
     assert!(rt; changes > 20);
+    assert!(rt; last > 0);
     let [looker, locker, changer] = visitors;
     assert_eq!(rt; looker.end(), drawn[0]);
     assert_eq!(rt; locker.end(), drawn[1]);

@@ -212,7 +212,7 @@ impl Visitor {
     }
 }
 
-/// The numbers in hand and the cells held are let go: the run is over.
+/// The run is over, with this number in hand and the anchor perhaps locked: both are let go.
 fn end_adding(adding: Adding) {
     match adding {
         Adding::Filling(number, _) | Adding::Stamped(number, _) | Adding::Seen(number, _) => {
@@ -225,6 +225,7 @@ fn end_adding(adding: Adding) {
     }
 }
 
+/// The run is over, with the anchor perhaps locked.
 fn end_removing(removing: Removing) {
     match removing {
         Removing::Idle | Removing::Stamped(_) | Removing::Reading(_, _, _) => {}

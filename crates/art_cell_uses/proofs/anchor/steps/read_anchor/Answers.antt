@@ -1,5 +1,3 @@
-use Rattle.std.proofs.Common.{arith, ap}
-use Rattle.art_step.specs.declared.views.View.{View}
 use Rattle.art_cell_uses.proofs.AnchorReads.{anchor_names, may_read_anchor, reading_learns, stamps_inside}
 use Rattle.art_cell_uses.proofs.anchor.steps.read_anchor.Goals as goal
 
