@@ -1,26 +1,62 @@
 -- A pass that has stamped the anchor reads its child word, and the words of the leaf that it names.
-use Rattle.std.proofs.Common.{◌≡◌, ℕ, ◌+◌, ◌<◌, ◌≤◌, List, Some, refl, sym, subst, ⊎_elim, arith}
+use Rattle.std.proofs.Common.{◌≡◌, ℕ, ◌+◌, ◌<◌, ◌≤◌, List, [], Some, refl, sym, ap, ◌∙◌, subst, inl, inr, ⊎_elim, arith}
 use Rattle.std.proofs.lemmas.Bool.{cases_eq}
+use Rattle.std.specs.Prelude.{Option}
+use Rattle.art_cell.specs.Children.{child_word, link_of}
+use Rattle.art_cell.specs.Leaves.{leaf_word}
 use Rattle.art_cell.specs.declared.cells.Cell.{Cell}
 use Rattle.art_cell.specs.declared.cells.Cell.TheVariants as cell
+use Rattle.art_cell.specs.declared.cells.Link.{Link}
 use Rattle.art_cell.specs.declared.cells.Link.TheVariants.{Leaf as leaf}
-use Rattle.art_step.specs.declared.steps.Held.{Held}
-use Rattle.art_step.specs.declared.views.Fact.TheVariants.{Word, LeafWord}
+use Rattle.art_step.proofs.Turns.{member_back}
+use Rattle.art_step.specs.Knowledge.{KnowsLeaf, NamesLeaf}
+use Rattle.art_step.specs.Steps.Check as check
+use Rattle.art_step.specs.Steps.Read as read
+use Rattle.art_step.specs.Views.{IsChildPlace, IsChildWord, IsNumber, Member, note_of, size_of, stamp_of}
+use Rattle.art_step.specs.WordPlaces.{HasVersion, IsInside}
+use Rattle.art_step.specs.declared.held.Held.{Held}
+use Rattle.art_step.specs.declared.views.Fact.{Fact}
+use Rattle.art_step.specs.declared.views.Fact.TheVariants.{Starts, Word, LeafWord}
 use Rattle.art_step.specs.declared.views.Note.{Note}
 use Rattle.art_step.specs.declared.views.Sizes.{Sizes}
 use Rattle.art_step.specs.declared.views.Stamp.{Stamp}
 use Rattle.art_step.specs.declared.views.View.{View}
-use Rattle.art_cell.specs.Children.{child_word, link_of}
-use Rattle.art_step.specs.Knowledge.{KnowsLeaf}
-use Rattle.art_cell.specs.Leaves.{leaf_word}
-use Rattle.art_cell_uses.specs.NodeLives.{IsNoted, OnlyLearns, StampsAnchor}
-use Rattle.art_step.specs.Steps.Read as read
-use Rattle.art_step.specs.Views.{stamp_of}
-use Rattle.art_step.specs.Views.{Member, size_of}
-use Rattle.art_cell_uses.specs.Visits.{IsAway, IsIdle, HoldsWord, Locks, NotesLeaf}
+use Rattle.art_step.specs.declared.views.What.{What}
 use Rattle.art_tree.proofs.ChildWords.{link_back, link_exact}
+use Rattle.art_tree.specs.Heaps.{heap_of}
 use Rattle.art_cell_uses.proofs.IdlePasses.{still_away, still_empty}
-use Rattle.art_cell_uses.proofs.LifeSteps.{root_names, stamp_is}
+use Rattle.art_cell_uses.specs.Visits.{IsAway, IsIdle, IsNoted, HoldsWord, Locks, NotesLeaf, OnlyLearns, StampsAnchor}
+
+-- ---- the stamp of the anchor
+
+pub stamp_is : (x : Stamp) → x.cell ≡ cell.Anchor → stamp_of cell.Anchor x.version ≡ x
+stamp_is x e = ap (λ (c : Cell). stamp_of c x.version) (sym e)
+
+pub stamps_inside : (z : Sizes) (v : View) (x : Stamp) → StampsAnchor v x → IsInside z x.cell × HasVersion z x.cell
+stamps_inside z v x s = subst (λ (c : Cell). IsInside z c × HasVersion z c) (sym s.cell) (tt, tt)
+
+-- its stamp and path stay known
+pub stamps_on : (v w : View) (x : Stamp) → OnlyLearns v w → StampsAnchor v x → StampsAnchor w x
+stamps_on v w x more s = record { cell = s.cell; stamp = more.stamps x s.stamp; path = more.notes (note_of x (Starts [])) s.path }
+
+-- ---- what a pass learns
+
+-- by a word that it reads
+pub reading_learns : (v w : View) (x : Stamp) (y : Fact) → w ≡ read.view_after v x y → OnlyLearns v w × IsNoted w x y
+reading_learns v w x y e = subst (λ (u : View). OnlyLearns v u × IsNoted u x y) (sym e) (
+  record { pin = refl; held = refl; hand = refl; stamps = λ a i. i; notes = λ a i. inr i },
+  inl refl,
+)
+
+-- by a check, which keeps its stamps and notes
+pub unchanged_learns : (z : Sizes) (v w : View) (x : Stamp) (o : Option What) → check.Unchanged z v w x o → OnlyLearns v w
+unchanged_learns z v w x o p = subst (OnlyLearns v) (sym p.is) record {
+  pin = refl;
+  held = refl;
+  hand = refl;
+  stamps = λ a i. i;
+  notes = λ y i. member_back y p.paths v.notes i;
+}
 
 -- ---- what a pass that only learns still knows
 
@@ -32,22 +68,31 @@ learns_idle v w more idle = record { away = learns_away v w more idle.away; hand
 
 -- ---- the anchor's child word
 
-pub may_read_anchor : (z : Sizes) (v : View) (x : Stamp) → IsAway v → StampsAnchor v x → read.MayReadCell z v x cell.Anchor 1
-may_read_anchor z v x away s = (
-  s.cell,
-  record {
-    stamp = s.stamp;
-    free = λ h i e. away.held h i;
-    place = (omega arith, subst (λ (c : Cell). 1 < size_of c) (sym s.cell) (omega arith));
-  },
-)
+pub may_read_anchor : (v : View) (x : Stamp) → IsAway v → StampsAnchor v x → read.May v x 1
+may_read_anchor v x away s = record {
+  stamp = s.stamp;
+  free = λ h i e. away.held h i;
+  place = (omega arith, subst (λ (c : Cell). 1 < size_of c) (sym s.cell) (omega arith));
+}
+
+-- it is a child word
+pub anchor_names : (z : Sizes) (v w : View) (x : Stamp) (word : ℕ) → StampsAnchor v x → read.Outcome z v w x 1 word → IsChildWord z word
+anchor_names z v w x word s o = o.child (subst (λ (c : Cell). IsChildPlace c 1) (sym s.cell) refl)
+
+-- the number of a leaf that a child word names
+leaf_inside : (z : Sizes) (l word : ℕ) → IsChildWord z word → link_of word ≡ Some (leaf l) → l < z.leaves
+leaf_inside z l word child names = ⊎_elim
+    (λ (none : word ≡ 0). let bad : link_of 0 ≡ Some (leaf l) = ap link_of (sym none) ∙ names in absurd (cc))
+    (λ (some : (d : Link) × (link_of word ≡ Some d) × IsNumber z d). let same : some.0 ≡ leaf l = cc (some.1, names) in subst (IsNumber z) same some.2)
+    child
 
 -- the word that is noted names the leaf l, of which nothing is read
-pub leaf_named : (z : Sizes) (v : View) (x : Stamp) (l word : ℕ) (k : List ℕ) (value : ℕ) → l < z.leaves → link_of word ≡ Some (leaf l) → IsNoted v x (Word 1 word) → NotesLeaf z v x l k value 0
-leaf_named z v x l word k value inside names noted =
+pub leaf_named : (z z' : Sizes) (v : View) (x : Stamp) (l word : ℕ) (k : List ℕ) (value : ℕ) → z' ≡ z → IsChildWord z word → link_of word ≡ Some (leaf l) → IsNoted v x (Word 1 word)
+    → NotesLeaf z' v x l k value 0
+leaf_named z z' v x l word k value same child names noted =
     let exact = link_exact word (leaf l) names in
     record {
-      inside = inside;
+      inside = subst (λ (y : Sizes). l < y.leaves) (sym same) (leaf_inside z l word child names);
       small = exact.1;
       names = subst (λ (a : ℕ). IsNoted v x (Word 1 a)) (sym exact.0) noted;
       read = λ i low. absurd (omega (arith, low));
@@ -56,12 +101,11 @@ leaf_named z v x l word k value inside names noted =
 -- ---- the leaf's words
 
 names_leaf : (z : Sizes) (v : View) (x : Stamp) (l : ℕ) (k : List ℕ) (value place : ℕ) → StampsAnchor v x → NotesLeaf z v x l k value place → KnowsLeaf z v x l
-names_leaf z v x l k value place s n = root_names z v x l (leaf l) refl record {
-  at = s;
-  word = child_word (leaf l);
-  noted = n.names;
-  names = link_back (leaf l) n.small;
-}
+unfolding heap_of
+names_leaf z v x l k value place s n cells shape holds =
+    let word = holds (note_of x (Word 1 (child_word (leaf l)))) n.names refl in
+    subst (λ (c : Cell). NamesLeaf cells c l) (sym s.cell)
+    record { path = []; there = refl; byte = 0; names = ap link_of (sym (ap (λ (c : Cell). cells c 1) s.cell) ∙ word) ∙ link_back (leaf l) n.small }
 
 pub may_read_leaf : (z : Sizes) (v : View) (x : Stamp) (l : ℕ) (k : List ℕ) (value place : ℕ) → place < 10 → IsAway v → StampsAnchor v x → NotesLeaf z v x l k value place → read.MayLeaf z v x l place
 may_read_leaf z v x l k value place low away s n = record {
@@ -103,5 +147,5 @@ locks_word v w x h a noted made = record { words = made.words; long = made.long;
 
 pub locks_notes : (z z' : Sizes) (v w : View) (x : Stamp) (h : Held) (l : ℕ) (k : List ℕ) (value place : ℕ) → z' ≡ z → StampsAnchor v x → Locks v w x h → NotesLeaf z v x l k value place → NotesLeaf z' w (stamp_of cell.Anchor x.version) l k value place
 locks_notes z z' v w x h l k value place same s made n =
-    subst (λ (y : Stamp). NotesLeaf z' w y l k value place) (sym (stamp_is x cell.Anchor s.cell))
+    subst (λ (y : Stamp). NotesLeaf z' w y l k value place) (sym (stamp_is x s.cell))
     (notes_on z z' v w x l k value place same (λ y i. subst (Member y) (sym made.notes) i) n)

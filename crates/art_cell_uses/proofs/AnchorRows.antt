@@ -1,11 +1,12 @@
 -- A pass that holds the anchor alone writes its child word, and commits.
-use Rattle.std.proofs.Common.{◌≡◌, ℕ, ◌+◌, ◌^◌, ◌<◌, false, List, [], ◌∷◌, ◌++◌, set, Some, None, Option, refl, sym, ap, ap₂, ◌∙◌, subst, subst₂, inl, ⊎_elim, arith, get_or-set_same}
+use Rattle.std.proofs.Common.{◌≡◌, ℕ, ◌+◌, ◌^◌, ◌<◌, false, List, [], ◌∷◌, ◌++◌, set, Some, None, Option, refl, sym, ap, ap₂, ◌∙◌, subst, subst₂, inl, inr, ⊎_elim, arith, get_or-set_same}
 use Rattle.std.specs.List.{cons_option}
+use Rattle.art_cell.specs.declared.cells.Cell.{Cell}
 use Rattle.art_cell.specs.declared.cells.Cell.TheVariants as cell
 use Rattle.art_cell.specs.declared.cells.Link.{Link}
 use Rattle.art_cell.specs.declared.cells.Link.TheVariants.{Leaf as leaf}
 use Rattle.art_step.specs.declared.numbers.Number.{Number}
-use Rattle.art_step.specs.declared.steps.Held.{Held}
+use Rattle.art_step.specs.declared.held.Held.{Held}
 use Rattle.art_model.specs.declared.commands.Answer.TheVariants.{Inserted, Removed}
 use Rattle.art_step.specs.declared.views.Asked.TheVariants.{Insert, Remove}
 use Rattle.art_step.specs.declared.views.Fact.TheVariants.{LeafWord}
@@ -20,28 +21,37 @@ use Rattle.art_cell.specs.Children.{child_word, link_of}
 use Rattle.art_commit.specs.CommitLaws.{HoldsJust, ClaimedAmong}
 use Rattle.art_tree.specs.Heaps.{Cells, heap_of}
 use Rattle.art_cell.specs.Leaves.{leaf_word}
-use Rattle.art_cell_uses.specs.NodeLives.{anchor_held}
 use Rattle.art_step.specs.Steps.Commit as commit
 use Rattle.art_step.specs.Steps.Give as give
 use Rattle.art_step.specs.Views.{IsHolding, IsInLimbo, note_of, stamp_of}
 use Rattle.art_step.specs.Steps.Write as write
-use Rattle.art_step.specs.Steps.Commit.{claimed_nodes, coming, AllNew, Commits, Knows, all_retired, retired}
-use Rattle.art_step.specs.Tokens.{link_of_number, links_of}
+use Rattle.art_step.specs.Steps.Commit.{claimed_node, claimed_nodes, coming, AllNew, Commits, Knows, all_retired, retired}
+use Rattle.art_step.specs.Tokens.{cell_held, link_of_number, links_of}
 use Rattle.art_step.specs.Steps.Give.{LetsGo, MayFree}
 use Rattle.art_tree.specs.Tree.{Top}
 use Rattle.art_step.specs.Views.{Member}
-use Rattle.art_cell_uses.specs.Visits.{HasNone, IsAway, IsIdle, HoldsAnchor, HoldsWord, ChangesWord, Fills, NotesLeaf}
+use Rattle.art_cell_uses.specs.Visits.{HasNone, IsAway, IsIdle, HoldsAnchor, HoldsWord, ChangesWord, Fills, NotesLeaf, anchor_held}
 use Rattle.art_cell.specs.Words.{Words}
-use Rattle.art_commit.proofs.ChangeCommits.{add_commits, drop_commits}
+use Rattle.art_commit.proofs.ChangeLeaves.{add_commits, drop_commits}
 use Rattle.art_tree.proofs.ChildWords.{link_back}
-use Rattle.art_cell_uses.proofs.Few.{no_members, none_left}
+use Rattle.art_cell_uses.proofs.Few.{none_left}
 use Rattle.art_step.proofs.Gathered.{left_over}
 use Rattle.art_cell_uses.proofs.IdlePasses.{still_away, still_empty}
-use Rattle.art_cell_uses.proofs.LeavesInHand.{first_words, has_leaf, leaf_link}
-use Rattle.art_cell_uses.proofs.NodeLives.{claimed_is, key_is_one}
+use Rattle.art_cell_uses.proofs.LeavesInHand.{first_words, has_leaf, key_is_one}
 use Rattle.art_tree.proofs.Places.{same_link}
 
 -- ---- nothing is claimed
+
+claimed_by : (c : Cell) (o : Option ℕ) (ds : List Link) → (o ≡ None → ⊥) → claimed_node c o ds ≡ ds
+claimed_by (cell.Node n) None ds stamped = absurd (stamped refl)
+claimed_by (cell.Node n) (Some x) ds stamped = refl
+claimed_by cell.Anchor o ds stamped = refl
+claimed_by (cell.Leaf l) o ds stamped = refl
+
+-- cells that are all held under stamps
+none_claimed : (hs : List Holding) → ((k : Holding) → Member k hs → k.stamped ≡ None → ⊥) → claimed_nodes hs ≡ []
+none_claimed [] stamped = refl
+none_claimed (h ∷ hs) stamped = claimed_by h.cell h.stamped (claimed_nodes hs) (stamped h (inl refl)) ∙ none_claimed hs (λ k i. stamped k (inr i))
 
 module _ (w : View) (h : Held) (x : ℕ) (old new : List ℕ) (holds : HoldsAnchor w h x old new) where
   pub not_claimed : (k : Holding) → Member k w.held → k.stamped ≡ None → ⊥
@@ -49,10 +59,10 @@ module _ (w : View) (h : Held) (x : ℕ) (old new : List ℕ) (holds : HoldsAnch
 
   -- so nothing comes into the tree but what is in hand
   pub none_coming : claimed_nodes w.held ≡ []
-  none_coming = no_members (claimed_nodes w.held) (λ d i. let k = claimed_is w.held d i in not_claimed k.0 k.2 k.4)
+  none_coming = none_claimed w.held not_claimed
 
   -- it may be the first cell that is released
-  pub anchor_first : (us : List Link) → (k : Holding) × (k.cell ≡ h.cell) × commit.MayBeFirst w us k false
+  pub anchor_first : (us : List Link) → (k : Holding) × (k.cell ≡ cell_held h) × commit.MayBeFirst w us k false
   anchor_first us = (
     anchor_held x old new,
     sym holds.cell,
@@ -64,7 +74,7 @@ module _ (w : View) (h : Held) (x : ℕ) (old new : List ℕ) (holds : HoldsAnch
   )
 
   -- and then the pass is away
-  pub committed_away : (u : View) (what : What) (us ls : List Link) → ((k : Holding) → IsHolding w h.cell k → commit.Outcome w u what us ls k) → IsAway u
+  pub committed_away : (u : View) (what : What) (us ls : List Link) → ((k : Holding) → IsHolding w (cell_held h) k → commit.Outcome w u what us ls k) → IsAway u
   committed_away u what us ls committed =
       let r = committed (anchor_held x old new) (holds.just.has, sym holds.cell) in
       record {
@@ -72,21 +82,21 @@ module _ (w : View) (h : Held) (x : ℕ) (old new : List ℕ) (holds : HoldsAnch
         held = subst (λ (hs : List Holding). HasNone hs) (sym (ap (λ (y : View). y.held) r.is)) (none_left w.held r.held _ cell.Anchor holds.just refl r.drops);
       }
 
-  pub committed_steps : (u : View) (what : What) (us ls : List Link) → ((k : Holding) → IsHolding w h.cell k → commit.Outcome w u what us ls k) → u.steps ≡ w.steps + 1
+  pub committed_steps : (u : View) (what : What) (us ls : List Link) → ((k : Holding) → IsHolding w (cell_held h) k → commit.Outcome w u what us ls k) → u.steps ≡ w.steps + 1
   committed_steps u what us ls committed = ap (λ (y : View). y.steps) (committed (anchor_held x old new) (holds.just.has, sym holds.cell)).is
 
   -- nothing new is in hand
-  pub committed_hand : (u : View) (what : What) (us ls : List Link) → ((k : Holding) → IsHolding w h.cell k → commit.Outcome w u what us ls k) → (y : InHand) → Member y u.hand → Member y w.hand × (Member y.link ls → ⊥)
+  pub committed_hand : (u : View) (what : What) (us ls : List Link) → ((k : Holding) → IsHolding w (cell_held h) k → commit.Outcome w u what us ls k) → (y : InHand) → Member y u.hand → Member y w.hand × (Member y.link ls → ⊥)
   committed_hand u what us ls committed y i =
       let r = committed (anchor_held x old new) (holds.just.has, sym holds.cell) in
       r.hands.was y (subst (Member y) (ap (λ (z : View). z.hand) r.is) i)
 
 -- ---- the child word is written
 
-pub may_write_child : (v : View) (h : Held) (x a : ℕ) → HoldsWord v h x a → (k : Holding) × (k.cell ≡ h.cell) × write.May v k 1
+pub may_write_child : (v : View) (h : Held) (x a : ℕ) → HoldsWord v h x a → (k : Holding) × (k.cell ≡ cell_held h) × write.May v k 1
 may_write_child v h x a w = (anchor_held x w.words w.words, sym w.holds.cell, record { held = w.holds.just.has; early = w.holds.early; place = (omega arith, omega arith) })
 
-module _ (v w : View) (h : Held) (x a b : ℕ) (has : HoldsWord v h x a) (wrote : (k : Holding) → IsHolding v h.cell k → write.Outcome v w k 1 b) where
+module _ (v w : View) (h : Held) (x a b : ℕ) (has : HoldsWord v h x a) (wrote : (k : Holding) → IsHolding v (cell_held h) k → write.Outcome v w k 1 b) where
   child_row : write.Outcome v w (anchor_held x has.words has.words) 1 b
   child_row = wrote (anchor_held x has.words has.words) (has.holds.just.has, sym has.holds.cell)
 
@@ -148,25 +158,25 @@ module _ (z : Sizes) (v : View) (h : Held) (x a b : ℕ) (c : ChangesWord v h x 
 
 -- ---- a leaf is added where the anchor names nothing
 
-pub may_add : (z : Sizes) (v : View) (h : Held) (n : Number) (x byte value : ℕ) → byte < 256 → Fills z v.hand n (byte ∷ []) value 10 → ChangesWord v h x 0 (child_word (leaf n.number))
+pub may_add : (z : Sizes) (v : View) (h : Held) (n : Number) (x byte value : ℕ) → byte < 256 → Fills z v.hand n (byte ∷ []) value 10 → ChangesWord v h x 0 (child_word (link_of_number n))
     → commit.May z v (Done (Insert (byte ∷ []) value) Inserted) [] (coming v (Some (link_of_number n)))
 may_add z v h n x byte value small f c s s' shape knows turns =
     let empty = root_before z v h x 0 _ c s s' knows turns in
     subst (λ (ls : List Link). Commits z v (Done (Insert (byte ∷ []) value) Inserted) [] ls s s') (sym comes)
-    (add_commits z v s s' Top [] n.number (byte ∷ []) value (record { shape = shape; knows = knows; new = turns }) (has_leaf z v n byte value small f)
-    (holds_just z v h x 0 _ c) (claimed_none z v h x 0 _ c) (word_after z v h x 0 _ c s s' knows turns) refl empty (byte ∷ [], refl))
+    (add_commits z v s s' Top [] f.number (byte ∷ []) value (record { shape = shape; knows = knows; new = turns }) (has_leaf z v n byte value small f)
+    (holds_just z v h x 0 _ c) (claimed_none z v h x 0 _ c) (word_after z v h x 0 _ c s s' knows turns ∙ ap child_word f.is) refl empty (byte ∷ [], refl))
   where
-    comes : coming v (Some (link_of_number n)) ≡ leaf n.number ∷ []
-    comes = ap₂ (λ (d : Link) (ls : List Link). d ∷ ls) (leaf_link n f.pool) (none_coming v h x c.old c.new c.holds)
+    comes : coming v (Some (link_of_number n)) ≡ leaf f.number ∷ []
+    comes = ap₂ (λ (d : Link) (ls : List Link). d ∷ ls) f.is (none_coming v h x c.old c.new c.holds)
 
 -- and then the pass is idle
 pub added_idle : (z : Sizes) (v w : View) (h : Held) (n : Number) (k : List ℕ) (value x a b : ℕ) (what : What) (us ls : List Link) → Fills z v.hand n k value 10 → ChangesWord v h x a b
-    → ((y : Holding) → IsHolding v h.cell y → commit.Outcome v w what us (link_of_number n ∷ ls) y) → IsIdle w
+    → ((y : Holding) → IsHolding v (cell_held h) y → commit.Outcome v w what us (link_of_number n ∷ ls) y) → IsIdle w
 added_idle z v w h n k value x a b what us ls f c committed = record {
   away = committed_away v h x c.old c.new c.holds w what us (link_of_number n ∷ ls) committed;
   hand = λ y i.
       let o = committed_hand v h x c.old c.new c.holds w what us (link_of_number n ∷ ls) committed y i in
-      o.1 (inl (ap (λ (e : InHand). e.link) (f.just.only y o.0) ∙ sym (leaf_link n f.pool)));
+      o.1 (inl (ap (λ (e : InHand). e.link) (f.just.only y o.0) ∙ sym f.is));
 }
 
 -- ---- the leaf that the anchor names is removed
@@ -195,13 +205,13 @@ may_remove z v h l x byte value small n c s s' shape knows turns =
     (λ m b e. cc)))
 
 -- and then it is idle, with the leaf in limbo
-pub removed_idle : (v w : View) (h : Held) (x a b : ℕ) (what : What) (us ls : List Link) → HasNone v.hand → ChangesWord v h x a b → ((y : Holding) → IsHolding v h.cell y → commit.Outcome v w what us ls y) → IsIdle w
+pub removed_idle : (v w : View) (h : Held) (x a b : ℕ) (what : What) (us ls : List Link) → HasNone v.hand → ChangesWord v h x a b → ((y : Holding) → IsHolding v (cell_held h) y → commit.Outcome v w what us ls y) → IsIdle w
 removed_idle v w h x a b what us ls none c committed = record {
   away = committed_away v h x c.old c.new c.holds w what us ls committed;
   hand = λ y i. none y (committed_hand v h x c.old c.new c.holds w what us ls committed y i).0;
 }
 
-pub removed_limbo : (v w : View) (h : Held) (x a b l : ℕ) (what : What) (us ls : List Link) → us ≡ leaf l ∷ [] → ChangesWord v h x a b → ((y : Holding) → IsHolding v h.cell y → commit.Outcome v w what us ls y) → IsInLimbo w (leaf l)
+pub removed_limbo : (v w : View) (h : Held) (x a b l : ℕ) (what : What) (us ls : List Link) → us ≡ leaf l ∷ [] → ChangesWord v h x a b → ((y : Holding) → IsHolding v (cell_held h) y → commit.Outcome v w what us ls y) → IsInLimbo w (leaf l)
 removed_limbo v w h x a b l what us ls one c committed =
     let r = committed (anchor_held x c.old c.new) (c.holds.just.has, sym c.holds.cell) in
     let is : w.limbo ≡ retired r.pins (leaf l) ∷ v.limbo = ap (λ (y : View). y.limbo) r.is ∙ ap (λ (ds : List Link). all_retired r.pins ds ++ v.limbo) one in

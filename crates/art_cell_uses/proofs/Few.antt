@@ -1,8 +1,7 @@
 -- Lists with few members.
-use Rattle.std.proofs.Common.{◌≡◌, ◌⊎◌, List, [], ◌∷◌, inl, ⊎_elim, sym, refl, ap, ◌∙◌}
+use Rattle.std.proofs.Common.{◌≡◌, List, [], ◌∷◌, inl, ⊎_elim, refl, ap, ◌∙◌}
 use Rattle.art_cell.specs.declared.cells.Cell.{Cell}
 use Rattle.art_step.specs.declared.views.Holding.{Holding}
-use Rattle.art_cell_uses.specs.NodeLives.{HoldsTwo}
 use Rattle.art_step.specs.Steps.Release.{Drops}
 use Rattle.art_cell_uses.specs.Visits.{HasJust, HasNone}
 
@@ -18,10 +17,3 @@ just_one x = record { has = inl refl; only = λ y i. ⊎_elim (λ (e : y ≡ x).
 -- without the one cell that is held nothing is held
 pub none_left : (hs ks : List Holding) (h : Holding) (c : Cell) → HasJust hs h → h.cell ≡ c → Drops hs c ks → HasNone ks
 none_left hs ks h c just is drops k i = let o = drops.was k i in o.1 (ap (λ (y : Holding). y.cell) (just.only k o.0) ∙ is)
-
--- without one of two cells just the other is held
-pub one_left : (hs ks : List Holding) (h k : Holding) → HoldsTwo hs h k → Drops hs h.cell ks → HasJust ks k
-one_left hs ks h k two drops = record {
-  has = drops.stays k two.two (λ e. two.apart (sym e));
-  only = λ j i. let o = drops.was j i in ⊎_elim (λ (e : j ≡ h). absurd (o.1 (ap (λ (y : Holding). y.cell) e))) (λ (e : j ≡ k). e) (two.only j o.0);
-}

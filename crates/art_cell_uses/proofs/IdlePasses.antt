@@ -3,21 +3,21 @@ use Rattle.std.proofs.Common.{◌≡◌, ℕ, ◌+◌, ◌%◌, true, false, con
 use Rattle.std.specs.Prelude.{MatchResult, Result, Ok, Err}
 use Rattle.art_cell.specs.declared.cells.Cell.{Cell}
 use Rattle.art_cell.specs.declared.cells.Cell.TheVariants as cell
-use Rattle.art_step.specs.declared.steps.Held.{Held}
+use Rattle.art_step.specs.declared.held.Held.{Held}
 use Rattle.art_step.specs.declared.faults.UpgradeFault.{UpgradeFault}
 use Rattle.art_step.specs.declared.faults.UpgradeFault.TheVariants as fault
 use Rattle.art_step.specs.declared.views.Holding.{Holding}
 use Rattle.art_step.specs.declared.views.InHand.{InHand}
 use Rattle.art_step.specs.declared.views.Stamp.{Stamp}
 use Rattle.art_step.specs.declared.views.View.{View}
-use Rattle.art_cell_uses.specs.NodeLives.{StampsAnchor, anchor_held}
 use Rattle.art_step.specs.Steps.Check as check
 use Rattle.art_step.specs.Steps.Upgrade as upgrade
 use Rattle.art_step.specs.Views.{IsHolding, MayLock}
 use Rattle.art_step.specs.Steps.Release as release
 use Rattle.art_step.specs.Steps.Begin as begin
+use Rattle.art_step.specs.Tokens.{cell_held}
 use Rattle.art_step.specs.Views.{size_of}
-use Rattle.art_cell_uses.specs.Visits.{HasNone, HasJust, IsAway, IsIdle, HoldsUnchanged, Locks}
+use Rattle.art_cell_uses.specs.Visits.{HasNone, HasJust, IsAway, IsIdle, HoldsUnchanged, Locks, StampsAnchor, anchor_held}
 use Rattle.art_cell_uses.proofs.Few.{just_one, no_members, none_left}
 
 -- ---- what is the same of two views
@@ -52,7 +52,7 @@ pub may_lock : (v : View) → IsAway v → MayLock v
 may_lock v away = inr (no_members v.held away.held)
 
 -- what an upgrade of a pass that held nothing made
-pub locks : (v w : View) (x : Stamp) (h : Held) → IsAway v → x.cell ≡ cell.Anchor → h.cell ≡ x.cell → upgrade.Locked v w x → Locks v w x h
+pub locks : (v w : View) (x : Stamp) (h : Held) → IsAway v → x.cell ≡ cell.Anchor → cell_held h ≡ x.cell → upgrade.Locked v w x → Locks v w x h
 locks v w x h away anchor is u = record {
   words = u.words;
   long = u.long ∙ ap size_of anchor;
@@ -78,14 +78,14 @@ refused_away : (v w : View) (x : Stamp) (e : UpgradeFault) → IsAway v → upgr
 refused_away v w x (fault.Changed c) away f = failed_away v w x c.found away f.3
 refused_away v w x (fault.Exhausted c) away f = subst IsAway (sym f.2) away
 
-pub locks_or_away : (v w : View) (x : Stamp) (r : Result Held UpgradeFault) → IsAway v → StampsAnchor v x → MatchResult r (λ h. (h.cell ≡ x.cell) × upgrade.Locked v w x) (λ e. upgrade.Refused v w x e) → MatchResult r (Locks v w x) (λ _. IsAway w)
+pub locks_or_away : (v w : View) (x : Stamp) (r : Result Held UpgradeFault) → IsAway v → StampsAnchor v x → upgrade.Outcome v w x r → MatchResult r (Locks v w x) (λ _. IsAway w)
 locks_or_away v w x (Ok h) away stamps row = locks v w x h away stamps.cell row.0 row.1
 locks_or_away v w x (Err e) away stamps row = refused_away v w x e away row
 
 -- ---- release
 
 -- it may let the anchor go
-pub may_let_go : (w : View) (h : Held) → HoldsUnchanged w h → (k : Holding) × (k.cell ≡ h.cell) × release.May w k false
+pub may_let_go : (w : View) (h : Held) → HoldsUnchanged w h → (k : Holding) × (k.cell ≡ cell_held h) × release.May w k false
 may_let_go w h holds =
     let x = holds.0 in
     let ws = holds.1 in
@@ -104,7 +104,7 @@ may_let_go w h holds =
     )
 
 abbrev IsReleased : View → View → Held → Type 0
-IsReleased w u h = (k : Holding) → IsHolding w h.cell k → release.Outcome w u k
+IsReleased w u h = (k : Holding) → IsHolding w (cell_held h) k → release.Outcome w u k
 
 -- and then it is away
 pub let_go_away : (w u : View) (h : Held) → HoldsUnchanged w h → IsReleased w u h → IsAway u

@@ -2,8 +2,4 @@ pub mod AnchorReads
 pub mod AnchorRows
 pub mod Few
 pub mod IdlePasses
-pub mod LeafPair
 pub mod LeavesInHand
-pub mod LifePairs
-pub mod LifeSteps
-pub mod NodeLives

@@ -1,2 +1,1 @@
-pub mod NodeLives
 pub mod Visits

@@ -1,29 +1,30 @@
 -- What a pass that visits the anchor again and again knows between two of its steps.
-use Rattle.std.specs.Prelude.{◌≡◌, ◌≢◌, ℕ, ◌+◌, ◌%◌, ◌^◌, ◌<◌, List, length, false}
-use Rattle.std.proofs.Common.{add_assoc, ap, sym, ◌∙◌}
-use Rattle.std.proofs.Math.Nat.{add-zero, mod-add-mod}
+use Rattle.std.specs.Prelude.{◌≡◌, ◌≢◌, ℕ, ◌+◌, ◌%◌, ◌^◌, ◌<◌, ◌≤◌, List, [], length, false, Some}
+use Rattle.art_cell.specs.Children.{child_word}
+use Rattle.art_cell.specs.Leaves.{leaf_word}
 use Rattle.art_cell.specs.declared.cells.Cell.TheVariants as cell
 use Rattle.art_cell.specs.declared.cells.Link.TheVariants.{Leaf as leaf}
+use Rattle.art_step.specs.Steps.Upgrade.{AgreesWithNotes}
+use Rattle.art_step.specs.Tokens.{cell_held, link_of_number}
+use Rattle.art_step.specs.Views.{Member, note_of, stamp_of, words_in}
+use Rattle.art_step.specs.WordRows.{view_at}
+use Rattle.art_step.specs.declared.held.Held.{Held}
 use Rattle.art_step.specs.declared.numbers.Number.{Number}
-use Rattle.art_cell.specs.declared.layouts.Pool.TheVariants.{Leaves}
-use Rattle.art_step.specs.declared.steps.Held.{Held}
-use Rattle.art_step.specs.declared.views.Fact.TheVariants.{Word, LeafWord}
+use Rattle.art_step.specs.declared.views.Fact.{Fact}
+use Rattle.art_step.specs.declared.views.Fact.TheVariants.{Starts, Word, LeafWord}
+use Rattle.art_step.specs.declared.views.Holding.{Holding}
 use Rattle.art_step.specs.declared.views.InHand.{InHand}
+use Rattle.art_step.specs.declared.views.Note.{Note}
 use Rattle.art_step.specs.declared.views.Sizes.{Sizes}
 use Rattle.art_step.specs.declared.views.Stamp.{Stamp}
 use Rattle.art_step.specs.declared.views.View.{View}
-use Rattle.art_cell_uses.specs.declared.visits.Adding.{Adding}
-use Rattle.art_cell_uses.specs.declared.visits.Adding.TheVariants as adding
-use Rattle.art_cell_uses.specs.declared.visits.Removing.{Removing}
-use Rattle.art_cell_uses.specs.declared.visits.Removing.TheVariants as removing
-use Rattle.art_cell_uses.specs.declared.visits.Visit.{Visit}
-use Rattle.art_cell_uses.specs.declared.visits.Visit.TheVariants as visit
-use Rattle.art_cell.specs.Children.{child_word}
-use Rattle.art_cell.specs.Leaves.{leaf_word}
-use Rattle.art_cell_uses.specs.NodeLives.{IsNoted, StampsAnchor, anchor_held}
-use Rattle.art_step.specs.Steps.Upgrade.{AgreesWithNotes}
-use Rattle.art_step.specs.Views.{stamp_of}
-use Rattle.art_step.specs.Views.{Member, words_in}
+use Rattle.art_world.specs.Contents.{Contents}
+use Rattle.art_cell_uses.specs.declared.anchor.Adding.{Adding}
+use Rattle.art_cell_uses.specs.declared.anchor.Adding.TheVariants as adding
+use Rattle.art_cell_uses.specs.declared.anchor.Removing.{Removing}
+use Rattle.art_cell_uses.specs.declared.anchor.Removing.TheVariants as removing
+use Rattle.art_cell_uses.specs.declared.anchor.Visit.{Visit}
+use Rattle.art_cell_uses.specs.declared.anchor.Visit.TheVariants as visit
 
 -- ---- lists with few members
 
@@ -35,7 +36,30 @@ pub record HasJust {A : Type 0} (xs : List A) (x : A) : Type 0 where
   pub has : Member x xs
   pub only : (y : A) → Member y xs → y ≡ x
 
+-- ---- notes
+
+abbrev pub IsNoted : View → Stamp → Fact → Type 0
+IsNoted v x y = Member (note_of x y) v.notes
+
+-- the pass is as it was, but for what it knows
+pub record OnlyLearns (v w : View) : Type 0 where
+  pub pin : w.pin ≡ v.pin
+  pub held : w.held ≡ v.held
+  pub hand : w.hand ≡ v.hand
+  pub stamps : (x : Stamp) → Member x v.stamps → Member x w.stamps
+  pub notes : (y : Note) → Member y v.notes → Member y w.notes
+
 -- ---- the anchor
+
+-- the anchor is stamped, and its path is noted
+pub record StampsAnchor (v : View) (x : Stamp) : Type 0 where
+  pub cell : x.cell ≡ cell.Anchor
+  pub stamp : Member x v.stamps
+  pub path : IsNoted v x (Starts [])
+
+-- the anchor, held under its stamp of this version
+abbrev pub anchor_held : ℕ → List ℕ → List ℕ → Holding
+anchor_held x old new = record { cell = cell.Anchor; stamped = Some x; old = old; new = new }
 
 -- the pass is pinned and holds no cell
 pub record IsAway (v : View) : Type 0 where
@@ -49,7 +73,7 @@ pub record IsIdle (v : View) : Type 0 where
 
 -- the pass holds the anchor alone, and has not committed
 pub record HoldsAnchor (v : View) (h : Held) (x : ℕ) (old new : List ℕ) : Type 0 where
-  pub cell : h.cell ≡ cell.Anchor
+  pub cell : cell_held h ≡ cell.Anchor
   pub pinned : v.pin ≢ 0
   pub early : v.committed ≡ false
   pub just : HasJust v.held (anchor_held x old new)
@@ -88,12 +112,13 @@ leaf_in_hand l ws = record { link = leaf l; words = ws }
 
 -- the number is that of a leaf, which alone is in hand; so many of its words are those of this key and value
 pub record Fills (z : Sizes) (hand : List InHand) (n : Number) (k : List ℕ) (value place : ℕ) : Type 0 where
-  pub pool : n.pool ≡ Leaves
-  pub inside : n.number < z.leaves
-  pub small : n.number < 2 ^ 32
+  pub number : ℕ
+  pub is : link_of_number n ≡ leaf number
+  pub inside : number < z.leaves
+  pub small : number < 2 ^ 32
   pub words : List ℕ
   pub long : length words ≡ 10
-  pub just : HasJust hand (leaf_in_hand n.number words)
+  pub just : HasJust hand (leaf_in_hand number words)
   pub written : (i : ℕ) → i < place → words_in words i ≡ leaf_word k value i
 
 -- ---- the leaf that the anchor names
@@ -112,7 +137,7 @@ Adds k value z v (adding.Filling n place) = IsAway v × Fills z v.hand n k value
 Adds k value z v (adding.Stamped n x) = IsAway v × Fills z v.hand n k value 10 × StampsAnchor v x
 Adds k value z v (adding.Seen n x) = IsAway v × Fills z v.hand n k value 10 × StampsAnchor v x × IsNoted v x (Word 1 0)
 Adds k value z v (adding.Locked n h) = Fills z v.hand n k value 10 × ((x : ℕ) × HoldsWord v h x 0)
-Adds k value z v (adding.Written n h) = Fills z v.hand n k value 10 × ((x : ℕ) × ChangesWord v h x 0 (child_word (leaf n.number)))
+Adds k value z v (adding.Written n h) = Fills z v.hand n k value 10 × ((x : ℕ) × ChangesWord v h x 0 (child_word (link_of_number n)))
 
 abbrev pub Removes : List ℕ → ℕ → Sizes → View → Removing → Type 0
 Removes k value z v removing.Idle = IsIdle v
@@ -128,18 +153,12 @@ Visits k value z v (visit.Locked h) = HasNone v.hand × HoldsUnchanged v h
 Visits k value z v (visit.Adding a) = Adds k value z v a
 Visits k value z v (visit.Removing r) = Removes k value z v r
 
--- ---- turns, counted from a on by a number that wraps
+-- ---- turns
 
--- so many turns lead from the count a to the count b
+-- so many turns lead from the count a to the count b, of a number that wraps
 abbrev pub Counts : ℕ → ℕ → ℕ → Type 0
 Counts n a b = b % 2 ^ 64 ≡ (a + n) % 2 ^ 64
 
-pub counts_none : (a : ℕ) → Counts 0 a a
-counts_none a = ap (λ k. k % 2 ^ 64) (sym (add-zero a))
-
-pub counts_one_more : (n a b c : ℕ) → Counts n a b → Counts 1 b c → Counts (n + 1) a c
-counts_one_more n a b c x y =
-    y ∙ (sym (mod-add-mod b (2 ^ 64) 1)
-    ∙ (ap (λ k. (k + 1) % 2 ^ 64) x
-    ∙ (mod-add-mod (a + n) (2 ^ 64) 1
-    ∙ ap (λ k. k % 2 ^ 64) (add_assoc a n 1))))
+-- from the first world to the second the pass makes one counted step or none
+abbrev pub StepsAtMostOnce : ℕ → Contents → Contents → Type 0
+StepsAtMostOnce p k l = (view_at l.views p).steps ≤ (view_at k.views p).steps + 1

@@ -1,16 +1,12 @@
-//! The tests of the crates of cells, and whole changes by steps: a row comes and goes below the anchor, and a node of two leaves comes, goes and comes again.
+//! Whole changes by hand, from the steps that crates below it prove: a visitor adds a leaf below the anchor and takes it
+//! out again, as one of three actors in drawn turns.
+//!
+//! It shows that the contracts of `Steps`, `World` and `Actor` are enough to write a change and to prove it, in the order
+//! that each change has: the anchor is stamped, read, upgraded and written, and the commit is its release. Where an
+//! upgrade fails, nothing is written, and the visitor begins anew. Beside it stand tests of numbers, cells and the names
+//! of kinds of step. Nothing stands above this crate.
 #![tactic(auto)]
 
+mod anchor;
 #[cfg(test)]
-mod actor_tests;
-#[cfg(test)]
-mod anchor_steps;
-#[cfg(test)]
-mod cell_tests;
-#[cfg(test)]
-mod life_tests;
-#[cfg(test)]
-mod number_tests;
-mod visits;
-#[cfg(test)]
-mod word_forms;
+mod tests;

@@ -1,0 +1,55 @@
+//! A visitor of the anchor, and what it keeps between two of its steps. A definition of specs/ speaks of that, so it stands
+//! outside the tests, which are its only users.
+use art_step::{Held, Number, Stamp};
+
+#[cfg(test)]
+mod steps;
+#[cfg(test)]
+mod tests;
+#[cfg(test)]
+mod visitor;
+
+/// Where a visitor stands between two of its steps.
+#[derive(Debug)]
+pub(crate) enum Visit {
+    /// It has no stamp, holds nothing and has nothing in hand.
+    Idle,
+    /// The anchor is stamped.
+    Stamped(Stamp),
+    /// The anchor is locked, and unchanged.
+    Locked(Held),
+    /// A leaf is on its way into the tree.
+    Adding(Adding),
+    /// The leaf is on its way out of it.
+    Removing(Removing),
+}
+
+/// What is done to put a leaf below the anchor. The number is the leaf's, which is in hand.
+#[derive(Debug)]
+pub(crate) enum Adding {
+    /// So many of its words are written.
+    Filling(Number, usize),
+    /// All are, and the anchor is stamped.
+    Stamped(Number, Stamp),
+    /// The anchor names nothing.
+    Seen(Number, Stamp),
+    /// It is locked.
+    Locked(Number, Held),
+    /// And it names the leaf.
+    Written(Number, Held),
+}
+
+/// What is done to take the anchor's leaf out again.
+#[derive(Debug)]
+pub(crate) enum Removing {
+    /// It has no stamp, holds nothing and has nothing in hand.
+    Idle,
+    /// The anchor is stamped.
+    Stamped(Stamp),
+    /// The anchor names the leaf with this number, of which so many words are read.
+    Reading(Stamp, u32, usize),
+    /// The anchor is locked.
+    Locked(Held, u32),
+    /// And it names nothing.
+    Written(Held, u32),
+}
