@@ -26,12 +26,16 @@ Agrees reads w = (place value : ℕ) → word_read reads place ≡ Some value �
 abbrev pub IsUnread : Layout → List (Option ℕ) → ℕ → Type 0
 IsUnread k reads place = (0 < place) × (place < size k) × (word_read reads place ≡ None)
 
+-- a word of the cell, after its version, that was read
+abbrev pub WasRead : Layout → List (Option ℕ) → ℕ → Type 0
+WasRead k reads word = (place : ℕ) × (0 < place) × (place < size k) × (word_read reads place ≡ Some word)
+
 -- ---- probes
 
--- a word that is needed is one of the cell that was not read
+-- a word that is needed is one of the cell that was not read, and a child that is told is one that was, and is not 0
 abbrev pub ProbeNeeds : Layout → List (Option ℕ) → Probe → Type 0
 ProbeNeeds k reads (probe.Need place) = IsUnread k reads place
-ProbeNeeds k reads (probe.Child child) = ⊤
+ProbeNeeds k reads (probe.Child child) = (0 < child) × WasRead k reads child
 ProbeNeeds k reads probe.None = ⊤
 
 -- what a probe tells of a byte's child
@@ -42,7 +46,7 @@ ProbeTells child probe.None = child ≡ None
 
 abbrev pub NextNeeds : Layout → List (Option ℕ) → NextProbe → Type 0
 NextNeeds k reads (next.Need place) = IsUnread k reads place
-NextNeeds k reads (next.Entry entry) = ⊤
+NextNeeds k reads (next.Entry entry) = WasRead k reads entry.child
 NextNeeds k reads next.None = ⊤
 
 -- no byte from low on, before high, has a child

@@ -53,9 +53,10 @@
 //!
 //! `Reads` has the words that a pass has read by now. A probe is asked what a byte's child is, and answers with the
 //! place of a word that it needs first, with the child, or that there is none; `NodeKind::at_least` answers the same
-//! way for the least byte from one on. Two clauses say what an answer is worth: a word is only ever asked for that is
-//! the cell's, after its version, and was not read (`needs`), so that each look ends; and for all words of a node that
-//! agree with what was read the answer is what their map says (`tells`).
+//! way for the least byte from one on. Two clauses say what an answer is worth. Whatever was read, a word is only ever
+//! asked for that is the cell's, after its version, and was not read, so that each look ends; and a child is only ever
+//! told that is a word that was read (`needs`). For all words of a node that agree with what was read, the answer is
+//! what their map says (`tells`).
 //!
 //! A change is planned on a `Body`, a copy of all words of a node, and written as the words that differ, in ascending
 //! place (`Writes`, `changes`). `IsPlan` says that the words are those of a node then, with the prefix as it was and
