@@ -45,7 +45,6 @@ use Rattle.art_step.proofs.StepCommits.{either_member, retired_of}
 use Rattle.art_step.proofs.StepLocks.{no_leaf, unclaimed_law}
 use Rattle.art_step.proofs.Turns.{member_append, one_view}
 use Rattle.art_step.proofs.WordRows.{IsNoLeaf, sets_version, sets_word, copy_of, is_copy, copy_version}
-
 use Rattle.art_step.proofs.Moves.{Moves, makes, moved, with_view, with_turned}
 
 first_low : (c : Cell) → first_place c ≤ 1

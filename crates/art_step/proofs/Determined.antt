@@ -198,10 +198,10 @@ history_grows z p m f m' f' t r r' = ⊎_elim
     seen_still : (q : ℕ) (u : View) → f q ≡ Some u → (w : View) × SetsView f p w f' → StartsWith r'.log u.seen
     seen_still q u at k = ⊎_elim
         (λ (e : q ≡ p).
-            let mine : f p ≡ Some u = ap f (sym e) ∙ at in
-            let more = seen_grows z p u k.0 m f m' f' t mine k.1.here in
-            let starts = (r'.history.tells p k.0 k.1.here).starts in
-            (more.0 ++ starts.0, starts.1 ∙ (ap (λ (l : List Event). l ++ starts.0) more.1 ∙ append_assoc u.seen more.0 starts.0)))
+        let mine : f p ≡ Some u = ap f (sym e) ∙ at in
+        let more = seen_grows z p u k.0 m f m' f' t mine k.1.here in
+        let starts = (r'.history.tells p k.0 k.1.here).starts in
+        (more.0 ++ starts.0, starts.1 ∙ (ap (λ (l : List Event). l ++ starts.0) more.1 ∙ append_assoc u.seen more.0 starts.0)))
         (λ (other : q ≢ p). (r'.history.tells q u (k.1.there q other ∙ at)).starts)
         (cases_eq q p)
 
@@ -210,10 +210,10 @@ history_grows z p m f m' f' t r r' = ⊎_elim
 pub one_logical : LogicalLaw
 one_logical m f s s' o k c = ⊎_elim
     (λ (locked : m.version c % 4 ≡ 2).
-        let h = o.holder c locked in
-        let mine = ((o.holds h.pass h.view h.is).keeps h.holding h.holds).logical in
-        let other = ((k.holds h.pass h.view h.is).keeps h.holding h.holds).logical in
-        ap s (sym h.cell) ∙ (mine ∙ (sym other ∙ ap s' h.cell)))
+    let h = o.holder c locked in
+    let mine = ((o.holds h.pass h.view h.is).keeps h.holding h.holds).logical in
+    let other = ((k.holds h.pass h.view h.is).keeps h.holding h.holds).logical in
+    ap s (sym h.cell) ∙ (mine ∙ (sym other ∙ ap s' h.cell)))
     (λ (rest : m.version c % 4 ≢ 2). o.at_rest c rest ∙ sym (k.at_rest c rest))
     (cases_eq (m.version c % 4) 2)
 

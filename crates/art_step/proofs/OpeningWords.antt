@@ -156,11 +156,11 @@ module _ (z : Sizes) (k : ℕ) where
   no_child (cell.Leaf l) i place = absurd place
   no_child (cell.Node n) i place = ⊎_elim
       (λ (e : is_inside z (cell.Node n) ≡ true).
-          let inside = is_inside_of z (cell.Node n) e in
-          let below = cell_below z (cell.Node n) i inside place.1 in
-          word_found z opened (cell.Node n) i inside (late_child n.layout i place.0) place.1
-          ∙ (opening_at z k (place_of z (cell.Node n) + i) (omega arith)
-          ∙ (node_words_at z k n.number i n.layout ((is_number z (node n)).0 inside) (few_words n.layout i place.1) ∙ later_word (words_each (pool_of_layout n.layout)) n.number i (4 * k + 1) (late_child n.layout i place.0) (few_words n.layout i place.1))))
+      let inside = is_inside_of z (cell.Node n) e in
+      let below = cell_below z (cell.Node n) i inside place.1 in
+      word_found z opened (cell.Node n) i inside (late_child n.layout i place.0) place.1
+      ∙ (opening_at z k (place_of z (cell.Node n) + i) (omega arith)
+      ∙ (node_words_at z k n.number i n.layout ((is_number z (node n)).0 inside) (few_words n.layout i place.1) ∙ later_word (words_each (pool_of_layout n.layout)) n.number i (4 * k + 1) (late_child n.layout i place.0) (few_words n.layout i place.1))))
       (λ (e : is_inside z (cell.Node n) ≡ false). cond-false _ _ 0 e)
       (cases_Bool (is_inside z (cell.Node n)))
 

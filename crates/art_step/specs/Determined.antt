@@ -15,7 +15,8 @@ HistoryLaw = (z : Sizes) (m : Memory) (f : Views) (r r' : IsSound z m f) → r.l
 
 -- it only grows
 abbrev pub HistoryGrows : Type 0
-HistoryGrows = (z : Sizes) (p : ℕ) (m : Memory) (f : Views) (m' : Memory) (f' : Views) → OneStep z p m f m' f' → (r : IsSound z m f) (r' : IsSound z m' f') → StartsWith r'.log r.log
+HistoryGrows = (z : Sizes) (p : ℕ) (m : Memory) (f : Views) (m' : Memory) (f' : Views) → OneStep z p m f m' f' → (r : IsSound z m f)
+    (r' : IsSound z m' f') → StartsWith r'.log r.log
 
 -- each cell has one body of logical words
 abbrev pub LogicalLaw : Type 0
@@ -24,7 +25,9 @@ LogicalLaw = (m : Memory) (f : Views) (s s' : Cells) → OneHolder m f s → One
 -- ---- what a step keeps of its own view
 
 abbrev pub PassLaw : Type 0
-PassLaw = (z : Sizes) (p : ℕ) (v w : View) (m : Memory) (f : Views) (m' : Memory) (f' : Views) → OneStep z p m f m' f' → f p ≡ Some v → f' p ≡ Some w → w.pass ≡ v.pass
+PassLaw = (z : Sizes) (p : ℕ) (v w : View) (m : Memory) (f : Views) (m' : Memory) (f' : Views) → OneStep z p m f m' f' → f p ≡ Some v →
+    f' p ≡ Some w → w.pass ≡ v.pass
 
 abbrev pub SeenLaw : Type 0
-SeenLaw = (z : Sizes) (p : ℕ) (v w : View) (m : Memory) (f : Views) (m' : Memory) (f' : Views) → OneStep z p m f m' f' → f p ≡ Some v → f' p ≡ Some w → StartsWith w.seen v.seen
+SeenLaw = (z : Sizes) (p : ℕ) (v w : View) (m : Memory) (f : Views) (m' : Memory) (f' : Views) → OneStep z p m f m' f' → f p ≡ Some v →
+    f' p ≡ Some w → StartsWith w.seen v.seen

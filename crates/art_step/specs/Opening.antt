@@ -42,4 +42,3 @@ pub record Opens (z : Sizes) (m : Memory) (f : Views) : Type 0 where
 
 abbrev pub OpenLaw : Type 0
 OpenLaw = (z : Sizes) (m : Memory) (f : Views) → Opens z m f → IsSound z m f
-

@@ -72,7 +72,8 @@ pub record OneHolder (m : Memory) (f : Views) (s : Cells) : Type 0 where
   pub at_rest : (c : Cell) → (IsLocked (m.version c) → ⊥) → s c ≡ m.words c
   pub holder : (c : Cell) → IsLocked (m.version c) → Holder f c
   pub holds : (p : ℕ) (v : View) → f p ≡ Some v → HoldsEach m s v
-  pub apart : (p q : ℕ) (v u : View) → p ≢ q → f p ≡ Some v → f q ≡ Some u → (h k : Holding) → Member h v.held → Member k u.held → h.cell ≢ k.cell
+  pub apart : (p q : ℕ) (v u : View) → p ≢ q → f p ≡ Some v → f q ≡ Some u → (h k : Holding) → Member h v.held → Member k u.held →
+      h.cell ≢ k.cell
 
 -- ---- an unchanged stamp vouches
 
@@ -91,7 +92,8 @@ pub record Vouched (m : Memory) (s : Cells) (v : View) : Type 0 where
   pub stamps : (x : Stamp) → Member x v.stamps → IsStampOf m x
   pub noted : (y : Note) → Member y v.notes → Member y.stamp v.stamps
   pub notes : (y : Note) → Member y v.notes → Vouches m s y
-  pub kept : v.committed ≡ false → (h : Holding) (y : Note) → Member h v.held → Member y v.notes → y.stamp.cell ≡ h.cell → h.stamped ≡ Some y.stamp.version → Holds s h.cell y.fact
+  pub kept : v.committed ≡ false → (h : Holding) (y : Note) → Member h v.held → Member y v.notes → y.stamp.cell ≡ h.cell →
+      h.stamped ≡ Some y.stamp.version → Holds s h.cell y.fact
 
 abbrev pub StampsVouch : Memory → Views → Cells → Type 0
 StampsVouch m f s = (p : ℕ) (v : View) → f p ≡ Some v → Vouched m s v
@@ -213,4 +215,5 @@ Kind = Sizes → ℕ → View → Memory → Views → Memory → Views → Type
 
 -- where all is sound and a step of this kind is made, all is sound after it
 abbrev pub KeepsSound : Kind → Type 0
-KeepsSound K = (z : Sizes) (p : ℕ) (v : View) (m : Memory) (f : Views) (m' : Memory) (f' : Views) → f p ≡ Some v → IsSound z m f → K z p v m f m' f' → IsSound z m' f'
+KeepsSound K = (z : Sizes) (p : ℕ) (v : View) (m : Memory) (f : Views) (m' : Memory) (f' : Views) → f p ≡ Some v → IsSound z m f →
+    K z p v m f m' f' → IsSound z m' f'

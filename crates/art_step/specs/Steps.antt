@@ -22,7 +22,6 @@ use Rattle.art_step.specs.Steps.Take as take_free
 use Rattle.art_step.specs.Steps.Upgrade as upgrade
 use Rattle.art_step.specs.Steps.Write as write
 use Rattle.art_step.specs.Views.{Memory, Views}
-
 pub mod Begin
 pub mod Check
 pub mod Claim
@@ -36,7 +35,8 @@ pub mod Upgrade
 pub mod Write
 
 -- a step of one of these kinds, where log is the history before it and s the tree
-pub data OfAKind (z : Sizes) (p : ℕ) (v : View) (m : Memory) (f : Views) (m' : Memory) (f' : Views) (log : List Event) (s : Cells) : Type 0 where
+pub data OfAKind (z : Sizes) (p : ℕ) (v : View) (m : Memory) (f : Views) (m' : Memory) (f' : Views) (log : List Event)
+    (s : Cells) : Type 0 where
   IsBegin : begin.Step z p v m f m' f' → OfAKind z p v m f m' f' log s
   IsRead : read.Step z p v m f m' f' → OfAKind z p v m f m' f' log s
   IsReadLeaf : read.LeafStep z p v m f m' f' → OfAKind z p v m f m' f' log s

@@ -30,7 +30,8 @@ bit_of word i = word / 2 ^ i % 2
 -- whether the bit of the number is set. The words of a pool may have bits above its last number: these are looked at too, so that
 -- one that is set there shows as free a number that there is not, which the invariant rules out
 abbrev pub is_free : Sizes → List ℕ → Link → Bool
-is_free z ws d = if nat_lt (number_of d) (64 * free_words (pool_size z (pool_of d))) then bit_of (get_or ws (free_place z d) 0) (number_of d % 64) == 1 else false
+is_free z ws d = if nat_lt (number_of d) (64 * free_words (pool_size z (pool_of d))) then bit_of (get_or ws (free_place z d) 0)
+    (number_of d % 64) == 1 else false
 
 abbrev pub pass_word_in : Sizes → List ℕ → ℕ → ℕ
 pass_word_in z ws p = if nat_lt p z.passes then get_or ws (pass_place z p) 0 else 0

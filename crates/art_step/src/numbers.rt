@@ -5,8 +5,8 @@ ghost use Rattle.std.specs.Option.{option_and_then, option_map};
 ghost use Rattle.art_cell.specs.Children.{link_of};
 ghost use Rattle.art_step.specs.Tokens.{link_of_number, links_of};
 
-use art_cell::{Layout, Link, Node, Pool};
 use crate::pool_of_layout;
+use art_cell::{Layout, Link, Node, Pool};
 
 /// A number that a pass has in hand, of a leaf or a node. It has to be claimed, linked or given back.
 #[derive(Debug, PartialEq, Eq)]

@@ -162,7 +162,7 @@ pub trait Steps {
         ensures numbers { filter_map (option_map link_of_number) result ≡ links_of unlinked.now }
         ensures row { (h : HoldingOf) → IsHolding (view self.old) (cell_held held) h →
             commit.Outcome (view self.old) (view self.new) (what_of deed.now) (links_of unlinked.now)
-                (commit.coming (view self.old) (option_map link_of_number leaf)) h };
+            (commit.coming (view self.old) (option_map link_of_number leaf)) h };
 
     /// A later release, or that of a change that is given up with nothing written and nothing claimed.
     fn release(&mut self, held: Held, obsolete: bool)

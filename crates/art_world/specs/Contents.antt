@@ -81,7 +81,8 @@ pub record IsStepped (p : ℕ) (a b : Contents) (Row : View → View → Type 0)
   pub row : Row (view_at a.views p) (view_at b.views p)
 
 -- as the views change: in one step of the pass, by which the words change from before to after
-pub record StepBy (z : Sizes) (before after : List ℕ) (p : ℕ) (Row : View → View → Type 0) (so : Instant) (old new : List View) : Type 0 where
+pub record StepBy (z : Sizes) (before after : List ℕ) (p : ℕ) (Row : View → View → Type 0) (so : Instant)
+    (old new : List View) : Type 0 where
   pub view : View
   pub set : new ≡ slice_set old p view
   pub row : Row (view_at old p) view

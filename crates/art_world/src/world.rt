@@ -12,11 +12,10 @@ ghost use Rattle.art_step.specs.WordPlaces.{IsInside, first_place, word_count};
 ghost use Rattle.art_step.specs.WordRows.{views_of};
 ghost use Rattle.art_world.specs.Contents.{memory_now};
 
-pub use run::Actor;
-
 use art_cell::Cell;
 use art_ghosts::Ghost;
 use art_step::{Sizes, Version, View};
+pub use run::Actor;
 use std::collections::LinkedList;
 use std::marker::Model;
 

@@ -34,7 +34,12 @@ ArePaths s v ys = (y : Note) → Member y ys → Member y.stamp v.stamps × ((q 
 
 -- the notes stand, the stamped cells gain their paths, and the stamps and notes are copied
 abbrev pub view_unchanged : View → Stamp → List Note → View
-view_unchanged v x ys = record v { steps = v.steps + 1; notes = ys ++ v.notes; checked = record { stamps = v.stamps; notes = ys ++ v.notes; step = v.steps + 1 }; found = found_version v x.cell x.version }
+view_unchanged v x ys = record v {
+  steps = v.steps + 1;
+  notes = ys ++ v.notes;
+  checked = record { stamps = v.stamps; notes = ys ++ v.notes; step = v.steps + 1 };
+  found = found_version v x.cell x.version;
+}
 
 -- the history grows by an event, if there is one
 abbrev pub with_event : View → List Event → Option What → View
@@ -42,7 +47,8 @@ with_event v log None = v
 with_event v log (Some what) = record v { seen = log ++ event v.pass what ∷ []; own = v.own ++ length log ∷ [] }
 
 -- stamped cells may gain their paths in the tree s, and the history may grow by an event
-pub record UnchangedStep (z : Sizes) (p : ℕ) (v : View) (m : Memory) (f : Views) (m' : Memory) (f' : Views) (log : List Event) (s : Cells) : Type 0 where
+pub record UnchangedStep (z : Sizes) (p : ℕ) (v : View) (m : Memory) (f : Views) (m' : Memory) (f' : Views) (log : List Event)
+    (s : Cells) : Type 0 where
   pub stamp : Stamp
   pub paths : List Note
   pub event : Option What
@@ -70,7 +76,13 @@ pub record Without (v : View) (x : Stamp) (xs : List Stamp) (ys : List Note) : T
   pub notes : (y : Note) → Member y ys ↔ (Member y v.notes × (y.stamp ≢ x))
 
 abbrev pub view_changed : View → Stamp → ℕ → List Stamp → List Note → View
-view_changed v x word xs ys = record v { steps = v.steps + 1; failures = v.failures + 1; stamps = xs; notes = ys; found = found_version v x.cell word }
+view_changed v x word xs ys = record v {
+  steps = v.steps + 1;
+  failures = v.failures + 1;
+  stamps = xs;
+  notes = ys;
+  found = found_version v x.cell word;
+}
 
 pub record ChangedStep (z : Sizes) (p : ℕ) (v : View) (m : Memory) (f : Views) (m' : Memory) (f' : Views) : Type 0 where
   pub stamp : Stamp
@@ -100,11 +112,13 @@ Outcome z v w x o (Err c) = (c.cell ≡ x.cell) × (c.seen ≡ x.version) × (c.
 
 -- the history is the one of all views, and the tree that of the logical words
 abbrev pub UnchangedLaw : Type 0
-UnchangedLaw = (z : Sizes) (p : ℕ) (v : View) (m : Memory) (f : Views) (m' : Memory) (f' : Views) → f p ≡ Some v → (r : IsSound z m f) → UnchangedStep z p v m f m' f' r.log r.logical → IsSound z m' f'
+UnchangedLaw = (z : Sizes) (p : ℕ) (v : View) (m : Memory) (f : Views) (m' : Memory) (f' : Views) → f p ≡ Some v → (r : IsSound z m f) →
+    UnchangedStep z p v m f m' f' r.log r.logical → IsSound z m' f'
 
 -- what was noted under an unchanged stamp holds of the logical words that there are now
 abbrev pub VouchLaw : Type 0
-VouchLaw = (z : Sizes) (p : ℕ) (v : View) (m : Memory) (f : Views) (x : Stamp) → f p ≡ Some v → (r : IsSound z m f) → m.version x.cell ≡ x.version → HoldsAll v x r.logical
+VouchLaw = (z : Sizes) (p : ℕ) (v : View) (m : Memory) (f : Views) (x : Stamp) → f p ≡ Some v → (r : IsSound z m f) →
+    m.version x.cell ≡ x.version → HoldsAll v x r.logical
 
 abbrev pub ChangedLaw : Type 0
 ChangedLaw = KeepsSound ChangedStep

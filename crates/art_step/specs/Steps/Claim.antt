@@ -17,7 +17,11 @@ pub record May (v : View) (n : Node) : Type 0 where
   pub early : MayLock v
 
 abbrev pub view_after : View → Node → List ℕ → View
-view_after v n ws = record v { steps = v.steps + 1; held = record { cell = cell.Node n; stamped = None; old = ws; new = ws } ∷ v.held; committed = false }
+view_after v n ws = record v {
+  steps = v.steps + 1;
+  held = record { cell = cell.Node n; stamped = None; old = ws; new = ws } ∷ v.held;
+  committed = false;
+}
 
 pub record Step (z : Sizes) (p : ℕ) (v : View) (m : Memory) (f : Views) (m' : Memory) (f' : Views) : Type 0 where
   pub node : Node
@@ -39,4 +43,5 @@ Law = KeepsSound Step
 
 -- a node's number in hand that the pass does not hold is obsolete
 abbrev pub UnclaimedLaw : Type 0
-UnclaimedLaw = (z : Sizes) (p : ℕ) (v : View) (m : Memory) (f : Views) (a : Node) → f p ≡ Some v → IsSound z m f → May v a → IsObsolete (m.version (cell.Node a))
+UnclaimedLaw = (z : Sizes) (p : ℕ) (v : View) (m : Memory) (f : Views) (a : Node) → f p ≡ Some v → IsSound z m f → May v a →
+    IsObsolete (m.version (cell.Node a))

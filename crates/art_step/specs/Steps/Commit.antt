@@ -32,7 +32,8 @@ use Rattle.art_tree.specs.Tree.{StandsAt}
 -- what a pass that has not committed knows of the tree
 pub record Knows (v : View) (s : Cells) : Type 0 where
   pub old : (h : Holding) → Member h v.held → s h.cell ≡ words_in h.old
-  pub kept : (h : Holding) (y : Note) → Member h v.held → Member y v.notes → y.stamp.cell ≡ h.cell → h.stamped ≡ Some y.stamp.version → Holds s h.cell y.fact
+  pub kept : (h : Holding) (y : Note) → Member h v.held → Member y v.notes → y.stamp.cell ≡ h.cell → h.stamped ≡ Some y.stamp.version →
+      Holds s h.cell y.fact
   pub leaves : (x : InHand) (l : ℕ) → Member x v.hand → x.link ≡ leaf l → s (cell.Leaf l) ≡ words_in x.words
   pub hand : (x : InHand) → Member x v.hand → IsUnlinked (heap_of s) x.link
 
@@ -166,4 +167,5 @@ pub record Outcome (v w : View) (what : What) (us ls : List Link) (h : Holding) 
   pub is : w ≡ record v { steps = v.steps + 1; seen = w.seen; own = w.own; held = held; committed = true; hand = hand; limbo = all_retired pins us ++ v.limbo }
 
 abbrev pub Law : Type 0
-Law = (z : Sizes) (p : ℕ) (v : View) (m : Memory) (f : Views) (m' : Memory) (f' : Views) → f p ≡ Some v → (r : IsSound z m f) → Step z p v m f m' f' r.log → IsSound z m' f'
+Law = (z : Sizes) (p : ℕ) (v : View) (m : Memory) (f : Views) (m' : Memory) (f' : Views) → f p ≡ Some v → (r : IsSound z m f) →
+    Step z p v m f m' f' r.log → IsSound z m' f'

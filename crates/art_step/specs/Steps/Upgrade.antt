@@ -33,7 +33,12 @@ pub record IsCopy (m : Memory) (c : Cell) (ws : List ℕ) : Type 0 where
   pub words : m.words c ≡ words_in ws
 
 abbrev pub view_after : View → Stamp → List ℕ → View
-view_after v x ws = record v { steps = v.steps + 1; held = record { cell = x.cell; stamped = Some x.version; old = ws; new = ws } ∷ v.held; committed = false; found = found_version v x.cell x.version }
+view_after v x ws = record v {
+  steps = v.steps + 1;
+  held = record { cell = x.cell; stamped = Some x.version; old = ws; new = ws } ∷ v.held;
+  committed = false;
+  found = found_version v x.cell x.version;
+}
 
 pub record Step (z : Sizes) (p : ℕ) (v : View) (m : Memory) (f : Views) (m' : Memory) (f' : Views) : Type 0 where
   pub stamp : Stamp
@@ -57,7 +62,8 @@ pub record Locked (v w : View) (x : Stamp) : Type 0 where
   pub is : w ≡ view_after v x words
 
 abbrev pub Refused : View → View → Stamp → UpgradeFault → Type 0
-Refused v w x (fault.Changed c) = (c.cell ≡ x.cell) × (c.seen ≡ x.version) × (c.found ≢ c.seen) × check.IsChanged v w x c.found × (x.version < 4 * last_counter)
+Refused v w x (fault.Changed c) = (c.cell ≡ x.cell) × (c.seen ≡ x.version) × (c.found ≢ c.seen) × check.IsChanged v w x c.found ×
+    (x.version < 4 * last_counter)
 Refused v w x (fault.Exhausted c) = (c ≡ x.cell) × (4 * last_counter ≤ x.version) × (w ≡ v)
 
 abbrev pub Outcome : View → View → Stamp → Result Held UpgradeFault → Type 0

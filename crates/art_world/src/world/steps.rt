@@ -9,8 +9,8 @@ ghost use Rattle.art_world.specs.Stepper.{OnlyStepped, lender, only_same, only_s
 use super::{Stepper, World};
 use art_cell::{Cell, Link, Node};
 use art_step::{
-    Changed, Deed, Held, Locked, Number, Stamp, Steps, Unlinked, UpgradeFault, Version,
-    numbers_of, spent,
+    Changed, Deed, Held, Locked, Number, Stamp, Steps, Unlinked, UpgradeFault, Version, numbers_of,
+    spent,
 };
 use std::marker::Brand;
 
@@ -120,12 +120,13 @@ impl Steps for Stepper<'_> {
     fn write(&mut self, held: &mut Held, place: usize, value: u64) {
         let cell = held.cell();
         let first = self.world.sizes().place_of(cell);
-        self.world.put::<Brand, (Cell, usize, u64)>(
-            self.pass,
-            first + place,
-            value,
-            &(cell, place, value),
-        );
+        self.world
+            .put::<Brand, (Cell, usize, u64)>(
+                self.pass,
+                first + place,
+                value,
+                &(cell, place, value),
+            );
     }
 
     fn write_leaf(&mut self, number: &mut Number, place: usize, value: u64) {
@@ -133,12 +134,13 @@ impl Steps for Stepper<'_> {
             unreachable!();
         };
         let first = self.world.sizes().place_of(Cell::Leaf(leaf));
-        self.world.put::<Brand, (u32, usize, u64)>(
-            self.pass,
-            first + place,
-            value,
-            &(leaf, place, value),
-        );
+        self.world
+            .put::<Brand, (u32, usize, u64)>(
+                self.pass,
+                first + place,
+                value,
+                &(leaf, place, value),
+            );
     }
 
     fn commit(
