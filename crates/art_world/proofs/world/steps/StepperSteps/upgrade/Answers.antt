@@ -36,4 +36,4 @@ put-requires-clause-moves c i =
     let s = c.args.self.now in
     let k = world_of s in
     let may : upgrade.May (view_of s) c.args.stamp = record { stamp = c.requires.stamp; path = c.requires.path; limit = not_last _ _ c.is_last.ensures c.if-is_last.false; early = c.requires.early; unclaimed = c.requires.unclaimed } in
-    rw (c.place_of-place.ensures, c.sizes.ensures, c.locked.ensures) (moves_upgrades k.sizes k.words (views_of k.views) (pass_of s) (view_of s) i.sound (at_view k.views (pass_of s) s.inside) i.long c.args.stamp (inside_of k.sizes c.args.stamp.cell c.requires.inside) (sym c.version-found.ensures ∙ c.if-stamp-found.false) may)
+    rw (c.place_of-place.ensures, c.sizes.ensures, c.locked.ensures) (moves_upgrades k.sizes k.words (views_of k.views) (pass_of s) (view_of s) i.sound (at_view k.views (pass_of s) s.inside) i.long c.args.stamp (inside_of k.sizes c.args.stamp.cell c.requires.inside) (sym c.version-found.ensures ∙ sym c.if-stamp-found.false) may)
