@@ -52,7 +52,7 @@ pub struct SessionEnd {
 }
 
 /// Why a line was not answered.
-#[derive(Clone, Copy, Debug, PartialEq, Eq)]
+#[derive(Clone, Copy)]
 struct Stop {
     why: EndCause,
     pending: bool,
