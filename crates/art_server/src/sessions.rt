@@ -31,13 +31,13 @@ const TURNS: u32 = 1_000_000;
 pub enum EndCause {
     /// The input ended.
     Ended,
-    /// A read failed.
+    /// A read failed, or was interrupted.
     ReadFault,
-    /// A write failed.
+    /// A write failed, was interrupted, or took no byte.
     WriteFault,
     /// There was no memory.
     NoMemory,
-    /// A session's reads were used up.
+    /// 1,000,000 reads were made, and each gave bytes.
     ReadsUsed,
 }
 
@@ -52,7 +52,7 @@ pub struct SessionEnd {
 }
 
 /// Why a line was not answered.
-#[derive(Clone, Copy, Debug, PartialEq, Eq)]
+#[derive(Clone, Copy)]
 struct Stop {
     why: EndCause,
     pending: bool,

@@ -10,7 +10,7 @@ use std::error::Error;
 use std::fmt;
 
 /// Why a run failed.
-#[derive(Clone, Copy, Debug, PartialEq, Eq)]
+#[derive(Clone, Copy, Debug)]
 pub enum RunFault {
     /// A read failed.
     ReadFailed,

@@ -7,7 +7,7 @@ use clap::error::ErrorKind;
 use std::alloc::AllocError;
 
 /// What the program is asked to do: a variant for each subcommand, with its options.
-#[derive(Clone, Copy, Debug, PartialEq, Eq)]
+#[derive(Clone, Copy)]
 pub enum Settings<'a> {
     /// `run`
     Run {
@@ -17,7 +17,7 @@ pub enum Settings<'a> {
 }
 
 /// Why there are no settings.
-#[derive(Debug, Drop)]
+#[derive(Drop)]
 pub enum SettingsFault {
     /// The words were refused, or they ask for help. The error has the text for the user, where it
     /// goes, and the status to exit with.
