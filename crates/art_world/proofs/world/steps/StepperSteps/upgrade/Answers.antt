@@ -24,7 +24,7 @@ pub find-requires-clause-moves : goal.find-requires-clause-moves
 find-requires-clause-moves c i =
     let s = c.args.self.now in
     let k = world_of s in
-    moves_fails k.sizes k.words (views_of k.views) (pass_of s) (view_of s) i.sound (at_view k.views (pass_of s) s.inside) i.long c.args.stamp c.version-found.result.word c.version-found.ensures c.requires.stamp c.if-stamp-found.true
+    moves_fails k.sizes k.words (views_of k.views) (pass_of s) (view_of s) i.sound (at_view k.views (pass_of s) s.inside) i.long c.args.stamp c.version-found.result.word c.version-found.ensures c.requires.stamp (λ e. c.if-stamp-found.true (sym e))
 
 pub put-requires-clause-place : goal.put-requires-clause-place
 put-requires-clause-place c i =
