@@ -8,7 +8,7 @@ use Rattle.art_cell.specs.declared.cells.Cell.{Cell}
 use Rattle.art_cell.specs.declared.cells.Cell.TheVariants as cell
 use Rattle.art_cell.specs.declared.cells.Link.{Link}
 use Rattle.art_cell.specs.declared.cells.Link.TheVariants.{Leaf as leaf}
-use Rattle.art_step.proofs.Turns.{member_back}
+use Rattle.art_step.proofs.SetsView.{member_back}
 use Rattle.art_step.specs.Knowledge.{KnowsLeaf, NamesLeaf}
 use Rattle.art_step.specs.Steps.Check as check
 use Rattle.art_step.specs.Steps.Read as read

@@ -16,7 +16,7 @@ use Rattle.art_step.specs.Histories.{becomes}
 use Rattle.art_step.specs.Views.{IsNotHeld}
 use Rattle.art_step.specs.Steps.Commit.{Knows, IsLinked, IsOnce, Commits}
 use Rattle.art_step.specs.Views.{Member}
-use Rattle.art_step.proofs.Turns.{member_append, member_front, member_back}
+use Rattle.art_step.proofs.SetsView.{member_append, member_front, member_back}
 
 -- lists that share nothing name each number once, where each does
 once_append : (xs ys : List Link) → IsOnce xs → IsOnce ys → ((d : Link) → Member d xs → Member d ys → ⊥) → IsOnce (xs ++ ys)

@@ -38,12 +38,12 @@ use Rattle.art_cell.specs.Words.{Words}
 use Rattle.art_step.specs.WordPlaces.{word_count, IsInside, place_of, first_place}
 use Rattle.art_step.specs.WordRows.{memory_of}
 use Rattle.art_step.proofs.AnyStep.{kind_sound}
-use Rattle.art_step.proofs.Kept.{one_entry}
+use Rattle.art_step.proofs.SoundParts.{one_entry}
 use Rattle.art_step.proofs.Gathered.{left_over, put}
 use Rattle.art_tree.proofs.Places.{same_cell, same_link}
 use Rattle.art_step.proofs.StepCommits.{either_member, retired_of}
 use Rattle.art_step.proofs.StepLocks.{no_leaf, unclaimed_law}
-use Rattle.art_step.proofs.Turns.{member_append, one_view}
+use Rattle.art_step.proofs.SetsView.{member_append, one_view}
 use Rattle.art_step.proofs.WordRows.{IsNoLeaf, sets_version, sets_word, copy_of, is_copy, copy_version}
 use Rattle.art_step.proofs.Moves.{Moves, makes, moved, with_view, with_turned}
 

@@ -1,6 +1,6 @@
 -- What is hidden of a world is determined by what is seen: the history, which only grows, and the logical words. A step keeps its
 -- pass.
-use Rattle.std.proofs.Common.{◌≡◌, ◌≢◌, ◌⊎◌, ℕ, zero, suc, ◌+◌, ◌%◌, ◌<◌, ◌≤◌, ◌==◌, if◌then◌else◌, List, [], ◌∷◌, ◌++◌, length, inl, inr, ⊎_elim, sym, refl, ap, ◌∙◌, subst, arith, append-nil, append_assoc, eq-eqb, length-append}
+use Rattle.std.proofs.Common.{◌≡◌, ◌≢◌, ◌⊎◌, ℕ, suc, ◌+◌, ◌%◌, ◌<◌, ◌≤◌, ◌==◌, List, [], ◌∷◌, ◌++◌, length, inl, inr, ⊎_elim, sym, refl, ap, ◌∙◌, subst, arith, append-nil, append_assoc, eq-eqb, length-append}
 use Rattle.std.proofs.lemmas.Bool.{cases_eq, cond_both}
 use Rattle.std.proofs.lemmas.Option.{same_Some}
 use Rattle.std.specs.Prelude.{Option, Some, None}
@@ -11,12 +11,12 @@ use Rattle.art_step.specs.declared.views.View.{View}
 use Rattle.art_step.specs.declared.views.What.{What}
 use Rattle.art_tree.specs.Heaps.{Cells}
 use Rattle.art_step.specs.Histories.{StartsWith, event, places, places_from}
-use Rattle.art_step.specs.Sound.{IsOneHistory, IsSound, OneHolder}
+use Rattle.art_step.specs.Sound.{IsOneHistory, IsSound}
 use Rattle.art_step.specs.Steps.{OfAKind, OneStep, IsBegin, IsRead, IsReadLeaf, IsUnchanged, IsChanged, IsForget, IsUpgrade, IsClaim, IsCommit, IsRelease, IsWrite, IsWriteLeaf, IsTake, IsGive, IsFreed}
 use Rattle.art_step.specs.Steps.Begin as begin
 use Rattle.art_step.specs.Steps.Check as check
 use Rattle.art_step.specs.Determined.{HistoryGrows, HistoryLaw, LogicalLaw}
-use Rattle.art_step.specs.Views.{IsLocked, Member, Memory, Views, SetsView}
+use Rattle.art_step.specs.Views.{Member, Memory, Views, SetsView}
 
 begun_seen : (v : View) (c : Cell) (x : ℕ) → (begin.view_after v c x).seen ≡ v.seen
 begun_seen v c x = cond_both (x % 4 == 0) _ _ (λ (w : View). w.seen ≡ v.seen) (λ e. refl) (λ e. refl)

@@ -9,7 +9,7 @@ use Rattle.art_tree.specs.Rows.{ByteMap}
 use Rattle.art_step.specs.Histories.{event, IsAnswered, becomes, run, replay, IsLegalFrom, places_from, places}
 use Rattle.art_step.specs.Sound.{IsOneHistory, IsSeenBy}
 use Rattle.art_step.specs.Views.{Views, SetsView}
-use Rattle.art_step.proofs.Turns.{either_view, stranger_before}
+use Rattle.art_step.proofs.SetsView.{either_view, stranger_before}
 
 run_more : (s : ByteMap) (es : List Event) (e : Event) → run s (es ++ e ∷ []) ≡ becomes (run s es) e.what
 run_more s [] e = refl

@@ -1,5 +1,5 @@
 -- Numbers that are taken and given back: the bit of a number in its word, and the view after a step that sets it or takes it away.
-use Rattle.std.proofs.Common.{◌≡◌, ◌≢◌, ℕ, ◌+◌, ◌-◌, ◌*◌, ◌/◌, ◌%◌, ◌^◌, ◌<◌, ◌≤◌, ◌==◌, Bool, true, false, List, length, get_or, slice_set, sym, refl, ap, ◌∙◌, subst, ⊎_elim, arith}
+use Rattle.std.proofs.Common.{◌≡◌, ◌≢◌, ℕ, ◌+◌, ◌-◌, ◌*◌, ◌/◌, ◌%◌, ◌^◌, ◌<◌, ◌≤◌, ◌==◌, Bool, true, false, List, length, get_or, slice_set, sym, refl, ap, ◌∙◌, ⊎_elim, arith}
 use Rattle.std.proofs.lemmas.Bool.{cases_Bool, eqb-true, eqb-false}
 use Rattle.std.proofs.lemmas.List.{get_or_read}
 use Rattle.std.proofs.lemmas.Nat.{pow_below}
@@ -7,13 +7,11 @@ use Rattle.std.specs.Prelude.{Some}
 use Rattle.art_cell.specs.declared.cells.Link.{Link}
 use Rattle.art_cell.specs.declared.cells.Link.TheVariants.{Leaf as leaf, Node as node}
 use Rattle.art_step.specs.Steps.Take.{IsTaken, word_count_of}
-use Rattle.art_cell.specs.declared.layouts.Pool.{Pool}
-use Rattle.art_cell.specs.declared.layouts.Pool.TheVariants.{Leaves}
 use Rattle.art_step.specs.declared.views.InHand.{InHand}
 use Rattle.art_step.specs.declared.views.Retired.{Retired}
 use Rattle.art_step.specs.declared.views.Sizes.{Sizes}
 use Rattle.art_step.specs.declared.views.View.{View}
-use Rattle.art_cell.specs.Children.{link_in_pool, number_of}
+use Rattle.art_cell.specs.Children.{number_of}
 use Rattle.art_cell.specs.Lemmas.Headers.{bit_at_least, bit_more_below}
 use Rattle.art_step.specs.Steps.Give as give
 use Rattle.art_step.specs.Steps.Take as take_free
@@ -21,14 +19,13 @@ use Rattle.art_step.specs.Sound.{Whereabouts, InHandOf, InLimboOf, Nowhere, IsFr
 use Rattle.art_step.specs.Steps.{IsTake, IsGive, IsFreed}
 use Rattle.art_step.specs.Effects.{SetsFree}
 use Rattle.art_step.specs.Steps.Give.{MayFree}
-use Rattle.art_step.specs.Views.{Memory, IsNumber}
+use Rattle.art_step.specs.Views.{IsNumber}
 use Rattle.art_step.specs.WordPlaces.{pool_of, first_free_word, word_count}
-use Rattle.art_step.specs.WordRows.{free_place, bit_of, is_free, memory_of, views_of, view_at}
+use Rattle.art_step.specs.WordRows.{free_place, bit_of, is_free, memory_of}
 use Rattle.art_step.proofs.FreeBits.{frees_number, takes_number, free_has_bit, free_found}
 use Rattle.art_step.proofs.WordRows.{words_taken, is_taken}
 use Rattle.art_step.proofs.WordPlaces.{HasBit, has_bit, free_below}
-use Rattle.art_step.specs.Effects.{Instant}
-use Rattle.art_step.specs.Views.{Views, SetsView}
+use Rattle.art_step.specs.Views.{Views}
 use Rattle.art_step.proofs.Moves.{Moves, moved}
 
 -- ---- the word that has a number's bit

@@ -40,7 +40,7 @@ use Rattle.art_cell.specs.Words.{prefix_of, child_of}
 use Rattle.art_step.specs.WordPlaces.{HasVersion}
 use Rattle.art_tree.proofs.Lookup.{absent_empty}
 use Rattle.art_tree.proofs.Meanings.{words_mean}
-use Rattle.art_step.proofs.Turns.{member_front, member_back}
+use Rattle.art_step.proofs.SetsView.{member_front, member_back}
 
 -- ---- what is shown
 

@@ -29,10 +29,10 @@ use Rattle.art_step.specs.Steps.Give.{HandsOver}
 use Rattle.art_step.specs.Views.{Member, Memory, words_in, IsClear, IsLocked, IsObsolete, IsVersion, cell_named, Views, SetsView}
 use Rattle.art_step.proofs.Facts.{SameLeafWords, holds_on}
 use Rattle.art_step.proofs.Histories.{replay_more, history_grows}
-use Rattle.art_step.proofs.Kept.{formed_turn, holder_turn, apart_turn}
+use Rattle.art_step.proofs.SoundParts.{formed_turn, holder_turn, apart_turn}
 use Rattle.art_tree.proofs.Places.{same_cell, same_link}
 use Rattle.art_step.proofs.StepLocks.{Raises, stamp_on, stayed, keeps_on, unlocked_not_held, no_leaf, released_raises, released_unlocked, released_clear, released_version}
-use Rattle.art_step.proofs.Turns.{one_view, either_view, stranger_before, each_view, member_append, member_front, member_back}
+use Rattle.art_step.proofs.SetsView.{one_view, either_view, stranger_before, each_view, member_append, member_front, member_back}
 
 -- ---- the words after all held cells have their new ones
 

@@ -26,8 +26,8 @@ use Rattle.art_step.specs.Steps.Release.{IsNodeAmong}
 use Rattle.art_step.specs.Views.{Member, Memory, words_in, IsClear, IsLocked, IsObsolete, last_counter, IsVersion, cell_named, Views, SetsView}
 use Rattle.art_tree.proofs.Places.{same_cell}
 use Rattle.art_step.proofs.Histories.{history_stays}
-use Rattle.art_step.proofs.Kept.{numbers_turn, unstamped_turn, formed_turn, holder_turn, apart_turn}
-use Rattle.art_step.proofs.Turns.{one_view, each_view}
+use Rattle.art_step.proofs.SoundParts.{numbers_turn, unstamped_turn, formed_turn, holder_turn, apart_turn}
+use Rattle.art_step.proofs.SetsView.{one_view, each_view}
 
 -- ---- the memory
 

@@ -31,8 +31,8 @@ use Rattle.art_step.specs.Steps.Begin.{first_notes}
 use Rattle.art_step.specs.Views.{Member, Memory, IsClear, IsLocked, Views, SetsView}
 use Rattle.art_step.proofs.Facts.{holds_all}
 use Rattle.art_step.proofs.Histories.{replay_more, history_stays, history_grows}
-use Rattle.art_step.proofs.Kept.{numbers_turn, IsNewStamp, unstamped_turn, formed_turn, holder_same}
-use Rattle.art_step.proofs.Turns.{each_view, member_append}
+use Rattle.art_step.proofs.SoundParts.{numbers_turn, IsNewStamp, unstamped_turn, formed_turn, holder_same}
+use Rattle.art_step.proofs.SetsView.{each_view, member_append}
 
 -- the view with other notes of what the pass has seen, and all that it holds, has in hand and in limbo, and its pins
 abbrev noting : View → List Event → List ℕ → ℕ → ℕ → List Stamp → List Note → LastCheck → List Found → View

@@ -23,9 +23,9 @@ use Rattle.art_step.specs.Effects.{SetsFree}
 use Rattle.art_step.specs.Steps.Take.{IsTaken}
 use Rattle.art_step.specs.Views.{HaveChildWords, Member, Memory, words_in, IsClear, IsLocked, IsObsolete, IsVersion, cell_named, Views, SetsView}
 use Rattle.art_step.proofs.Histories.{history_stays}
-use Rattle.art_step.proofs.Kept.{account_on, unstamped_turn, holder_same, formed_turn}
+use Rattle.art_step.proofs.SoundParts.{account_on, unstamped_turn, holder_same, formed_turn}
 use Rattle.art_tree.proofs.Places.{same_link}
-use Rattle.art_step.proofs.Turns.{one_view, stranger_before, each_view}
+use Rattle.art_step.proofs.SetsView.{one_view, stranger_before, each_view}
 
 -- ---- what other words of the memory do not touch
 

@@ -27,11 +27,11 @@ use Rattle.art_cell.specs.Words.{Words}
 use Rattle.art_step.proofs.Facts.{SameLeafWords, holds_on}
 use Rattle.art_tree.proofs.Frame.{frame_paths, frame_sound, frame_rows}
 use Rattle.art_step.proofs.Histories.{history_stays}
-use Rattle.art_step.proofs.Kept.{account_on, numbers_turn, holder_turn, apart_turn, holder_same, one_entry}
+use Rattle.art_step.proofs.SoundParts.{account_on, numbers_turn, holder_turn, apart_turn, holder_same, one_entry}
 use Rattle.art_tree.proofs.Meanings.{same_tree}
 use Rattle.art_tree.proofs.Places.{same_cell, same_link}
 use Rattle.art_step.proofs.StepNumbers.{keeps_new, keeps_on, holder_words, HoldingsFrom, vouch_turn, unstamped_same, formed_same}
-use Rattle.art_step.proofs.Turns.{stranger_before, each_view}
+use Rattle.art_step.proofs.SetsView.{stranger_before, each_view}
 
 -- ---- words and lists of them
 

@@ -1,12 +1,12 @@
 -- The views of passes, as they stand in a list, and what one step makes of them.
-use Rattle.std.proofs.Common.{◌≡◌, ◌≢◌, ℕ, zero, suc, ◌+◌, ◌<◌, List, [], ◌∷◌, Some, length, slice_get, slice_set, set, refl, sym, ap, ◌∙◌, subst, arith, length-set, get_or-set_same, get_or-set_other}
-use Rattle.std.proofs.lemmas.Option.{same_Some, slice_get-get_or}
+use Rattle.std.proofs.Common.{◌≡◌, ◌≢◌, ℕ, zero, suc, ◌<◌, List, [], ◌∷◌, Some, length, slice_get, slice_set, refl, sym, ap, ◌∙◌, subst, arith, length-set, get_or-set_same, get_or-set_other}
+use Rattle.std.proofs.lemmas.Option.{slice_get-get_or}
 use Rattle.art_step.specs.declared.views.View.{View}
 use Rattle.art_step.specs.Effects.{Instant}
 use Rattle.art_step.specs.Opening.{newcomer}
 use Rattle.art_step.specs.Views.{SetsView}
-use Rattle.art_world.specs.Contents.{Contents, IsStepped, MakesStep, OnlyStepsOf, StepBy, memory_now}
-use Rattle.art_step.specs.WordRows.{memory_of, views_of, view_at}
+use Rattle.art_world.specs.Contents.{Contents, IsStepped, OnlyStepsOf, StepBy, memory_now}
+use Rattle.art_step.specs.WordRows.{views_of, view_at}
 use Rattle.art_step.specs.declared.views.Sizes.{Sizes}
 use Rattle.art_step.proofs.Moves.{Moves}
 

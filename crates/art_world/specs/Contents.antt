@@ -1,18 +1,12 @@
 -- What contracts see of a world, and steps that are made on it.
 use Rattle.std.specs.Prelude.{◌≡◌, ◌≢◌, ℕ, zero, suc, List, length, slice_set, refl}
-use Rattle.std.specs.List.{slice_get}
 use Rattle.std.proofs.Common.{◌∙◌, subst}
-use Rattle.art_cell.specs.declared.cells.Cell.{Cell}
-use Rattle.art_cell.specs.declared.cells.Cell.TheVariants as cell
-use Rattle.art_cell.specs.declared.cells.Link.{Link}
 use Rattle.art_step.specs.declared.views.Sizes.{Sizes}
 use Rattle.art_step.specs.declared.views.View.{View}
-use Rattle.art_cell.specs.Children.{number_of}
 use Rattle.art_step.specs.Effects.{Instant}
 use Rattle.art_step.specs.Sound.{IsSound}
 use Rattle.art_step.specs.Steps.{AtStep, OneStep}
-use Rattle.art_step.specs.Opening.{newcomer}
-use Rattle.art_step.specs.Views.{Memory, Views, size_of}
+use Rattle.art_step.specs.Views.{Memory, Views}
 use Rattle.art_step.specs.WordRows.{memory_of, view_at, views_of}
 use Rattle.art_step.specs.WordPlaces.{word_count}
 

@@ -1,12 +1,12 @@
 -- The bit of a number that is not free is 0, so that it can be added.
-use Rattle.std.proofs.Common.{◌≡◌, ◌∙◌, ◌+◌, ◌-◌, ◌*◌, ◌/◌, ◌%◌, ◌^◌, false, true, ap, slice_set, subst, sym, arith}
+use Rattle.std.proofs.Common.{◌≡◌, ◌∙◌, ◌+◌, ◌*◌, ◌/◌, ◌%◌, ◌^◌, false, true, ap, slice_set, subst, sym, arith}
 use Rattle.art_step.specs.Effects.{SetsFree}
 use Rattle.art_step.specs.Tokens.{link_of_number}
 use Rattle.art_step.specs.Views.{IsNumber}
 use Rattle.art_step.specs.WordPlaces.{first_free_word}
 use Rattle.art_step.specs.WordRows.{memory_of}
 use Rattle.art_world.specs.Contents.{Contents, memory_now}
-use Rattle.art_step.proofs.NumberMoves.{bit_below, bit_room, bit_word, frees_bit}
+use Rattle.art_step.proofs.NumberMoves.{bit_room, bit_word, frees_bit}
 use Rattle.art_world.proofs.world.World.with_bit.Goals as goal
 
 pub overflow_add-result : goal.overflow_add-result

@@ -1,13 +1,12 @@
 -- The bit of a free number is 1, so that it can be subtracted.
-use Rattle.std.proofs.Common.{◌≡◌, ◌∙◌, ◌+◌, ◌-◌, ◌*◌, ◌/◌, ◌%◌, ◌^◌, false, true, ap, slice_set, subst, sym, arith}
+use Rattle.std.proofs.Common.{◌≡◌, ◌∙◌, ◌+◌, ◌-◌, ◌*◌, ◌/◌, ◌%◌, ◌^◌, false, true, ap, slice_set, subst, sym}
 use Rattle.art_step.specs.Effects.{SetsFree}
 use Rattle.art_step.specs.Tokens.{link_of_number}
-use Rattle.art_step.specs.Views.{IsNumber}
 use Rattle.art_step.specs.WordPlaces.{first_free_word}
-use Rattle.art_step.specs.WordRows.{memory_of, views_of}
+use Rattle.art_step.specs.WordRows.{memory_of}
 use Rattle.art_world.specs.Contents.{Contents, memory_now}
 use Rattle.art_step.proofs.FreeBits.{free_is_number}
-use Rattle.art_step.proofs.NumberMoves.{bit_below, bit_within, bit_word, takes_bit}
+use Rattle.art_step.proofs.NumberMoves.{bit_within, bit_word, takes_bit}
 use Rattle.art_world.proofs.world.World.without_bit.Goals as goal
 
 pub overflow_sub-result : goal.overflow_sub-result

@@ -1,8 +1,5 @@
 -- A version word is found, the stamped one or another.
-use Rattle.art_world.specs.Stepper.{pass_of, view_of, world_of}
-use Rattle.art_step.specs.WordRows.{views_of}
-use Rattle.art_world.proofs.ViewLists.{at_view}
-use Rattle.std.proofs.Common.{sym}
+use Rattle.art_world.specs.Stepper.{pass_of, world_of}
 use Rattle.std.specs.Option.{option_map}
 use Rattle.art_step.specs.Deeds.{what_of}
 use Rattle.art_world.proofs.Moving.{at_step_so, checks}

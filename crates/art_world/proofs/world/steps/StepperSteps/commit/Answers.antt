@@ -2,11 +2,8 @@
 use Rattle.art_world.specs.Stepper.{pass_of, view_of, world_of}
 use Rattle.art_step.specs.WordRows.{views_of}
 use Rattle.art_world.proofs.ViewLists.{at_view}
-use Rattle.std.proofs.Common.{arith, sym, subst}
-use Rattle.std.specs.Prelude.{Option}
-use Rattle.art_cell.specs.declared.cells.Link.{Link}
+use Rattle.std.proofs.Common.{arith}
 use Rattle.art_step.specs.Deeds.{what_of}
-use Rattle.art_step.specs.Steps.Commit as commit
 use Rattle.art_step.specs.Tokens.{links_of}
 use Rattle.art_step.proofs.Changing.{moves_commits, released_fits}
 use Rattle.art_world.proofs.Moving.{version_low}

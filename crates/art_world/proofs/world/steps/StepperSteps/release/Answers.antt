@@ -2,7 +2,7 @@
 use Rattle.art_world.specs.Stepper.{pass_of, view_of, world_of}
 use Rattle.art_step.specs.WordRows.{views_of}
 use Rattle.art_world.proofs.ViewLists.{at_view}
-use Rattle.std.proofs.Common.{arith, ◌≡◌}
+use Rattle.std.proofs.Common.{arith}
 use Rattle.art_step.proofs.Changing.{moves_releases, released_fits}
 use Rattle.art_world.proofs.Moving.{version_low}
 use Rattle.art_world.proofs.world.steps.StepperSteps.release.Goals as goal

@@ -5,7 +5,7 @@ use Rattle.art_world.proofs.ViewLists.{at_view}
 use Rattle.std.proofs.lemmas.Bool.{cases_lt, false≢true}
 use Rattle.std.specs.Prelude.{IsTrue}
 use Rattle.art_step.specs.Views.{last_counter}
-use Rattle.std.proofs.Common.{Bool, false, ℕ, ◌*◌, ◌<◌, ◌≤◌, ◌↔◌, ⊎_elim, ◌≡◌, ◌∙◌, sym, ap, ap₂, subst, arith}
+use Rattle.std.proofs.Common.{Bool, false, ℕ, ◌*◌, ◌<◌, ◌≤◌, ◌↔◌, ⊎_elim, ◌≡◌, ◌∙◌, sym}
 use Rattle.art_step.specs.Steps.Upgrade as upgrade
 use Rattle.art_step.proofs.Moves.{moves_fails}
 use Rattle.art_step.proofs.Changing.{moves_upgrades}

@@ -2,9 +2,7 @@
 use Rattle.art_world.specs.Stepper.{pass_of, view_of, world_of}
 use Rattle.art_step.specs.WordRows.{views_of}
 use Rattle.art_world.proofs.ViewLists.{at_view}
-use Rattle.std.proofs.Common.{◌∙◌, sym, ap, subst, ◌<◌, ◌≡◌, ℕ}
-use Rattle.art_cell.specs.declared.cells.Link.TheVariants.{Leaf as leaf}
-use Rattle.art_step.specs.Steps.Write as write
+use Rattle.std.proofs.Common.{◌∙◌, sym}
 use Rattle.art_step.proofs.Changing.{moves_writes_leaf}
 use Rattle.art_world.proofs.Moving.{leaf_named, word_low}
 use Rattle.art_cell.specs.declared.cells.Cell.TheVariants as cell

@@ -18,7 +18,7 @@ use Rattle.art_tree.specs.Heaps.{Cells}
 use Rattle.art_step.specs.Sound.{Keeps, HoldsEach, OneHolder, Holder, Whereabouts, InTree, IsFree, InLimboOf, Accounts, NumbersAccounted, IsUnder, Awaits, IsPinned, MarkedUnstamped, WordsFormed}
 use Rattle.art_step.specs.Views.{HaveChildWords, Member, Memory, IsClear, IsObsolete, IsVersion, cell_named, Views, SetsView}
 use Rattle.art_cell.specs.Words.{Words}
-use Rattle.art_step.proofs.Turns.{one_view, either_view, stranger_before, each_view, each_two, same_early_notes}
+use Rattle.art_step.proofs.SetsView.{one_view, either_view, stranger_before, each_view, each_two, same_early_notes}
 
 -- ---- numbers
 
