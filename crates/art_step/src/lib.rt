@@ -138,4 +138,4 @@ pub use views::{
     Asked, EpochSeen, Event, Fact, Found, Holding, InHand, LastCheck, Note, Pin, Retired, Sizes,
     Stamp, View, What, Word,
 };
-pub use word_places::{free_words, pool_of_layout};
+pub use word_places::pool_of_layout;

@@ -35,7 +35,7 @@ impl Sizes {
     }
 
     /// The place of the first word of the pool's cells.
-    pub fn first_cell(self, pool: Pool) -> usize
+    pub(crate) fn first_cell(self, pool: Pool) -> usize
         ensures { result ≡ first_cell self pool }
     {
         let n4 = 2 + 10 * self.leaves as usize;
@@ -51,14 +51,14 @@ impl Sizes {
     }
 
     /// The place after the last cell.
-    pub fn cells_end(self) -> usize
+    pub(crate) fn cells_end(self) -> usize
         ensures { result ≡ cells_end self }
     {
         self.first_cell(Pool::N256) + 266 * self.n256 as usize
     }
 
     /// The layout of the node whose word stands at the place.
-    pub fn layout_of_place(self, place: usize) -> Layout
+    pub(crate) fn layout_of_place(self, place: usize) -> Layout
         requires from { first_cell self n4_pool ≤ place }
         requires before { place < cells_end self }
         ensures from { first_cell self (pool_of_layout result) ≤ place }
@@ -106,7 +106,7 @@ impl Sizes {
     }
 
     /// The pool whose free numbers have a bit in the word at the place.
-    pub fn pool_of_free_place(self, place: usize) -> Pool
+    pub(crate) fn pool_of_free_place(self, place: usize) -> Pool
         requires from { first_free_word self leaf_pool ≤ place }
         requires before { place < epoch_place self }
         ensures from { first_free_word self result ≤ place }
@@ -126,7 +126,7 @@ impl Sizes {
     }
 
     /// The place of the epoch.
-    pub fn epoch_place(self) -> usize
+    pub(crate) fn epoch_place(self) -> usize
         ensures { result ≡ epoch_place self }
     {
         self.first_free_word(Pool::N256) + free_words(self.n256)
@@ -141,7 +141,7 @@ impl Sizes {
 }
 
 /// How many words have the bits of so many numbers.
-pub fn free_words(numbers: u32) -> usize
+pub(crate) fn free_words(numbers: u32) -> usize
     ensures { result ≡ free_words numbers }
 {
     (numbers as usize + 63) / 64

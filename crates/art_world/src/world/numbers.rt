@@ -44,8 +44,9 @@ impl Stepper<'_> {
     {
         self.world.stays_sound();
         let (place, word) = self.world.with_bit(&number);
-        let link = number.spend();
-        self.world.put::<Brand, Link>(self.pass, place, word, &link);
+        let freed = number.spend();
+        self.world
+            .put::<Brand, Link>(self.pass, place, word, &freed);
     }
 
     /// A number that the pass unlinked is free again. A node's must stand in no stamp of the pass, and be marked for every other.
@@ -56,8 +57,9 @@ impl Stepper<'_> {
     {
         self.world.stays_sound();
         let (place, word) = self.world.with_bit(&number);
-        let link = number.spend();
-        self.world.put::<Brand, Link>(self.pass, place, word, &link);
+        let unlinked = number.spend();
+        self.world
+            .put::<Brand, Link>(self.pass, place, word, &unlinked);
     }
 }
 

@@ -25,7 +25,7 @@ pub put-requires-clause-moves : goal.put-requires-clause-moves
 put-requires-clause-moves c i =
     let s = c.args.self.now in
     let k = world_of s in
-    rw c.spend-link.ensures (moves_frees k.sizes k.words (views_of k.views) (pass_of s) (view_of s) i.sound (at_view k.views (pass_of s) s.inside) i.long _ (link_of_number c.args.number) c.requires.0 c.requires.1 c.with_bit-place.ensures.sets)
+    rw c.spend-unlinked.ensures (moves_frees k.sizes k.words (views_of k.views) (pass_of s) (view_of s) i.sound (at_view k.views (pass_of s) s.inside) i.long _ (link_of_number c.args.number) c.requires.0 c.requires.1 c.with_bit-place.ensures.sets)
 
 pub returns-clause-frees : goal.returns-clause-frees
-returns-clause-frees c = rw (sym c.spend-link.ensures) record { at_once = c.put.ensures.at_once; row = c.put.ensures.row }
+returns-clause-frees c = rw (sym c.spend-unlinked.ensures) record { at_once = c.put.ensures.at_once; row = c.put.ensures.row }
