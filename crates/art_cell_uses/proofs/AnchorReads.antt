@@ -21,7 +21,7 @@ use Rattle.art_step.specs.declared.views.Note.{Note}
 use Rattle.art_step.specs.declared.views.Sizes.{Sizes}
 use Rattle.art_step.specs.declared.views.Stamp.{Stamp}
 use Rattle.art_step.specs.declared.views.View.{View}
-use Rattle.art_step.specs.declared.views.What.{What}
+use Rattle.art_step.specs.declared.deeds.Deed.{Deed}
 use Rattle.art_tree.proofs.ChildWords.{link_back, link_exact}
 use Rattle.art_tree.specs.Heaps.{heap_of}
 use Rattle.art_cell_uses.proofs.IdlePasses.{still_away, still_empty}
@@ -49,7 +49,7 @@ reading_learns v w x y e = subst (λ (u : View). OnlyLearns v u × IsNoted u x y
 )
 
 -- by a check, which keeps its stamps and notes
-pub unchanged_learns : (z : Sizes) (v w : View) (x : Stamp) (o : Option What) → check.Unchanged z v w x o → OnlyLearns v w
+pub unchanged_learns : (z : Sizes) (v w : View) (x : Stamp) (o : Option Deed) → check.Unchanged z v w x o → OnlyLearns v w
 unchanged_learns z v w x o p = subst (OnlyLearns v) (sym p.is) record {
   pin = refl;
   held = refl;

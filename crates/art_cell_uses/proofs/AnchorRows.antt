@@ -5,18 +5,19 @@ use Rattle.art_cell.specs.declared.cells.Cell.{Cell}
 use Rattle.art_cell.specs.declared.cells.Cell.TheVariants as cell
 use Rattle.art_cell.specs.declared.cells.Link.{Link}
 use Rattle.art_cell.specs.declared.cells.Link.TheVariants.{Leaf as leaf}
+use Rattle.art_step.specs.Deeds.{key_of}
 use Rattle.art_step.specs.declared.numbers.Number.{Number}
 use Rattle.art_step.specs.declared.held.Held.{Held}
 use Rattle.art_model.specs.declared.commands.Answer.TheVariants.{Inserted, Removed}
-use Rattle.art_step.specs.declared.views.Asked.TheVariants.{Insert, Remove}
+use Rattle.art_step.specs.declared.deeds.Act.TheVariants.{Insert, Remove}
 use Rattle.art_step.specs.declared.views.Fact.TheVariants.{LeafWord}
 use Rattle.art_step.specs.declared.views.Holding.{Holding}
 use Rattle.art_step.specs.declared.views.InHand.{InHand}
 use Rattle.art_step.specs.declared.views.Retired.{Retired}
 use Rattle.art_step.specs.declared.views.Sizes.{Sizes}
 use Rattle.art_step.specs.declared.views.View.{View}
-use Rattle.art_step.specs.declared.views.What.{What}
-use Rattle.art_step.specs.declared.views.What.TheVariants.{Done}
+use Rattle.art_step.specs.declared.deeds.Deed.{Deed}
+use Rattle.art_step.specs.declared.deeds.Deed.TheVariants.{Done}
 use Rattle.art_cell.specs.Children.{child_word, link_of}
 use Rattle.art_commit.specs.CommitLaws.{HoldsJust, ClaimedAmong}
 use Rattle.art_tree.specs.Heaps.{Cells, heap_of}
@@ -74,7 +75,7 @@ module _ (w : View) (h : Held) (x : ℕ) (old new : List ℕ) (holds : HoldsAnch
   )
 
   -- and then the pass is away
-  pub committed_away : (u : View) (what : What) (us ls : List Link) → ((k : Holding) → IsHolding w (cell_held h) k → commit.Outcome w u what us ls k) → IsAway u
+  pub committed_away : (u : View) (what : Deed) (us ls : List Link) → ((k : Holding) → IsHolding w (cell_held h) k → commit.Outcome w u what us ls k) → IsAway u
   committed_away u what us ls committed =
       let r = committed (anchor_held x old new) (holds.just.has, sym holds.cell) in
       record {
@@ -82,11 +83,11 @@ module _ (w : View) (h : Held) (x : ℕ) (old new : List ℕ) (holds : HoldsAnch
         held = subst (λ (hs : List Holding). HasNone hs) (sym (ap (λ (y : View). y.held) r.is)) (none_left w.held r.held _ cell.Anchor holds.just refl r.drops);
       }
 
-  pub committed_steps : (u : View) (what : What) (us ls : List Link) → ((k : Holding) → IsHolding w (cell_held h) k → commit.Outcome w u what us ls k) → u.steps ≡ w.steps + 1
+  pub committed_steps : (u : View) (what : Deed) (us ls : List Link) → ((k : Holding) → IsHolding w (cell_held h) k → commit.Outcome w u what us ls k) → u.steps ≡ w.steps + 1
   committed_steps u what us ls committed = ap (λ (y : View). y.steps) (committed (anchor_held x old new) (holds.just.has, sym holds.cell)).is
 
   -- nothing new is in hand
-  pub committed_hand : (u : View) (what : What) (us ls : List Link) → ((k : Holding) → IsHolding w (cell_held h) k → commit.Outcome w u what us ls k) → (y : InHand) → Member y u.hand → Member y w.hand × (Member y.link ls → ⊥)
+  pub committed_hand : (u : View) (what : Deed) (us ls : List Link) → ((k : Holding) → IsHolding w (cell_held h) k → commit.Outcome w u what us ls k) → (y : InHand) → Member y u.hand → Member y w.hand × (Member y.link ls → ⊥)
   committed_hand u what us ls committed y i =
       let r = committed (anchor_held x old new) (holds.just.has, sym holds.cell) in
       r.hands.was y (subst (Member y) (ap (λ (z : View). z.hand) r.is) i)
@@ -159,10 +160,10 @@ module _ (z : Sizes) (v : View) (h : Held) (x a b : ℕ) (c : ChangesWord v h x 
 -- ---- a leaf is added where the anchor names nothing
 
 pub may_add : (z : Sizes) (v : View) (h : Held) (n : Number) (x byte value : ℕ) → byte < 256 → Fills z v.hand n (byte ∷ []) value 10 → ChangesWord v h x 0 (child_word (link_of_number n))
-    → commit.May z v (Done (Insert (byte ∷ []) value) Inserted) [] (coming v (Some (link_of_number n)))
+    → commit.May z v (Done (Insert (key_of (byte ∷ [])) value) Inserted) [] (coming v (Some (link_of_number n)))
 may_add z v h n x byte value small f c s s' shape knows turns =
     let empty = root_before z v h x 0 _ c s s' knows turns in
-    subst (λ (ls : List Link). Commits z v (Done (Insert (byte ∷ []) value) Inserted) [] ls s s') (sym comes)
+    subst (λ (ls : List Link). Commits z v (Done (Insert (key_of (byte ∷ [])) value) Inserted) [] ls s s') (sym comes)
     (add_commits z v s s' Top [] f.number (byte ∷ []) value (record { shape = shape; knows = knows; new = turns }) (has_leaf z v n byte value small f)
     (holds_just z v h x 0 _ c) (claimed_none z v h x 0 _ c) (word_after z v h x 0 _ c s s' knows turns ∙ ap child_word f.is) refl empty (byte ∷ [], refl))
   where
@@ -170,7 +171,7 @@ may_add z v h n x byte value small f c s s' shape knows turns =
     comes = ap₂ (λ (d : Link) (ls : List Link). d ∷ ls) f.is (none_coming v h x c.old c.new c.holds)
 
 -- and then the pass is idle
-pub added_idle : (z : Sizes) (v w : View) (h : Held) (n : Number) (k : List ℕ) (value x a b : ℕ) (what : What) (us ls : List Link) → Fills z v.hand n k value 10 → ChangesWord v h x a b
+pub added_idle : (z : Sizes) (v w : View) (h : Held) (n : Number) (k : List ℕ) (value x a b : ℕ) (what : Deed) (us ls : List Link) → Fills z v.hand n k value 10 → ChangesWord v h x a b
     → ((y : Holding) → IsHolding v (cell_held h) y → commit.Outcome v w what us (link_of_number n ∷ ls) y) → IsIdle w
 added_idle z v w h n k value x a b what us ls f c committed = record {
   away = committed_away v h x c.old c.new c.holds w what us (link_of_number n ∷ ls) committed;
@@ -195,23 +196,23 @@ module _ (z : Sizes) (v : View) (h : Held) (l x byte value b : ℕ) (n : NotesLe
   value_noted = word_of_leaf 0 (omega arith)
 
 pub may_remove : (z : Sizes) (v : View) (h : Held) (l x byte value : ℕ) → byte < 256 → NotesLeaf z v (stamp_of cell.Anchor x) l (byte ∷ []) value 3 → ChangesWord v h x (child_word (leaf l)) 0
-    → commit.May z v (Done (Remove (byte ∷ [])) (Removed value)) (leaf l ∷ []) (coming v None)
+    → commit.May z v (Done (Remove (key_of (byte ∷ []))) (Removed value)) (leaf l ∷ []) (coming v None)
 may_remove z v h l x byte value small n c s s' shape knows turns =
-    subst₂ (λ (k : List ℕ) (w : ℕ). Commits z v (Done (Remove k) (Removed w)) (leaf l ∷ []) (coming v None) s s') (key_noted z v h l x byte value 0 n c s knows small) (value_noted z v h l x byte value 0 n c s knows)
-    (subst (λ (ls : List Link). Commits z v (Done (Remove ((heap_of s).key l)) (Removed ((heap_of s).value l))) (leaf l ∷ []) ls s s') (sym (none_coming v h x c.old c.new c.holds))
+    subst₂ (λ (k : List ℕ) (w : ℕ). Commits z v (Done (Remove (key_of k)) (Removed w)) (leaf l ∷ []) (coming v None) s s') (key_noted z v h l x byte value 0 n c s knows small) (value_noted z v h l x byte value 0 n c s knows)
+    (subst (λ (ls : List Link). Commits z v (Done (Remove (key_of ((heap_of s).key l))) (Removed ((heap_of s).value l))) (leaf l ∷ []) ls s s') (sym (none_coming v h x c.old c.new c.holds))
     (drop_commits z v s s' Top [] l (record { shape = shape; knows = knows; new = turns })
     (holds_just z v h x _ 0 c) (claimed_none z v h x _ 0 c) (word_after z v h x _ 0 c s s' knows turns) refl
     (root_before z v h x _ 0 c s s' knows turns ∙ link_back (leaf l) n.small)
     (λ m b e. cc)))
 
 -- and then it is idle, with the leaf in limbo
-pub removed_idle : (v w : View) (h : Held) (x a b : ℕ) (what : What) (us ls : List Link) → HasNone v.hand → ChangesWord v h x a b → ((y : Holding) → IsHolding v (cell_held h) y → commit.Outcome v w what us ls y) → IsIdle w
+pub removed_idle : (v w : View) (h : Held) (x a b : ℕ) (what : Deed) (us ls : List Link) → HasNone v.hand → ChangesWord v h x a b → ((y : Holding) → IsHolding v (cell_held h) y → commit.Outcome v w what us ls y) → IsIdle w
 removed_idle v w h x a b what us ls none c committed = record {
   away = committed_away v h x c.old c.new c.holds w what us ls committed;
   hand = λ y i. none y (committed_hand v h x c.old c.new c.holds w what us ls committed y i).0;
 }
 
-pub removed_limbo : (v w : View) (h : Held) (x a b l : ℕ) (what : What) (us ls : List Link) → us ≡ leaf l ∷ [] → ChangesWord v h x a b → ((y : Holding) → IsHolding v (cell_held h) y → commit.Outcome v w what us ls y) → IsInLimbo w (leaf l)
+pub removed_limbo : (v w : View) (h : Held) (x a b l : ℕ) (what : Deed) (us ls : List Link) → us ≡ leaf l ∷ [] → ChangesWord v h x a b → ((y : Holding) → IsHolding v (cell_held h) y → commit.Outcome v w what us ls y) → IsInLimbo w (leaf l)
 removed_limbo v w h x a b l what us ls one c committed =
     let r = committed (anchor_held x c.old c.new) (c.holds.just.has, sym c.holds.cell) in
     let is : w.limbo ≡ retired r.pins (leaf l) ∷ v.limbo = ap (λ (y : View). y.limbo) r.is ∙ ap (λ (ds : List Link). all_retired r.pins ds ++ v.limbo) one in

@@ -52,7 +52,7 @@ pub may_lock : (v : View) → IsAway v → MayLock v
 may_lock v away = inr (no_members v.held away.held)
 
 -- what an upgrade of a pass that held nothing made
-pub locks : (v w : View) (x : Stamp) (h : Held) → IsAway v → x.cell ≡ cell.Anchor → cell_held h ≡ x.cell → upgrade.Locked v w x → Locks v w x h
+pub locks : (v w : View) (x : Stamp) (h : Held) → IsAway v → x.cell ≡ cell.Anchor → cell_held h ≡ x.cell → upgrade.Locks v w x → Locks v w x h
 locks v w x h away anchor is u = record {
   words = u.words;
   long = u.long ∙ ap size_of anchor;

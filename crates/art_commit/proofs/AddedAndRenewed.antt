@@ -5,12 +5,13 @@ use Rattle.art_cell.specs.declared.cells.Cell.{Cell}
 use Rattle.art_cell.specs.declared.cells.Cell.TheVariants as cell
 use Rattle.art_cell.specs.declared.cells.Link.TheVariants.{Leaf as leaf, Node as node}
 use Rattle.art_model.specs.declared.commands.Answer.TheVariants.{Inserted}
-use Rattle.art_step.specs.declared.views.Asked.TheVariants.{Insert}
+use Rattle.art_step.specs.Deeds.{key_of}
+use Rattle.art_step.specs.declared.deeds.Act.TheVariants.{Insert}
 use Rattle.art_step.specs.declared.views.Holding.{Holding}
 use Rattle.art_step.specs.declared.views.InHand.{InHand}
 use Rattle.art_step.specs.declared.views.Sizes.{Sizes}
 use Rattle.art_step.specs.declared.views.View.{View}
-use Rattle.art_step.specs.declared.views.What.TheVariants.{Done}
+use Rattle.art_step.specs.declared.deeds.Deed.TheVariants.{Done}
 use Rattle.art_commit.specs.CommitLaws.{Before, HasLeaf, HasNode, HoldsJust, ClaimedAmong}
 use Rattle.art_commit.specs.TwoChanges.{held_until, for_first, for_second, IsInTwo, empty_look}
 use Rattle.art_tree.specs.Heaps.{Cells, node_prefix, heap_of}
@@ -44,8 +45,8 @@ module _ (z : Sizes) (v : View) (s s' : Cells) (x y : Place) (r q k : List ℕ) 
   node_second : HasNode z (for_second v mid hs' xs) m
   node_second = record { hand = hand.hand; has = in_hand; link = hand.link; number = hand.number; fits = hand.fits }
 
-  pub added_and_renewed : Commits z v (Done (Insert k value) Inserted) (node n ∷ []) (leaf l ∷ node m ∷ []) s s'
-  added_and_renewed = two_parts_commit z v s s' hs hs' xs mid (Done (Insert k value) Inserted) empty_look (Done (Insert k value) Inserted) [] (leaf l ∷ []) (node n ∷ []) (node m ∷ []) before parts
+  pub added_and_renewed : Commits z v (Done (Insert (key_of k) value) Inserted) (node n ∷ []) (leaf l ∷ node m ∷ []) s s'
+  added_and_renewed = two_parts_commit z v s s' hs hs' xs mid (Done (Insert (key_of k) value) Inserted) empty_look (Done (Insert (key_of k) value) Inserted) [] (leaf l ∷ []) (node n ∷ []) (node m ∷ []) before parts
       (λ i j. ⊎_elim (λ (e : i.link ≡ leaf l). let f = only_m i j in cc) (λ (none : ⊥). none))
       (λ d. ⊎_elim (λ (e : d ≡ node n). (q, subst (λ c. StandsAt (heap_of s) c q) (sym e) stood)) (λ (none : ⊥). absurd none))
       (λ f rows a b. (a, refl))

@@ -7,7 +7,7 @@ use Rattle.art_cell.specs.declared.cells.Link.{Link}
 use Rattle.art_cell.specs.declared.cells.Link.TheVariants.{Leaf as leaf, Node as node}
 use Rattle.art_step.specs.declared.views.Sizes.{Sizes}
 use Rattle.art_step.specs.declared.views.View.{View}
-use Rattle.art_step.specs.declared.views.What.{What}
+use Rattle.art_step.specs.declared.deeds.Deed.{Deed}
 use Rattle.art_tree.specs.Changes.{Moves}
 use Rattle.art_tree.specs.Heaps.{Cells, heap_of}
 use Rattle.art_step.specs.Knowledge.{IsNodeCell, IsShape}
@@ -41,7 +41,7 @@ module _ (z : Sizes) (v : View) (s s' : Cells) (P : Cell → Type 0) (b : Before
   pub same_words : (c : Cell) → (P c → ⊥) → s' c ≡ s c
   same_words c other = b.new.there c (λ h i e. other (subst P e (just.only h i)))
 
-  module _ (what : What) (us ls : List Link) (T : Link → Type 0) (E : Link → List ℕ → Type 0) (moves : Moves (heap_of s) (heap_of s') T E) (rows : RowsBy (heap_of s) (heap_of s') what)
+  module _ (what : Deed) (us ls : List Link) (T : Link → Type 0) (E : Link → List ℕ → Type 0) (moves : Moves (heap_of s) (heap_of s') T E) (rows : RowsBy (heap_of s) (heap_of s') what)
       (touches : Touches v us ls s T E) (forms : Forms z ls s s' P) (Q : Node → Type 0) (among : ClaimedAmong v Q) (claims : (n : Node) → Q n → Member (node n) ls) where
     -- what is linked after comes, or was linked
     linked_after : (d : Link) → IsLinked s' d → Member d ls ⊎ IsLinked s d

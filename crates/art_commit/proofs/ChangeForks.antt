@@ -7,10 +7,11 @@ use Rattle.art_cell.specs.declared.cells.Cell.TheVariants as cell
 use Rattle.art_cell.specs.declared.cells.Link.{Link}
 use Rattle.art_cell.specs.declared.cells.Link.TheVariants.{Leaf as leaf, Node as node}
 use Rattle.art_model.specs.declared.commands.Answer.TheVariants.{Inserted}
-use Rattle.art_step.specs.declared.views.Asked.TheVariants.{Insert}
+use Rattle.art_step.specs.Deeds.{key_of}
+use Rattle.art_step.specs.declared.deeds.Act.TheVariants.{Insert}
 use Rattle.art_step.specs.declared.views.Sizes.{Sizes}
 use Rattle.art_step.specs.declared.views.View.{View}
-use Rattle.art_step.specs.declared.views.What.TheVariants.{Done}
+use Rattle.art_step.specs.declared.deeds.Deed.TheVariants.{Done}
 use Rattle.art_tree.specs.Changes.{IsUnlinked, Forks}
 use Rattle.art_commit.specs.CommitLaws.{Before, HasLeaf, HasNode, HoldsJust, ClaimedAmong, IsItsNode, ForkCommits}
 use Rattle.art_tree.specs.Heaps.{Cells, node_prefix, heap_of}
@@ -117,8 +118,8 @@ module _ (z : Sizes) (v : View) (s s' : Cells) (x : Place) (r : List ℕ) (c : L
         (⊎_elim (λ (e : d ≡ node m). subst (λ y. IsNumber z y × IsFormed s' y) (sym e) (hand.number, m_formed)) (λ (i : ⊥). absurd i)) i;
   }
 
-  forked : Commits z v (Done (Insert k value) Inserted) [] (leaf l ∷ node m ∷ []) s s'
-  forked = commits_by z v s s' Written before just (Done (Insert k value) Inserted) [] (leaf l ∷ node m ∷ []) (ForkTouched c m l) (ForkPaths h' c m l a b r) (fork_does empty).moves
+  forked : Commits z v (Done (Insert (key_of k) value) Inserted) [] (leaf l ∷ node m ∷ []) s s'
+  forked = commits_by z v s s' Written before just (Done (Insert (key_of k) value) Inserted) [] (leaf l ∷ node m ∷ []) (ForkTouched c m l) (ForkPaths h' c m l a b r) (fork_does empty).moves
       (inserted_rows z v s l k value before.knows has h' (absent_forked h h' x c m l a b r k before.shape.tree at forks.0 above_c above_l) (λ f rows. (fork_does f).rows rows)) fork_touches fork_forms (λ i. i ≡ m) among (λ n e. inr (inl (ap node e))) tt
 
 pub fork_commits : ForkCommits

@@ -7,11 +7,12 @@ use Rattle.art_cell.specs.declared.cells.Cell.TheVariants as cell
 use Rattle.art_cell.specs.declared.cells.Link.{Link}
 use Rattle.art_cell.specs.declared.cells.Link.TheVariants.{Leaf as leaf, Node as node}
 use Rattle.art_model.specs.declared.commands.Answer.TheVariants.{Inserted, Removed}
-use Rattle.art_step.specs.declared.views.Asked.TheVariants.{Insert, Remove}
+use Rattle.art_step.specs.Deeds.{key_of}
+use Rattle.art_step.specs.declared.deeds.Act.TheVariants.{Insert, Remove}
 use Rattle.art_step.specs.declared.views.Sizes.{Sizes}
 use Rattle.art_step.specs.declared.views.View.{View}
-use Rattle.art_step.specs.declared.views.What.{What}
-use Rattle.art_step.specs.declared.views.What.TheVariants.{Done}
+use Rattle.art_step.specs.declared.deeds.Deed.{Deed}
+use Rattle.art_step.specs.declared.deeds.Deed.TheVariants.{Done}
 use Rattle.art_tree.specs.Changes.{IsUnlinked, Edits, Replaces}
 use Rattle.art_commit.specs.CommitLaws.{Before, HasLeaf, HoldsJust, ClaimedAmong, AddCommits, DropCommits, ReplaceCommits}
 use Rattle.art_tree.specs.Heaps.{Cells, heap_of}
@@ -87,8 +88,8 @@ module _ (z : Sizes) (v : View) (s s' : Cells) (x : Place) (r : List ℕ) (l : �
       held = λ n o t. absurd (cc);
     }
 
-    added : ClaimedAmong v (λ n. ⊥) → Commits z v (Done (Insert k value) Inserted) [] (leaf l ∷ []) s s'
-    added among = commits_by z v s s' Written b just (Done (Insert k value) Inserted) [] (leaf l ∷ []) (EditTouched l) (EditPaths h' x l r) (add_does empty).moves
+    added : ClaimedAmong v (λ n. ⊥) → Commits z v (Done (Insert (key_of k) value) Inserted) [] (leaf l ∷ []) s s'
+    added among = commits_by z v s s' Written b just (Done (Insert (key_of k) value) Inserted) [] (leaf l ∷ []) (EditTouched l) (EditPaths h' x l r) (add_does empty).moves
         (inserted_rows z v s l k value b.knows has h' (absent_free h x r k b.shape.tree at free begins) (λ m rows. (add_does m).rows rows)) add_touches (new_leaf_forms l k value has put) (λ n. ⊥) among (λ n i. absurd i) tt
 
   -- ---- it goes
@@ -114,13 +115,13 @@ module _ (z : Sizes) (v : View) (s s' : Cells) (x : Place) (r : List ℕ) (l : �
       held = λ n o t. absurd (cc);
     }
 
-    dropped : ClaimedAmong v (λ n. ⊥) → Commits z v (Done (Remove (h.key l)) (Removed (h.value l))) (leaf l ∷ []) [] s s'
-    dropped among = commits_by z v s s' Written b just (Done (Remove (h.key l)) (Removed (h.value l))) (leaf l ∷ []) [] (EditTouched l) (EditPaths h' x l r) (drop_does empty).moves
+    dropped : ClaimedAmong v (λ n. ⊥) → Commits z v (Done (Remove (key_of (h.key l))) (Removed (h.value l))) (leaf l ∷ []) [] s s'
+    dropped among = commits_by z v s s' Written b just (Done (Remove (key_of (h.key l))) (Removed (h.value l))) (leaf l ∷ []) [] (EditTouched l) (EditPaths h' x l r) (drop_does empty).moves
         (remove_rows h h' l r linked_leaf (λ m rows. (drop_does m).rows rows)) drop_touches (place_forms None [] put tt (λ d i. absurd i)) (λ n. ⊥) among (λ n i. absurd i) (once_one (leaf l))
 
   -- ---- it gives way to another with its key
 
-  module _ (i : ℕ) (k : List ℕ) (value : ℕ) (what : What) (has : HasLeaf z v i k value) (put : WritesPlace s s' x (Some (leaf i))) (was : child_at_place h x ≡ Some (leaf l)) (same_key : h.key l ≡ k) where
+  module _ (i : ℕ) (k : List ℕ) (value : ℕ) (what : Deed) (has : HasLeaf z v i k value) (put : WritesPlace s s' x (Some (leaf i))) (was : child_at_place h x ≡ Some (leaf l)) (same_key : h.key l ≡ k) where
     other_new : IsUnlinked h (leaf i)
     other_new = leaf_unlinked z v s i k value b.knows has
 

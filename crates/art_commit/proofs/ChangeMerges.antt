@@ -7,10 +7,11 @@ use Rattle.art_cell.specs.declared.cells.Cell.TheVariants as cell
 use Rattle.art_cell.specs.declared.cells.Link.{Link}
 use Rattle.art_cell.specs.declared.cells.Link.TheVariants.{Leaf as leaf, Node as node}
 use Rattle.art_model.specs.declared.commands.Answer.TheVariants.{Removed}
-use Rattle.art_step.specs.declared.views.Asked.TheVariants.{Remove}
+use Rattle.art_step.specs.Deeds.{key_of}
+use Rattle.art_step.specs.declared.deeds.Act.TheVariants.{Remove}
 use Rattle.art_step.specs.declared.views.Sizes.{Sizes}
 use Rattle.art_step.specs.declared.views.View.{View}
-use Rattle.art_step.specs.declared.views.What.TheVariants.{Done}
+use Rattle.art_step.specs.declared.deeds.Deed.TheVariants.{Done}
 use Rattle.art_tree.specs.Changes.{Merges}
 use Rattle.art_commit.specs.CommitLaws.{Before, HoldsJust, ClaimedAmong, IsItsNode, MergeCommits}
 use Rattle.art_tree.specs.Heaps.{Cells, node_prefix, heap_of}
@@ -110,8 +111,8 @@ module _ (z : Sizes) (v : View) (s s' : Cells) (x : Place) (r : List ℕ) (c : L
     new = λ d i. absurd i;
   }
 
-  merged : Commits z v (Done (Remove (h.key l)) (Removed (h.value l))) (node n ∷ leaf l ∷ []) [] s s'
-  merged = commits_by z v s s' Written before just (Done (Remove (h.key l)) (Removed (h.value l))) (node n ∷ leaf l ∷ []) [] (MergeTouched c n l) (MergePaths c r) (merge_does empty).moves
+  merged : Commits z v (Done (Remove (key_of (h.key l))) (Removed (h.value l))) (node n ∷ leaf l ∷ []) [] s s'
+  merged = commits_by z v s s' Written before just (Done (Remove (key_of (h.key l))) (Removed (h.value l))) (node n ∷ leaf l ∷ []) [] (MergeTouched c n l) (MergePaths c r) (merge_does empty).moves
       (remove_rows h h' l (path_past h n r b) at_l (λ f rows. (merge_does f).rows rows)) merge_touches merge_forms (λ i. ⊥) among (λ i e. absurd e) (once_two n l)
 
 pub merge_commits : MergeCommits

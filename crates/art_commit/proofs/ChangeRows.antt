@@ -5,10 +5,11 @@ use Rattle.art_cell.specs.declared.cells.Cell.TheVariants as cell
 use Rattle.art_cell.specs.declared.cells.Link.TheVariants.{Leaf as leaf, Node as node}
 use Rattle.art_cell.specs.declared.cells.Node.{Node}
 use Rattle.art_model.specs.declared.commands.Answer.TheVariants.{Inserted, Present, Removed, Absent}
-use Rattle.art_step.specs.declared.views.Asked.TheVariants.{Insert, Remove}
+use Rattle.art_step.specs.Deeds.{key_of}
+use Rattle.art_step.specs.declared.deeds.Act.TheVariants.{Insert, Remove}
 use Rattle.art_step.specs.declared.views.Sizes.{Sizes}
 use Rattle.art_step.specs.declared.views.View.{View}
-use Rattle.art_step.specs.declared.views.What.TheVariants.{Done}
+use Rattle.art_step.specs.declared.deeds.Deed.TheVariants.{Done}
 use Rattle.art_tree.specs.Changes.{IsUnlinked}
 use Rattle.art_commit.specs.AnyChange.{RowsBy}
 use Rattle.art_commit.specs.CommitLaws.{HasLeaf, HasNode}
@@ -32,13 +33,13 @@ absent_get h m k rows absent = each (get m k) refl
     each (Some u) e = absurd (absent u ((rows k u).1 e))
 
 -- an absent key is inserted
-insert_rows : (h h' : Heap) (k : List ℕ) (value : ℕ) → IsAbsent h k → ((m : ByteMap) → HasRows h m → HasRows h' (insert m k value)) → RowsBy h h' (Done (Insert k value) Inserted)
+insert_rows : (h h' : Heap) (k : List ℕ) (value : ℕ) → IsAbsent h k → ((m : ByteMap) → HasRows h m → HasRows h' (insert m k value)) → RowsBy h h' (Done (Insert (key_of k) value) Inserted)
 insert_rows h h' k value absent after m rows =
     let none = absent_get h m k rows absent in
     (ap (λ o. by_value o Present Inserted) (sym none), subst (λ o. HasRows h' (by_value o (λ _. m) (insert m k value))) (sym none) (after m rows))
 
 -- a linked leaf's row is removed
-pub remove_rows : (h h' : Heap) (l : ℕ) (p : List ℕ) → StandsAt h (leaf l) p → ((m : ByteMap) → HasRows h m → HasRows h' (remove m (h.key l))) → RowsBy h h' (Done (Remove (h.key l)) (Removed (h.value l)))
+pub remove_rows : (h h' : Heap) (l : ℕ) (p : List ℕ) → StandsAt h (leaf l) p → ((m : ByteMap) → HasRows h m → HasRows h' (remove m (h.key l))) → RowsBy h h' (Done (Remove (key_of (h.key l))) (Removed (h.value l)))
 remove_rows h h' l p at after m rows =
     let o : Row h (h.key l) (h.value l) = record { number = l; path = p; at = at; key = refl; value = refl } in
     let some = (rows (h.key l) (h.value l)).0 o in
@@ -63,7 +64,7 @@ module _ (z : Sizes) (v : View) (s : Cells) (l : ℕ) (k : List ℕ) (value : �
   leaf_unlinked = subst (IsUnlinked (heap_of s)) has.link (knows.hand has.hand has.has)
 
   -- it is inserted, where its key is absent
-  pub inserted_rows : (h' : Heap) → IsAbsent (heap_of s) k → ((m : ByteMap) → HasRows (heap_of s) m → HasRows h' (insert m ((heap_of s).key l) ((heap_of s).value l))) → RowsBy (heap_of s) h' (Done (Insert k value) Inserted)
+  pub inserted_rows : (h' : Heap) → IsAbsent (heap_of s) k → ((m : ByteMap) → HasRows (heap_of s) m → HasRows h' (insert m ((heap_of s).key l) ((heap_of s).value l))) → RowsBy (heap_of s) h' (Done (Insert (key_of k) value) Inserted)
   inserted_rows h' absent rows = insert_rows (heap_of s) h' k value absent (λ m i. subst₂ (λ j u. HasRows h' (insert m j u)) leaf_has_key leaf_has_value (rows m i))
 
   -- where it is not written it has the form of a leaf

@@ -7,11 +7,12 @@ use Rattle.art_cell.specs.declared.cells.Cell.TheVariants as cell
 use Rattle.art_cell.specs.declared.cells.Link.{Link}
 use Rattle.art_cell.specs.declared.cells.Link.TheVariants.{Leaf as leaf, Node as node}
 use Rattle.art_model.specs.declared.commands.Answer.TheVariants.{Inserted, Removed}
-use Rattle.art_step.specs.declared.views.Asked.TheVariants.{Insert, Remove}
+use Rattle.art_step.specs.Deeds.{key_of}
+use Rattle.art_step.specs.declared.deeds.Act.TheVariants.{Insert, Remove}
 use Rattle.art_step.specs.declared.views.Sizes.{Sizes}
 use Rattle.art_step.specs.declared.views.View.{View}
-use Rattle.art_step.specs.declared.views.What.{What}
-use Rattle.art_step.specs.declared.views.What.TheVariants.{Done}
+use Rattle.art_step.specs.declared.deeds.Deed.{Deed}
+use Rattle.art_step.specs.declared.deeds.Deed.TheVariants.{Done}
 use Rattle.art_tree.specs.Changes.{IsUnlinked, Renews, Copies}
 use Rattle.art_commit.specs.CommitLaws.{Before, HasLeaf, HasNode, HoldsJust, ClaimedAmong, GrowCommits, ShrinkCommits, CopyCommits}
 use Rattle.art_tree.specs.Heaps.{Cells, node_prefix, heap_of}
@@ -113,7 +114,7 @@ module _ (z : Sizes) (v : View) (s s' : Cells) (x : Place) (r : List ℕ) (n m :
 
   -- ---- with the same children
 
-  module _ (what : What) (made : WritesNode m.layout (s' (cell.Node m)) (node_prefix (s (cell.Node n))) (child_of n.layout (s (cell.Node n)))) where
+  module _ (what : Deed) (made : WritesNode m.layout (s' (cell.Node m)) (node_prefix (s (cell.Node n))) (child_of n.layout (s (cell.Node n)))) where
     copies : Copies h h' x n m
     copies = copy_by_words s s' x r n m (way (child_of n.layout (s (cell.Node n))) made) premises
 
@@ -195,10 +196,10 @@ module _ (z : Sizes) (v : View) (s s' : Cells) (x : Place) (r : List ℕ) (n m :
         held = renew_held;
       }
 
-      grew : ClaimedAmong v (λ i. i ≡ m) → Commits z v (Done (Insert k value) Inserted) (node n ∷ []) (leaf l ∷ node m ∷ []) s s'
+      grew : ClaimedAmong v (λ i. i ≡ m) → Commits z v (Done (Insert (key_of k) value) Inserted) (node n ∷ []) (leaf l ∷ node m ∷ []) s s'
       grew among =
           let named = names b (Some (leaf l)) has.fits in
-          commits_by z v s s' Written before just (Done (Insert k value) Inserted) (node n ∷ []) (leaf l ∷ node m ∷ []) T E (grow_does empty).moves
+          commits_by z v s s' Written before just (Done (Insert (key_of k) value) Inserted) (node n ∷ []) (leaf l ∷ node m ∷ []) T E (grow_does empty).moves
           (inserted_rows z v s l k value before.knows has h' (absent_free h (Slot n b) (path_past h n r b) k before.shape.tree (r, at_n, refl) free begins) (λ f rows. (grow_does f).rows rows))
           grow_touches
           (way_forms grown made named (leaf l ∷ node m ∷ []) (λ d i. ⊎_elim
@@ -246,10 +247,10 @@ module _ (z : Sizes) (v : View) (s s' : Cells) (x : Place) (r : List ℕ) (n m :
         held = renew_held;
       }
 
-      shrank : ClaimedAmong v (λ i. i ≡ m) → Commits z v (Done (Remove (h.key l)) (Removed (h.value l))) (node n ∷ leaf l ∷ []) (node m ∷ []) s s'
+      shrank : ClaimedAmong v (λ i. i ≡ m) → Commits z v (Done (Remove (key_of (h.key l))) (Removed (h.value l))) (node n ∷ leaf l ∷ []) (node m ∷ []) s s'
       shrank among =
           let named = names b None tt in
-          commits_by z v s s' Written before just (Done (Remove (h.key l)) (Removed (h.value l))) (node n ∷ leaf l ∷ []) (node m ∷ []) T E (shrink_does empty).moves
+          commits_by z v s s' Written before just (Done (Remove (key_of (h.key l))) (Removed (h.value l))) (node n ∷ leaf l ∷ []) (node m ∷ []) T E (shrink_does empty).moves
           (remove_rows h h' l (path_past h n r b) at_l (λ f rows. (shrink_does f).rows rows))
           shrink_touches
           (way_forms shrunk made named (node m ∷ []) (λ d i. ⊎_elim (m_new shrunk made named d) (λ (i : ⊥). absurd i) i))

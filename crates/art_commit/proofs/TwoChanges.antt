@@ -6,7 +6,7 @@ use Rattle.art_cell.specs.declared.cells.Link.{Link}
 use Rattle.art_cell.specs.declared.cells.Link.TheVariants.{Node as node}
 use Rattle.art_step.specs.declared.views.Sizes.{Sizes}
 use Rattle.art_step.specs.declared.views.View.{View}
-use Rattle.art_step.specs.declared.views.What.{What}
+use Rattle.art_step.specs.declared.deeds.Deed.{Deed}
 use Rattle.art_commit.specs.AnyChange.{IsInHand, IsClaimed}
 use Rattle.art_commit.specs.TwoChanges.{HasBoth, SaysBoth, JoinedCommits, EmptyLookStays}
 use Rattle.art_tree.specs.Heaps.{Cells, heap_of}
@@ -26,7 +26,7 @@ once_append (x ∷ xs) ys ones others apart = (
   once_append xs ys ones.1 others (λ d i. apart d (inr i)),
 )
 
-module _ (z : Sizes) (v one two : View) (s t s' : Cells) (first second what : What) (us ls us' ls' : List Link) (knows : Knows v s) (both : HasBoth v one two)
+module _ (z : Sizes) (v one two : View) (s t s' : Cells) (first second what : Deed) (us ls us' ls' : List Link) (knows : Knows v s) (both : HasBoth v one two)
     (a : Commits z one first us ls s t) (b : Commits z two second us' ls' t s') (was : (d : Link) → Member d us' → IsLinked s d) where
   -- what either does not hold
   free_one : (c : Cell) → IsNotHeld v.held c → IsNotHeld one.held c

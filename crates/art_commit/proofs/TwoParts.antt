@@ -7,7 +7,7 @@ use Rattle.art_step.specs.declared.views.Holding.{Holding}
 use Rattle.art_step.specs.declared.views.InHand.{InHand}
 use Rattle.art_step.specs.declared.views.Sizes.{Sizes}
 use Rattle.art_step.specs.declared.views.View.{View}
-use Rattle.art_step.specs.declared.views.What.{What}
+use Rattle.art_step.specs.declared.deeds.Deed.{Deed}
 use Rattle.art_commit.specs.AnyChange.{IsHeld}
 use Rattle.art_commit.specs.CommitLaws.{Before}
 use Rattle.art_commit.specs.TwoChanges.{HasBoth, held_until, held_from, for_first, for_second, IsInTwo, TwoPartsCommit}
@@ -120,7 +120,7 @@ module _ (z : Sizes) (v : View) (s s' : Cells) (hs hs' : List Holding) (xs : Lis
         (either_held v.held c);
   }
 
-  module _ (first : What) (us ls : List Link) (apart : (x : InHand) → Member x xs → Member x.link ls → ⊥) (done : Commits z (for_first v mid hs) first us ls s between) where
+  module _ (first : Deed) (us ls : List Link) (apart : (x : InHand) → Member x xs → Member x.link ls → ⊥) (done : Commits z (for_first v mid hs) first us ls s between) where
     second_knows : Knows (for_second v mid hs' xs) between
     second_knows = record {
       old = λ k i. let o = from_is mid hs' k i in subst (λ (y : Holding). between y.cell ≡ words_in y.old) (sym o.2) (between_held o.0 (in_second o.0 o.1));

@@ -9,7 +9,7 @@ use Rattle.art_step.specs.declared.views.Holding.{Holding}
 use Rattle.art_step.specs.declared.views.InHand.{InHand}
 use Rattle.art_step.specs.declared.views.Sizes.{Sizes}
 use Rattle.art_step.specs.declared.views.View.{View}
-use Rattle.art_step.specs.declared.views.What.{What}
+use Rattle.art_step.specs.declared.deeds.Deed.{Deed}
 use Rattle.art_tree.specs.Heaps.{Cells}
 use Rattle.art_step.specs.Histories.{IsAnswered, becomes}
 use Rattle.art_step.specs.Knowledge.{NamesCell, IsNodeCell, IsLeafCell}
@@ -69,5 +69,5 @@ pub record Forms (z : Sizes) (ls : List Link) (s s' : Cells) (P : Cell → Type 
 -- ---- what it makes of the rows
 
 -- each map with the rows of h answers as the event says, and h' has the rows after it
-abbrev pub RowsBy : Heap → Heap → What → Type 0
+abbrev pub RowsBy : Heap → Heap → Deed → Type 0
 RowsBy h h' what = (f : ByteMap) → HasRows h f → IsAnswered f what × HasRows h' (becomes f what)

@@ -8,9 +8,10 @@ use Rattle.art_step.specs.declared.views.Holding.{Holding}
 use Rattle.art_step.specs.declared.views.InHand.{InHand}
 use Rattle.art_step.specs.declared.views.Sizes.{Sizes}
 use Rattle.art_step.specs.declared.views.View.{View}
-use Rattle.art_step.specs.declared.views.What.{What}
-use Rattle.art_step.specs.declared.views.What.TheVariants.{Look}
-use Rattle.art_tree.specs.declared.bounds.Bound.TheVariants.{To}
+use Rattle.art_step.specs.declared.deeds.Deed.{Deed}
+use Rattle.art_step.specs.declared.deeds.Deed.TheVariants.{Look}
+use Rattle.art_key.specs.declared.bounds.Bound.TheVariants.{At}
+use Rattle.art_step.specs.Deeds.{key_of}
 use Rattle.art_commit.specs.AnyChange.{IsInHand, IsHeld, IsClaimed}
 use Rattle.art_commit.specs.CommitLaws.{Before}
 use Rattle.art_tree.specs.Heaps.{Cells, heap_of}
@@ -30,19 +31,19 @@ pub record HasBoth (v one two : View) : Type 0 where
   pub claimed : (n : Node) → IsClaimed v n → IsClaimed one n ⊎ IsClaimed two n
 
 -- what the two events say, one after the other, the one event says
-abbrev pub SaysBoth : Cells → What → What → What → Type 0
+abbrev pub SaysBoth : Cells → Deed → Deed → Deed → Type 0
 SaysBoth s first second what = (f : ByteMap) → HasRows (heap_of s) f → IsAnswered f first → IsAnswered (becomes f first) second →
     IsAnswered f what × (becomes f what ≡ becomes (becomes f first) second)
 
 -- a commit from s to t and one from t to s' are one commit from s to s'; what the second unlinks was linked before the first
 abbrev pub JoinedCommits : Type 0
-JoinedCommits = (z : Sizes) (v one two : View) (s t s' : Cells) (first second what : What) (us ls us' ls' : List Link) → Knows v s → HasBoth v one two →
+JoinedCommits = (z : Sizes) (v one two : View) (s t s' : Cells) (first second what : Deed) (us ls us' ls' : List Link) → Knows v s → HasBoth v one two →
     Commits z one first us ls s t → Commits z two second us' ls' t s' → ((d : Link) → Member d us' → IsLinked s d) → SaysBoth s first second what →
     Commits z v what (us ++ us') (ls ++ ls') s s'
 
 -- a look of a range that has no keys: what a change does that does nothing else, as a copy
-abbrev pub empty_look : What
-empty_look = Look [] (To []) None
+abbrev pub empty_look : Deed
+empty_look = Look (key_of []) (At (key_of [])) None
 
 -- it is so of every map, and changes no row
 abbrev pub EmptyLookStays : Type 0
@@ -80,7 +81,7 @@ pub record IsInTwo (v : View) (hs hs' : List Holding) (xs : List InHand) (mid : 
 -- where each is a commit for its own view, whatever words t of the other cells stand between, both are one for the pass's; what
 -- the first links is not in hand for the second
 abbrev pub TwoPartsCommit : Type 0
-TwoPartsCommit = (z : Sizes) (v : View) (s s' : Cells) (hs hs' : List Holding) (xs : List InHand) (mid : Cell → List ℕ) (first second what : What) (us ls us' ls' : List Link) →
+TwoPartsCommit = (z : Sizes) (v : View) (s s' : Cells) (hs hs' : List Holding) (xs : List InHand) (mid : Cell → List ℕ) (first second what : Deed) (us ls us' ls' : List Link) →
     Before z v s s' → IsInTwo v hs hs' xs mid → ((i : InHand) → Member i xs → Member i.link ls → ⊥) → ((d : Link) → Member d us' → IsLinked s d) → SaysBoth s first second what →
     ((t : Cells) → Before z (for_first v mid hs) s t → Commits z (for_first v mid hs) first us ls s t) →
     ((t : Cells) → AllNew (held_until mid hs) s t → Commits z (for_first v mid hs) first us ls s t → Before z (for_second v mid hs' xs) t s' → Commits z (for_second v mid hs' xs) second us' ls' t s') →

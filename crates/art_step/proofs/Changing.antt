@@ -16,7 +16,7 @@ use Rattle.art_step.specs.declared.views.Pin.{Pin}
 use Rattle.art_step.specs.declared.views.Sizes.{Sizes}
 use Rattle.art_step.specs.declared.views.Stamp.{Stamp}
 use Rattle.art_step.specs.declared.views.View.{View}
-use Rattle.art_step.specs.declared.views.What.{What}
+use Rattle.art_step.specs.declared.deeds.Deed.{Deed}
 use Rattle.art_tree.specs.Heaps.{Cells}
 use Rattle.art_step.specs.Histories.{event, IsAnswered, becomes, run, replay, IsLegalFrom, IsLegal}
 use Rattle.art_step.specs.Effects.{LocksClaimed, LocksStamped, PutsWord, Unlocks, SetsVersion, SetsWord, released_word}
@@ -136,7 +136,7 @@ module _ (z : Sizes) (ws : List ℕ) (f : Views) (p : ℕ) (v : View) (r : IsSou
       no_leaf z m f x.cell r.formed (λ obsolete. omega arith)
 
   -- a stamped cell is locked
-  pub moves_upgrades : (x : Stamp) → IsInside z x.cell → m.version x.cell ≡ x.version → upgrade.May v x → Moves z ws f p v (set ws (place_of z x.cell) (x.version + 2)) (λ v w. upgrade.Locked v w x) (LocksStamped x)
+  pub moves_upgrades : (x : Stamp) → IsInside z x.cell → m.version x.cell ≡ x.version → upgrade.May v x → Moves z ws f p v (set ws (place_of z x.cell) (x.version + 2)) (λ v w. upgrade.Locks v w x) (LocksStamped x)
   moves_upgrades x there stays may =
       let clear = ((r.vouch p v at).stamps x may.stamp).clear in
       let us : List ℕ = set ws (place_of z x.cell) (x.version + 2) in
@@ -144,7 +144,7 @@ module _ (z : Sizes) (ws : List ℕ) (f : Views) (p : ℕ) (v : View) (r : IsSou
       let sets : SetsVersion m x.cell (x.version + 2) (memory_of z us) = sets_version z ws x.cell (x.version + 2) there plain long in
       let copy = is_copy z ws x.cell in
       let words : List ℕ = copy_of z ws x.cell in
-      moved z ws f p v r at long us (λ v w. upgrade.Locked v w x) (LocksStamped x) (upgrade.view_after v x words) refl
+      moved z ws f p v r at long us (λ v w. upgrade.Locks v w x) (LocksStamped x) (upgrade.view_after v x words) refl
       record {
         limit = may.limit;
         words = words;
@@ -250,7 +250,7 @@ module _ (z : Sizes) (ws : List ℕ) (f : Views) (p : ℕ) (v : View) (r : IsSou
       (moves_released h obsolete may (subst (IsInside z) (sym of) there))
 
   -- the first release of a change
-  moves_committed : (h : Holding) (what : What) (us : List Link) (come : Option Link) (obsolete : Bool) → (ks : List Pin) × AreStanding f ks → commit.MayBeFirst v us h obsolete → commit.May z v what us (coming v come) → IsInside z h.cell
+  moves_committed : (h : Holding) (what : Deed) (us : List Link) (come : Option Link) (obsolete : Bool) → (ks : List Pin) × AreStanding f ks → commit.MayBeFirst v us h obsolete → commit.May z v what us (coming v come) → IsInside z h.cell
       → Moves z ws f p v (after h.cell obsolete) (λ v w. (k : Holding) → IsHolding v h.cell k → commit.Outcome v w what us (coming v come) k) (UnlocksFirst v h.cell obsolete)
   moves_committed h what us come obsolete pins first may there =
       let rest = dropped v.held h.cell in
@@ -306,7 +306,7 @@ module _ (z : Sizes) (ws : List ℕ) (f : Views) (p : ℕ) (v : View) (r : IsSou
             (member_append e (all_retired pins.0 us) v.limbo i));
       })
 
-  pub moves_commits : (c : Cell) (h : Holding) (what : What) (us : List Link) (come : Option Link) (obsolete : Bool) → h.cell ≡ c → (ks : List Pin) × AreStanding f ks → commit.MayBeFirst v us h obsolete → commit.May z v what us (coming v come) → IsInside z c
+  pub moves_commits : (c : Cell) (h : Holding) (what : Deed) (us : List Link) (come : Option Link) (obsolete : Bool) → h.cell ≡ c → (ks : List Pin) × AreStanding f ks → commit.MayBeFirst v us h obsolete → commit.May z v what us (coming v come) → IsInside z c
       → Moves z ws f p v (after c obsolete) (λ v w. (k : Holding) → IsHolding v c k → commit.Outcome v w what us (coming v come) k) (UnlocksFirst v c obsolete)
   moves_commits c h what us come obsolete of pins first may there =
       subst (λ (d : Cell). Moves z ws f p v (after d obsolete) (λ v w. (k : Holding) → IsHolding v d k → commit.Outcome v w what us (coming v come) k) (UnlocksFirst v d obsolete)) of

@@ -8,7 +8,7 @@ use Rattle.art_cell.specs.declared.cells.Cell.{Cell}
 use Rattle.art_step.specs.declared.views.Event.{Event}
 use Rattle.art_step.specs.declared.views.Sizes.{Sizes}
 use Rattle.art_step.specs.declared.views.View.{View}
-use Rattle.art_step.specs.declared.views.What.{What}
+use Rattle.art_step.specs.declared.deeds.Deed.{Deed}
 use Rattle.art_tree.specs.Heaps.{Cells}
 use Rattle.art_step.specs.Histories.{StartsWith, event, places, places_from}
 use Rattle.art_step.specs.Sound.{IsOneHistory, IsSound}
@@ -24,7 +24,7 @@ begun_seen v c x = cond_both (x % 4 == 0) _ _ (λ (w : View). w.seen ≡ v.seen)
 with_more : (log seen : List Event) (e : Event) → StartsWith log seen → StartsWith (log ++ e ∷ []) seen
 with_more log seen e starts = (starts.0 ++ e ∷ [], ap (λ (l : List Event). l ++ e ∷ []) starts.1 ∙ append_assoc seen starts.0 (e ∷ []))
 
-telling_seen : (u : View) (log seen : List Event) (o : Option What) → StartsWith log seen → StartsWith u.seen seen → StartsWith (check.with_event u log o).seen seen
+telling_seen : (u : View) (log seen : List Event) (o : Option Deed) → StartsWith log seen → StartsWith u.seen seen → StartsWith (check.with_event u log o).seen seen
 telling_seen u log seen None starts same = same
 telling_seen u log seen (Some what) starts same = with_more log seen (event u.pass what) starts
 
@@ -89,7 +89,7 @@ step_view z p m f m' g t = kind_view z p t.view m f m' g t.sound.log t.sound.log
 begun_pass : (v : View) (c : Cell) (x : ℕ) → (begin.view_after v c x).pass ≡ v.pass
 begun_pass v c x = cond_both (x % 4 == 0) _ _ (λ (w : View). w.pass ≡ v.pass) (λ e. refl) (λ e. refl)
 
-with_event_pass : (u : View) (log : List Event) (o : Option What) → (check.with_event u log o).pass ≡ u.pass
+with_event_pass : (u : View) (log : List Event) (o : Option Deed) → (check.with_event u log o).pass ≡ u.pass
 with_event_pass u log None = refl
 with_event_pass u log (Some what) = refl
 

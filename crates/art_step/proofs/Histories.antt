@@ -4,7 +4,7 @@ use Rattle.std.specs.FinMap.{empty}
 use Rattle.std.specs.Prelude.{Some}
 use Rattle.art_step.specs.declared.views.Event.{Event}
 use Rattle.art_step.specs.declared.views.View.{View}
-use Rattle.art_step.specs.declared.views.What.{What}
+use Rattle.art_step.specs.declared.deeds.Deed.{Deed}
 use Rattle.art_tree.specs.Rows.{ByteMap}
 use Rattle.art_step.specs.Histories.{event, IsAnswered, becomes, run, replay, IsLegalFrom, places_from, places}
 use Rattle.art_step.specs.Sound.{IsOneHistory, IsSeenBy}
@@ -52,7 +52,7 @@ module _ (f g : Views) (p : ℕ) (v w : View) (t : SetsView f p w g) (at : f p �
   }
 
   -- the pass makes an event
-  pub history_grows : (what : What) → IsAnswered (replay log) what → w.seen ≡ log ++ event v.pass what ∷ [] → w.own ≡ v.own ++ length log ∷ [] → IsOneHistory (log ++ event v.pass what ∷ []) g
+  pub history_grows : (what : Deed) → IsAnswered (replay log) what → w.seen ≡ log ++ event v.pass what ∷ [] → w.own ≡ v.own ++ length log ∷ [] → IsOneHistory (log ++ event v.pass what ∷ []) g
   history_grows what found seen own =
       let e : Event = event v.pass what in
       let grown : List Event = log ++ e ∷ [] in

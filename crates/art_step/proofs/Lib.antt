@@ -1,4 +1,5 @@
 pub mod AnyStep
+pub mod AtSteps
 pub mod Changing
 pub mod Determined
 pub mod Facts

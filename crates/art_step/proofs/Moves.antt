@@ -13,7 +13,7 @@ use Rattle.art_step.specs.declared.views.Note.{Note}
 use Rattle.art_step.specs.declared.views.Sizes.{Sizes}
 use Rattle.art_step.specs.declared.views.Stamp.{Stamp}
 use Rattle.art_step.specs.declared.views.View.{View}
-use Rattle.art_step.specs.declared.views.What.{What}
+use Rattle.art_step.specs.declared.deeds.Deed.{Deed}
 use Rattle.art_tree.specs.Heaps.{Cells, heap_of}
 use Rattle.art_step.specs.Histories.{event, replay, IsLegal, IsAnswered, places}
 use Rattle.art_step.specs.Effects.{FindsUnchanged, FindsVersion, FindsWord, Instant}
@@ -103,7 +103,7 @@ module _ (z : Sizes) (m : Memory) (f : Views) (v : View) (r : IsSound z m f) whe
 -- ---- events
 
 -- the pass makes an event after all of the history
-pub makes : (f g : Views) (p : ℕ) (v w : View) (log : List Event) (what : What) → f p ≡ Some v → SetsView f p w g → IsOneHistory log f → w.pass ≡ v.pass
+pub makes : (f g : Views) (p : ℕ) (v w : View) (log : List Event) (what : Deed) → f p ≡ Some v → SetsView f p w g → IsOneHistory log f → w.pass ≡ v.pass
     → IsAnswered (replay log) what → w.seen ≡ log ++ event v.pass what ∷ [] → w.own ≡ v.own ++ length log ∷ [] → MakesEvent v w what
 makes f g p v w log what at t history pass found seen own =
     let mine = history.tells p v at in
@@ -117,7 +117,7 @@ makes f g p v w log what at t history pass found seen own =
     }
 
 -- where an event is made or none, the history that the pass has seen and the places of its own events may change, and no more
-telling_is : (v : View) (log : List Event) (o : Option What) → check.with_event v log o ≡ record v { seen = (check.with_event v log o).seen; own = (check.with_event v log o).own }
+telling_is : (v : View) (log : List Event) (o : Option Deed) → check.with_event v log o ≡ record v { seen = (check.with_event v log o).seen; own = (check.with_event v log o).own }
 telling_is v log None = refl
 telling_is v log (Some what) = refl
 
@@ -206,12 +206,12 @@ module _ (z : Sizes) (ws : List ℕ) (f : Views) (p : ℕ) (v : View) (r : IsSou
       (λ g t. record { found = is; same = refl })
 
   -- what was seen and made, at an unchanged version word
-  told : (g : Views) (x : Stamp) (ys : List Note) (o : Option What) → check.MayTell z v x o → HoldsAll v x r.logical → SetsView f p (check.with_event (check.view_unchanged v x ys) r.log o) g → SeesEvent v (check.with_event (check.view_unchanged v x ys) r.log o) o
+  told : (g : Views) (x : Stamp) (ys : List Note) (o : Option Deed) → check.MayTell z v x o → HoldsAll v x r.logical → SetsView f p (check.with_event (check.view_unchanged v x ys) r.log o) g → SeesEvent v (check.with_event (check.view_unchanged v x ys) r.log o) o
   told g x ys None tells holds t = (refl, refl)
   told g x ys (Some what) tells holds t = makes f g p v (check.with_event (check.view_unchanged v x ys) r.log (Some what)) r.log what at t r.history refl (tells r.logical (replay r.log) r.shows.shape r.shows.rows holds).0 refl refl
 
   -- an unchanged version word is found
-  pub moves_passes : (x : Stamp) (o : Option What) → m.version x.cell ≡ x.version → check.May z v x o → Moves z ws f p v ws (λ v w. check.Unchanged z v w x o) (FindsUnchanged z v x)
+  pub moves_passes : (x : Stamp) (o : Option Deed) → m.version x.cell ≡ x.version → check.May z v x o → Moves z ws f p v ws (λ v w. check.Unchanged z v w x o) (FindsUnchanged z v x)
   moves_passes x o same may =
       let k : Gathered (IsWay z m f v r) v.stamps = ways z m f v r in
       let paths = are_paths z m f v r in

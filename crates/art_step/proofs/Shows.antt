@@ -9,7 +9,8 @@ use Rattle.art_cell.specs.declared.cells.Cell.TheVariants as cell
 use Rattle.art_cell.specs.declared.cells.Link.{Link}
 use Rattle.art_cell.specs.declared.cells.Link.TheVariants.{Leaf as leaf, Node as node}
 use Rattle.art_model.specs.declared.commands.Answer.TheVariants.{Present, Absent, Found}
-use Rattle.art_step.specs.declared.views.Asked.TheVariants.{Insert, Remove, Get}
+use Rattle.art_step.specs.Deeds.{key_of}
+use Rattle.art_step.specs.declared.deeds.Act.TheVariants.{Insert, Remove, Get}
 use Rattle.art_step.specs.declared.views.Event.{Event}
 use Rattle.art_step.specs.declared.views.Fact.{Fact}
 use Rattle.art_step.specs.declared.views.Fact.TheVariants.{Starts}
@@ -18,8 +19,8 @@ use Rattle.art_step.specs.declared.views.Note.{Note}
 use Rattle.art_step.specs.declared.views.Sizes.{Sizes}
 use Rattle.art_step.specs.declared.views.Stamp.{Stamp}
 use Rattle.art_step.specs.declared.views.View.{View}
-use Rattle.art_step.specs.declared.views.What.{What}
-use Rattle.art_step.specs.declared.views.What.TheVariants.{Done}
+use Rattle.art_step.specs.declared.deeds.Deed.{Deed}
+use Rattle.art_step.specs.declared.deeds.Deed.TheVariants.{Done}
 use Rattle.art_cell.specs.Children.{link_of}
 use Rattle.art_tree.specs.Heaps.{Cells, heap_of}
 use Rattle.art_step.specs.Histories.{by_value, event, places}
@@ -114,29 +115,29 @@ begun_shows z v w c x a so clear is = shows_more z v w a so (λ y i. subst (λ (
 pub passed_rest : (z : Sizes) (v w : View) (x : Stamp) → check.Unchanged z v w x None → OnlyReads v w
 passed_rest z v w x p = ap rest_of p.is ∙ ap₂ (λ (a : List Event) (b : List ℕ). rest_of (record v { seen = a; own = b })) p.told.0 p.told.1
 
-pub passed_stamp : (z : Sizes) (v w : View) (x a : Stamp) (o : Option What) → check.Unchanged z v w x o → HasStamp z v a → HasStamp z w a
+pub passed_stamp : (z : Sizes) (v w : View) (x a : Stamp) (o : Option Deed) → check.Unchanged z v w x o → HasStamp z v a → HasStamp z w a
 passed_stamp z v w x a o p has = record { stamp = subst (λ (t : View). Member a t.stamps) (sym p.is) has.stamp; inside = has.inside }
 
-pub passed_shows : (z : Sizes) (v w : View) (x a : Stamp) (o : Option What) (so : Cells → Type 0) → check.Unchanged z v w x o → Shows z v a so → Shows z w a so
+pub passed_shows : (z : Sizes) (v w : View) (x a : Stamp) (o : Option Deed) (so : Cells → Type 0) → check.Unchanged z v w x o → Shows z v a so → Shows z w a so
 passed_shows z v w x a o so p = shows_more z v w a so (λ y i. subst (λ (t : View). Member y t.notes) (sym p.is) (member_back y p.paths v.notes i))
 
 -- what is shown under the stamp is so in some shape
-pub passed_so : (z : Sizes) (v w : View) (x : Stamp) (o : Option What) (so : Cells → Type 0) → check.Unchanged z v w x o → Shows z v x so → (s : Cells) × IsShape z s × so s
+pub passed_so : (z : Sizes) (v w : View) (x : Stamp) (o : Option Deed) (so : Cells → Type 0) → check.Unchanged z v w x o → Shows z v x so → (s : Cells) × IsShape z s × so s
 passed_so z v w x o so p shows = let s = p.vouched.0 in (s, p.vouched.1, shows s p.vouched.1 p.vouched.2)
 
 -- there is such a cell as the child of the stamp's
-pub passed_number : (z : Sizes) (v w : View) (x : Stamp) (o : Option What) (d : Link) (q : List ℕ) → check.Unchanged z v w x o → Shows z v x (λ s. HasChild s x.cell d q) → IsNumber z d
+pub passed_number : (z : Sizes) (v w : View) (x : Stamp) (o : Option Deed) (d : Link) (q : List ℕ) → check.Unchanged z v w x o → Shows z v x (λ s. HasChild s x.cell d q) → IsNumber z d
 passed_number z v w x o d q p shows = let so = passed_so z v w x o _ p shows in so.1.numbers d q so.2.at
 
 -- and where that is stamped too, its stamp shows its path
-pub passed_path : (z : Sizes) (v w : View) (x y : Stamp) (o : Option What) (n : Node) (q : List ℕ) → check.Unchanged z v w x o → Member y v.stamps → y.cell ≡ cell.Node n → Shows z v x (λ s. HasChild s x.cell (node n) q) → Shows z w y (λ s. StandsAt (heap_of s) (node n) q)
+pub passed_path : (z : Sizes) (v w : View) (x y : Stamp) (o : Option Deed) (n : Node) (q : List ℕ) → check.Unchanged z v w x o → Member y v.stamps → y.cell ≡ cell.Node n → Shows z v x (λ s. HasChild s x.cell (node n) q) → Shows z w y (λ s. StandsAt (heap_of s) (node n) q)
 passed_path z v w x y o n q p stamped is shows s shape holds =
     let led = p.led y q stamped (λ t shape' holds'. subst (λ (c : Cell). CellAt t c q) (sym is) ((shows t shape' holds').at)) in
     let noted : Member (note_of y (Starts q)) w.notes = subst (λ (t : View). Member (note_of y (Starts q)) t.notes) (sym p.is) (member_front (note_of y (Starts q)) p.paths v.notes led) in
     subst (λ (c : Cell). CellAt s c q) is (holds (note_of y (Starts q)) noted refl)
 
 -- an event is made: of a pass that did nothing but read since it had the view u, it is the only one
-pub told_rest : (z : Sizes) (u v w : View) (x : Stamp) (what : What) → OnlyReads u v → check.Unchanged z v w x (Some what) → MakesEvent u w what × OnlyTells u w
+pub told_rest : (z : Sizes) (u v w : View) (x : Stamp) (what : Deed) → OnlyReads u v → check.Unchanged z v w x (Some what) → MakesEvent u w what × OnlyTells u w
 told_rest z u v w x what reads p =
     let m = p.told in
     let pass : v.pass ≡ u.pass = ap (λ (r : Rest). r.pass) reads in
@@ -176,13 +177,13 @@ pub child_leads : (z : Sizes) (v : View) (x : Stamp) (n : Node) (q : List ℕ) �
 child_leads z v x n q shows s shape holds = (shows s shape holds).at
 
 -- a shown value settles a get, an insert of a key that stands, and a removal of one that does not
-pub get_settles : (z : Sizes) (v : View) (x : Stamp) (k : List ℕ) (o : Option ℕ) → Shows z v x (λ s. HasValue s k o) → DecidesAnswer z v x (Done (Get k) (by_value o Found Absent))
+pub get_settles : (z : Sizes) (v : View) (x : Stamp) (k : List ℕ) (o : Option ℕ) → Shows z v x (λ s. HasValue s k o) → DecidesAnswer z v x (Done (Get (key_of k)) (by_value o Found Absent))
 get_settles z v x k o shows s m shape rows holds = (ap (λ (a : Option ℕ). by_value a Found Absent) (sym (shows s shape holds m rows)), refl)
 
-pub insert_settles : (z : Sizes) (v : View) (x : Stamp) (k : List ℕ) (value stands : ℕ) → Shows z v x (λ s. HasValue s k (Some stands)) → DecidesAnswer z v x (Done (Insert k value) (Present stands))
+pub insert_settles : (z : Sizes) (v : View) (x : Stamp) (k : List ℕ) (value stands : ℕ) → Shows z v x (λ s. HasValue s k (Some stands)) → DecidesAnswer z v x (Done (Insert (key_of k) value) (Present stands))
 insert_settles z v x k value stands shows s m shape rows holds = let is = shows s shape holds m rows in (rw is refl, rw is refl)
 
-pub remove_settles : (z : Sizes) (v : View) (x : Stamp) (k : List ℕ) → Shows z v x (λ s. HasValue s k None) → DecidesAnswer z v x (Done (Remove k) Absent)
+pub remove_settles : (z : Sizes) (v : View) (x : Stamp) (k : List ℕ) → Shows z v x (λ s. HasValue s k None) → DecidesAnswer z v x (Done (Remove (key_of k)) Absent)
 remove_settles z v x k shows s m shape rows holds = let is = shows s shape holds m rows in (rw is refl, rw is refl)
 
 -- ---- what the words of a linked cell say

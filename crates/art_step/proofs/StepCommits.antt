@@ -14,7 +14,7 @@ use Rattle.art_step.specs.declared.views.Pin.{Pin}
 use Rattle.art_step.specs.declared.views.Retired.{Retired}
 use Rattle.art_step.specs.declared.views.Sizes.{Sizes}
 use Rattle.art_step.specs.declared.views.View.{View}
-use Rattle.art_step.specs.declared.views.What.{What}
+use Rattle.art_step.specs.declared.deeds.Deed.{Deed}
 use Rattle.art_tree.specs.Heaps.{Cells, heap_of}
 use Rattle.art_step.specs.Histories.{event, replay}
 use Rattle.art_step.specs.Knowledge.{CellAt, Holds}
@@ -112,7 +112,7 @@ retires : (ks : List Pin) (us : List Link) (d : Link) → Member d us → Member
 retires ks [] d i = absurd i
 retires ks (e ∷ us) d i = ⊎_elim (λ (is : d ≡ e). inl (ap (retired ks) is)) (λ (j : Member d us). inr (retires ks us d j)) i
 
-module _ (z : Sizes) (m : Memory) (f : Views) (p : ℕ) (v : View) (is-v : f p ≡ Some v) (m' : Memory) (g : Views) (what : What) (us ls : List Link) (ks : List Pin) (h₀ : Holding) (hs : List Holding) (xs : List InHand) (b : Bool) (r : IsSound z m f)
+module _ (z : Sizes) (m : Memory) (f : Views) (p : ℕ) (v : View) (is-v : f p ≡ Some v) (m' : Memory) (g : Views) (what : Deed) (us ls : List Link) (ks : List Pin) (h₀ : Holding) (hs : List Holding) (xs : List InHand) (b : Bool) (r : IsSound z m f)
     (may : commit.May z v what us ls) (first : commit.MayBeFirst v us h₀ b) (drops : Drops v.held h₀.cell hs) (hands : HandsOver v.hand ls xs) (standing : AreStanding f ks)
     (sets : SetsVersion m h₀.cell (released_word (m.version h₀.cell) b) m') (t : SetsView f p (commit.view_after v r.log what hs xs (all_retired ks us ++ v.limbo)) g) where
   abbrev s : Cells

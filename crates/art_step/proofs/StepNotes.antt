@@ -15,7 +15,7 @@ use Rattle.art_step.specs.declared.views.Note.{Note}
 use Rattle.art_step.specs.declared.views.Sizes.{Sizes}
 use Rattle.art_step.specs.declared.views.Stamp.{Stamp}
 use Rattle.art_step.specs.declared.views.View.{View}
-use Rattle.art_step.specs.declared.views.What.{What}
+use Rattle.art_step.specs.declared.deeds.Deed.{Deed}
 use Rattle.art_tree.specs.Heaps.{Cells, heap_of}
 use Rattle.art_step.specs.Histories.{event, replay}
 use Rattle.art_step.specs.Knowledge.{Holds, HoldsAll}
@@ -168,7 +168,7 @@ module _ (z : Sizes) (m : Memory) (f g : Views) (p : ℕ) (v : View) (at : f p �
   paths_go : (ys : List Note) → ArePaths s v ys → NotesGo v.stamps (ys ++ v.notes)
   paths_go ys are = all_go v.stamps ys (λ a i. i) (λ y i. (are y i).0)
 
-  passes : (x : Stamp) (ys : List Note) (o : Option What) → m.version x.cell ≡ x.version → ArePaths s v ys → check.MayTell z v x o → SetsView f p (check.with_event (check.view_unchanged v x ys) r.log o) g → IsSound z m g
+  passes : (x : Stamp) (ys : List Note) (o : Option Deed) → m.version x.cell ≡ x.version → ArePaths s v ys → check.MayTell z v x o → SetsView f p (check.with_event (check.view_unchanged v x ys) r.log o) g → IsSound z m g
   passes x ys None same are tells t = quiet t (λ a i. inl i) (paths ys are) (paths_go ys are)
   passes x ys (Some what) same are tells t =
       let k = tells s (replay r.log) r.shows.shape r.shows.rows (holds x same) in

@@ -1,13 +1,15 @@
 -- Histories of a map from byte keys to values.
 use Rattle.std.specs.Prelude.{◌≡◌, ℕ, ◌+◌, List, [], ◌∷◌, ◌++◌, ◌==◌, if◌then◌else◌, Option, Some, None, ⊤}
 use Rattle.std.specs.FinMap.{get, insert, remove, empty}
-use Rattle.art_step.specs.declared.views.Asked.{Asked}
-use Rattle.art_step.specs.declared.views.Asked.TheVariants.{Insert, Remove, Get}
+use Rattle.art_step.specs.declared.deeds.Act.{Act}
+use Rattle.art_step.specs.declared.deeds.Act.TheVariants.{Insert, Remove, Get}
 use Rattle.art_model.specs.declared.commands.Answer.{Answer}
 use Rattle.art_model.specs.declared.commands.Answer.TheVariants.{Inserted, Present, Removed, Absent, Found}
 use Rattle.art_tree.specs.declared.bounds.Bound.{Bound}
-use Rattle.art_step.specs.declared.views.What.{What}
-use Rattle.art_step.specs.declared.views.What.TheVariants.{Done, Look}
+use Rattle.arrayvec.specs.ArrayVec.{ArrayVec}
+use Rattle.art_step.specs.Deeds.{bound_of}
+use Rattle.art_step.specs.declared.deeds.Deed.{Deed}
+use Rattle.art_step.specs.declared.deeds.Deed.TheVariants.{Done, Look}
 use Rattle.art_step.specs.declared.views.Event.{Event}
 use Rattle.art_tree.specs.Looks.{InRange}
 use Rattle.art_tree.specs.Rows.{ByteMap}
@@ -20,34 +22,35 @@ by_value (Some v) there absent = there v
 by_value None there absent = absent
 
 -- the map's answer, and the map after it
-abbrev pub answer : ByteMap → Asked → Answer
-answer m (Insert k v) = by_value (get m k) Present Inserted
-answer m (Remove k) = by_value (get m k) Removed Absent
-answer m (Get k) = by_value (get m k) Found Absent
+abbrev pub answer : ByteMap → Act → Answer
+answer m (Insert k v) = by_value (get m k.items) Present Inserted
+answer m (Remove k) = by_value (get m k.items) Removed Absent
+answer m (Get k) = by_value (get m k.items) Found Absent
 
-abbrev pub map_after : ByteMap → Asked → ByteMap
-map_after m (Insert k v) = by_value (get m k) (λ _. m) (insert m k v)
-map_after m (Remove k) = by_value (get m k) (λ _. remove m k) m
+abbrev pub map_after : ByteMap → Act → ByteMap
+map_after m (Insert k v) = by_value (get m k.items) (λ _. m) (insert m k.items v)
+map_after m (Remove k) = by_value (get m k.items) (λ _. remove m k.items) m
 map_after m (Get k) = m
 
 -- the rows of the map in the range are this one, or none
-abbrev pub OnlyRow : ByteMap → List ℕ → Bound → Option (List ℕ × ℕ) → Type 0
+abbrev pub OnlyRow : ByteMap → List ℕ → Bound → Option (ArrayVec ℕ × ℕ) → Type 0
 OnlyRow m lo hi None = (k : List ℕ) (v : ℕ) → get m k ≡ Some v → InRange lo hi k → ⊥
-OnlyRow m lo hi (Some row) = (get m row.0 ≡ Some row.1) × InRange lo hi row.0 × ((k : List ℕ) (v : ℕ) → get m k ≡ Some v → InRange lo hi k → k ≡ row.0)
+OnlyRow m lo hi (Some row) = (get m row.0.items ≡ Some row.1) × InRange lo hi row.0.items ×
+    ((k : List ℕ) (v : ℕ) → get m k ≡ Some v → InRange lo hi k → k ≡ row.0.items)
 
 -- ---- events
 
 -- what an event says is what the map answers
-abbrev pub IsAnswered : ByteMap → What → Type 0
+abbrev pub IsAnswered : ByteMap → Deed → Type 0
 IsAnswered m (Done a r) = r ≡ answer m a
-IsAnswered m (Look lo hi o) = OnlyRow m lo hi o
+IsAnswered m (Look lo hi o) = OnlyRow m lo.items (bound_of hi) o
 
 -- the map after an event: looks change nothing
-abbrev pub becomes : ByteMap → What → ByteMap
+abbrev pub becomes : ByteMap → Deed → ByteMap
 becomes m (Done a r) = map_after m a
 becomes m (Look lo hi o) = m
 
-abbrev pub event : ℕ → What → Event
+abbrev pub event : ℕ → Deed → Event
 event p x = record { pass = p; what = x }
 
 abbrev pub run : ByteMap → List Event → ByteMap

@@ -11,7 +11,7 @@ use Rattle.art_step.specs.declared.views.Note.{Note}
 use Rattle.art_step.specs.declared.views.Sizes.{Sizes}
 use Rattle.art_step.specs.declared.views.Stamp.{Stamp}
 use Rattle.art_step.specs.declared.views.View.{View}
-use Rattle.art_step.specs.declared.views.What.{What}
+use Rattle.art_step.specs.declared.deeds.Deed.{Deed}
 use Rattle.art_cell.specs.Bodies.{IsBody}
 use Rattle.art_cell.specs.Children.{link_of}
 use Rattle.art_tree.specs.Heaps.{Cells, heap_of}
@@ -77,7 +77,7 @@ HoldsAll v x s = (y : Note) → Member y v.notes → y.stamp ≡ x → Holds s x
 -- ---- what follows from the notes under a stamp, in whatever tree
 
 -- in each tree in which they hold, and each map with its rows, the event's answer is the map's, and the map stays
-abbrev pub DecidesAnswer : Sizes → View → Stamp → What → Type 0
+abbrev pub DecidesAnswer : Sizes → View → Stamp → Deed → Type 0
 DecidesAnswer z v x what = (s : Cells) (m : ByteMap) → IsShape z s → HasRows (heap_of s) m → HoldsAll v x s → IsAnswered m what × (becomes m what ≡ m)
 
 -- in each tree in which they hold, the path p leads to the cell d

@@ -135,7 +135,7 @@ pub use step_laws::{
 pub use steps::Steps;
 pub use versions::Version;
 pub use views::{
-    Asked, EpochSeen, Event, Fact, Found, Holding, InHand, LastCheck, Note, Pin, Retired, Sizes,
-    Stamp, View, What, Word,
+    EpochSeen, Event, Fact, Found, Holding, InHand, LastCheck, Note, Pin, Retired, Sizes, Stamp,
+    View, Word,
 };
 pub use word_places::pool_of_layout;

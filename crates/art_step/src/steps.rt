@@ -8,7 +8,7 @@ ghost use Rattle.art_cell.specs.Children.{child_word};
 ghost use Rattle.art_step.specs.declared.views.Fact.TheVariants.{Starts};
 ghost use Rattle.art_step.specs.declared.views.Holding.{Holding as HoldingOf};
 ghost use Rattle.art_step.specs.declared.views.InHand.{InHand as NumberInHand};
-ghost use Rattle.art_step.specs.Deeds.{IsAdmitted, what_of};
+ghost use Rattle.art_step.specs.Deeds.{IsAdmitted};
 ghost use Rattle.art_step.specs.Effects.{FindsVersion, FindsWord, LocksClaimed, LocksStamped, PutsWord, Unlocks};
 ghost use Rattle.art_step.specs.Steps.{AtStep, LocksNothing};
 ghost use Rattle.art_step.specs.Steps.Begin as begin;
@@ -85,13 +85,13 @@ pub trait Steps {
     /// step, and the deed is done at it.
     fn check(&mut self, stamp: Stamp, deed: Option<&Deed>) -> Result<(), Changed>
         requires inside { HasVersion (sizes self.old) stamp.cell }
-        requires may { check.May (sizes self.old) (view self.old) stamp (option_map (λ d. what_of d.now) deed) }
-        requires admitted { IfSome deed (λ d. IsAdmitted (admits self.old) (what_of d.now)) }
+        requires may { check.May (sizes self.old) (view self.old) stamp (option_map (λ d. d.now) deed) }
+        requires admitted { IfSome deed (λ d. IsAdmitted (admits self.old) d.now) }
         ensures only { only self.old self.new }
         ensures at_once { AtStep (sizes self.old) (view self.old) (view self.new) (instants self.old self.new)
             (check.Finds (sizes self.old) (view self.old) stamp result) }
         ensures row { check.Outcome (sizes self.old) (view self.old) (view self.new) stamp
-            (option_map (λ d. what_of d.now) deed.entry) result };
+            (option_map (λ d. d.now) deed.entry) result };
 
     /// Locks the stamp's cell, whose path is known, if its version word is unchanged.
     fn upgrade(&mut self, stamp: Stamp) -> Result<Held, UpgradeFault>
@@ -108,7 +108,8 @@ pub trait Steps {
 
     /// Locks a node whose number is in hand.
     fn claim(&mut self, number: Number) -> Held
-        requires inside { (n : NodeOf) × (link_of_number number ≡ node n) × IsInside (sizes self.old) (node_cell n) × claim.May (view self.old) n }
+        requires inside { (n : NodeOf) × (link_of_number number ≡ node n) × IsInside (sizes self.old) (node_cell n) ×
+            claim.May (view self.old) n }
         ensures only { only self.old self.new }
         ensures at_once { (n : NodeOf) → link_of_number number ≡ node n →
             AtStep (sizes self.old) (view self.old) (view self.new) (instants self.old self.new) (LocksClaimed n) }
@@ -153,15 +154,15 @@ pub trait Steps {
         requires few { length unlinked.now ≤ 3 }
         requires first { (h : HoldingOf) × (h.cell ≡ cell_held held) ×
             commit.MayBeFirst (view self.old) (links_of unlinked.now) h obsolete }
-        requires may { commit.May (sizes self.old) (view self.old) (what_of deed.now) (links_of unlinked.now)
+        requires may { commit.May (sizes self.old) (view self.old) deed.now (links_of unlinked.now)
             (commit.coming (view self.old) (option_map link_of_number leaf)) }
-        requires admitted { IsAdmitted (admits self.old) (what_of deed.now) }
+        requires admitted { IsAdmitted (admits self.old) deed.now }
         ensures only { only self.old self.new }
         ensures at_once { AtStep (sizes self.old) (view self.old) (view self.new) (instants self.old self.new)
             (commit.UnlocksFirst (view self.old) (cell_held held) obsolete) }
         ensures numbers { filter_map (option_map link_of_number) result ≡ links_of unlinked.now }
         ensures row { (h : HoldingOf) → IsHolding (view self.old) (cell_held held) h →
-            commit.Outcome (view self.old) (view self.new) (what_of deed.now) (links_of unlinked.now)
+            commit.Outcome (view self.old) (view self.new) deed.now (links_of unlinked.now)
             (commit.coming (view self.old) (option_map link_of_number leaf)) h };
 
     /// A later release, or that of a change that is given up with nothing written and nothing claimed.

@@ -1,26 +1,12 @@
 //! What a pass knows: the types that contracts speak of. Of most of them no value is ever made.
+use crate::Deed;
 use art_cell::{Cell, Link, Pool};
-use art_model::Answer;
-use art_tree::Bound;
 use std::collections::LinkedList;
-
-/// A command, on byte keys.
-pub enum Asked {
-    Insert(LinkedList<u8>, u64),
-    Remove(LinkedList<u8>),
-    Get(LinkedList<u8>),
-}
-
-/// What an event says: a command with its answer, or a look of a range with the one row that it found, or none.
-pub enum What {
-    Done(Asked, Answer),
-    Look(LinkedList<u8>, Bound, Option<(LinkedList<u8>, u64)>),
-}
 
 /// What a pass, by its number, did.
 pub struct Event {
     pub pass: u64,
-    pub what: What,
+    pub what: Deed,
 }
 
 /// A cell whose version word was clear, and that word.

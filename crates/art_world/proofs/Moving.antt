@@ -23,19 +23,18 @@ use Rattle.art_step.specs.declared.views.InHand.{InHand}
 use Rattle.art_step.specs.Steps.Write as write
 use Rattle.art_step.specs.declared.views.Stamp.{Stamp}
 use Rattle.art_step.specs.declared.views.View.{View}
-use Rattle.art_step.specs.declared.views.What.{What}
+use Rattle.art_step.specs.declared.deeds.Deed.{Deed}
 use Rattle.art_step.specs.Effects.{FindsUnchanged, FindsVersion, Instant}
 use Rattle.art_step.specs.Steps.Check as check
 use Rattle.art_step.specs.declared.views.Sizes.{Sizes}
-use Rattle.art_step.specs.Steps.{AtStep}
-use Rattle.art_step.specs.Views.{Memory, Views, size_of}
+use Rattle.art_step.specs.Views.{Views, size_of}
 use Rattle.art_step.specs.WordRows.{view_at, views_of}
 use Rattle.art_step.proofs.Moves.{Moves, moves_fails, moves_passes}
 use Rattle.art_world.specs.Contents.{Contents, IsSoundWorld, memory_now}
 use Rattle.art_world.proofs.ViewLists.{at_view}
 
 -- what a check shows, whichever word is found
-abbrev pub ShowsCheck : Contents → ℕ → Stamp → Option What → ℕ → View → View → Type 0
+abbrev pub ShowsCheck : Contents → ℕ → Stamp → Option Deed → ℕ → View → View → Type 0
 ShowsCheck k p x o found v w = (found ≡ x.version → check.Unchanged k.sizes v w x o) × (found ≢ x.version → check.IsChanged v w x found)
 
 -- and what happens at it
@@ -54,7 +53,7 @@ module _ (k : Contents) (p : ℕ) (inside : p < length k.views) (r : IsSoundWorl
       → ((m' : _) (f' : Views) → so (memory_now k) (views_of k.views) m' f' → so' (memory_now k) (views_of k.views) m' f') → Shown us Row so → Shown us Row' so'
   weaker us Row Row' so so' row was t = record { view = t.view; pass = t.pass; row = row t.view t.row; step = t.step; sound = t.sound; was = λ g s. was _ g (t.was g s) }
 
-  pub checks : (x : Stamp) (o : Option What) (found : ℕ) → found ≡ (memory_now k).version x.cell → check.May k.sizes v x o
+  pub checks : (x : Stamp) (o : Option Deed) (found : ℕ) → found ≡ (memory_now k).version x.cell → check.May k.sizes v x o
       → Shown k.words (λ v w. ShowsCheck k p x o found v w) (AtCheck k p x found)
   checks x o found is may = ⊎_elim
       (λ (same : found ≡ x.version).
@@ -109,20 +108,3 @@ least_of k p n i is free least r low =
       free = mine;
       least = λ j below. least j (subst (λ (m : ℕ). j < m) same below);
     }
-
--- ---- instants
-
--- what was so at the instant of a step, was so in other words
-pub at_step_so : {z : Sizes} {v w : View} {I so so' : Instant} → ((m : Memory) (f : Views) (m' : Memory) (f' : Views) → so m f m' f' → so' m f m' f') → AtStep z v w I so → AtStep z v w I so'
-at_step_so by t = record {
-  words = t.words;
-  views = t.views;
-  words_after = t.words_after;
-  views_after = t.views_after;
-  instant = t.instant;
-  pass = t.pass;
-  before = t.before;
-  after = t.after;
-  step = t.step;
-  was = by t.words t.views t.words_after t.views_after t.was;
-}

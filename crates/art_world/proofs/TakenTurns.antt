@@ -12,11 +12,11 @@ use Rattle.art_step.specs.WordRows.{view_at}
 
 -- ---- an actor in its place
 
-placed_here : {A : Type 0} (xs : List A) (p : ℕ) (x : A) → p < length xs → slice_get (set xs p x) p ≡ Some x
+pub placed_here : {A : Type 0} (xs : List A) (p : ℕ) (x : A) → p < length xs → slice_get (set xs p x) p ≡ Some x
 placed_here xs p x inside =
     slice_get-get_or (set xs p x) p x (subst (λ (n : ℕ). p < n) (sym (length-set xs p x)) inside) ∙ ap Some (get_or-set_same xs p x x inside)
 
-placed_there : {A : Type 0} (xs : List A) (p q : ℕ) (x : A) → q ≢ p → slice_get (set xs p x) q ≡ slice_get xs q
+pub placed_there : {A : Type 0} (xs : List A) (p q : ℕ) (x : A) → q ≢ p → slice_get (set xs p x) q ≡ slice_get xs q
 placed_there {A} xs p q x other =
     ⊎_elim
     (λ (low : q < length xs).
@@ -79,3 +79,12 @@ module _ {A : Type 0} (fits : A → Sizes → View → Type 0) (ended : A → Bo
   run_more ts i k xs low run turn =
       let next : suc i ≡ i + 1 = omega arith in
       subst (λ (n : ℕ). IsRun fits ended makes (take n ts) k xs l ys) next (run_longer ts i k xs low run turn)
+
+-- ---- inductions over a run
+
+-- what each turn keeps, a run keeps
+pub run_keeps : {A : Type 0} (fits : A → Sizes → View → Type 0) (ended : A → Bool) (makes : ℕ → A → Contents → A → Contents → Type 0) (P : Contents → List A → Type 0)
+    → ((p : ℕ) (k : Contents) (xs : List A) (l : Contents) (ys : List A) → IsTurn fits ended makes p k xs l ys → P k xs → P l ys)
+    → (ts : List ℕ) (k : Contents) (xs : List A) (l : Contents) (ys : List A) → IsRun fits ended makes ts k xs l ys → P k xs → P l ys
+run_keeps {A} fits ended makes P turn [] k xs l ys run at = subst (λ (w : Contents × List A). P w.0 w.1) (λ i. (sym run.0 i, sym run.1 i)) at
+run_keeps {A} fits ended makes P turn (t ∷ ts) k xs l ys (m, zs, first, rest) at = run_keeps fits ended makes P turn ts m zs l ys rest (turn t k xs m zs first at)

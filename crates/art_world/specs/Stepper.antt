@@ -36,7 +36,11 @@ pub only_same : (a : Stepper) → OnlyStepped a a
 only_same a = record { lender = refl; pass = refl; steps = only_no_steps (world_of a) (pass_of a) }
 
 pub only_then : (a b c : Stepper) → OnlyStepped a b → OnlyStepped b c → OnlyStepped a c
-only_then a b c x y = record { lender = y.lender ∙ x.lender; pass = y.pass ∙ x.pass; steps = only_steps_then (world_of a) (world_of b) (world_of c) (pass_of a) (pass_of b) x.pass x.steps y.steps }
+only_then a b c x y = record {
+  lender = y.lender ∙ x.lender;
+  pass = y.pass ∙ x.pass;
+  steps = only_steps_then (world_of a) (world_of b) (world_of c) (pass_of a) (pass_of b) x.pass x.steps y.steps;
+}
 
 pub only_sizes : (a b : Stepper) → OnlyStepped a b → sizes_of b ≡ sizes_of a
 only_sizes a b x = x.steps.sizes

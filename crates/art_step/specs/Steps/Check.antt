@@ -14,15 +14,15 @@ use Rattle.art_step.specs.declared.views.Note.{Note}
 use Rattle.art_step.specs.declared.views.Sizes.{Sizes}
 use Rattle.art_step.specs.declared.views.Stamp.{Stamp}
 use Rattle.art_step.specs.declared.views.View.{View}
-use Rattle.art_step.specs.declared.views.What.{What}
+use Rattle.art_step.specs.declared.deeds.Deed.{Deed}
 use Rattle.art_tree.specs.Heaps.{Cells}
 
 -- an event only where the stamp's notes decide its answer
-abbrev pub MayTell : Sizes → View → Stamp → Option What → Type 0
+abbrev pub MayTell : Sizes → View → Stamp → Option Deed → Type 0
 MayTell z v x None = ⊤
 MayTell z v x (Some what) = DecidesAnswer z v x what
 
-pub record May (z : Sizes) (v : View) (x : Stamp) (o : Option What) : Type 0 where
+pub record May (z : Sizes) (v : View) (x : Stamp) (o : Option Deed) : Type 0 where
   pub stamp : Member x v.stamps
   pub tells : MayTell z v x o
 
@@ -42,7 +42,7 @@ view_unchanged v x ys = record v {
 }
 
 -- the history grows by an event, if there is one
-abbrev pub with_event : View → List Event → Option What → View
+abbrev pub with_event : View → List Event → Option Deed → View
 with_event v log None = v
 with_event v log (Some what) = record v { seen = log ++ event v.pass what ∷ []; own = v.own ++ length log ∷ [] }
 
@@ -51,7 +51,7 @@ pub record UnchangedStep (z : Sizes) (p : ℕ) (v : View) (m : Memory) (f : View
     (s : Cells) : Type 0 where
   pub stamp : Stamp
   pub paths : List Note
-  pub event : Option What
+  pub event : Option Deed
   pub may : May z v stamp event
   pub found : m.version stamp.cell ≡ stamp.version
   pub led : ArePaths s v paths
@@ -60,7 +60,7 @@ pub record UnchangedStep (z : Sizes) (p : ℕ) (v : View) (m : Memory) (f : View
 
 -- stamped cells gain their paths, those to which the notes lead among them; the notes hold of a tree that stands at this step; and
 -- an event is made, if one was decided
-pub record Unchanged (z : Sizes) (v w : View) (x : Stamp) (o : Option What) : Type 0 where
+pub record Unchanged (z : Sizes) (v w : View) (x : Stamp) (o : Option Deed) : Type 0 where
   pub paths : List Note
   pub is : w ≡ record (view_unchanged v x paths) { seen = w.seen; own = w.own }
   pub stamped : (y : Note) → Member y paths → Member y.stamp v.stamps × ((q : List ℕ) × (y.fact ≡ Starts q))
@@ -106,7 +106,7 @@ abbrev pub Finds : {A : Type 0} → Sizes → View → Stamp → Result A Change
 Finds z v x (Ok done) = FindsUnchanged z v x
 Finds z v x (Err c) = FindsVersion x.cell c.found
 
-abbrev pub Outcome : {A : Type 0} → Sizes → View → View → Stamp → Option What → Result A Changed → Type 0
+abbrev pub Outcome : {A : Type 0} → Sizes → View → View → Stamp → Option Deed → Result A Changed → Type 0
 Outcome z v w x o (Ok done) = Unchanged z v w x o
 Outcome z v w x o (Err c) = (c.cell ≡ x.cell) × (c.seen ≡ x.version) × (c.found ≢ c.seen) × IsChanged v w x c.found
 

@@ -21,7 +21,7 @@ use Rattle.art_step.specs.declared.views.Pin.{Pin}
 use Rattle.art_step.specs.declared.views.Retired.{Retired}
 use Rattle.art_step.specs.declared.views.Sizes.{Sizes}
 use Rattle.art_step.specs.declared.views.View.{View}
-use Rattle.art_step.specs.declared.views.What.{What}
+use Rattle.art_step.specs.declared.deeds.Deed.{Deed}
 use Rattle.art_tree.specs.Changes.{IsUnlinked}
 use Rattle.art_tree.specs.Heaps.{Cells, heap_of}
 use Rattle.art_tree.specs.Rows.{ByteMap, HasRows}
@@ -54,7 +54,7 @@ IsOnce (d ∷ ds) = (Member d ds → ⊥) × IsOnce ds
 -- keeps its path; the numbers of us are unlinked and those of ls linked, and no others; each of us is named once, since it comes
 -- back to the pass as often as it is named; nodes of us are held, and the numbers of ls are in hand, among them each that was
 -- claimed
-pub record Commits (z : Sizes) (v : View) (what : What) (us ls : List Link) (s s' : Cells) : Type 0 where
+pub record Commits (z : Sizes) (v : View) (what : Deed) (us ls : List Link) (s s' : Cells) : Type 0 where
   pub shape : IsShape z s'
   pub rows : (b : ByteMap) → HasRows (heap_of s) b → IsAnswered b what × HasRows (heap_of s') (becomes b what)
   pub others : (n : Node) (p : List ℕ) → IsNotHeld v.held (cell.Node n) → StandsAt (heap_of s) (node n) p → StandsAt (heap_of s') (node n) p
@@ -69,7 +69,7 @@ pub record Commits (z : Sizes) (v : View) (what : What) (us ls : List Link) (s s
 -- ---- where it may be made
 
 -- so it is in each tree that is as the pass knows it
-abbrev pub May : Sizes → View → What → List Link → List Link → Type 0
+abbrev pub May : Sizes → View → Deed → List Link → List Link → Type 0
 May z v what us ls = (s s' : Cells) → IsShape z s → Knows v s → AllNew v.held s s' → Commits z v what us ls s s'
 
 pub record MayBeFirst (v : View) (us : List Link) (h : Holding) (b : Bool) : Type 0 where
@@ -108,7 +108,7 @@ abbrev pub all_retired : List Pin → List Link → List Retired
 all_retired ks [] = []
 all_retired ks (d ∷ ds) = retired ks d ∷ all_retired ks ds
 
-abbrev pub view_after : View → List Event → What → List Holding → List InHand → List Retired → View
+abbrev pub view_after : View → List Event → Deed → List Holding → List InHand → List Retired → View
 view_after v log what hs xs es = record v {
   steps = v.steps + 1;
   seen = log ++ event v.pass what ∷ [];
@@ -124,7 +124,7 @@ view_after v log what hs xs es = record v {
 -- the history grows by the event, the numbers that are linked leave the hand, and those that are unlinked go to limbo with the
 -- pins that stand
 pub record Step (z : Sizes) (p : ℕ) (v : View) (m : Memory) (f : Views) (m' : Memory) (f' : Views) (log : List Event) : Type 0 where
-  pub what : What
+  pub what : Deed
   pub unlinked : List Link
   pub linked : List Link
   pub pins : List Pin
@@ -157,7 +157,7 @@ pub record UnlocksFirst (v : View) (c : Cell) (obsolete : Bool) (m : Memory) (f 
 
 -- the event is made, the numbers that come into the tree leave the hand, and those that leave it go to limbo, each with the same
 -- pins: those that stand (`UnlocksFirst`)
-pub record Outcome (v w : View) (what : What) (us ls : List Link) (h : Holding) : Type 0 where
+pub record Outcome (v w : View) (what : Deed) (us ls : List Link) (h : Holding) : Type 0 where
   pub held : List Holding
   pub drops : Drops v.held h.cell held
   pub hand : List InHand

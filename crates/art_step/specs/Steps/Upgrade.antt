@@ -53,7 +53,7 @@ abbrev pub AgreesWithNotes : View → Stamp → List ℕ → Type 0
 AgreesWithNotes v x ws = (i value : ℕ) → Member (note_of x (Word i value)) v.notes → words_in ws i ≡ value
 
 -- the words of the cell stand in a list, where the place of the version word has 0
-pub record Locked (v w : View) (x : Stamp) : Type 0 where
+pub record Locks (v w : View) (x : Stamp) : Type 0 where
   pub limit : x.version < 4 * last_counter
   pub words : List ℕ
   pub long : length words ≡ size_of x.cell
@@ -67,7 +67,7 @@ Refused v w x (fault.Changed c) = (c.cell ≡ x.cell) × (c.seen ≡ x.version) 
 Refused v w x (fault.Exhausted c) = (c ≡ x.cell) × (4 * last_counter ≤ x.version) × (w ≡ v)
 
 abbrev pub Outcome : View → View → Stamp → Result Held UpgradeFault → Type 0
-Outcome v w x (Ok h) = (cell_held h ≡ x.cell) × Locked v w x
+Outcome v w x (Ok h) = (cell_held h ≡ x.cell) × Locks v w x
 Outcome v w x (Err e) = Refused v w x e
 
 abbrev pub Law : Type 0

@@ -1,8 +1,9 @@
 use Rattle.std.proofs.Common.{[], ◌∷◌, List, ℕ, Some, arith, subst, sym}
 use Rattle.art_cell_uses.specs.declared.anchor.steps.TheConstants.{KEY, VALUE}
 use Rattle.art_model.specs.declared.commands.Answer.TheVariants.{Inserted}
-use Rattle.art_step.specs.declared.views.Asked.TheVariants.{Insert}
-use Rattle.art_step.specs.declared.views.What.TheVariants.{Done}
+use Rattle.art_step.specs.Deeds.{key_of}
+use Rattle.art_step.specs.declared.deeds.Act.TheVariants.{Insert}
+use Rattle.art_step.specs.declared.deeds.Deed.TheVariants.{Done}
 use Rattle.art_step.specs.Steps.Commit.{coming}
 use Rattle.art_step.specs.Tokens.{link_of_number}
 use Rattle.art_step.specs.Steps.Commit as commit
@@ -17,7 +18,7 @@ commit-requires-clause-may g c =
     let r = c.requires.changes in
     let z = g.S.Steps.sizes c.args.steps.now in
     let v = g.S.Steps.view c.args.steps.now in
-    subst (λ (k : List ℕ). commit.May z v (Done (Insert k VALUE) Inserted) [] (coming v (Some (link_of_number c.args.number)))) (sym c.one_byte.ensures)
+    subst (λ (k : List ℕ). commit.May z v (Done (Insert (key_of k) VALUE) Inserted) [] (coming v (Some (link_of_number c.args.number)))) (sym c.one_byte.ensures)
     (may_add z v c.args.held c.args.number r.0 KEY VALUE (omega arith) c.requires.fills r.1)
 
 pub returns-clause-step : goal.returns-clause-step

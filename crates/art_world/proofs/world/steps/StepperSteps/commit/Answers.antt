@@ -3,7 +3,6 @@ use Rattle.art_world.specs.Stepper.{pass_of, view_of, world_of}
 use Rattle.art_step.specs.WordRows.{views_of}
 use Rattle.art_world.proofs.ViewLists.{at_view}
 use Rattle.std.proofs.Common.{arith}
-use Rattle.art_step.specs.Deeds.{what_of}
 use Rattle.art_step.specs.Tokens.{links_of}
 use Rattle.art_step.proofs.Changing.{moves_commits, released_fits}
 use Rattle.art_world.proofs.Moving.{version_low}
@@ -29,4 +28,4 @@ put-requires-clause-moves c i =
     let first = c.requires.first in
     let pins = standing k.views (λ q u is. (i.sound.history.tells q u is).pass) in
     rw (c.place_of-place.ensures, c.sizes.ensures, c.released-unlocked.ensures, c.version.ensures, c.spend-cell.ensures, c.spent-leaf.ensures)
-    (moves_commits k.sizes k.words (views_of k.views) (pass_of s) (view_of s) i.sound (at_view k.views (pass_of s) s.inside) i.long _ first.0 (what_of c.args.deed.now) (links_of c.args.unlinked.now) _ c.args.obsolete first.1 pins first.2 c.requires.may c.requires.inside)
+    (moves_commits k.sizes k.words (views_of k.views) (pass_of s) (view_of s) i.sound (at_view k.views (pass_of s) s.inside) i.long _ first.0 c.args.deed.now (links_of c.args.unlinked.now) _ c.args.obsolete first.1 pins first.2 c.requires.may c.requires.inside)

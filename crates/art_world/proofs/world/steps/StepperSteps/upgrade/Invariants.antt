@@ -8,4 +8,4 @@ abbrev pub ghosts-find : goal.ghosts-find
 ghosts-find a = record { shown = λ v w. check.IsChanged v w a._about.now.0 a._about.now.1; happens = FindsVersion a._about.now.0.cell a._about.now.1 }
 
 abbrev pub ghosts-put : goal.ghosts-put
-ghosts-put a = record { shown = λ v w. upgrade.Locked v w a._about.now; happens = LocksStamped a._about.now }
+ghosts-put a = record { shown = λ v w. upgrade.Locks v w a._about.now; happens = LocksStamped a._about.now }
