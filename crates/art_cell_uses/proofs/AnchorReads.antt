@@ -12,7 +12,8 @@ use Rattle.art_step.proofs.SetsView.{member_back}
 use Rattle.art_step.specs.Knowledge.{KnowsLeaf, NamesLeaf}
 use Rattle.art_step.specs.Steps.Check as check
 use Rattle.art_step.specs.Steps.Read as read
-use Rattle.art_step.specs.Views.{IsChildPlace, IsChildWord, IsNumber, Member, note_of, size_of, stamp_of}
+use Rattle.art_step.specs.Views.{IsChildPlace, IsChildWord, IsNumber, Member, note_of, size_of}
+use Rattle.art_step.specs.Steps.Begin.{stamp_of}
 use Rattle.art_step.specs.WordPlaces.{HasVersion, IsInside}
 use Rattle.art_step.specs.declared.held.Held.{Held}
 use Rattle.art_step.specs.declared.views.Fact.{Fact}
@@ -29,15 +30,15 @@ use Rattle.art_cell_uses.specs.Visits.{IsAway, IsIdle, IsNoted, HoldsWord, Locks
 
 -- ---- the stamp of the anchor
 
-pub stamp_is : (x : Stamp) → x.cell ≡ cell.Anchor → stamp_of cell.Anchor x.version ≡ x
-stamp_is x e = ap (λ (c : Cell). stamp_of c x.version) (sym e)
+pub stamp_is : (z : Sizes) (x : Stamp) → x.cell ≡ cell.Anchor → x.first ≡ 0 → stamp_of z cell.Anchor x.version ≡ x
+stamp_is z x e first = ap (λ (c : Cell). record { cell = c; version = x.version; first = 0 }) (sym e) ∙ ap (λ (a : ℕ). record { cell = x.cell; version = x.version; first = a }) (sym first)
 
 pub stamps_inside : (z : Sizes) (v : View) (x : Stamp) → StampsAnchor v x → IsInside z x.cell × HasVersion z x.cell
 stamps_inside z v x s = subst (λ (c : Cell). IsInside z c × HasVersion z c) (sym s.cell) (tt, tt)
 
 -- its stamp and path stay known
 pub stamps_on : (v w : View) (x : Stamp) → OnlyLearns v w → StampsAnchor v x → StampsAnchor w x
-stamps_on v w x more s = record { cell = s.cell; stamp = more.stamps x s.stamp; path = more.notes (note_of x (Starts [])) s.path }
+stamps_on v w x more s = record { cell = s.cell; first = s.first; stamp = more.stamps x s.stamp; path = more.notes (note_of x (Starts [])) s.path }
 
 -- ---- what a pass learns
 
@@ -145,7 +146,7 @@ notes_less z v x l k value place few le n = record { inside = n.inside; small = 
 pub locks_word : (v w : View) (x : Stamp) (h : Held) (a : ℕ) → IsNoted v x (Word 1 a) → Locks v w x h → HoldsWord w h x.version a
 locks_word v w x h a noted made = record { words = made.words; long = made.long; holds = made.holds; is = made.agrees 1 a noted }
 
-pub locks_notes : (z z' : Sizes) (v w : View) (x : Stamp) (h : Held) (l : ℕ) (k : List ℕ) (value place : ℕ) → z' ≡ z → StampsAnchor v x → Locks v w x h → NotesLeaf z v x l k value place → NotesLeaf z' w (stamp_of cell.Anchor x.version) l k value place
+pub locks_notes : (z z' : Sizes) (v w : View) (x : Stamp) (h : Held) (l : ℕ) (k : List ℕ) (value place : ℕ) → z' ≡ z → StampsAnchor v x → Locks v w x h → NotesLeaf z v x l k value place → NotesLeaf z' w (stamp_of z cell.Anchor x.version) l k value place
 locks_notes z z' v w x h l k value place same s made n =
-    subst (λ (y : Stamp). NotesLeaf z' w y l k value place) (sym (stamp_is x s.cell))
+    subst (λ (y : Stamp). NotesLeaf z' w y l k value place) (sym (stamp_is z x s.cell s.first))
     (notes_on z z' v w x l k value place same (λ y i. subst (Member y) (sym made.notes) i) n)

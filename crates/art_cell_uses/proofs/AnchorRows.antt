@@ -24,7 +24,8 @@ use Rattle.art_tree.specs.Heaps.{Cells, heap_of}
 use Rattle.art_cell.specs.Leaves.{leaf_word}
 use Rattle.art_step.specs.Steps.Commit as commit
 use Rattle.art_step.specs.Steps.Give as give
-use Rattle.art_step.specs.Views.{IsHolding, IsInLimbo, note_of, stamp_of}
+use Rattle.art_step.specs.Views.{IsHolding, IsInLimbo, note_of}
+use Rattle.art_step.specs.Steps.Begin.{stamp_of}
 use Rattle.art_step.specs.Steps.Write as write
 use Rattle.art_step.specs.Steps.Commit.{claimed_node, claimed_nodes, coming, AllNew, Commits, Knows, all_retired, retired}
 use Rattle.art_step.specs.Tokens.{cell_held, link_of_number, links_of}
@@ -183,9 +184,9 @@ added_idle z v w h n k value x a b what us ls f c committed = record {
 -- ---- the leaf that the anchor names is removed
 
 -- what was noted of the leaf holds until the commit
-module _ (z : Sizes) (v : View) (h : Held) (l x byte value b : ℕ) (n : NotesLeaf z v (stamp_of cell.Anchor x) l (byte ∷ []) value 3) (c : ChangesWord v h x (child_word (leaf l)) b) (s : Cells) (knows : Knows v s) where
+module _ (z : Sizes) (v : View) (h : Held) (l x byte value b : ℕ) (n : NotesLeaf z v (stamp_of z cell.Anchor x) l (byte ∷ []) value 3) (c : ChangesWord v h x (child_word (leaf l)) b) (s : Cells) (knows : Knows v s) where
   word_of_leaf : (i : ℕ) → i < 3 → s (cell.Leaf l) i ≡ leaf_word (byte ∷ []) value i
-  word_of_leaf i low = (knows.kept _ (note_of (stamp_of cell.Anchor x) (LeafWord l i (leaf_word (byte ∷ []) value i))) c.holds.just.has (n.read i low) refl refl).1
+  word_of_leaf i low = (knows.kept _ (note_of (stamp_of z cell.Anchor x) (LeafWord l i (leaf_word (byte ∷ []) value i))) c.holds.just.has (n.read i low) refl refl).1
 
   key_noted : byte < 256 → (heap_of s).key l ≡ byte ∷ []
   unfolding heap_of
@@ -195,7 +196,7 @@ module _ (z : Sizes) (v : View) (h : Held) (l x byte value b : ℕ) (n : NotesLe
   unfolding heap_of
   value_noted = word_of_leaf 0 (omega arith)
 
-pub may_remove : (z : Sizes) (v : View) (h : Held) (l x byte value : ℕ) → byte < 256 → NotesLeaf z v (stamp_of cell.Anchor x) l (byte ∷ []) value 3 → ChangesWord v h x (child_word (leaf l)) 0
+pub may_remove : (z : Sizes) (v : View) (h : Held) (l x byte value : ℕ) → byte < 256 → NotesLeaf z v (stamp_of z cell.Anchor x) l (byte ∷ []) value 3 → ChangesWord v h x (child_word (leaf l)) 0
     → commit.May z v (Done (Remove (key_of (byte ∷ []))) (Removed value)) (leaf l ∷ []) (coming v None)
 may_remove z v h l x byte value small n c s s' shape knows turns =
     subst₂ (λ (k : List ℕ) (w : ℕ). Commits z v (Done (Remove (key_of k)) (Removed w)) (leaf l ∷ []) (coming v None) s s') (key_noted z v h l x byte value 0 n c s knows small) (value_noted z v h l x byte value 0 n c s knows)

@@ -8,6 +8,7 @@ use Rattle.art_step.specs.declared.faults.UpgradeFault.{UpgradeFault}
 use Rattle.art_step.specs.declared.faults.UpgradeFault.TheVariants as fault
 use Rattle.art_step.specs.declared.views.Holding.{Holding}
 use Rattle.art_step.specs.declared.views.InHand.{InHand}
+use Rattle.art_step.specs.declared.views.Sizes.{Sizes}
 use Rattle.art_step.specs.declared.views.Stamp.{Stamp}
 use Rattle.art_step.specs.declared.views.View.{View}
 use Rattle.art_step.specs.Steps.Check as check
@@ -37,14 +38,14 @@ either_way true P v w a e f = e
 either_way false P v w a e f = f
 
 -- to begin changes neither what is held nor the pin
-begun_held : (v : View) (c : Cell) (x : ℕ) → (begin.view_after v c x).held ≡ v.held
-begun_held v c x = either_way (eqb (x % 4) 0) (λ (u : View). u.held) _ _ v.held refl refl
+begun_held : (z : Sizes) (v : View) (c : Cell) (x : ℕ) → (begin.view_after z v c x).held ≡ v.held
+begun_held z v c x = either_way (eqb (x % 4) 0) (λ (u : View). u.held) _ _ v.held refl refl
 
-begun_pin : (v : View) (c : Cell) (x : ℕ) → (begin.view_after v c x).pin ≡ v.pin
-begun_pin v c x = either_way (eqb (x % 4) 0) (λ (u : View). u.pin) _ _ v.pin refl refl
+begun_pin : (z : Sizes) (v : View) (c : Cell) (x : ℕ) → (begin.view_after z v c x).pin ≡ v.pin
+begun_pin z v c x = either_way (eqb (x % 4) 0) (λ (u : View). u.pin) _ _ v.pin refl refl
 
-pub begun_away : (v : View) (c : Cell) (x : ℕ) → IsAway v → IsAway (begin.view_after v c x)
-begun_away v c x = still_away v (begin.view_after v c x) (begun_pin v c x) (begun_held v c x)
+pub begun_away : (z : Sizes) (v : View) (c : Cell) (x : ℕ) → IsAway v → IsAway (begin.view_after z v c x)
+begun_away z v c x = still_away v (begin.view_after z v c x) (begun_pin z v c x) (begun_held z v c x)
 
 -- ---- upgrade
 

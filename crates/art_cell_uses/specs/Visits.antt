@@ -6,7 +6,8 @@ use Rattle.art_cell.specs.declared.cells.Cell.TheVariants as cell
 use Rattle.art_cell.specs.declared.cells.Link.TheVariants.{Leaf as leaf}
 use Rattle.art_step.specs.Steps.Upgrade.{AgreesWithNotes}
 use Rattle.art_step.specs.Tokens.{cell_held, link_of_number}
-use Rattle.art_step.specs.Views.{Member, note_of, stamp_of, words_in}
+use Rattle.art_step.specs.Views.{Member, note_of, words_in}
+use Rattle.art_step.specs.Steps.Begin.{stamp_of}
 use Rattle.art_step.specs.WordRows.{view_at}
 use Rattle.art_step.specs.declared.held.Held.{Held}
 use Rattle.art_step.specs.declared.numbers.Number.{Number}
@@ -51,9 +52,10 @@ pub record OnlyLearns (v w : View) : Type 0 where
 
 -- ---- the anchor
 
--- the anchor is stamped, and its path is noted
+-- the anchor, whose words are the first, is stamped, and its path is noted
 pub record StampsAnchor (v : View) (x : Stamp) : Type 0 where
   pub cell : x.cell ≡ cell.Anchor
+  pub first : x.first ≡ 0
   pub stamp : Member x v.stamps
   pub path : IsNoted v x (Starts [])
 
@@ -143,8 +145,8 @@ abbrev pub Removes : List ℕ → ℕ → Sizes → View → Removing → Type 0
 Removes k value z v removing.Idle = IsIdle v
 Removes k value z v (removing.Stamped x) = IsIdle v × StampsAnchor v x
 Removes k value z v (removing.Reading x l place) = IsIdle v × StampsAnchor v x × NotesLeaf z v x l k value place
-Removes k value z v (removing.Locked h l) = HasNone v.hand × ((x : ℕ) × HoldsWord v h x (child_word (leaf l)) × NotesLeaf z v (stamp_of cell.Anchor x) l k value 3)
-Removes k value z v (removing.Written h l) = HasNone v.hand × ((x : ℕ) × ChangesWord v h x (child_word (leaf l)) 0 × NotesLeaf z v (stamp_of cell.Anchor x) l k value 3)
+Removes k value z v (removing.Locked h l) = HasNone v.hand × ((x : ℕ) × HoldsWord v h x (child_word (leaf l)) × NotesLeaf z v (stamp_of z cell.Anchor x) l k value 3)
+Removes k value z v (removing.Written h l) = HasNone v.hand × ((x : ℕ) × ChangesWord v h x (child_word (leaf l)) 0 × NotesLeaf z v (stamp_of z cell.Anchor x) l k value 3)
 
 abbrev pub Visits : List ℕ → ℕ → Sizes → View → Visit → Type 0
 Visits k value z v visit.Idle = IsIdle v

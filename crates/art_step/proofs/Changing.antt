@@ -47,7 +47,7 @@ use Rattle.art_step.proofs.SetsView.{member_append, one_view}
 use Rattle.art_step.proofs.WordRows.{IsNoLeaf, sets_version, sets_word, copy_of, is_copy, copy_version}
 use Rattle.art_step.proofs.Moves.{Moves, makes, moved, with_view, with_turned}
 
-first_low : (c : Cell) → first_place c ≤ 1
+pub first_low : (c : Cell) → first_place c ≤ 1
 first_low cell.Anchor = omega arith
 first_low (cell.Leaf l) = omega arith
 first_low (cell.Node n) = omega arith

@@ -18,8 +18,8 @@ use Rattle.art_step.specs.Steps.Check as check
 use Rattle.art_step.specs.Determined.{HistoryGrows, HistoryLaw, LogicalLaw}
 use Rattle.art_step.specs.Views.{Member, Memory, Views, SetsView}
 
-begun_seen : (v : View) (c : Cell) (x : ℕ) → (begin.view_after v c x).seen ≡ v.seen
-begun_seen v c x = cond_both (x % 4 == 0) _ _ (λ (w : View). w.seen ≡ v.seen) (λ e. refl) (λ e. refl)
+begun_seen : (z : Sizes) (v : View) (c : Cell) (x : ℕ) → (begin.view_after z v c x).seen ≡ v.seen
+begun_seen z v c x = cond_both (x % 4 == 0) _ _ (λ (w : View). w.seen ≡ v.seen) (λ e. refl) (λ e. refl)
 
 with_more : (log seen : List Event) (e : Event) → StartsWith log seen → StartsWith (log ++ e ∷ []) seen
 with_more log seen e starts = (starts.0 ++ e ∷ [], ap (λ (l : List Event). l ++ e ∷ []) starts.1 ∙ append_assoc seen starts.0 (e ∷ []))
@@ -39,7 +39,7 @@ module _ (z : Sizes) (p : ℕ) (v : View) (m : Memory) (f : Views) (n : Memory) 
   becomes u t s = subst (λ (x : View). StartsWith x.seen v.seen) (same_Some u w (sym t.here ∙ is)) s
 
   pub kind_grows : OfAKind z p v m f n g r.log r.logical → StartsWith w.seen v.seen
-  kind_grows (IsBegin k) = stays _ k.view (begun_seen v k.cell (m.version k.cell))
+  kind_grows (IsBegin k) = stays _ k.view (begun_seen z v k.cell (m.version k.cell))
   kind_grows (IsRead k) = stays _ k.view refl
   kind_grows (IsReadLeaf k) = stays _ k.view refl
   kind_grows (IsUnchanged k) = becomes _ k.view (telling_seen _ r.log v.seen k.event starts ([], sym (append-nil v.seen)))
@@ -86,8 +86,8 @@ step_view z p m f m' g t = kind_view z p t.view m f m' g t.sound.log t.sound.log
 
 -- ---- a step keeps its pass
 
-begun_pass : (v : View) (c : Cell) (x : ℕ) → (begin.view_after v c x).pass ≡ v.pass
-begun_pass v c x = cond_both (x % 4 == 0) _ _ (λ (w : View). w.pass ≡ v.pass) (λ e. refl) (λ e. refl)
+begun_pass : (z : Sizes) (v : View) (c : Cell) (x : ℕ) → (begin.view_after z v c x).pass ≡ v.pass
+begun_pass z v c x = cond_both (x % 4 == 0) _ _ (λ (w : View). w.pass ≡ v.pass) (λ e. refl) (λ e. refl)
 
 with_event_pass : (u : View) (log : List Event) (o : Option Deed) → (check.with_event u log o).pass ≡ u.pass
 with_event_pass u log None = refl
@@ -98,7 +98,7 @@ module _ (z : Sizes) (p : ℕ) (v : View) (m : Memory) (f : Views) (m' : Memory)
   keeps u t same = ap (λ (x : View). x.pass) (same_Some w u (sym is ∙ t.here)) ∙ same
 
   kind_stays : OfAKind z p v m f m' g r.log r.logical → w.pass ≡ v.pass
-  kind_stays (IsBegin k) = keeps _ k.view (begun_pass v k.cell (m.version k.cell))
+  kind_stays (IsBegin k) = keeps _ k.view (begun_pass z v k.cell (m.version k.cell))
   kind_stays (IsRead k) = keeps _ k.view refl
   kind_stays (IsReadLeaf k) = keeps _ k.view refl
   kind_stays (IsUnchanged k) = keeps _ k.view (with_event_pass _ r.log k.event)

@@ -42,7 +42,10 @@ use Rattle.art_tree.proofs.Places.{one_path, same_cell}
 same_stamp : (x y : Stamp) → (x ≡ y) ⊎ (x ≢ y)
 same_stamp x y = ⊎_elim
     (λ (e : x.cell ≡ y.cell). ⊎_elim
-    (λ (i : x.version ≡ y.version). inl (ap₂ (λ (c : Cell) (n : ℕ). record { cell = c; version = n }) e i))
+    (λ (i : x.version ≡ y.version). ⊎_elim
+    (λ (j : x.first ≡ y.first). inl (ap₂ (λ (c : Cell) (n : ℕ). record { cell = c; version = n; first = x.first }) e i ∙ ap (λ (k : ℕ). record { cell = y.cell; version = y.version; first = k }) j))
+    (λ (other : x.first ≢ y.first). inr (λ j. other (ap (λ (a : Stamp). a.first) j)))
+    (cases_eq x.first y.first))
     (λ (other : x.version ≢ y.version). inr (λ i. other (ap (λ (a : Stamp). a.version) i)))
     (cases_eq x.version y.version))
     (λ (other : x.cell ≢ y.cell). inr (λ e. other (ap (λ (a : Stamp). a.cell) e)))
@@ -138,8 +141,8 @@ claim_named z v d n o is =
     subst (λ (a : Node). IsInside z (cell.Node a) × claim.May v a) same (o.2, o.3)
 
 -- the pass of a view stays at a beginning
-begun_pass : (v : View) (c : Cell) (x : ℕ) → (begin.view_after v c x).pass ≡ v.pass
-begun_pass v c x = cond_both (x % 4 == 0) _ _ (λ (w : View). w.pass ≡ v.pass) (λ e. refl) (λ e. refl)
+begun_pass : (z : Sizes) (v : View) (c : Cell) (x : ℕ) → (begin.view_after z v c x).pass ≡ v.pass
+begun_pass z v c x = cond_both (x % 4 == 0) _ _ (λ (w : View). w.pass ≡ v.pass) (λ e. refl) (λ e. refl)
 
 -- ---- a step
 
@@ -178,8 +181,8 @@ module _ (z : Sizes) (ws : List ℕ) (f : Views) (p : ℕ) (v : View) (r : IsSou
   -- ---- steps that change no word
 
   -- the version word of a cell is found
-  pub moves_begins : (c : Cell) (found : ℕ) → begin.May v c → found ≡ m.version c → Moves z ws f p v ws (λ v w. w ≡ begin.view_after v c found) (FindsVersion c found)
-  moves_begins c found may is = moved ws (λ v w. w ≡ begin.view_after v c found) (FindsVersion c found) (begin.view_after v c (m.version c)) (begun_pass v c (m.version c)) (ap (begin.view_after v c) (sym is)) (λ g t. IsBegin record { cell = c; may = may; words = refl; view = t })
+  pub moves_begins : (c : Cell) (found : ℕ) → begin.May v c → found ≡ m.version c → Moves z ws f p v ws (λ v w. w ≡ begin.view_after z v c found) (FindsVersion c found)
+  moves_begins c found may is = moved ws (λ v w. w ≡ begin.view_after z v c found) (FindsVersion c found) (begin.view_after z v c (m.version c)) (begun_pass z v c (m.version c)) (ap (begin.view_after z v c) (sym is)) (λ g t. IsBegin record { cell = c; may = may; words = refl; view = t })
       (λ g t. record { found = is; same = refl })
 
   -- a word of the stamp's cell is read

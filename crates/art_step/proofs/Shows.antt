@@ -32,8 +32,8 @@ use Rattle.art_step.specs.Steps.Check as check
 use Rattle.art_step.specs.Shows.{Rest, rest_of, OnlyReads, OnlyTells, HasStamp, Shows, HasChild, HasValue}
 use Rattle.art_step.specs.Steps.Commit.{Knows}
 use Rattle.art_step.specs.Steps.Begin as begin
-use Rattle.art_step.specs.Steps.Begin.{first_notes}
-use Rattle.art_step.specs.Views.{found_version, note_of, stamp_of}
+use Rattle.art_step.specs.Steps.Begin.{first_notes, stamp_of}
+use Rattle.art_step.specs.Views.{found_version, note_of}
 use Rattle.art_step.specs.Steps.Read as read
 use Rattle.art_tree.specs.Tree.{StandsAt, top, down, path_past, Row}
 use Rattle.art_step.specs.Views.{Member, IsClear, IsNumber}
@@ -83,32 +83,32 @@ read_others z v w x a y so is = shows_more z v w a so (λ n i. subst (λ (t : Vi
 
 -- ---- the version word of a cell is found
 
-pub begun_clear : (v : View) (c : Cell) (x : ℕ) → IsClear x → begin.view_after v c x ≡ record v { steps = v.steps + 1; stamps = stamp_of c x ∷ v.stamps; notes = first_notes c x ++ v.notes; found = found_version v c x }
-begun_clear v c x clear = rw (eq-eqb (x % 4) 0 clear) refl
+pub begun_clear : (z : Sizes) (v : View) (c : Cell) (x : ℕ) → IsClear x → begin.view_after z v c x ≡ record v { steps = v.steps + 1; stamps = stamp_of z c x ∷ v.stamps; notes = first_notes z c x ++ v.notes; found = found_version v c x }
+begun_clear z v c x clear = rw (eq-eqb (x % 4) 0 clear) refl
 
 either_way : (b : Bool) (v w : View) (a : Rest) → rest_of v ≡ a → rest_of w ≡ a → rest_of (cond b v w) ≡ a
 either_way true v w a e f = e
 either_way false v w a e f = f
 
-pub begun_rest : (v w : View) (c : Cell) (x : ℕ) → w ≡ begin.view_after v c x → OnlyReads v w
-begun_rest v w c x is = ap rest_of is ∙ either_way (eqb (x % 4) 0) _ _ (rest_of v) refl refl
+pub begun_rest : (z : Sizes) (v w : View) (c : Cell) (x : ℕ) → w ≡ begin.view_after z v c x → OnlyReads v w
+begun_rest z v w c x is = ap rest_of is ∙ either_way (eqb (x % 4) 0) _ _ (rest_of v) refl refl
 
 -- a clear one gives a stamp
-pub begun_stamp : (z : Sizes) (v w : View) (c : Cell) (x : Stamp) → x.cell ≡ c → IsClear x.version → w ≡ begin.view_after v c x.version → HasVersion z c → HasStamp z w x
+pub begun_stamp : (z : Sizes) (v w : View) (c : Cell) (x : Stamp) → x ≡ stamp_of z c x.version → IsClear x.version → w ≡ begin.view_after z v c x.version → HasVersion z c → HasStamp z w x
 begun_stamp z v w c x at clear is inside = record {
-  stamp = subst (λ (t : View). Member x t.stamps) (sym (is ∙ begun_clear v c x.version clear)) (inl (ap (λ (d : Cell). stamp_of d x.version) at));
-  inside = subst (HasVersion z) (sym at) inside;
+  stamp = subst (λ (t : View). Member x t.stamps) (sym (is ∙ begun_clear z v c x.version clear)) (inl at);
+  inside = subst (λ (y : Stamp). HasVersion z y.cell) (sym at) inside;
 }
 
 -- and leaves the others, with what they show
-pub begun_others : (z : Sizes) (v w : View) (c : Cell) (x : ℕ) (a : Stamp) → IsClear x → w ≡ begin.view_after v c x → HasStamp z v a → HasStamp z w a
+pub begun_others : (z : Sizes) (v w : View) (c : Cell) (x : ℕ) (a : Stamp) → IsClear x → w ≡ begin.view_after z v c x → HasStamp z v a → HasStamp z w a
 begun_others z v w c x a clear is has = record {
-  stamp = subst (λ (t : View). Member a t.stamps) (sym (is ∙ begun_clear v c x clear)) (inr has.stamp);
+  stamp = subst (λ (t : View). Member a t.stamps) (sym (is ∙ begun_clear z v c x clear)) (inr has.stamp);
   inside = has.inside;
 }
 
-pub begun_shows : (z : Sizes) (v w : View) (c : Cell) (x : ℕ) (a : Stamp) (so : Cells → Type 0) → IsClear x → w ≡ begin.view_after v c x → Shows z v a so → Shows z w a so
-begun_shows z v w c x a so clear is = shows_more z v w a so (λ y i. subst (λ (t : View). Member y t.notes) (sym (is ∙ begun_clear v c x clear)) (member_back y (first_notes c x) v.notes i))
+pub begun_shows : (z : Sizes) (v w : View) (c : Cell) (x : ℕ) (a : Stamp) (so : Cells → Type 0) → IsClear x → w ≡ begin.view_after z v c x → Shows z v a so → Shows z w a so
+begun_shows z v w c x a so clear is = shows_more z v w a so (λ y i. subst (λ (t : View). Member y t.notes) (sym (is ∙ begun_clear z v c x clear)) (member_back y (first_notes z c x) v.notes i))
 
 -- ---- a version word is unchanged
 

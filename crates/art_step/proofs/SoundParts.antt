@@ -16,6 +16,7 @@ use Rattle.art_step.specs.declared.views.Stamp.{Stamp}
 use Rattle.art_step.specs.declared.views.View.{View}
 use Rattle.art_tree.specs.Heaps.{Cells}
 use Rattle.art_step.specs.Sound.{Keeps, HoldsEach, OneHolder, Holder, Whereabouts, InTree, IsFree, InLimboOf, Accounts, NumbersAccounted, IsUnder, Awaits, IsPinned, MarkedUnstamped, WordsFormed}
+use Rattle.art_step.specs.WordPlaces.{place_of}
 use Rattle.art_step.specs.Views.{HaveChildWords, Member, Memory, IsClear, IsObsolete, IsVersion, cell_named, Views, SetsView}
 use Rattle.art_cell.specs.Words.{Words}
 use Rattle.art_step.proofs.SetsView.{one_view, either_view, stranger_before, each_view, each_two, same_early_notes}
@@ -54,17 +55,17 @@ numbers_turn z m m' f g p w s s' at t old k free words mine = record {
 -- ---- stamps of numbers
 
 -- a stamp that is new: the pass is pinned, and a node that it is of is in the tree
-abbrev pub IsNewStamp : (Link → Whereabouts) → View → Stamp → Type 0
-IsNewStamp at v x = (v.pin ≢ 0) × ((n : Node) → x.cell ≡ cell.Node n → at (node n) ≡ InTree)
+abbrev pub IsNewStamp : Sizes → (Link → Whereabouts) → View → Stamp → Type 0
+IsNewStamp z at v x = (v.pin ≢ 0) × ((n : Node) → x.cell ≡ cell.Node n → at (node n) ≡ InTree) × (x.first ≡ place_of z x.cell)
 
 -- the stamps of w were v's, or are new
-abbrev pub StampsFrom : (Link → Whereabouts) → View → View → Type 0
-StampsFrom at v w = (x : Stamp) → Member x w.stamps → Member x v.stamps ⊎ IsNewStamp at v x
+abbrev pub StampsFrom : Sizes → (Link → Whereabouts) → View → View → Type 0
+StampsFrom z at v w = (x : Stamp) → Member x w.stamps → Member x v.stamps ⊎ IsNewStamp z at v x
 
 -- pins and limbo stay, and stamps are the old ones or new ones of the tree
 pub unstamped_turn : (z : Sizes) (m m' : Memory) (f g : Views) (p : ℕ) (v w : View) (s : Cells) (at : Link → Whereabouts) → SetsView f p w g → f p ≡ Some v → NumbersAccounted z m f s at → MarkedUnstamped z m f at
     → m'.epoch ≡ m.epoch → m'.pass_word ≡ m.pass_word → ((d : Link) → IsClear (m'.version (cell_named d)) → at d ≡ InTree)
-    → w.pin ≡ v.pin → w.pins ≡ v.pins → w.noted ≡ v.noted → w.limbo ≡ v.limbo → StampsFrom at v w → MarkedUnstamped z m' g at
+    → w.pin ≡ v.pin → w.pins ≡ v.pins → w.noted ≡ v.noted → w.limbo ≡ v.limbo → StampsFrom z at v w → MarkedUnstamped z m' g at
 unstamped_turn z m m' f g p v w s at t is-v numbers k epoch words clear pin pins noted limbo stamps = record {
   epoch = subst (λ (n : ℕ). 0 < n) (sym epoch) k.epoch;
   clear = clear;
@@ -85,6 +86,7 @@ unstamped_turn z m m' f g p v w s at t is-v numbers k epoch words clear pin pins
       low = subst (λ (n : ℕ). u.pin ≤ n) (sym epoch) o.low;
       noted = λ n e. let i = o.noted n e in (i.0, subst (λ (a : ℕ). n.epoch ≤ a) (sym epoch) i.1);
       pinned = o.pinned;
+      placed = o.placed;
       stamped = o.stamped;
     }
 
@@ -94,8 +96,9 @@ unstamped_turn z m m' f g p v w s at t is-v numbers k epoch words clear pin pins
       word = o.word ∙ sym pin;
       low = subst (λ (n : ℕ). n ≤ m'.epoch) (sym pin) o.low;
       noted = λ n e. o.noted n (sym noted ∙ e);
-      pinned = λ x i. subst (λ (n : ℕ). n ≢ 0) (sym pin) (⊎_elim (λ (j : Member x v.stamps). o.pinned x j) (λ (j : IsNewStamp at v x). j.0) (stamps x i));
-      stamped = λ n y. ⊎_elim (λ (j : Member y.0 v.stamps). o.stamped n (y.0, j, y.2)) (λ (j : IsNewStamp at v y.0). inl (j.1 n y.2)) (stamps y.0 y.1);
+      pinned = λ x i. subst (λ (n : ℕ). n ≢ 0) (sym pin) (⊎_elim (λ (j : Member x v.stamps). o.pinned x j) (λ (j : IsNewStamp z at v x). j.0) (stamps x i));
+      placed = λ x i. ⊎_elim (λ (j : Member x v.stamps). o.placed x j) (λ (j : IsNewStamp z at v x). j.2) (stamps x i);
+      stamped = λ n y. ⊎_elim (λ (j : Member y.0 v.stamps). o.stamped n (y.0, j, y.2)) (λ (j : IsNewStamp z at v y.0). inl (j.1 n y.2)) (stamps y.0 y.1);
     }
 
     -- a place in limbo was there before
@@ -115,7 +118,7 @@ unstamped_turn z m m' f g p v w s at t is-v numbers k epoch words clear pin pins
     mine_awaits r x e is i = limbo_of r x e is i (λ r' x' is' i'. let o = k.awaits p r' v x' e is-v is' i' in record {
       stamped = λ n link y. under_now e (⊎_elim
           (λ (j : Member y.0 v.stamps). o.stamped n link (y.0, j, y.2))
-          (λ (j : IsNewStamp at v y.0).
+          (λ (j : IsNewStamp z at v y.0).
           let here : at e.link ≡ InLimboOf r' = (numbers.accounts r' x' is').limbo e i' in
           let there : at e.link ≡ InTree = ap at link ∙ j.1 n y.2 in
           absurd (cc))

@@ -463,6 +463,7 @@ module _ (z : Sizes) (m : Memory) (f : Views) (p : ℕ) (v : View) (is-v : f p �
     low = subst (λ (n : ℕ). u.pin ≤ n) (sym sets.epoch) k.low;
     noted = λ n e. let o = k.noted n e in (o.0, subst (λ (a : ℕ). n.epoch ≤ a) (sym sets.epoch) o.1);
     pinned = k.pinned;
+    placed = k.placed;
     stamped = λ n y. ⊎_elim
         (λ (a : r.at (node n) ≡ InTree). ⊎_elim
         (λ (j : Member (node n) us × (at' (node n) ≡ InLimboOf p)). inr (p, j.1))
@@ -509,7 +510,7 @@ module _ (z : Sizes) (m : Memory) (f : Views) (p : ℕ) (v : View) (is-v : f p �
     epoch = subst (λ (n : ℕ). 0 < n) (sym sets.epoch) r.unstamped.epoch;
     clear = clear;
     pinned = each_view f g p w t (λ q u. IsPinned z m' at' q u)
-        (let k = pinned_of p v is-v in record { inside = k.inside; word = k.word; low = k.low; noted = k.noted; pinned = k.pinned; stamped = k.stamped })
+        (let k = pinned_of p v is-v in record { inside = k.inside; word = k.word; low = k.low; noted = k.noted; pinned = k.pinned; placed = k.placed; stamped = k.stamped })
         (λ q u other is. pinned_of q u is);
     awaits = awaits;
   }

@@ -26,7 +26,8 @@ use Rattle.art_step.specs.Steps.Read as read
 use Rattle.art_step.specs.Steps.Check as check
 use Rattle.art_step.specs.Steps.Check.{VouchLaw, ArePaths}
 use Rattle.art_step.specs.Steps.Forget as forget
-use Rattle.art_step.specs.Views.{stamp_of, note_of, IsNotHeld, SetsView}
+use Rattle.art_step.specs.Views.{note_of, IsNotHeld, SetsView}
+use Rattle.art_step.specs.Steps.Begin.{stamp_of}
 use Rattle.art_step.specs.Steps.Begin.{first_notes}
 use Rattle.art_step.specs.Views.{Member, Memory, IsClear, IsLocked, Views, SetsView}
 use Rattle.art_step.proofs.Facts.{holds_all}
@@ -52,7 +53,7 @@ module _ (z : Sizes) (m : Memory) (f g : Views) (p : ℕ) (v : View) (at : f p �
 
   -- a stamp that is new, of a clear version word
   abbrev IsMade : Stamp → Type 0
-  IsMade x = IsNewStamp r.at v x × IsStampOf m x
+  IsMade x = IsNewStamp z r.at v x × IsStampOf m x
 
   abbrev StampsCome : List Stamp → Type 0
   StampsCome xs = (x : Stamp) → Member x xs → Member x v.stamps ⊎ IsMade x
@@ -120,30 +121,30 @@ module _ (z : Sizes) (m : Memory) (f g : Views) (p : ℕ) (v : View) (at : f p �
   one_goes : (xs : List Stamp) (y : Note) → Member y.stamp xs → NotesGo xs (y ∷ [])
   one_goes xs y has = each_member (λ (a : Note). Member a.stamp xs) y [] has (λ a i. absurd i)
 
-  first_fresh : (c : Cell) → IsStampOf m (stamp_of c (m.version c)) → (y : Note) → Member y (first_notes c (m.version c)) → IsFresh y
-  first_fresh cell.Anchor stamp = let y : Note = note_of (stamp_of cell.Anchor (m.version cell.Anchor)) (Starts []) in one_fresh y (holds_now y stamp refl)
+  first_fresh : (c : Cell) → IsStampOf m (stamp_of z c (m.version c)) → (y : Note) → Member y (first_notes z c (m.version c)) → IsFresh y
+  first_fresh cell.Anchor stamp = let y : Note = note_of (stamp_of z cell.Anchor (m.version cell.Anchor)) (Starts []) in one_fresh y (holds_now y stamp refl)
   first_fresh (cell.Leaf l) stamp = λ y i. absurd i
   first_fresh (cell.Node n) stamp = λ y i. absurd i
 
-  first_go : (c : Cell) (x : ℕ) → NotesGo (stamp_of c x ∷ v.stamps) (first_notes c x)
-  first_go cell.Anchor x = one_goes (stamp_of cell.Anchor x ∷ v.stamps) (note_of (stamp_of cell.Anchor x) (Starts [])) (inl refl)
+  first_go : (c : Cell) (x : ℕ) → NotesGo (stamp_of z c x ∷ v.stamps) (first_notes z c x)
+  first_go cell.Anchor x = one_goes (stamp_of z cell.Anchor x ∷ v.stamps) (note_of (stamp_of z cell.Anchor x) (Starts [])) (inl refl)
   first_go (cell.Leaf l) x = λ y i. absurd i
   first_go (cell.Node n) x = λ y i. absurd i
 
   -- a clear version word gives a stamp of a cell of the tree
-  made : (c : Cell) → v.pin ≢ 0 → IsClear (m.version c) → IsMade (stamp_of c (m.version c))
+  made : (c : Cell) → v.pin ≢ 0 → IsClear (m.version c) → IsMade (stamp_of z c (m.version c))
   made c pinned clear =
-      ((pinned, λ n e. r.unstamped.clear (node n) (subst (λ (d : Cell). IsClear (m.version d)) e clear)), record { clear = clear; below = le_refl (m.version c) })
+      ((pinned, λ n e. r.unstamped.clear (node n) (subst (λ (d : Cell). IsClear (m.version d)) e clear), refl), record { clear = clear; below = le_refl (m.version c) })
 
-  begins : (c : Cell) → v.pin ≢ 0 → SetsView f p (begin.view_after v c (m.version c)) g → IsSound z m g
+  begins : (c : Cell) → v.pin ≢ 0 → SetsView f p (begin.view_after z v c (m.version c)) g → IsSound z m g
   begins c pinned t = ⊎_elim
       (λ (clear : IsClear (m.version c)).
-      let x : Stamp = stamp_of c (m.version c) in
+      let x : Stamp = stamp_of z c (m.version c) in
       let new : IsMade x = made c pinned clear in
       quiet (rw (eq-eqb (m.version c % 4) 0 clear) at t)
       (each_member (λ a. Member a v.stamps ⊎ IsMade a) x v.stamps (inr new) (λ a i. inl i))
-      (more_notes (first_notes c (m.version c)) (first_fresh c new.1))
-      (all_go (x ∷ v.stamps) (first_notes c (m.version c)) (λ a i. inr i) (first_go c (m.version c))))
+      (more_notes (first_notes z c (m.version c)) (first_fresh c new.1))
+      (all_go (x ∷ v.stamps) (first_notes z c (m.version c)) (λ a i. inr i) (first_go c (m.version c))))
       (λ (other : m.version c % 4 ≢ 0). quiet (rw (ne_eqb (m.version c % 4) 0 other) at t) (λ x i. absurd i) (λ y i. absurd i) (λ y i. absurd i))
       (cases_eq (m.version c % 4) 0)
 

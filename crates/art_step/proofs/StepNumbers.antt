@@ -215,6 +215,7 @@ module _ (z : Sizes) (m m' : Memory) (f g : Views) (p : ℕ) (v : View) (is-v : 
     low = subst (λ (n : ℕ). u.pin ≤ n) (sym sets.epoch) o.low;
     noted = λ n e. let i = o.noted n e in (i.0, subst (λ (a : ℕ). n.epoch ≤ a) (sym sets.epoch) i.1);
     pinned = o.pinned;
+    placed = o.placed;
     stamped = λ n i.
         let away : node n ≢ d = λ e. unstamped q u n is (sym e) i in
         subst (λ (a : Whereabouts). (a ≡ InTree) ⊎ ((q : ℕ) × (a ≡ InLimboOf q))) (sym (put_else r.at d new (node n) away)) (o.stamped n i);
@@ -229,7 +230,7 @@ module _ (z : Sizes) (m m' : Memory) (f g : Views) (p : ℕ) (v : View) (is-v : 
     epoch = subst (λ (n : ℕ). 0 < n) (sym sets.epoch) r.unstamped.epoch;
     clear = λ e clear. (elsewhere InTree (λ i. i) e).1 (r.unstamped.clear e (subst (λ (a : Cell → ℕ). IsClear (a (cell_named e))) sets.version clear));
     pinned = each_view f g p w t (λ q u. IsPinned z m' at q u)
-        (let o = pinned_on p v is-v in record { inside = o.inside; word = o.word; low = o.low; noted = o.noted; pinned = o.pinned; stamped = o.stamped })
+        (let o = pinned_on p v is-v in record { inside = o.inside; word = o.word; low = o.low; noted = o.noted; pinned = o.pinned; placed = o.placed; stamped = o.stamped })
         (λ q u other is. pinned_on q u is);
     awaits = λ q r' u x e is-u is-x i. let o = in_limbo r' x e is-x i in each_view f g p w t (λ q u. Awaits q u e)
         (let k = r.unstamped.awaits p o.0 v o.1 e is-v o.2 o.3 in record { stamped = k.stamped; marked = k.marked; label = k.label; made = k.made })

@@ -144,6 +144,7 @@ module _ (z : Sizes) (m : Memory) (f : Views) (o : Opens z m f) where
         low = omega (arith, o.epoch);
         noted = λ t e. absurd (cc);
         pinned = λ x i. absurd i;
+        placed = λ x i. absurd i;
         stamped = λ n i. absurd i.1;
       });
       awaits = λ q r v u e is is-u i. absurd (each_newcomer (λ r u. Member e u.limbo → ⊥) (λ r inside i. i) r u is-u i);

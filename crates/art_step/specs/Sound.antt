@@ -19,6 +19,7 @@ use Rattle.art_step.specs.Histories.{replay, IsLegal, places, StartsWith}
 use Rattle.art_step.specs.Knowledge.{IsShape, Holds}
 use Rattle.art_tree.specs.Rows.{HasRows}
 use Rattle.art_tree.specs.Tree.{StandsAt}
+use Rattle.art_step.specs.WordPlaces.{place_of}
 use Rattle.art_step.specs.Views.{Member, Memory, size_of, words_in, IsClear, IsLocked, IsObsolete, last_counter, IsVersion, IsNumber, HaveChildWords, cell_named, Views}
 
 -- ---- one history
@@ -153,13 +154,14 @@ pub record Awaits (q : ℕ) (v : View) (e : Retired) : Type 0 where
   -- the pins that it holds were made
   pub made : (k : ℕ) → Member (record { pass = q; count = k }) e.pins → k ≤ v.pins
 
--- of one pass: its word is its pin, a pinned one has stamps of nodes that are in the tree or in a limbo
+-- of one pass: its word is its pin, a pinned one has stamps, with the place of the cell, of nodes that are in the tree or in a limbo
 pub record IsPinned (z : Sizes) (m : Memory) (at : Link → Whereabouts) (p : ℕ) (v : View) : Type 0 where
   pub inside : p < z.passes
   pub word : m.pass_word p ≡ v.pin
   pub low : v.pin ≤ m.epoch
   pub noted : (t : EpochSeen) → v.noted ≡ Some t → (0 < t.epoch) × (t.epoch ≤ m.epoch)
   pub pinned : (x : Stamp) → Member x v.stamps → v.pin ≢ 0
+  pub placed : (x : Stamp) → Member x v.stamps → x.first ≡ place_of z x.cell
   pub stamped : (n : Node) → IsStamped v n → (at (node n) ≡ InTree) ⊎ ((r : ℕ) × (at (node n) ≡ InLimboOf r))
 
 -- a number in limbo that is marked for a pass is in no stamp of it; a clear version word is that of a cell of the tree

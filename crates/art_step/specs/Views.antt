@@ -120,9 +120,6 @@ pub record SetsView (f : Views) (p : ℕ) (w : View) (g : Views) : Type 0 where
 abbrev pub found_version : View → Cell → ℕ → List Found
 found_version v c x = record { word = Version c x; step = v.steps + 1 } ∷ v.found
 
-abbrev pub stamp_of : Cell → ℕ → Stamp
-stamp_of c x = record { cell = c; version = x }
-
 abbrev pub note_of : Stamp → Fact → Note
 note_of x y = record { stamp = x; fact = y }
 

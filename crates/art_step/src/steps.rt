@@ -61,7 +61,7 @@ pub trait Steps {
         ensures only { only self.old self.new }
         ensures at_once { AtStep (sizes self.old) (view self.old) (view self.new) (instants self.old self.new)
             (FindsVersion cell (begin.word_found result)) }
-        ensures row { begin.Outcome (view self.old) (view self.new) cell result };
+        ensures row { begin.Outcome (sizes self.old) (view self.old) (view self.new) cell result };
 
     /// A word of the stamp's cell.
     fn read(&mut self, stamp: Stamp, place: usize) -> u64

@@ -9,11 +9,13 @@ pub struct Event {
     pub what: Deed,
 }
 
-/// A cell whose version word was clear, and that word.
+/// A cell whose version word was clear, that word, and the place of the cell's first word in the row of all words, so that an
+/// access under the stamp need not look for it.
 #[derive(Clone, Copy, Debug, PartialEq, Eq)]
 pub struct Stamp {
     pub cell: Cell,
     pub version: u64,
+    pub first: usize,
 }
 
 /// What is known of a cell while its version word stays.

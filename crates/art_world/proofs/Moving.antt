@@ -1,5 +1,5 @@
 -- Each kind of step, of a sound world: the view after it, as the list of views has it.
-use Rattle.std.proofs.Common.{◌≡◌, ◌≢◌, ℕ, ◌+◌, ◌^◌, ◌<◌, true, false, List, length, sym, refl, ap, ◌∙◌, subst, ⊎_elim, arith}
+use Rattle.std.proofs.Common.{◌≡◌, ◌≢◌, ℕ, ◌+◌, ◌^◌, ◌<◌, true, false, List, get_or, length, sym, refl, ap, ◌∙◌, subst, ⊎_elim, arith}
 use Rattle.std.proofs.lemmas.Bool.{cases_eq}
 use Rattle.std.specs.Prelude.{Option}
 use Rattle.art_cell.specs.declared.cells.Cell.{Cell}
@@ -16,9 +16,10 @@ use Rattle.art_step.specs.Tokens.{link_of_number}
 use Rattle.art_step.proofs.FreeBits.{free_is_number}
 use Rattle.art_world.specs.FreeNumbers.{IsLeastFree}
 use Rattle.art_step.specs.Steps.Claim as claim
-use Rattle.art_step.specs.WordPlaces.{IsInside, place_of, pool_of}
+use Rattle.art_step.specs.WordPlaces.{HasVersion, IsInside, place_of, pool_of}
 use Rattle.art_step.proofs.WordPlaces.{cell_below}
-use Rattle.art_step.proofs.WordRows.{version_below}
+use Rattle.art_step.proofs.WordRows.{inside_of, plain_of, version_below, version_found, word_found}
+use Rattle.art_step.proofs.Changing.{first_low}
 use Rattle.art_step.specs.declared.views.InHand.{InHand}
 use Rattle.art_step.specs.Steps.Write as write
 use Rattle.art_step.specs.declared.views.Stamp.{Stamp}
@@ -27,7 +28,7 @@ use Rattle.art_step.specs.declared.deeds.Deed.{Deed}
 use Rattle.art_step.specs.Effects.{FindsUnchanged, FindsVersion, Instant}
 use Rattle.art_step.specs.Steps.Check as check
 use Rattle.art_step.specs.declared.views.Sizes.{Sizes}
-use Rattle.art_step.specs.Views.{Views, size_of}
+use Rattle.art_step.specs.Views.{Member, Views, size_of}
 use Rattle.art_step.specs.WordRows.{view_at, views_of}
 use Rattle.art_step.proofs.Moves.{Moves, moves_fails, moves_passes}
 use Rattle.art_world.specs.Contents.{Contents, IsSoundWorld, memory_now}
@@ -72,6 +73,24 @@ version_low k c r inside = let low = version_below k.sizes c inside in omega (ar
 
 pub word_low : (k : Contents) (c : Cell) (i : ℕ) → IsSoundWorld k → IsInside k.sizes c → i < size_of c → place_of k.sizes c + i < length k.words
 word_low k c i r inside few = let low = cell_below k.sizes c i inside few in omega (arith, r.long, low)
+
+-- a stamp has the place of its cell
+pub stamp_place : (k : Contents) (p : ℕ) → p < length k.views → IsSoundWorld k → (x : Stamp) → Member x (view_at k.views p).stamps → x.first ≡ place_of k.sizes x.cell
+stamp_place k p inside r x i = (r.sound.unstamped.pinned p (view_at k.views p) (at_view k.views p inside)).placed x i
+
+-- which is that of a word of the world, and so are those after it
+pub stamp_low : (k : Contents) (p : ℕ) → p < length k.views → IsSoundWorld k → (x : Stamp) → Member x (view_at k.views p).stamps → HasVersion k.sizes x.cell → x.first < length k.words
+stamp_low k p inside r x i has = rw (stamp_place k p inside r x i) (version_low k x.cell r (inside_of k.sizes x.cell has))
+
+pub stamp_word_low : (k : Contents) (p : ℕ) → p < length k.views → IsSoundWorld k → (x : Stamp) (i : ℕ) → Member x (view_at k.views p).stamps → IsInside k.sizes x.cell → i < size_of x.cell → x.first + i < length k.words
+stamp_word_low k p inside r x i has there few = rw (stamp_place k p inside r x has) (word_low k x.cell i r there few)
+
+-- what is found there is the cell's word
+pub version_at : (k : Contents) (c : Cell) (first found : ℕ) → HasVersion k.sizes c → first ≡ place_of k.sizes c → found ≡ get_or k.words first 0 → found ≡ (memory_now k).version c
+version_at k c first found has is read = read ∙ (ap (λ (i : ℕ). get_or k.words i 0) is ∙ sym (version_found k.sizes k.words c (inside_of k.sizes c has) (plain_of k.sizes c has)))
+
+pub word_at : (k : Contents) (c : Cell) (i first found : ℕ) → IsInside k.sizes c → 0 < i → i < size_of c → first ≡ place_of k.sizes c → found ≡ get_or k.words (first + i) 0 → found ≡ (memory_now k).words c i
+word_at k c i first found inside late few is read = read ∙ (ap (λ (j : ℕ). get_or k.words (j + i) 0) is ∙ sym (word_found k.sizes k.words c i inside (let low = first_low c in omega (arith, low)) few))
 
 -- ---- numbers by their links
 

@@ -5,7 +5,7 @@ mod opening;
 mod run;
 mod steps;
 
-ghost use Rattle.std.specs.Prelude.{◌≡◌, ◌<◌, ◌≤◌, length};
+ghost use Rattle.std.specs.Prelude.{◌≡◌, ◌+◌, ◌<◌, ◌≤◌, length, slice_index};
 ghost use Rattle.art_step.specs.Sound.{IsSound};
 ghost use Rattle.art_step.specs.Views.{size_of};
 ghost use Rattle.art_step.specs.WordPlaces.{IsInside, first_place, word_count};
@@ -71,6 +71,14 @@ impl World {
         ensures { result.now ≡ self.now.words }
     {
         self.words.as_slice()
+    }
+
+    /// The word at a place after the first word of a cell.
+    pub(crate) fn load(&self, first: usize, place: usize) -> u64
+        requires { first + place < length self.now.words }
+        ensures { result ≡ slice_index self.now.words (first + place) }
+    {
+        self.words[first + place]
     }
 
     /// The version word of a cell. A leaf has none, and counts as obsolete.

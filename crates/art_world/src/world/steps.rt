@@ -58,11 +58,13 @@ impl Steps for Stepper<'_> {
         Ok(Stamp {
             cell,
             version: found.word,
+            first: self.world.sizes().place_of(cell),
         })
     }
 
     fn read(&mut self, stamp: Stamp, place: usize) -> u64 {
-        let value = self.world.word(stamp.cell, place);
+        self.world.stays_sound();
+        let value = self.world.load(stamp.first, place);
         self.world
             .find::<Brand, (Stamp, usize, u64)>(self.pass, &(stamp, place, value));
         value
@@ -76,7 +78,8 @@ impl Steps for Stepper<'_> {
     }
 
     fn check(&mut self, stamp: Stamp, deed: Option<&Deed>) -> Result<(), Changed> {
-        let found = self.world.version(stamp.cell).word;
+        self.world.stays_sound();
+        let found = self.world.load(stamp.first, 0);
         self.world
             .find::<Brand, (Stamp, Option<&Deed>, u64)>(self.pass, &(stamp, deed, found));
         if found != stamp.version {
@@ -92,15 +95,15 @@ impl Steps for Stepper<'_> {
         if clear.is_last() {
             return Err(UpgradeFault::Exhausted(stamp.cell));
         }
-        let found = self.world.version(stamp.cell).word;
+        self.world.stays_sound();
+        let found = self.world.load(stamp.first, 0);
         if stamp.version != found {
             self.world
                 .find::<Brand, (Stamp, u64)>(self.pass, &(stamp, found));
             return Err(UpgradeFault::Changed(changed(stamp, found)));
         }
-        let place = self.world.sizes().place_of(stamp.cell);
         self.world
-            .put::<Brand, Stamp>(self.pass, place, clear.locked().word, &stamp);
+            .put::<Brand, Stamp>(self.pass, stamp.first, clear.locked().word, &stamp);
         Ok(Held::of(stamp.cell))
     }
 

@@ -4,7 +4,7 @@ use Rattle.art_cell_uses.proofs.anchor.steps.begin.Goals as goal
 use Rattle.art_cell_uses.specs.Visits.{IsAway}
 
 pub returns-in-Ok-clause-away : goal.returns-in-Ok-clause-away
-returns-in-Ok-clause-away g c = subst IsAway (sym c.in-Ok.ensures.row.2) (begun_away (g.S.Steps.view c.args.steps.now) _ _ c.requires)
+returns-in-Ok-clause-away g c = subst IsAway (sym c.in-Ok.ensures.row.2) (begun_away (g.S.Steps.sizes c.args.steps.now) (g.S.Steps.view c.args.steps.now) _ _ c.requires)
 
 pub returns-in-Err-clause-away : goal.returns-in-Err-clause-away
-returns-in-Err-clause-away g c = subst IsAway (sym c.in-Err.ensures.row.2) (begun_away (g.S.Steps.view c.args.steps.now) _ _ c.requires)
+returns-in-Err-clause-away g c = subst IsAway (sym c.in-Err.ensures.row.2) (begun_away (g.S.Steps.sizes c.args.steps.now) (g.S.Steps.view c.args.steps.now) _ _ c.requires)
