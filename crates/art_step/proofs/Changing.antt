@@ -1,5 +1,5 @@
 -- The steps of a pass that change a word: one lemma for each kind, whatever function the views are.
-use Rattle.std.proofs.Common.{◌≡◌, ◌≢◌, ℕ, ◌+◌, ◌%◌, ◌^◌, ◌<◌, ◌≤◌, Bool, true, false, if◌then◌else◌, List, [], ◌∷◌, ◌++◌, length, set, inl, inr, ⊎_elim, sym, refl, ap, ◌∙◌, subst, arith}
+use Rattle.std.proofs.Common.{◌≡◌, ◌≢◌, ◌⊎◌, ℕ, ◌+◌, ◌%◌, ◌^◌, ◌<◌, ◌≤◌, Bool, true, false, if◌then◌else◌, List, [], ◌∷◌, ◌++◌, length, map, set, inl, inr, ⊎_elim, sym, refl, ap, ◌∙◌, subst, arith}
 use Rattle.std.proofs.lemmas.Bool.{cases_eq}
 use Rattle.std.specs.FinMap.{empty}
 use Rattle.std.specs.Prelude.{Option, Some}
@@ -33,13 +33,13 @@ use Rattle.art_step.specs.Steps.{OfAKind, IsUpgrade, IsClaim, IsCommit, IsReleas
 use Rattle.art_step.specs.Steps.Write.{with_word, with_leaf_word}
 use Rattle.art_step.specs.Steps.Release.{Drops}
 use Rattle.art_step.specs.Steps.Give.{HandsOver}
-use Rattle.art_step.specs.Views.{Member, Memory, IsLocked, size_of, Views, words_in, SetsView}
+use Rattle.art_step.specs.Views.{Member, Memory, IsLocked, IsOnce, links_in_hand, size_of, Views, words_in, SetsView}
 use Rattle.art_cell.specs.Words.{Words}
 use Rattle.art_step.specs.WordPlaces.{word_count, IsInside, place_of, first_place}
 use Rattle.art_step.specs.WordRows.{memory_of}
 use Rattle.art_step.proofs.AnyStep.{kind_sound}
 use Rattle.art_step.proofs.SoundParts.{one_entry}
-use Rattle.art_step.proofs.Gathered.{left_over, put}
+use Rattle.art_step.proofs.Gathered.{left_over, put, same_keys, sifted, swap}
 use Rattle.art_tree.proofs.Places.{same_cell, same_link}
 use Rattle.art_step.proofs.StepCommits.{either_member, retired_of}
 use Rattle.art_step.proofs.StepLocks.{no_leaf, unclaimed_law}
@@ -61,10 +61,10 @@ dropped hs c =
     (k.0, record { was = λ h. (k.1 h).0; stays = λ h i other. (k.1 h).1 (i, other) })
 
 -- the numbers in hand that do not come into the tree
-handed_over : (xs : List InHand) (ls : List Link) → (rest : List InHand) × HandsOver xs ls rest
+pub handed_over : (xs : List InHand) (ls : List Link) → (rest : List InHand) × HandsOver xs ls rest
 handed_over xs ls =
-    let k = left_over (λ (x : InHand). Member x.link ls) xs (λ x. either_member x.link ls) in
-    (k.0, record { was = λ x. (k.1 x).0; stays = λ x i other. (k.1 x).1 (i, other) })
+    let k = sifted (λ (x : InHand). x.link) (λ (x : InHand). Member x.link ls) xs (λ x. either_member x.link ls) in
+    (k.0, record { was = λ x. (k.1 x).0; stays = λ x i other. (k.1 x).1 (i, other); once = k.2 })
 
 -- ---- the event of a commit
 
@@ -184,15 +184,18 @@ module _ (z : Sizes) (ws : List ℕ) (f : Views) (p : ℕ) (v : View) (r : IsSou
   moves_writes c h i x there of may child =
       let Row : View → View → Type 0 = λ v w. (k : Holding) → IsHolding v c k → write.Outcome v w k i x in
       let single = (r.holder.holds p v at).single in
-      let held = put (λ (k : Holding). k.cell) v.held h (with_word h i x) may.held (λ k. same_cell k.cell h.cell) (λ k j e. single k h j may.held e) in
+      let key : Holding → Cell = λ k. k.cell in
+      let decide : (k : Holding) → (key k ≡ key h) ⊎ (key k ≢ key h) = λ k. same_cell k.cell h.cell in
+      let held : List Holding = map (swap key h (with_word h i x) decide) v.held in
+      let puts = put key h (with_word h i x) decide v.held may.held (λ k j e. single k h j may.held e) in
       let us : List ℕ = set ws (place_of z c + i) x in
       let low = first_low c in
       let small : i < size_of c = subst (λ (d : Cell). i < size_of d) of may.place.1 in
       let sets : SetsWord m c i x (memory_of z us) = sets_word z ws c i x there (let positive = may.place.0 in omega (arith, low)) small long in
       let of_holding : SetsWord m h.cell i x (memory_of z us) = subst (λ (d : Cell). SetsWord m d i x (memory_of z us)) (sym of) sets in
-      moved z ws f p v r at long us Row (PutsWord c i x) (write.view_after v held.0) refl
-      (λ k a. subst (λ (j : Holding). write.Outcome v (write.view_after v held.0) j i x) (single h k may.held a.0 (of ∙ sym a.1)) record { held = held.0; puts = held.1; is = refl })
-      (λ g t. IsWrite record { holding = h; held = held.0; place = i; value = x; may = may; child = λ place. child (subst (λ (d : Cell). IsChildPlace d i) of place); puts = held.1; word = of_holding; view = t })
+      moved z ws f p v r at long us Row (PutsWord c i x) (write.view_after v held) refl
+      (λ k a. subst (λ (j : Holding). write.Outcome v (write.view_after v held) j i x) (single h k may.held a.0 (of ∙ sym a.1)) record { held = held; puts = puts; is = refl })
+      (λ g t. IsWrite record { holding = h; held = held; place = i; value = x; may = may; child = λ place. child (subst (λ (d : Cell). IsChildPlace d i) of place); puts = puts; word = of_holding; view = t })
       (λ g t. sets)
 
   -- a word of a leaf in hand is written
@@ -202,12 +205,16 @@ module _ (z : Sizes) (ws : List ℕ) (f : Views) (p : ℕ) (v : View) (r : IsSou
       let Row : View → View → Type 0 = λ v w. (a : InHand) → IsInHand v (leaf l) a → write.LeafOutcome v w a i x in
       let one = one_entry m r.at p v l in
       let k = r.numbers.accounts p v at in
-      let hand = put (λ (a : InHand). a.link) v.hand y (with_leaf_word y i x) may.hand (λ a. same_link a.link y.link) (λ a j e. one a y k j may.hand (e ∙ may.leaf) may.leaf) in
+      let key : InHand → Link = λ a. a.link in
+      let decide : (a : InHand) → (key a ≡ key y) ⊎ (key a ≢ key y) = λ a. same_link a.link y.link in
+      let hand : List InHand = map (swap key y (with_leaf_word y i x) decide) v.hand in
+      let puts = put key y (with_leaf_word y i x) decide v.hand may.hand (λ a j e. one a y k j may.hand (e ∙ may.leaf) may.leaf) in
+      let once : IsOnce (links_in_hand v.hand) → IsOnce (links_in_hand hand) = subst IsOnce (sym (same_keys key y (with_leaf_word y i x) decide refl v.hand)) in
       let us : List ℕ = set ws (place_of z (cell.Leaf l) + i) x in
       let sets : SetsWord m (cell.Leaf l) i x (memory_of z us) = sets_word z ws (cell.Leaf l) i x there (omega arith) may.place long in
-      moved z ws f p v r at long us Row (PutsWord (cell.Leaf l) i x) (write.view_after_leaf v hand.0) refl
-      (λ a o. subst (λ (b : InHand). write.LeafOutcome v (write.view_after_leaf v hand.0) b i x) (one y a k may.hand o.0 may.leaf o.1) record { hand = hand.0; puts = hand.1; is = refl })
-      (λ g t. IsWriteLeaf record { leaf = y; hand = hand.0; number = l; place = i; value = x; may = may; puts = hand.1; word = sets; view = t })
+      moved z ws f p v r at long us Row (PutsWord (cell.Leaf l) i x) (write.view_after_leaf v hand) refl
+      (λ a o. subst (λ (b : InHand). write.LeafOutcome v (write.view_after_leaf v hand) b i x) (one y a k may.hand o.0 may.leaf o.1) record { hand = hand; puts = puts; is = refl })
+      (λ g t. IsWriteLeaf record { leaf = y; hand = hand; number = l; place = i; value = x; may = may; puts = puts; once = once; word = sets; view = t })
       (λ g t. sets)
 
   -- ---- releases

@@ -1,10 +1,11 @@
 -- What is hidden of a world is determined by what is seen: the history, which only grows, and the logical words. A step keeps its
--- pass.
+-- pass, and counts.
 use Rattle.std.proofs.Common.{◌≡◌, ◌≢◌, ◌⊎◌, ℕ, suc, ◌+◌, ◌%◌, ◌<◌, ◌≤◌, ◌==◌, List, [], ◌∷◌, ◌++◌, length, inl, inr, ⊎_elim, sym, refl, ap, ◌∙◌, subst, arith, append-nil, append_assoc, eq-eqb, length-append}
 use Rattle.std.proofs.lemmas.Bool.{cases_eq, cond_both}
 use Rattle.std.proofs.lemmas.Option.{same_Some}
 use Rattle.std.specs.Prelude.{Option, Some, None}
 use Rattle.art_cell.specs.declared.cells.Cell.{Cell}
+use Rattle.art_cell.specs.declared.layouts.Pool.{Pool}
 use Rattle.art_step.specs.declared.views.Event.{Event}
 use Rattle.art_step.specs.declared.views.Sizes.{Sizes}
 use Rattle.art_step.specs.declared.views.View.{View}
@@ -12,14 +13,23 @@ use Rattle.art_step.specs.declared.deeds.Deed.{Deed}
 use Rattle.art_tree.specs.Heaps.{Cells}
 use Rattle.art_step.specs.Histories.{StartsWith, event, places, places_from}
 use Rattle.art_step.specs.Sound.{IsOneHistory, IsSound}
-use Rattle.art_step.specs.Steps.{OfAKind, OneStep, IsBegin, IsRead, IsReadLeaf, IsUnchanged, IsChanged, IsForget, IsUpgrade, IsClaim, IsCommit, IsRelease, IsWrite, IsWriteLeaf, IsTake, IsGive, IsFreed}
+use Rattle.art_step.specs.Steps.{OfAKind, OneStep, IsBegin, IsRead, IsReadLeaf, IsUnchanged, IsChanged, IsUpgrade, IsClaim, IsCommit, IsRelease, IsWrite, IsWriteLeaf, IsTake, IsGive, IsFreed, IsEpoch, IsPin, IsAdvance, IsWatch}
 use Rattle.art_step.specs.Steps.Begin as begin
 use Rattle.art_step.specs.Steps.Check as check
-use Rattle.art_step.specs.Determined.{HistoryGrows, HistoryLaw, LogicalLaw}
-use Rattle.art_step.specs.Views.{Member, Memory, Views, SetsView}
+use Rattle.art_step.specs.Steps.Pin as pin
+use Rattle.art_step.specs.Steps.Take as take_free
+use Rattle.art_step.specs.Determined.{CountLaw, HistoryGrows, HistoryLaw, LogicalLaw, PassLaw}
+use Rattle.art_step.specs.Views.{Member, Memory, Views, SetsView, bit_of}
 
 begun_seen : (z : Sizes) (v : View) (c : Cell) (x : ℕ) → (begin.view_after z v c x).seen ≡ v.seen
 begun_seen z v c x = cond_both (x % 4 == 0) _ _ (λ (w : View). w.seen ≡ v.seen) (λ e. refl) (λ e. refl)
+
+taken_seen : (v : View) (pool : Pool) (i : ℕ) (bit : Option ℕ) (x : ℕ) (ws : List ℕ) → (take_free.view_after v pool i bit x ws).seen ≡ v.seen
+taken_seen v pool i None x ws = refl
+taken_seen v pool i (Some k) x ws = cond_both (bit_of x k == 1) _ _ (λ (w : View). w.seen ≡ v.seen) (λ e. refl) (λ e. refl)
+
+pinned_seen : (v : View) (x : ℕ) → (pin.view_after v x).seen ≡ v.seen
+pinned_seen v x = cond_both (x == 0) _ _ (λ (w : View). w.seen ≡ v.seen) (λ e. refl) (λ e. refl)
 
 with_more : (log seen : List Event) (e : Event) → StartsWith log seen → StartsWith (log ++ e ∷ []) seen
 with_more log seen e starts = (starts.0 ++ e ∷ [], ap (λ (l : List Event). l ++ e ∷ []) starts.1 ∙ append_assoc seen starts.0 (e ∷ []))
@@ -44,16 +54,19 @@ module _ (z : Sizes) (p : ℕ) (v : View) (m : Memory) (f : Views) (n : Memory) 
   kind_grows (IsReadLeaf k) = stays _ k.view refl
   kind_grows (IsUnchanged k) = becomes _ k.view (telling_seen _ r.log v.seen k.event starts ([], sym (append-nil v.seen)))
   kind_grows (IsChanged k) = stays _ k.view refl
-  kind_grows (IsForget k) = stays _ k.view refl
   kind_grows (IsUpgrade k) = stays _ k.view refl
   kind_grows (IsClaim k) = stays _ k.view refl
   kind_grows (IsCommit k) = becomes _ k.view (with_more r.log v.seen (event v.pass k.what) starts)
   kind_grows (IsRelease k) = stays _ k.view refl
   kind_grows (IsWrite k) = stays _ k.view refl
   kind_grows (IsWriteLeaf k) = stays _ k.view refl
-  kind_grows (IsTake k) = stays _ k.view refl
+  kind_grows (IsTake k) = stays _ k.view (taken_seen v k.pool k.index k.bit (m.free_word k.pool k.index) k.copy)
   kind_grows (IsGive k) = stays _ k.view refl
   kind_grows (IsFreed k) = stays _ k.view refl
+  kind_grows (IsEpoch k) = stays _ k.view refl
+  kind_grows (IsPin k) = stays _ k.view (pinned_seen v k.word)
+  kind_grows (IsAdvance k) = stays _ k.view refl
+  kind_grows (IsWatch k) = stays _ k.view refl
 
 -- of any step of the pass p, whose view goes from v to w
 pub seen_grows : (z : Sizes) (p : ℕ) (v w : View) (m : Memory) (f : Views) (n : Memory) (g : Views) → OneStep z p m f n g → f p ≡ Some v → g p ≡ Some w → StartsWith w.seen v.seen
@@ -70,7 +83,6 @@ module _ (z : Sizes) (p : ℕ) (v : View) (m : Memory) (f : Views) (m' : Memory)
   kind_view (IsReadLeaf k) = (_, k.view)
   kind_view (IsUnchanged k) = (_, k.view)
   kind_view (IsChanged k) = (_, k.view)
-  kind_view (IsForget k) = (_, k.view)
   kind_view (IsUpgrade k) = (_, k.view)
   kind_view (IsClaim k) = (_, k.view)
   kind_view (IsCommit k) = (_, k.view)
@@ -80,42 +92,66 @@ module _ (z : Sizes) (p : ℕ) (v : View) (m : Memory) (f : Views) (m' : Memory)
   kind_view (IsTake k) = (_, k.view)
   kind_view (IsGive k) = (_, k.view)
   kind_view (IsFreed k) = (_, k.view)
+  kind_view (IsEpoch k) = (_, k.view)
+  kind_view (IsPin k) = (_, k.view)
+  kind_view (IsAdvance k) = (_, k.view)
+  kind_view (IsWatch k) = (_, k.view)
 
-step_view : (z : Sizes) (p : ℕ) (m : Memory) (f : Views) (m' : Memory) (g : Views) → OneStep z p m f m' g → (w : View) × SetsView f p w g
+pub step_view : (z : Sizes) (p : ℕ) (m : Memory) (f : Views) (m' : Memory) (g : Views) → OneStep z p m f m' g → (w : View) × SetsView f p w g
 step_view z p m f m' g t = kind_view z p t.view m f m' g t.sound.log t.sound.logical t.kind
 
--- ---- a step keeps its pass
+-- ---- a step keeps its pass, and counts
 
-begun_pass : (z : Sizes) (v : View) (c : Cell) (x : ℕ) → (begin.view_after z v c x).pass ≡ v.pass
-begun_pass z v c x = cond_both (x % 4 == 0) _ _ (λ (w : View). w.pass ≡ v.pass) (λ e. refl) (λ e. refl)
+-- the views of one pass before and after a step
+abbrev Counted : View → View → Type 0
+Counted v w = (w.pass ≡ v.pass) × (w.steps ≡ v.steps + 1)
 
-with_event_pass : (u : View) (log : List Event) (o : Option Deed) → (check.with_event u log o).pass ≡ u.pass
-with_event_pass u log None = refl
-with_event_pass u log (Some what) = refl
+begun_counts : (z : Sizes) (v : View) (c : Cell) (x : ℕ) → Counted v (begin.view_after z v c x)
+begun_counts z v c x = cond_both (x % 4 == 0) _ _ (Counted v) (λ e. (refl, refl)) (λ e. (refl, refl))
+
+event_counts : (u : View) (log : List Event) (o : Option Deed) → ((check.with_event u log o).pass ≡ u.pass) × ((check.with_event u log o).steps ≡ u.steps)
+event_counts u log None = (refl, refl)
+event_counts u log (Some what) = (refl, refl)
+
+taken_counts : (v : View) (pool : Pool) (i : ℕ) (bit : Option ℕ) (x : ℕ) (ws : List ℕ) → Counted v (take_free.view_after v pool i bit x ws)
+taken_counts v pool i None x ws = (refl, refl)
+taken_counts v pool i (Some k) x ws = cond_both (bit_of x k == 1) _ _ (Counted v) (λ e. (refl, refl)) (λ e. (refl, refl))
+
+pinned_counts : (v : View) (x : ℕ) → Counted v (pin.view_after v x)
+pinned_counts v x = cond_both (x == 0) _ _ (Counted v) (λ e. (refl, refl)) (λ e. (refl, refl))
 
 module _ (z : Sizes) (p : ℕ) (v : View) (m : Memory) (f : Views) (m' : Memory) (g : Views) (r : IsSound z m f) (w : View) (is : g p ≡ Some w) where
-  keeps : (u : View) → SetsView f p u g → u.pass ≡ v.pass → w.pass ≡ v.pass
-  keeps u t same = ap (λ (x : View). x.pass) (same_Some w u (sym is ∙ t.here)) ∙ same
+  keeps : (u : View) → SetsView f p u g → Counted v u → Counted v w
+  keeps u t same = subst (Counted v) (same_Some u w (sym t.here ∙ is)) same
 
-  kind_stays : OfAKind z p v m f m' g r.log r.logical → w.pass ≡ v.pass
-  kind_stays (IsBegin k) = keeps _ k.view (begun_pass z v k.cell (m.version k.cell))
-  kind_stays (IsRead k) = keeps _ k.view refl
-  kind_stays (IsReadLeaf k) = keeps _ k.view refl
-  kind_stays (IsUnchanged k) = keeps _ k.view (with_event_pass _ r.log k.event)
-  kind_stays (IsChanged k) = keeps _ k.view refl
-  kind_stays (IsForget k) = keeps _ k.view refl
-  kind_stays (IsUpgrade k) = keeps _ k.view refl
-  kind_stays (IsClaim k) = keeps _ k.view refl
-  kind_stays (IsCommit k) = keeps _ k.view refl
-  kind_stays (IsRelease k) = keeps _ k.view refl
-  kind_stays (IsWrite k) = keeps _ k.view refl
-  kind_stays (IsWriteLeaf k) = keeps _ k.view refl
-  kind_stays (IsTake k) = keeps _ k.view refl
-  kind_stays (IsGive k) = keeps _ k.view refl
-  kind_stays (IsFreed k) = keeps _ k.view refl
+  kind_counts : OfAKind z p v m f m' g r.log r.logical → Counted v w
+  kind_counts (IsBegin k) = keeps _ k.view (begun_counts z v k.cell (m.version k.cell))
+  kind_counts (IsRead k) = keeps _ k.view (refl, refl)
+  kind_counts (IsReadLeaf k) = keeps _ k.view (refl, refl)
+  kind_counts (IsUnchanged k) = keeps _ k.view (event_counts _ r.log k.event)
+  kind_counts (IsChanged k) = keeps _ k.view (refl, refl)
+  kind_counts (IsUpgrade k) = keeps _ k.view (refl, refl)
+  kind_counts (IsClaim k) = keeps _ k.view (refl, refl)
+  kind_counts (IsCommit k) = keeps _ k.view (refl, refl)
+  kind_counts (IsRelease k) = keeps _ k.view (refl, refl)
+  kind_counts (IsWrite k) = keeps _ k.view (refl, refl)
+  kind_counts (IsWriteLeaf k) = keeps _ k.view (refl, refl)
+  kind_counts (IsTake k) = keeps _ k.view (taken_counts v k.pool k.index k.bit (m.free_word k.pool k.index) k.copy)
+  kind_counts (IsGive k) = keeps _ k.view (refl, refl)
+  kind_counts (IsFreed k) = keeps _ k.view (refl, refl)
+  kind_counts (IsEpoch k) = keeps _ k.view (refl, refl)
+  kind_counts (IsPin k) = keeps _ k.view (pinned_counts v k.word)
+  kind_counts (IsAdvance k) = keeps _ k.view (refl, refl)
+  kind_counts (IsWatch k) = keeps _ k.view (refl, refl)
 
-pub pass_stays : (z : Sizes) (p : ℕ) (v w : View) (m : Memory) (f : Views) (m' : Memory) (g : Views) → OneStep z p m f m' g → f p ≡ Some v → g p ≡ Some w → w.pass ≡ v.pass
-pass_stays z p v w m f m' g t at is = kind_stays z p t.view m f m' g t.sound w is t.kind ∙ ap (λ (x : View). x.pass) (same_Some t.view v (sym t.before ∙ at))
+step_counts : (z : Sizes) (p : ℕ) (v w : View) (m : Memory) (f : Views) (m' : Memory) (g : Views) → OneStep z p m f m' g → f p ≡ Some v → g p ≡ Some w → Counted v w
+step_counts z p v w m f m' g t at is = subst (λ (u : View). Counted u w) (same_Some t.view v (sym t.before ∙ at)) (kind_counts z p t.view m f m' g t.sound w is t.kind)
+
+pub pass_stays : PassLaw
+pass_stays z p v w m f m' g t at is = (step_counts z p v w m f m' g t at is).0
+
+pub steps_count : CountLaw
+steps_count z p v w m f m' g t at is = (step_counts z p v w m f m' g t at is).1
 
 -- ---- the history
 

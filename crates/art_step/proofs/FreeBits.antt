@@ -1,87 +1,109 @@
--- What a world's words mean where a number becomes free, or is no longer.
-use Rattle.std.proofs.Common.{◌≡◌, ◌≢◌, ℕ, ◌+◌, ◌-◌, ◌*◌, ◌%◌, ◌^◌, ◌==◌, Bool, true, false, List, length, get_or, set, nat_lt, sym, ap, ◌∙◌, ⊎_elim, arith, get_or-set_same, get_or-set_other, lt-ltb, ltb-true}
-use Rattle.std.proofs.lemmas.Bool.{cases_eq, cases_Bool, cond-true, cond-false, eqb-true, eqb-false}
+-- What the words of free numbers say where one bit of one of them changes.
+use Rattle.std.proofs.Common.{◌≡◌, ◌≢◌, ℕ, ◌+◌, ◌-◌, ◌*◌, ◌/◌, ◌%◌, ◌^◌, ◌<◌, ◌==◌, Bool, true, false, sym, refl, ap, ap₂, ◌∙◌, ⊎_elim, arith}
+use Rattle.std.proofs.lemmas.Bool.{cases_eq, eqb-true, eqb-false}
+use Rattle.art_cell.specs.declared.cells.Cell.{Cell}
 use Rattle.art_cell.specs.declared.cells.Link.{Link}
-use Rattle.art_step.specs.declared.views.Sizes.{Sizes}
+use Rattle.art_cell.specs.declared.cells.Link.TheVariants.{Leaf as leaf, Node as node}
+use Rattle.art_cell.specs.declared.layouts.Layout.{Layout}
+use Rattle.art_cell.specs.declared.layouts.Layout.TheVariants.{Node4}
+use Rattle.art_cell.specs.declared.layouts.Pool.{Pool}
+use Rattle.art_cell.specs.declared.layouts.Pool.TheVariants.{Leaves}
+use Rattle.art_cell.specs.Children.{link_in_pool, number_of}
 use Rattle.art_cell.specs.Lemmas.Headers.{bit_more, bit_more_elsewhere, bit_less, bit_at_least}
+use Rattle.art_step.specs.declared.views.Sizes.{Sizes}
 use Rattle.art_step.specs.Sound.{IsSound}
-use Rattle.art_step.specs.Effects.{SetsFree}
-use Rattle.art_step.specs.Views.{Memory, Views, IsNumber}
-use Rattle.art_cell.specs.Children.{number_of}
-use Rattle.art_step.specs.WordPlaces.{pool_size, pool_of, free_words, word_count}
-use Rattle.art_step.specs.WordRows.{free_place, bit_of, is_free, memory_of}
-use Rattle.art_step.proofs.WordRows.{same_free, versions_stay, words_stay, epoch_stays, pass_words_stay}
-use Rattle.art_step.proofs.WordPlaces.{HasBit, free_below, bits_apart}
+use Rattle.art_step.specs.Effects.{SetsBit, SetsFreeWord}
+use Rattle.art_step.specs.Views.{Memory, Views, IsNumber, bit_of, free_bit, free_index, is_free, number_at, pool_of, pool_of_layout, pool_rank}
+use Rattle.art_step.proofs.WordPlaces.{same_pool}
+
+-- ---- numbers, by pool, word and bit
+
+pub pool_again : (pool : Pool) (n : ℕ) → pool_of (link_in_pool pool n) ≡ pool
+pool_again pool n = elim pool as (λ k. pool_of (link_in_pool k n) ≡ k) [ Leaves ↦ refl | _ ↦ refl ]
+
+pub number_again : (pool : Pool) (n : ℕ) → number_of (link_in_pool pool n) ≡ n
+number_again pool n = elim pool as (λ k. number_of (link_in_pool k n) ≡ n) [ Leaves ↦ refl | _ ↦ refl ]
+
+pub link_again : (d : Link) → link_in_pool (pool_of d) (number_of d) ≡ d
+link_again (leaf l) = refl
+link_again (node n) = elim n.layout as (λ (k : Layout). link_in_pool (pool_of_layout k) n.number ≡ node (record { layout = k; number = n.number })) [ Node4 ↦ refl | _ ↦ refl ]
+
+-- the number at a bit of a word has this word and this bit
+pub index_again : (pool : Pool) (i k : ℕ) → k < 64 → free_index (number_at pool i k) ≡ i
+index_again pool i k low = let n = number_again pool (64 * i + k) in omega (arith, n)
+
+pub bit_again : (pool : Pool) (i k : ℕ) → k < 64 → free_bit (number_at pool i k) ≡ k
+bit_again pool i k low = let n = number_again pool (64 * i + k) in omega (arith, n)
+
+-- two numbers of one pool, word and bit are one
+same_number : (e d : Link) → pool_of e ≡ pool_of d → free_index e ≡ free_index d → free_bit e ≡ free_bit d → e ≡ d
+same_number e d pool index bit =
+    let number : number_of e ≡ number_of d = omega (arith, index, bit) in
+    sym (link_again e) ∙ (ap₂ (λ (q : Pool) (n : ℕ). link_in_pool q n) pool number ∙ link_again d)
 
 -- what is free is a number that there is, where all is sound
-pub free_is_number : (z : Sizes) (m : Memory) (f : Views) (d : Link) → IsSound z m f → m.free d ≡ true → IsNumber z d
+pub free_is_number : (z : Sizes) (m : Memory) (f : Views) (d : Link) → IsSound z m f → is_free m d ≡ true → IsNumber z d
 free_is_number z m f d r free = (r.numbers.numbers d).0 (λ e. let is = (r.numbers.free d).1 free in cc)
 
--- what is free has a bit
-pub free_has_bit : (z : Sizes) (ws : List ℕ) (d : Link) → is_free z ws d ≡ true → HasBit z d
-free_has_bit z ws d free = ⊎_elim
-    (λ (e : nat_lt (number_of d) (64 * free_words (pool_size z (pool_of d))) ≡ true). ltb-true _ _ e)
-    (λ (e : nat_lt (number_of d) (64 * free_words (pool_size z (pool_of d))) ≡ false). let none : is_free z ws d ≡ false = cond-false _ _ false e in absurd (cc))
-    (cases_Bool (nat_lt (number_of d) (64 * free_words (pool_size z (pool_of d)))))
+-- ---- one number becomes free, or is no longer
 
--- the bit of a number says whether it is free
-pub free_found : (z : Sizes) (ws : List ℕ) (d : Link) → HasBit z d → is_free z ws d ≡ (bit_of (get_or ws (free_place z d) 0) (number_of d % 64) == 1)
-free_found z ws d has = cond-true _ _ false (lt-ltb (number_of d) (64 * free_words (pool_size z (pool_of d))) has)
+-- and nothing else changes
+pub record SetsFree (m : Memory) (d : Link) (b : Bool) (m' : Memory) : Type 0 where
+  pub here : is_free m' d ≡ b
+  pub there : (e : Link) → e ≢ d → is_free m' e ≡ is_free m e
+  pub version : m'.version ≡ m.version
+  pub words : m'.words ≡ m.words
+  pub epoch : m'.epoch ≡ m.epoch
+  pub pass_word : m'.pass_word ≡ m.pass_word
 
--- a word of free numbers in which one bit changes
-module _ (z : Sizes) (ws : List ℕ) (d : Link) (word : ℕ) (has : HasBit z d) (long : length ws ≡ word_count z) where
+-- where one bit of its word changes
+module _ (m m' : Memory) (d : Link) (x : ℕ) (sets : SetsFreeWord m (pool_of d) (free_index d) x m') where
   abbrev before : ℕ
-  before = get_or ws (free_place z d) 0
+  before = m.free_word (pool_of d) (free_index d)
 
-  abbrev after : List ℕ
-  after = set ws (free_place z d) word
+  -- another number has another word, or another bit
+  other_number : ((j : ℕ) → j ≢ free_bit d → bit_of x j ≡ bit_of before j) → (e : Link) → e ≢ d → is_free m' e ≡ is_free m e
+  other_number bits e other = ⊎_elim
+      (λ (rank : pool_rank (pool_of e) ≡ pool_rank (pool_of d)). ⊎_elim
+      (λ (index : free_index e ≡ free_index d).
+      let pool : pool_of e ≡ pool_of d = same_pool (pool_of e) (pool_of d) rank in
+      let bit = bits (free_bit e) (λ same. other (same_number e d pool index same)) in
+      let now : m'.free_word (pool_of e) (free_index e) ≡ x = ap₂ (λ (q : Pool) (i : ℕ). m'.free_word q i) pool index ∙ sets.here in
+      let was : m.free_word (pool_of e) (free_index e) ≡ before = ap₂ (λ (q : Pool) (i : ℕ). m.free_word q i) pool index in
+      ap (λ (word : ℕ). bit_of word (free_bit e) == 1) now ∙ (ap (λ (b : ℕ). b == 1) bit ∙ ap (λ (word : ℕ). bit_of word (free_bit e) == 1) (sym was)))
+      (λ (apart : free_index e ≢ free_index d). stays e (λ pool index. apart index))
+      (cases_eq (free_index e) (free_index d)))
+      (λ (apart : pool_rank (pool_of e) ≢ pool_rank (pool_of d)). stays e (λ pool index. apart (ap pool_rank pool)))
+      (cases_eq (pool_rank (pool_of e)) (pool_rank (pool_of d)))
+    where
+      stays : (e : Link) → (pool_of e ≡ pool_of d → free_index e ≡ free_index d → ⊥) → is_free m' e ≡ is_free m e
+      stays e apart = ap (λ (word : ℕ). bit_of word (free_bit e) == 1) (sets.there (pool_of e) (free_index e) apart)
 
-  abbrev OtherBits : Type 0
-  OtherBits = (j : ℕ) → j ≢ number_of d % 64 → bit_of word j ≡ bit_of before j
+  sets_free : (b : Bool) → (bit_of x (free_bit d) == 1) ≡ b → ((j : ℕ) → j ≢ free_bit d → bit_of x j ≡ bit_of before j) → SetsFree m d b m'
+  sets_free b bit others = record {
+    here = ap (λ (word : ℕ). bit_of word (free_bit d) == 1) sets.here ∙ bit;
+    there = other_number others;
+    version = sets.version;
+    words = sets.words;
+    epoch = sets.epoch;
+    pass_word = sets.pass_word;
+  }
 
-  here : get_or after (free_place z d) 0 ≡ word
-  here = let at = free_below z d has in get_or-set_same ws (free_place z d) word 0 (omega arith)
+-- to add a number's bit frees it, where it is not free
+pub frees_number : (m : Memory) (f : Views) (m' : Memory) (f' : Views) (d : Link) → is_free m d ≡ false → SetsBit d m f m' f' → SetsFree m d true m'
+frees_number m f m' f' d taken sets =
+    let k : ℕ = free_bit d in
+    let h : ℕ = m.free_word (pool_of d) (free_index d) in
+    let clear : bit_of h k ≡ 0 = let no = eqb-false _ 1 taken in omega arith in
+    sets_free m m' d (h + 2 ^ k) sets true (ap (λ (bit : ℕ). bit == 1) (bit_more h k clear)) (λ j other. bit_more_elsewhere h k j clear other)
 
-  -- another number has another word or another bit
-  other_number : OtherBits → (e : Link) → e ≢ d → HasBit z e → bit_of (get_or after (free_place z e) 0) (number_of e % 64) ≡ bit_of (get_or ws (free_place z e) 0) (number_of e % 64)
-  other_number bits e other within = ⊎_elim
-      (λ (same : free_place z e ≡ free_place z d).
-      let bit = bits (number_of e % 64) (λ f. other (bits_apart z e d within has same f)) in
-      ap (λ (at : ℕ). bit_of (get_or after at 0) (number_of e % 64)) same
-      ∙ (ap (λ (n : ℕ). bit_of n (number_of e % 64)) here ∙ (bit ∙ ap (λ (at : ℕ). bit_of (get_or ws at 0) (number_of e % 64)) (sym same))))
-      (λ (apart : free_place z e ≢ free_place z d). ap (λ (n : ℕ). bit_of n (number_of e % 64)) (get_or-set_other ws (free_place z d) (free_place z e) word 0 apart))
-      (cases_eq (free_place z e) (free_place z d))
-
-  sets_bit : (b : Bool) → (bit_of word (number_of d % 64) == 1) ≡ b → OtherBits → SetsFree (memory_of z ws) d b (memory_of z after)
-  sets_bit b bit others =
-      let at = free_below z d has in
-      record {
-        here = free_found z after d has ∙ (ap (λ (n : ℕ). bit_of n (number_of d % 64) == 1) here ∙ bit);
-        there = λ e other. same_free z ws after e (other_number others e other);
-        version = versions_stay z ws (free_place z d) word at.0;
-        words = words_stay z ws (free_place z d) word at.0;
-        epoch = epoch_stays z ws (free_place z d) word at.1;
-        pass_word = pass_words_stay z ws (free_place z d) word at.1;
-      }
-
--- to add a number's bit frees it, where it is not free, and changes nothing else
-pub frees_number : (z : Sizes) (ws : List ℕ) (d : Link) → HasBit z d → is_free z ws d ≡ false → length ws ≡ word_count z
-    → SetsFree (memory_of z ws) d true (memory_of z (set ws (free_place z d) (get_or ws (free_place z d) 0 + 2 ^ (number_of d % 64))))
-frees_number z ws d has taken long =
-    let k : ℕ = number_of d % 64 in
-    let h : ℕ = get_or ws (free_place z d) 0 in
-    let clear : bit_of h k ≡ 0 = let no = eqb-false _ 1 (sym (free_found z ws d has) ∙ taken) in omega arith in
-    sets_bit z ws d (h + 2 ^ k) has long true (ap (λ (bit : ℕ). bit == 1) (bit_more h k clear)) (λ j other. bit_more_elsewhere h k j clear other)
-
--- to subtract the bit of a free number takes it, and changes nothing else
-pub takes_number : (z : Sizes) (ws : List ℕ) (d : Link) → is_free z ws d ≡ true → length ws ≡ word_count z
-    → SetsFree (memory_of z ws) d false (memory_of z (set ws (free_place z d) (get_or ws (free_place z d) 0 - 2 ^ (number_of d % 64))))
-takes_number z ws d free long =
-    let has = free_has_bit z ws d free in
-    let k : ℕ = number_of d % 64 in
-    let h : ℕ = get_or ws (free_place z d) 0 in
-    let full : bit_of h k ≡ 1 = eqb-true _ 1 (sym (free_found z ws d has) ∙ free) in
+-- to subtract the bit of a free number takes it
+pub takes_number : (m m' : Memory) (d : Link) → is_free m d ≡ true → SetsFreeWord m (pool_of d) (free_index d) (m.free_word (pool_of d) (free_index d) - 2 ^ free_bit d) m' → SetsFree m d false m'
+takes_number m m' d free sets =
+    let k : ℕ = free_bit d in
+    let h : ℕ = m.free_word (pool_of d) (free_index d) in
+    let full : bit_of h k ≡ 1 = eqb-true _ 1 free in
     let least = bit_at_least h k full in
     let back : h - 2 ^ k + 2 ^ k ≡ h = omega arith in
     let clear : bit_of (h - 2 ^ k) k ≡ 0 = bit_less (h - 2 ^ k) k (ap (λ (n : ℕ). bit_of n k) back ∙ full) in
-    sets_bit z ws d (h - 2 ^ k) has long false (ap (λ (bit : ℕ). bit == 1) clear) (λ j other. sym (bit_more_elsewhere (h - 2 ^ k) k j clear other) ∙ ap (λ (n : ℕ). bit_of n j) back)
+    sets_free m m' d (h - 2 ^ k) sets false (ap (λ (bit : ℕ). bit == 1) clear) (λ j other. sym (bit_more_elsewhere (h - 2 ^ k) k j clear other) ∙ ap (λ (n : ℕ). bit_of n j) back)

@@ -2,6 +2,8 @@ pub mod AnyStep
 pub mod AtSteps
 pub mod Changing
 pub mod Determined
+pub mod EpochBound
+pub mod EpochMoves
 pub mod Facts
 pub mod FreeBits
 pub mod Gathered
@@ -13,6 +15,7 @@ pub mod SetsView
 pub mod Shows
 pub mod SoundParts
 pub mod StepCommits
+pub mod StepEpochs
 pub mod StepLocks
 pub mod StepNotes
 pub mod StepNumbers

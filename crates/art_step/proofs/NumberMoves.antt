@@ -1,130 +1,163 @@
--- Numbers that are taken and given back: the bit of a number in its word, and the view after a step that sets it or takes it away.
-use Rattle.std.proofs.Common.{◌≡◌, ◌≢◌, ℕ, ◌+◌, ◌-◌, ◌*◌, ◌/◌, ◌%◌, ◌^◌, ◌<◌, ◌≤◌, ◌==◌, Bool, true, false, List, length, get_or, slice_set, sym, refl, ap, ◌∙◌, ⊎_elim, arith}
-use Rattle.std.proofs.lemmas.Bool.{cases_Bool, eqb-true, eqb-false}
-use Rattle.std.proofs.lemmas.List.{get_or_read}
+-- Numbers that are taken and given back, over words in a row: the word with a number's bit, and the view after a step that sets it
+-- or takes it away.
+use Rattle.std.proofs.Common.{◌≡◌, ◌≢◌, ◌⊎◌, ℕ, ◌+◌, ◌-◌, ◌*◌, ◌/◌, ◌%◌, ◌^◌, ◌<◌, ◌≤◌, ◌==◌, Bool, true, false, if◌then◌else◌, List, [], ◌∷◌, length, get_or, slice_set, sym, refl, ap, ap₂, ◌∙◌, subst, ⊎_elim, arith}
+use Rattle.std.proofs.lemmas.Bool.{cases_Bool, eqb-false}
 use Rattle.std.proofs.lemmas.Nat.{pow_below}
-use Rattle.std.specs.Prelude.{Some}
+use Rattle.std.specs.Prelude.{Option, Some, None, IfSome}
 use Rattle.art_cell.specs.declared.cells.Link.{Link}
 use Rattle.art_cell.specs.declared.cells.Link.TheVariants.{Leaf as leaf, Node as node}
-use Rattle.art_step.specs.Steps.Take.{IsTaken, word_count_of}
+use Rattle.art_cell.specs.declared.layouts.Pool.{Pool}
 use Rattle.art_step.specs.declared.views.InHand.{InHand}
 use Rattle.art_step.specs.declared.views.Retired.{Retired}
 use Rattle.art_step.specs.declared.views.Sizes.{Sizes}
 use Rattle.art_step.specs.declared.views.View.{View}
-use Rattle.art_cell.specs.Children.{number_of}
 use Rattle.art_cell.specs.Lemmas.Headers.{bit_at_least, bit_more_below}
+use Rattle.art_step.specs.Effects.{SetsBit, SetsFreeWord}
 use Rattle.art_step.specs.Steps.Give as give
 use Rattle.art_step.specs.Steps.Take as take_free
+use Rattle.art_step.specs.Steps.Take.{IsTaken, taken, without_bit, word_count_of}
 use Rattle.art_step.specs.Sound.{Whereabouts, InHandOf, InLimboOf, Nowhere, IsFree, IsSound}
 use Rattle.art_step.specs.Steps.{IsTake, IsGive, IsFreed}
-use Rattle.art_step.specs.Effects.{SetsFree}
-use Rattle.art_step.specs.Steps.Give.{MayFree}
-use Rattle.art_step.specs.Views.{IsNumber}
-use Rattle.art_step.specs.WordPlaces.{pool_of, first_free_word, word_count}
-use Rattle.art_step.specs.WordRows.{free_place, bit_of, is_free, memory_of}
-use Rattle.art_step.proofs.FreeBits.{frees_number, takes_number, free_has_bit, free_found}
-use Rattle.art_step.proofs.WordRows.{words_taken, is_taken}
-use Rattle.art_step.proofs.WordPlaces.{HasBit, has_bit, free_below}
-use Rattle.art_step.specs.Views.{Views}
+use Rattle.art_step.specs.Views.{IsNumber, Memory, Views, bit_of, free_bit, free_index, is_free, number_at, pool_of}
+use Rattle.art_step.specs.WordPlaces.{HasFreeWord, first_free_word, word_count}
+use Rattle.art_step.specs.WordRows.{memory_of}
+use Rattle.art_step.proofs.Changing.{handed_over}
+use Rattle.art_step.proofs.Gathered.{sifted}
 use Rattle.art_step.proofs.Moves.{Moves, moved}
+use Rattle.art_step.proofs.StepNumbers.{not_free}
+use Rattle.art_step.proofs.WordPlaces.{free_below, has_free_word}
+use Rattle.art_step.proofs.WordRows.{free_word_found, is_taken, sets_free_word, words_taken}
+use Rattle.art_tree.proofs.Places.{same_link}
 
--- ---- the word that has a number's bit
+-- ---- bits of a word
 
--- it was found at its place, and this is the power of the bit
-pub record IsBitWord (z : Sizes) (ws : List ℕ) (d : Link) (place found bit : ℕ) : Type 0 where
-  pub stands : place ≡ free_place z d
-  pub read : found ≡ get_or ws (free_place z d) 0
-  pub power : bit ≡ 2 ^ (number_of d % 64)
+-- a bit that is not set can be added
+pub bit_room : (m : Memory) (d : Link) (x : ℕ) → x ≡ m.free_word (pool_of d) (free_index d) → is_free m d ≡ false → x < 2 ^ 64 → x + 2 ^ free_bit d < 2 ^ 64
+bit_room m d x is none low =
+    let clear = eqb-false _ 1 (ap (λ (w : ℕ). bit_of w (free_bit d) == 1) is ∙ none) in
+    bit_more_below x (free_bit d) (omega arith) (omega arith) low
 
--- it is one of the words
-pub bit_below : (z : Sizes) (ws : List ℕ) (d : Link) (first n : ℕ) → first ≡ first_free_word z (pool_of d) → n ≡ number_of d → IsNumber z d → length ws ≡ word_count z → first + n / 64 < length ws
-bit_below z ws d first n at is inside long =
-    let low = free_below z d (has_bit z d inside) in
-    rw (at, is) (omega (arith, long, low))
+-- the power of a bit fits a word of 64 bits
+pub bit_whole : (k : ℕ) → 1 * 2 ^ (k % 64) % 18446744073709551616 ≡ 2 ^ (k % 64)
+bit_whole k = let few : 2 ^ (k % 64) < 2 ^ 64 = pow_below (k % 64) 64 (omega arith) in omega arith
 
--- as code finds it: after the pool's first word, with the power as a word of 64 bits
-pub bit_word : (z : Sizes) (ws : List ℕ) (d : Link) (first n again found : ℕ) → first ≡ first_free_word z (pool_of d) → n ≡ number_of d → again ≡ number_of d → IsNumber z d → length ws ≡ word_count z
-    → found ≡ get_or ws (first + n / 64) found → IsBitWord z ws d (first + n / 64) found (1 * 2 ^ (again % 64) % 18446744073709551616)
-bit_word z ws d first n again found at is same inside long read =
-    let stands : first + n / 64 ≡ free_place z d = rw (at, is) refl in
-    let few : 2 ^ (again % 64) < 2 ^ 64 = pow_below (again % 64) 64 (omega arith) in
-    let whole : 1 * 2 ^ (again % 64) % 18446744073709551616 ≡ 2 ^ (again % 64) = omega arith in
-    record {
-      stands = stands;
-      read = get_or_read ws (first + n / 64) found (bit_below z ws d first n at is inside long) read 0 ∙ ap (λ (place : ℕ). get_or ws place 0) stands;
-      power = whole ∙ ap (λ (k : ℕ). 2 ^ (k % 64)) same;
-    }
+-- one that is set can be subtracted
+pub bit_within : (x k : ℕ) → bit_of x k ≡ 1 → 2 ^ k ≤ x
+bit_within x k is = bit_at_least x k is
 
-module _ (z : Sizes) (ws : List ℕ) (long : length ws ≡ word_count z) (d : Link) (place found bit : ℕ) (word : IsBitWord z ws d place found bit) where
-  bit_is : (b : Bool) → HasBit z d → is_free z ws d ≡ b → (bit_of found (number_of d % 64) == 1) ≡ b
-  bit_is b has is = rw word.read (sym (free_found z ws d has) ∙ is)
+-- ---- the word of free numbers at an index of a pool
 
-  -- the bit of a free number can be subtracted
-  pub bit_within : is_free z ws d ≡ true → bit ≤ found
-  bit_within free = rw word.power (bit_at_least found (number_of d % 64) (eqb-true _ 1 (bit_is true (free_has_bit z ws d free) free)))
+module _ (z : Sizes) (ws : List ℕ) (long : length ws ≡ word_count z) (pool : Pool) (i : ℕ) (inside : HasFreeWord z pool i) where
+  -- it is one of the words
+  pub free_word_low : first_free_word z pool + i < length ws
+  free_word_low = let low = free_below z pool i inside in omega (arith, long, low.1)
 
-  -- and that takes the number
-  pub takes_bit : is_free z ws d ≡ true → SetsFree (memory_of z ws) d false (memory_of z (slice_set ws place (found - bit)))
-  takes_bit free = rw (word.stands, word.read, word.power) (takes_number z ws d free long)
+  -- another word in its place
+  pub puts_free_word : (place x y : ℕ) → place ≡ first_free_word z pool + i → x ≡ y → SetsFreeWord (memory_of z ws) pool i y (memory_of z (slice_set ws place x))
+  puts_free_word place x y at is = rw (at, is) (sets_free_word z ws pool i y inside long)
 
-  -- the bit of a number that is not free can be added
-  pub bit_room : IsNumber z d → is_free z ws d ≡ false → found < 2 ^ 64 → found + bit < 2 ^ 64
-  bit_room inside taken low =
-      let other = eqb-false _ 1 (bit_is false (has_bit z d inside) taken) in
-      rw word.power (bit_more_below found (number_of d % 64) (omega arith) (omega arith) low)
-
-  -- and that frees the number
-  pub frees_bit : IsNumber z d → is_free z ws d ≡ false → SetsFree (memory_of z ws) d true (memory_of z (slice_set ws place (found + bit)))
-  frees_bit inside taken = rw (word.stands, word.read, word.power) (frees_number z ws d (has_bit z d inside) taken long)
+  -- the same word as it was
+  pub keeps_free_word : SetsFreeWord (memory_of z ws) pool i ((memory_of z ws).free_word pool i) (memory_of z ws)
+  keeps_free_word = record { here = refl; there = λ q j other. refl; version = refl; words = refl; epoch = refl; pass_word = refl }
 
 -- ---- the steps
 
+-- the words of the number that is taken
+words_for : Sizes → List ℕ → Option Link → List ℕ
+words_for z ws None = []
+words_for z ws (Some d) = words_taken z ws d
+
+taken_words : (z : Sizes) (ws : List ℕ) (o : Option Link) → IfSome o (λ d. IsTaken (memory_of z ws) d (words_for z ws o))
+unfolding words_for
+taken_words z ws None = tt
+taken_words z ws (Some d) = is_taken z ws d
+
+words_of_link : (m : Memory) (d : Link) (words : List ℕ) → IsTaken m d words → length words ≡ word_count_of d
+words_of_link m (leaf l) words copy = copy.0
+words_of_link m (node n) words none = ap length none
+
+words_counted : (m : Memory) (o : Option Link) (words : List ℕ) → IfSome o (λ d. IsTaken m d words) → IfSome o (λ d. length words ≡ word_count_of d)
+words_counted m None words t = tt
+words_counted m (Some d) words t = words_of_link m d words t
+
+taking_pass : (v : View) (pool : Pool) (i : ℕ) (bit : Option ℕ) (x : ℕ) (ws : List ℕ) → (take_free.view_after v pool i bit x ws).pass ≡ v.pass
+taking_pass v pool i None x ws = refl
+taking_pass v pool i (Some k) x ws = ⊎_elim
+    (λ (e : (bit_of x k == 1) ≡ true). rw e refl)
+    (λ (e : (bit_of x k == 1) ≡ false). rw e refl)
+    (cases_Bool (bit_of x k == 1))
+
 module _ (z : Sizes) (ws : List ℕ) (f : Views) (p : ℕ) (v : View) (r : IsSound z (memory_of z ws) f) (at : f p ≡ Some v) (long : length ws ≡ word_count z) where
+  abbrev m : Memory
+  m = memory_of z ws
+
   -- a number that is somewhere else than among the free ones is one that there is, and not free
   abbrev pub IsInUse : Link → Type 0
-  IsInUse d = IsNumber z d × (is_free z ws d ≡ false)
+  IsInUse d = IsNumber z d × (is_free (memory_of z ws) d ≡ false)
 
   elsewhere : (d : Link) (k : Whereabouts) → r.at d ≡ k → k ≢ Nowhere → k ≢ IsFree → IsInUse d
-  elsewhere d k is some other = (
-    (r.numbers.numbers d).0 (λ e. some (sym is ∙ e)),
-    ⊎_elim
-        (λ (free : is_free z ws d ≡ true). absurd (other (sym is ∙ (r.numbers.free d).1 free)))
-        (λ (taken : is_free z ws d ≡ false). taken)
-        (cases_Bool (is_free z ws d)),
-  )
+  elsewhere d k is some other = ((r.numbers.numbers d).0 (λ e. some (sym is ∙ e)), not_free z m f r d k is other)
 
   -- so is one in hand
-  pub in_hand : (d : Link) (xs : List InHand) → give.May v d xs → IsInUse d
-  in_hand d xs may = let x = may.hand in elsewhere d (InHandOf p) (ap r.at (sym x.2) ∙ (r.numbers.accounts p v at).hand x.0 x.1) (λ e. cc) (λ e. cc)
+  pub in_hand : (d : Link) → give.May v d → IsInUse d
+  in_hand d may = let x = may.hand in elsewhere d (InHandOf p) (ap r.at (sym x.2) ∙ (r.numbers.accounts p v at).hand x.0 x.1) (λ e. cc) (λ e. cc)
 
   -- and one in limbo
-  pub in_limbo : (d : Link) (es : List Retired) → MayFree z v d es → IsInUse d
-  in_limbo d es may = let x = may.limbo in elsewhere d (InLimboOf p) (ap r.at (sym x.2) ∙ (r.numbers.accounts p v at).limbo x.0 x.1) (λ e. cc) (λ e. cc)
+  pub in_limbo : (d : Link) → give.MayFree z v d → IsInUse d
+  in_limbo d may = elsewhere d (InLimboOf p) (ap r.at (sym may.link) ∙ (r.numbers.accounts p v at).limbo may.place may.limbo) (λ e. cc) (λ e. cc)
 
-  -- a free number comes into the hand
-  pub moves_takes : (us : List ℕ) (d : Link) → is_free z ws d ≡ true → SetsFree (memory_of z ws) d false (memory_of z us)
-      → Moves z ws f p v us (λ v w. take_free.Outcome v w d (words_taken z ws d)) (take_free.Takes d (words_taken z ws d))
-  moves_takes us d free sets =
-      let words : List ℕ = words_taken z ws d in
-      let copied = is_taken z ws d in
-      moved z ws f p v r at long us (λ v w. take_free.Outcome v w d words) (take_free.Takes d words) (take_free.view_after v d words) refl record { long = words_of_link d words copied; is = refl }
-      (λ g t. IsTake record { link = d; copy = words; free = free; copied = copied; sets = sets; view = t })
-      (λ g t. record { free = free; copy = copied; sets = sets })
-    where
-      words_of_link : (d : Link) (words : List ℕ) → IsTaken (memory_of z ws) d words → length words ≡ word_count_of d
-      words_of_link (leaf l) words taken = taken.0
-      words_of_link (node n) words none = ap length none
+  pub in_use : (d : Link) → give.May v d ⊎ give.MayFree z v d → IsInUse d
+  in_use d may = ⊎_elim (λ (a : give.May v d). in_hand d a) (λ (a : give.MayFree z v d). in_limbo d a) may
+
+  -- a word of free numbers is found, and loses the bit
+  pub moves_takes : (us : List ℕ) (pool : Pool) (i : ℕ) (bit : Option ℕ) (found : ℕ) → take_free.May z pool i bit → found ≡ m.free_word pool i → SetsFreeWord m pool i (without_bit bit found) (memory_of z us)
+      → Moves z ws f p v us (λ v w. take_free.Outcome v w pool i bit found) (take_free.Takes pool i bit found)
+  moves_takes us pool i bit found may is sets =
+      let x : ℕ = m.free_word pool i in
+      let words : List ℕ = words_for z ws (taken pool i bit x) in
+      let copied = taken_words z ws (taken pool i bit x) in
+      let loses : SetsFreeWord m pool i (without_bit bit x) (memory_of z us) = subst (λ (y : ℕ). SetsFreeWord m pool i (without_bit bit y) (memory_of z us)) is sets in
+      moved z ws f p v r at long us (λ v w. take_free.Outcome v w pool i bit found) (take_free.Takes pool i bit found) (take_free.view_after v pool i bit x words) (taking_pass v pool i bit x words)
+      record {
+        words = words;
+        long = subst (λ (y : ℕ). IfSome (taken pool i bit y) (λ d. length words ≡ word_count_of d)) (sym is) (words_counted m (taken pool i bit x) words copied);
+        is = ap (λ (y : ℕ). take_free.view_after v pool i bit y words) (sym is);
+      }
+      (λ g t. IsTake record { pool = pool; index = i; bit = bit; copy = words; may = may; copied = copied; sets = loses; view = t })
+      (λ g t. record { found = is; sets = sets })
 
   -- a number in hand is free again
-  pub moves_gives : (us : List ℕ) (d : Link) (xs : List InHand) → give.May v d xs → SetsFree (memory_of z ws) d true (memory_of z us)
-      → Moves z ws f p v us (λ v w. give.Outcome v w d) (λ m f m' f'. SetsFree m d true m')
-  moves_gives us d xs may sets = moved z ws f p v r at long us (λ v w. give.Outcome v w d) (λ m f m' f'. SetsFree m d true m') (give.view_after v xs) refl record { hand = xs; rest = may.rest; is = refl }
-      (λ g t. IsGive record { link = d; hand = xs; may = may; sets = sets; view = t })
-      (λ g t. sets)
+  pub moves_gives : (us : List ℕ) (d : Link) → give.May v d → ((g : Views) → SetsBit d m f (memory_of z us) g)
+      → Moves z ws f p v us (λ v w. give.Outcome v w d) (SetsBit d)
+  moves_gives us d may sets =
+      let k = handed_over v.hand (d ∷ []) in
+      moved z ws f p v r at long us (λ v w. give.Outcome v w d) (SetsBit d) (give.view_after v k.0) refl record { hand = k.0; rest = k.1; is = refl }
+      (λ g t. IsGive record { link = d; hand = k.0; may = may; rest = k.1; sets = sets g; view = t })
+      (λ g t. sets g)
 
   -- a number in limbo is free again
-  pub moves_frees : (us : List ℕ) (d : Link) (es : List Retired) → MayFree z v d es → SetsFree (memory_of z ws) d true (memory_of z us)
-      → Moves z ws f p v us (λ v w. give.FreeOutcome v w d) (λ m f m' f'. SetsFree m d true m')
-  moves_frees us d es may sets = moved z ws f p v r at long us (λ v w. give.FreeOutcome v w d) (λ m f m' f'. SetsFree m d true m') (give.view_freed v es) refl record { limbo = es; rest = may.rest; is = refl }
-      (λ g t. IsFreed record { link = d; limbo = es; may = may; sets = sets; view = t })
-      (λ g t. sets)
+  pub moves_frees : (us : List ℕ) (d : Link) → give.MayFree z v d → ((g : Views) → SetsBit d m f (memory_of z us) g)
+      → Moves z ws f p v us (λ v w. give.FreeOutcome v w d) (SetsBit d)
+  moves_frees us d may sets =
+      let k = sifted (λ (e : Retired). e.link) (λ (e : Retired). e.link ≡ d) v.limbo (λ e. same_link e.link d) in
+      let rest : give.LetsGo v.limbo d k.0 = record { was = λ e. (k.1 e).0; stays = λ e i other. (k.1 e).1 (i, other); once = k.2 } in
+      moved z ws f p v r at long us (λ v w. give.FreeOutcome v w d) (SetsBit d) (give.view_freed v k.0) refl record { limbo = k.0; rest = rest; is = refl }
+      (λ g t. IsFreed record { link = d; limbo = k.0; may = may; rest = rest; sets = sets g; view = t })
+      (λ g t. sets g)
+
+  -- a number is free again, wherever it was: it is not in hand and in limbo at once
+  abbrev pub Frees : Link → View → View → Type 0
+  Frees d v w = (give.May v d → give.Outcome v w d) × (give.MayFree z v d → give.FreeOutcome v w d)
+
+  apart : (d : Link) → give.May v d → give.MayFree z v d → ⊥
+  apart d hand limbo =
+      let k = r.numbers.accounts p v at in
+      let a : r.at d ≡ InHandOf p = ap r.at (sym hand.hand.2) ∙ k.hand hand.hand.0 hand.hand.1 in
+      let b : r.at d ≡ InLimboOf p = ap r.at (sym limbo.link) ∙ k.limbo limbo.place limbo.limbo in
+      let c : InHandOf p ≡ InLimboOf p = sym a ∙ b in cc
+
+  pub moves_sets : (us : List ℕ) (d : Link) → give.May v d ⊎ give.MayFree z v d → ((g : Views) → SetsBit d m f (memory_of z us) g) → Moves z ws f p v us (λ v w. Frees d v w) (SetsBit d)
+  moves_sets us d may sets = ⊎_elim
+      (λ (a : give.May v d). let t = moves_gives us d a sets in record { view = t.view; pass = t.pass; row = (λ _. t.row, λ b. absurd (apart d a b)); step = t.step; sound = t.sound; was = t.was })
+      (λ (b : give.MayFree z v d). let t = moves_frees us d b sets in record { view = t.view; pass = t.pass; row = (λ a. absurd (apart d a b), λ _. t.row); step = t.step; sound = t.sound; was = t.was })
+      may

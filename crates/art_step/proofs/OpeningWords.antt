@@ -1,6 +1,6 @@
 -- The words of a world that just opened: what stands at the places of cells, of free numbers, of the epoch and of the passes,
 -- and what all of them mean.
-use Rattle.std.proofs.Common.{◌≡◌, ◌≢◌, ℕ, ◌+◌, ◌-◌, ◌*◌, ◌/◌, ◌%◌, ◌<◌, ◌≤◌, ◌==◌, if◌then◌else◌, true, false, List, Some, zero, suc, length, get_or, nat_lt, sym, refl, ap, ◌∙◌, subst, ⊎_elim, arith, lt-ltb, ltb-false, ne_eqb, false}
+use Rattle.std.proofs.Common.{◌≡◌, ◌≢◌, ℕ, ◌+◌, ◌-◌, ◌*◌, ◌/◌, ◌%◌, ◌<◌, ◌≤◌, ◌==◌, if◌then◌else◌, true, false, List, Some, zero, suc, length, get_or, nat_lt, sym, refl, ap, ◌∙◌, subst, ⊎_elim, arith, le-ltb, lt-ltb, ltb-false, ne_eqb, false}
 use Rattle.std.proofs.lemmas.Bool.{cases_Bool, cases_lt, eqb-true, cond-true, cond-false, cond_both}
 use Rattle.std.proofs.lemmas.Bool.Decides.{nat_tests}
 use Rattle.std.proofs.lemmas.List.FromFn.{get_or-map-range_with_len, length-map-range_with_len}
@@ -21,14 +21,13 @@ use Rattle.art_step.specs.declared.views.Sizes.{Sizes}
 use Rattle.art_step.specs.declared.views.View.{View}
 use Rattle.art_step.specs.OpeningWords.{version_or_zero, first_bits, opening_word, opening_words}
 use Rattle.art_step.specs.Opening.{Opens, newcomer}
-use Rattle.art_step.specs.Views.{IsChildPlace, IsNumber, last_counter}
+use Rattle.art_step.specs.Views.{IsChildPlace, IsNumber, bit_of, free_index, is_free, last_counter, pool_of, pool_of_layout}
 use Rattle.art_cell.specs.Children.{number_of}
-use Rattle.art_step.specs.WordPlaces.{pool_size, pool_of_layout, pool_of, words_each, first_cell, free_words, first_free_word, epoch_place, pass_place, word_count}
-use Rattle.art_step.specs.WordRows.{newcomers, version_in, word_in, free_place, bit_of, is_free, memory_of, views_of}
+use Rattle.art_step.specs.WordPlaces.{HasFreeWord, pool_size, words_each, first_cell, free_words, first_free_word, epoch_place, pass_place, word_count}
+use Rattle.art_step.specs.WordRows.{newcomers, version_in, word_in, free_word_in, memory_of, views_of}
 use Rattle.art_step.specs.WordPlaces.{is_inside, place_of}
-use Rattle.art_step.proofs.FreeBits.{free_has_bit, free_found}
-use Rattle.art_step.proofs.WordRows.{version_found, word_found, version_below}
-use Rattle.art_step.proofs.WordPlaces.{HasBit, is_number, has_bit, is_inside_of, free_below, cell_below}
+use Rattle.art_step.proofs.WordRows.{version_found, word_found, free_word_found, pass_word_found, version_below}
+use Rattle.art_step.proofs.WordPlaces.{is_number, has_free_word, is_inside_of, free_below, cell_below}
 
 -- each place has its word
 pub opening_at : (z : Sizes) (k place : ℕ) → place < word_count z → get_or (opening_words z k) place 0 ≡ opening_word z k place
@@ -94,8 +93,12 @@ free_word_at z k i N256 low = grind (arith, nat_tests)
 
 -- ---- the words after them
 
--- the epoch's and those of the passes are 1
-late_word : (z : Sizes) (k place : ℕ) → epoch_place z ≤ place → opening_word z k place ≡ 1
+-- the epoch is 1
+epoch_word : (z : Sizes) (k : ℕ) → opening_word z k (epoch_place z) ≡ 1
+epoch_word z k = grind (arith, nat_tests)
+
+-- the words of the passes are 0
+late_word : (z : Sizes) (k place : ℕ) → epoch_place z < place → opening_word z k place ≡ 0
 late_word z k place late = grind (arith, nat_tests)
 
 -- ---- passes that know nothing
@@ -125,8 +128,11 @@ module _ (z : Sizes) (k : ℕ) where
   abbrev opened : List ℕ
   opened = opening_words z k
 
-  found_late : (place : ℕ) → epoch_place z ≤ place → place < word_count z → get_or opened place 0 ≡ 1
-  found_late place late low = opening_at z k place low ∙ late_word z k place late
+  found_epoch : get_or opened (epoch_place z) 0 ≡ 1
+  found_epoch = opening_at z k (epoch_place z) (omega arith) ∙ epoch_word z k
+
+  found_late : (p : ℕ) → p < z.passes → get_or opened (pass_place z p) 0 ≡ 0
+  found_late p low = opening_at z k (pass_place z p) (omega arith) ∙ late_word z k (pass_place z p) (omega arith)
 
   no_root : (memory_of z opened).words cell.Anchor 1 ≡ 0
   no_root = word_found z opened cell.Anchor 1 tt (omega arith) (omega arith) ∙ (opening_at z k 1 (omega arith) ∙ grind (arith, nat_tests))
@@ -169,28 +175,33 @@ module _ (z : Sizes) (k : ℕ) where
   rest d = pool_size z (pool_of d) - 64 * (number_of d / 64)
 
   -- so many bits of the word are set
-  word_of : (d : Link) → HasBit z d → get_or opened (free_place z d) 0 ≡ first_bits (rest d)
+  word_of : (d : Link) → HasFreeWord z (pool_of d) (free_index d) → free_word_in z opened (pool_of d) (free_index d) ≡ first_bits (rest d)
   word_of d has =
-      let below = free_below z d has in
-      opening_at z k (free_place z d) (omega arith) ∙ free_word_at z k (number_of d / 64) (pool_of d) (omega arith)
+      let below = free_below z (pool_of d) (free_index d) has in
+      free_word_found z opened (pool_of d) (free_index d) has ∙ (opening_at z k (first_free_word z (pool_of d) + free_index d) (omega (arith, below.1)) ∙ free_word_at z k (free_index d) (pool_of d) has)
 
-  all_free : (d : Link) → IsNumber z d → is_free z opened d ≡ true
+  all_free : (d : Link) → IsNumber z d → is_free (memory_of z opened) d ≡ true
   all_free d inside =
       let i : ℕ = number_of d in
       let few = (is_number z d).0 inside in
-      let has = has_bit z d inside in
+      let has = has_free_word z d inside in
       let bit = ap (λ (w : ℕ). bit_of w (i % 64)) (word_of d has) ∙ bit_at_first (rest d) (i % 64) (omega arith) (omega arith) in
-      free_found z opened d has ∙ ap (λ (b : ℕ). b == 1) bit
+      ap (λ (b : ℕ). b == 1) bit
 
   -- no bit above the pool's numbers is set
-  no_other_free : (d : Link) → is_free z opened d ≡ true → IsNumber z d
+  no_other_free : (d : Link) → is_free (memory_of z opened) d ≡ true → IsNumber z d
   no_other_free d free =
       let i : ℕ = number_of d in
-      let has = free_has_bit z opened d free in
-      let set = eqb-true _ 1 (sym (free_found z opened d has) ∙ free) in
+      let set = eqb-true _ 1 free in
       ⊎_elim
       (λ (few : i < pool_size z (pool_of d)). (is_number z d).1 few)
-      (λ (high : pool_size z (pool_of d) ≤ i). let clear = ap (λ (w : ℕ). bit_of w (i % 64)) (word_of d has) ∙ no_bit_after (rest d) (i % 64) (omega arith) (omega arith) in absurd (omega arith))
+      (λ (high : pool_size z (pool_of d) ≤ i). absurd (⊎_elim
+      (λ (has : free_index d < free_words (pool_size z (pool_of d))).
+      let clear = ap (λ (w : ℕ). bit_of w (i % 64)) (word_of d has) ∙ no_bit_after (rest d) (i % 64) (omega arith) (omega arith) in omega arith)
+      (λ (past : free_words (pool_size z (pool_of d)) ≤ free_index d).
+      let none : free_word_in z opened (pool_of d) (free_index d) ≡ 0 = cond-false _ _ 0 (le-ltb (free_index d) (free_words (pool_size z (pool_of d))) past) in
+      let clear : bit_of (free_word_in z opened (pool_of d) (free_index d)) (i % 64) ≡ 0 = ap (λ (w : ℕ). bit_of w (i % 64)) none ∙ no_bit_after 0 (i % 64) (omega arith) (omega arith) in omega arith)
+      (cases_lt (free_index d) (free_words (pool_size z (pool_of d))))))
       (cases_lt i (pool_size z (pool_of d)))
 
   -- so all is as at opening
@@ -201,7 +212,7 @@ module _ (z : Sizes) (k : ℕ) where
     anchor = (k, low, anchor_version);
     cells = obsolete low;
     free = λ d. (no_other_free d, all_free d);
-    epoch = found_late (epoch_place z) (omega arith) (omega arith);
-    pass_word = λ p few. cond-true _ _ 0 (lt-ltb p z.passes few) ∙ found_late (pass_place z p) (omega arith) (omega arith);
+    epoch = found_epoch;
+    pass_word = λ p few. pass_word_found z opened p few ∙ found_late p few;
     views = newcomer_at z.passes;
   }

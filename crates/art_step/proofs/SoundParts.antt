@@ -2,7 +2,8 @@
 use Rattle.std.proofs.Common.{◌≡◌, ◌≢◌, ◌⊎◌, ◌↔◌, ℕ, ◌+◌, ◌^◌, ◌<◌, ◌≤◌, Bool, true, inl, sym, ap, ap₂, ◌∙◌, subst, ⊎_elim, List}
 use Rattle.std.proofs.lemmas.Bool.{cases_eq}
 use Rattle.std.proofs.lemmas.List.{ext_get_or}
-use Rattle.std.specs.Prelude.{Some}
+use Rattle.std.specs.Prelude.{Some, None}
+use Rattle.art_cell.specs.declared.layouts.Pool.{Pool}
 use Rattle.art_cell.specs.declared.cells.Node.{Node}
 use Rattle.art_cell.specs.declared.cells.Cell.{Cell}
 use Rattle.art_cell.specs.declared.cells.Cell.TheVariants as cell
@@ -17,7 +18,7 @@ use Rattle.art_step.specs.declared.views.View.{View}
 use Rattle.art_tree.specs.Heaps.{Cells}
 use Rattle.art_step.specs.Sound.{Keeps, HoldsEach, OneHolder, Holder, Whereabouts, InTree, IsFree, InLimboOf, Accounts, NumbersAccounted, IsUnder, Awaits, IsPinned, MarkedUnstamped, WordsFormed}
 use Rattle.art_step.specs.WordPlaces.{place_of}
-use Rattle.art_step.specs.Views.{HaveChildWords, Member, Memory, IsClear, IsObsolete, IsVersion, cell_named, Views, SetsView}
+use Rattle.art_step.specs.Views.{HaveChildWords, Member, Memory, IsClear, IsObsolete, IsVersion, cell_named, is_free, Views, SetsView}
 use Rattle.art_cell.specs.Words.{Words}
 use Rattle.art_step.proofs.SetsView.{one_view, either_view, stranger_before, each_view, each_two, same_early_notes}
 
@@ -31,6 +32,8 @@ account_on m m' at p v same k = record {
   limbo = k.limbo;
   in_limbo = k.in_limbo;
   held = k.held;
+  hand_once = k.hand_once;
+  limbo_once = k.limbo_once;
 }
 
 -- two entries in a hand of one leaf are one
@@ -43,10 +46,10 @@ one_entry m at p v l a b k i j e e' =
 
 -- the numbers stay where they are
 pub numbers_turn : (z : Sizes) (m m' : Memory) (f g : Views) (p : ℕ) (w : View) (s s' : Cells) (at : Link → Whereabouts) → SetsView f p w g → NumbersAccounted z m f s at → NumbersAccounted z m f s' at
-    → m'.free ≡ m.free → ((l : ℕ) → m'.words (cell.Leaf l) ≡ m.words (cell.Leaf l)) → Accounts m' at p w → NumbersAccounted z m' g s' at
+    → m'.free_word ≡ m.free_word → ((l : ℕ) → m'.words (cell.Leaf l) ≡ m.words (cell.Leaf l)) → Accounts m' at p w → NumbersAccounted z m' g s' at
 numbers_turn z m m' f g p w s s' at t old k free words mine = record {
   tree = k.tree;
-  free = λ d. subst (λ (a : Link → Bool). (at d ≡ IsFree) ↔ (a d ≡ true)) (sym free) (k.free d);
+  free = λ d. subst (λ (a : Pool → ℕ → ℕ). (at d ≡ IsFree) ↔ (is_free (record m { free_word = a }) d ≡ true)) (sym free) (k.free d);
   numbers = k.numbers;
   accounts = each_view f g p w t (λ q u. Accounts m' at q u) mine (λ q u other is. account_on m m' at q u words (k.accounts q u is));
   strangers = λ q d e. k.strangers q d (stranger_before f g p w t q e).1;
@@ -62,11 +65,15 @@ IsNewStamp z at v x = (v.pin ≢ 0) × ((n : Node) → x.cell ≡ cell.Node n �
 abbrev pub StampsFrom : Sizes → (Link → Whereabouts) → View → View → Type 0
 StampsFrom z at v w = (x : Stamp) → Member x w.stamps → Member x v.stamps ⊎ IsNewStamp z at v x
 
+-- what w holds was claimed, where v is idle
+abbrev pub IdleHolds : View → View → Type 0
+IdleHolds v w = (h : Holding) → Member h w.held → v.pin ≡ 0 → h.stamped ≡ None
+
 -- pins and limbo stay, and stamps are the old ones or new ones of the tree
 pub unstamped_turn : (z : Sizes) (m m' : Memory) (f g : Views) (p : ℕ) (v w : View) (s : Cells) (at : Link → Whereabouts) → SetsView f p w g → f p ≡ Some v → NumbersAccounted z m f s at → MarkedUnstamped z m f at
     → m'.epoch ≡ m.epoch → m'.pass_word ≡ m.pass_word → ((d : Link) → IsClear (m'.version (cell_named d)) → at d ≡ InTree)
-    → w.pin ≡ v.pin → w.pins ≡ v.pins → w.noted ≡ v.noted → w.limbo ≡ v.limbo → StampsFrom z at v w → MarkedUnstamped z m' g at
-unstamped_turn z m m' f g p v w s at t is-v numbers k epoch words clear pin pins noted limbo stamps = record {
+    → w.pin ≡ v.pin → w.pins ≡ v.pins → w.noted ≡ v.noted → w.limbo ≡ v.limbo → StampsFrom z at v w → IdleHolds v w → MarkedUnstamped z m' g at
+unstamped_turn z m m' f g p v w s at t is-v numbers k epoch words clear pin pins noted limbo stamps held = record {
   epoch = subst (λ (n : ℕ). 0 < n) (sym epoch) k.epoch;
   clear = clear;
   pinned = each_view f g p w t (λ q u. IsPinned z m' at q u) mine (λ q u other is. pinned_on q u (k.pinned q u is));
@@ -88,6 +95,7 @@ unstamped_turn z m m' f g p v w s at t is-v numbers k epoch words clear pin pins
       pinned = o.pinned;
       placed = o.placed;
       stamped = o.stamped;
+      idle = o.idle;
     }
 
     mine : IsPinned z m' at p w
@@ -99,6 +107,7 @@ unstamped_turn z m m' f g p v w s at t is-v numbers k epoch words clear pin pins
       pinned = λ x i. subst (λ (n : ℕ). n ≢ 0) (sym pin) (⊎_elim (λ (j : Member x v.stamps). o.pinned x j) (λ (j : IsNewStamp z at v x). j.0) (stamps x i));
       placed = λ x i. ⊎_elim (λ (j : Member x v.stamps). o.placed x j) (λ (j : IsNewStamp z at v x). j.2) (stamps x i);
       stamped = λ n y. ⊎_elim (λ (j : Member y.0 v.stamps). o.stamped n (y.0, j, y.2)) (λ (j : IsNewStamp z at v y.0). inl (j.1 n y.2)) (stamps y.0 y.1);
+      idle = λ e h i. held h i (sym pin ∙ e);
     }
 
     -- a place in limbo was there before

@@ -26,7 +26,9 @@ use Rattle.art_step.specs.Views.{HaveChildWords, IsNotHeld, SetsView}
 use Rattle.art_step.specs.Steps.Commit.{Knows, AllNew, IsLinked, Commits, AreStanding, retired, all_retired}
 use Rattle.art_step.specs.Steps.Release.{Drops}
 use Rattle.art_step.specs.Steps.Give.{HandsOver}
-use Rattle.art_step.specs.Views.{Member, Memory, words_in, IsClear, IsLocked, IsObsolete, IsVersion, cell_named, Views, SetsView}
+use Rattle.art_cell.specs.declared.layouts.Pool.{Pool}
+use Rattle.art_step.proofs.Gathered.{key_member}
+use Rattle.art_step.specs.Views.{IsOnce, Member, Memory, is_free, links_in_limbo, words_in, IsClear, IsLocked, IsObsolete, IsVersion, cell_named, Views, SetsView}
 use Rattle.art_step.proofs.Facts.{SameLeafWords, holds_on}
 use Rattle.art_step.proofs.Histories.{replay_more, history_grows}
 use Rattle.art_step.proofs.SoundParts.{formed_turn, holder_turn, apart_turn}
@@ -107,6 +109,20 @@ retired_of ks [] e i = absurd i
 retired_of ks (d ∷ us) e i = ⊎_elim
     (λ (is : e ≡ retired ks d). (inl (ap (λ (y : Retired). y.link) is), ap (λ (y : Retired). y.marked) is, ap (λ (y : Retired). y.label) is, ap (λ (y : Retired). y.pins) is))
     (λ (j : Member e (all_retired ks us)). let o = retired_of ks us e j in (inr o.0, o.1, o.2, o.3)) i
+
+-- none of them twice, and none that was there
+retired_once : (ks : List Pin) (us : List Link) (es : List Retired) → IsOnce us → IsOnce (links_in_limbo es) → ((e : Retired) → Member e es → Member e.link us → ⊥)
+    → IsOnce (links_in_limbo (all_retired ks us ++ es))
+retired_once ks [] es new old apart = old
+retired_once ks (d ∷ us) es new old apart = (
+  λ i.
+      let o = key_member (λ (e : Retired). e.link) (all_retired ks us ++ es) d i in
+      ⊎_elim
+          (λ (j : Member o.0 (all_retired ks us)). new.0 (subst (λ (c : Link). Member c us) o.2 (retired_of ks us o.0 j).0))
+          (λ (j : Member o.0 es). apart o.0 j (inl o.2))
+          (member_append o.0 (all_retired ks us) es o.1),
+  retired_once ks us es new.1 old (λ e i j. apart e i (inr j)),
+)
 
 retires : (ks : List Pin) (us : List Link) (d : Link) → Member d us → Member (retired ks d) (all_retired ks us)
 retires ks [] d i = absurd i
@@ -336,6 +352,10 @@ module _ (z : Sizes) (m : Memory) (f : Views) (p : ℕ) (v : View) (is-v : f p �
           (λ (a : (Member (node n) us → ⊥) × (Member (node n) ls → ⊥) × (at' (node n) ≡ r.at (node n))). inl (a.2 ∙ tree)))
           (from (node n))
 
+  -- what was unlinked was in the tree, and so not in the limbo
+  limbo_once : IsOnce (links_in_limbo (all_retired ks us ++ v.limbo))
+  limbo_once = retired_once ks us v.limbo done.once account.limbo_once (λ e i j. let a = us_tree e.link j in let b = account.limbo e i in cc)
+
   accounts_mine : Accounts m' at' p w
   accounts_mine = record {
     hand = λ x i.
@@ -368,6 +388,8 @@ module _ (z : Sizes) (m : Memory) (f : Views) (p : ℕ) (v : View) (is-v : f p �
         (λ (k : (Member d us → ⊥) × (Member d ls → ⊥) × (at' d ≡ r.at d)). let o = account.in_limbo d (sym k.2 ∙ e) in (o.0, member_back o.0 (all_retired ks us) v.limbo o.1, o.2)))
         (from d);
     held = λ h n i e. held_mine h n (drops.was h i).0 e;
+    hand_once = hands.once account.hand_once;
+    limbo_once = limbo_once;
   }
 
   -- what another pass holds is where it was
@@ -395,12 +417,17 @@ module _ (z : Sizes) (m : Memory) (f : Views) (p : ℕ) (v : View) (is-v : f p �
         limbo = λ e i. let a = k.limbo e i in stays_at e.link (λ j. cc) (λ j. cc) ∙ a;
         in_limbo = λ d e. k.in_limbo d ((was_at d (λ i. cc) (λ i. let c : InLimboOf q ≡ InLimboOf p = sym e ∙ i in other (cc))).0 ∙ e);
         held = λ h n i e. subst (HeldAt q u.committed h.stamped) (sym (held_other q u other is h n i e)) (k.held h n i e);
+        hand_once = k.hand_once;
+        limbo_once = k.limbo_once;
       }
+
+  same_free : (d : Link) → is_free m' d ≡ is_free m d
+  same_free d = ap (λ (a : Pool → ℕ → ℕ). is_free (record m { free_word = a }) d) sets.free
 
   numbers : NumbersAccounted z m' g s' at'
   numbers = record {
     tree = λ d. (tree_to d, tree_from d);
-    free = λ d. ((λ e. ap (λ (a : Link → Bool). a d) sets.free ∙ (r.numbers.free d).0 (free_to d e)), (λ e. free_from d ((r.numbers.free d).1 (sym (ap (λ (a : Link → Bool). a d) sets.free) ∙ e))));
+    free = λ d. ((λ e. same_free d ∙ (r.numbers.free d).0 (free_to d e)), (λ e. free_from d ((r.numbers.free d).1 (sym (same_free d) ∙ e))));
     numbers = λ d. ((λ e. (r.numbers.numbers d).0 (λ i. e (nowhere_to d i))), (λ e i. (r.numbers.numbers d).1 e (nowhere_from d i)));
     accounts = each_view f g p w t (λ q u. Accounts m' at' q u) accounts_mine accounts_other;
     strangers = λ q d e.
@@ -473,6 +500,7 @@ module _ (z : Sizes) (m : Memory) (f : Views) (p : ℕ) (v : View) (is-v : f p �
         (from (node n)))
         (λ (a : (o : ℕ) × (r.at (node n) ≡ InLimboOf o)). let c = a.1 in inr (a.0, stays_at (node n) (λ j. cc) (λ j. cc) ∙ c))
         (k.stamped n y);
+    idle = k.idle;
   }
 
   -- a place in limbo is one that was there, or one of what was just unlinked
@@ -510,7 +538,7 @@ module _ (z : Sizes) (m : Memory) (f : Views) (p : ℕ) (v : View) (is-v : f p �
     epoch = subst (λ (n : ℕ). 0 < n) (sym sets.epoch) r.unstamped.epoch;
     clear = clear;
     pinned = each_view f g p w t (λ q u. IsPinned z m' at' q u)
-        (let k = pinned_of p v is-v in record { inside = k.inside; word = k.word; low = k.low; noted = k.noted; pinned = k.pinned; placed = k.placed; stamped = k.stamped })
+        (let k = pinned_of p v is-v in record { inside = k.inside; word = k.word; low = k.low; noted = k.noted; pinned = k.pinned; placed = k.placed; stamped = k.stamped; idle = λ e h i. k.idle e h (drops.was h i).0 })
         (λ q u other is. pinned_of q u is);
     awaits = awaits;
   }

@@ -38,7 +38,7 @@ with_versions m x = record m { version = x }
 -- what is sound over the version words of m' is sound of m', where nothing else changed
 pub set_version_sound : (z : Sizes) (m m' : Memory) (c : Cell) (x : ℕ) (g : Views) → SetsVersion m c x m' → IsSound z (with_versions m m'.version) g → IsSound z m' g
 set_version_sound z m m' c x g k =
-    let e : with_versions m m'.version ≡ m' = (λ i. record { version = m'.version; words = sym k.words i; free = sym k.free i; epoch = sym k.epoch i; pass_word = sym k.pass_word i }) in
+    let e : with_versions m m'.version ≡ m' = (λ i. record { version = m'.version; words = sym k.words i; free_word = sym k.free i; epoch = sym k.epoch i; pass_word = sym k.pass_word i }) in
     subst (λ (y : Memory). IsSound z y g) e
 
 -- the version word of the cell c goes up, and those of the others stay
@@ -172,6 +172,7 @@ module _ (z : Sizes) (m : Memory) (versions : Cell → ℕ) (f : Views) (p : ℕ
     keeps : Keeps n r.logical b h
     place : (d : Node) → h.cell ≡ cell.Node d → HeldAt p b h.stamped (r.at (node d))
     kept : b ≡ false → (y : Note) → Member y v.notes → y.stamp.cell ≡ h.cell → h.stamped ≡ Some y.stamp.version → Holds r.logical h.cell y.fact
+    idle : v.pin ≡ 0 → h.stamped ≡ None
 
   -- of the cell's new word, and what is held now
   record Shift : Type 0 where
@@ -246,6 +247,8 @@ module _ (z : Sizes) (m : Memory) (versions : Cell → ℕ) (f : Views) (p : ℕ
       held = λ h d i e. ⊎_elim
           (λ (a : (h.cell ≢ c) × Member h v.held). subst (λ (x : Bool). HeldAt p x h.stamped (r.at (node d))) (flagged h a.1) (o.held h d a.1 e))
           (λ (a : IsNew h). a.place d e) (k.each h i);
+      hand_once = o.hand_once;
+      limbo_once = o.limbo_once;
     }
 
     -- what was sound is so again
@@ -262,7 +265,8 @@ module _ (z : Sizes) (m : Memory) (versions : Cell → ℕ) (f : Views) (p : ℕ
       unstamped = unstamped_turn z m n f g p v w r.logical r.at t is r.numbers r.unstamped refl refl
           (λ d. words_on (λ (e : Cell) (x : ℕ). (d : Link) → e ≡ cell_named d → IsClear x → r.at d ≡ InTree) k.clear
           (λ e other d same clear. r.unstamped.clear d (subst (λ (a : Cell). IsClear (m.version a)) same clear)) (cell_named d) d refl)
-          refl refl refl refl (λ x i. inl i);
+          refl refl refl refl (λ x i. inl i)
+          (λ h i e. ⊎_elim (λ (a : (h.cell ≢ c) × Member h v.held). (r.unstamped.pinned p v is).idle e h a.1) (λ (a : IsNew h). a.idle e) (k.each h i));
       formed = formed_turn z m n f g p v w t is r.formed (words_on (λ (d : Cell) (x : ℕ). IsVersion x) k.formed (λ d other. r.formed.versions d))
           (λ l. subst IsObsolete (sym (k.raises.there (cell.Leaf l) (λ e. k.leaf l (sym e)))) (r.formed.leaves l)) refl refl r.formed.children;
     }
@@ -290,6 +294,7 @@ module _ (z : Sizes) (m : Memory) (versions : Cell → ℕ) (f : Views) (p : ℕ
     early : MayLock v
     stamped : (x : ℕ) → o ≡ Some x → (m.version c ≡ x) × (versions c ≡ x + 2) × (x < 4 * last_counter)
     place : (d : Node) → c ≡ cell.Node d → HeldAt p false o (r.at (node d))
+    idle : v.pin ≡ 0 → o ≡ None
 
   module _ (k : Locks) where
     not_held : (q : ℕ) (u : View) → f q ≡ Some u → IsNotHeld u.held c
@@ -308,6 +313,7 @@ module _ (z : Sizes) (m : Memory) (versions : Cell → ℕ) (f : Views) (p : ℕ
       place = k.place;
       kept = λ e y i same st. subst (λ (d : Cell). Holds r.logical d y.fact) same
           (((r.vouch p v is).notes y i).same (ap m.version same ∙ (k.stamped y.stamp.version st).0));
+      idle = k.idle;
     }
 
     free : IsNotHeld v.held c
@@ -353,6 +359,7 @@ upgrade_law z p v m f m' g is r row =
       early = may.early;
       stamped = λ y e. let i : x.version ≡ y = cc in (same ∙ i, here ∙ ap (λ (a : ℕ). a + 2) i, subst (λ (a : ℕ). a < 4 * last_counter) i limit);
       place = λ d e. inl (r.unstamped.clear (node d) (let i : m.version (cell.Node d) ≡ x.version = sym (ap m.version e) ∙ same in omega arith));
+      idle = λ e. absurd ((r.unstamped.pinned p v is).pinned x may.stamp e);
     } g row.view)
 
 -- the node that may be claimed is in the hand
@@ -395,6 +402,7 @@ claim_law z p v m f m' g is r row =
       early = may.early;
       stamped = λ y e. absurd (cc);
       place = λ d e. subst (λ (a : Node). r.at (node a) ≡ InHandOf p) (cc) (claimed_in_hand m r.at p v n (r.numbers.accounts p v is) may);
+      idle = λ e. refl;
     } g row.view)
 
 -- ---- a cell is released

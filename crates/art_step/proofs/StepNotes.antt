@@ -1,4 +1,4 @@
--- Steps that change no shared word: the version word of a cell is found or compared, a word is read, stamps and notes are let go.
+-- Steps that change no shared word: the version word of a cell is found or compared, and a word is read.
 use Rattle.std.proofs.Common.{◌≡◌, ◌≢◌, ◌⊎◌, ℕ, ◌%◌, List, [], ◌∷◌, ◌++◌, inl, inr, sym, refl, ap, ◌∙◌, subst, ⊎_elim, arith, le_refl}
 use Rattle.std.proofs.lemmas.Bool.{cases_eq, eq-eqb, ne_eqb}
 use Rattle.std.specs.Prelude.{Option, Some, None}
@@ -25,7 +25,6 @@ use Rattle.art_step.specs.Steps.Begin as begin
 use Rattle.art_step.specs.Steps.Read as read
 use Rattle.art_step.specs.Steps.Check as check
 use Rattle.art_step.specs.Steps.Check.{VouchLaw, ArePaths}
-use Rattle.art_step.specs.Steps.Forget as forget
 use Rattle.art_step.specs.Views.{note_of, IsNotHeld, SetsView}
 use Rattle.art_step.specs.Steps.Begin.{stamp_of}
 use Rattle.art_step.specs.Steps.Begin.{first_notes}
@@ -36,7 +35,7 @@ use Rattle.art_step.proofs.SoundParts.{numbers_turn, IsNewStamp, unstamped_turn,
 use Rattle.art_step.proofs.SetsView.{each_view, member_append}
 
 -- the view with other notes of what the pass has seen, and all that it holds, has in hand and in limbo, and its pins
-abbrev noting : View → List Event → List ℕ → ℕ → ℕ → List Stamp → List Note → LastCheck → List Found → View
+abbrev pub noting : View → List Event → List ℕ → ℕ → ℕ → List Stamp → List Note → LastCheck → List Found → View
 noting v seen own steps failures stamps notes checked found =
     record v { seen = seen; own = own; steps = steps; failures = failures; stamps = stamps; notes = notes; checked = checked; found = found }
 
@@ -45,28 +44,28 @@ each_member : {A : Type 0} (P : A → Type 0) (x : A) (xs : List A) → P x → 
 each_member P x xs first others a i = ⊎_elim (λ (is : a ≡ x). subst P (sym is) first) (λ (j : Member a xs). others a j) i
 
 module _ (z : Sizes) (m : Memory) (f g : Views) (p : ℕ) (v : View) (at : f p ≡ Some v) (r : IsSound z m f) where
-  abbrev s : Cells
+  abbrev pub s : Cells
   s = r.logical
 
   mine : Vouched m s v
   mine = r.vouch p v at
 
   -- a stamp that is new, of a clear version word
-  abbrev IsMade : Stamp → Type 0
+  abbrev pub IsMade : Stamp → Type 0
   IsMade x = IsNewStamp z r.at v x × IsStampOf m x
 
-  abbrev StampsCome : List Stamp → Type 0
+  abbrev pub StampsCome : List Stamp → Type 0
   StampsCome xs = (x : Stamp) → Member x xs → Member x v.stamps ⊎ IsMade x
 
   -- a note that is new: its stamp vouches for it, and of a cell that is held since that stamp it holds
-  abbrev IsFresh : Note → Type 0
+  abbrev pub IsFresh : Note → Type 0
   IsFresh y = Vouches m s y × ((h : Holding) → Member h v.held → y.stamp.cell ≡ h.cell → h.stamped ≡ Some y.stamp.version → Holds s h.cell y.fact)
 
-  abbrev NotesCome : List Note → Type 0
+  abbrev pub NotesCome : List Note → Type 0
   NotesCome ys = (y : Note) → Member y ys → Member y v.notes ⊎ IsFresh y
 
   -- each note has its stamp among these
-  abbrev NotesGo : List Stamp → List Note → Type 0
+  abbrev pub NotesGo : List Stamp → List Note → Type 0
   NotesGo xs ys = (y : Note) → Member y ys → Member y.stamp xs
 
   -- stamps and notes change, and perhaps the history
@@ -92,14 +91,14 @@ module _ (z : Sizes) (m : Memory) (f g : Views) (p : ℕ) (v : View) (at : f p �
             }
             (λ q u other is. r.vouch q u is);
         numbers = numbers_turn z m m f g p w s s r.at t r.numbers r.numbers refl (λ l. refl)
-            record { hand = k.hand; in_hand = k.in_hand; leaves = k.leaves; limbo = k.limbo; in_limbo = k.in_limbo; held = k.held };
+            record { hand = k.hand; in_hand = k.in_hand; leaves = k.leaves; limbo = k.limbo; in_limbo = k.in_limbo; held = k.held; hand_once = k.hand_once; limbo_once = k.limbo_once };
         unstamped = unstamped_turn z m m f g p v w s r.at t at r.numbers r.unstamped refl refl r.unstamped.clear refl refl refl refl
-            (λ x i. ⊎_elim (λ (j : Member x v.stamps). inl j) (λ (j : IsMade x). inr j.0) (stamps x i));
+            (λ x i. ⊎_elim (λ (j : Member x v.stamps). inl j) (λ (j : IsMade x). inr j.0) (stamps x i)) (λ h i e. (r.unstamped.pinned p v at).idle e h i);
         formed = formed_turn z m m f g p v w t at r.formed r.formed.versions r.formed.leaves refl refl r.formed.children;
       }
 
   -- the pass tells nothing
-  quiet : {steps failures : ℕ} {xs : List Stamp} {ys : List Note} {checked : LastCheck} {found : List Found}
+  pub quiet : {steps failures : ℕ} {xs : List Stamp} {ys : List Note} {checked : LastCheck} {found : List Found}
       → SetsView f p (noting v v.seen v.own steps failures xs ys checked found) g → StampsCome xs → NotesCome ys → NotesGo xs ys → IsSound z m g
   quiet {steps} {failures} {xs} {ys} {checked} {found} t stamps come go =
       notes t r.log (history_stays f g p v (noting v v.seen v.own steps failures xs ys checked found) t at r.log r.history refl refl refl) r.shows.rows stamps come go
@@ -219,7 +218,3 @@ fail_law z p v m f n g at r row =
     unchanged z m n g row.words
     (quiet z m f g p v at r row.view (λ a i. inl ((without.stamps a).0 i).0) (λ y i. inl ((without.notes y).0 i).0)
     (λ y i. let k = (without.notes y).0 i in (without.stamps y.stamp).1 ((r.vouch p v at).noted y k.0, k.1)))
-
--- stamps and notes are let go
-pub forget_law : forget.Law
-forget_law z p v m f n g at r row = unchanged z m n g row.words (quiet z m f g p v at r row.view (λ a i. inl (row.had a i)) (λ y i. inl (row.noted y i)) row.stamped)

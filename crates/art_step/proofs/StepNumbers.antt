@@ -1,7 +1,10 @@
 -- Steps that move one number: a free one is taken, and one in hand or in limbo goes back.
-use Rattle.std.proofs.Common.{◌≡◌, ◌≢◌, ◌⊎◌, ◌↔◌, ℕ, ◌<◌, ◌≤◌, Bool, true, false, List, ◌∷◌, length, inl, inr, sym, refl, ap, ◌∙◌, subst, ⊎_elim}
-use Rattle.std.proofs.lemmas.Bool.{cases_eq}
-use Rattle.std.specs.Prelude.{if◌then◌else◌, Option, Some, None, ⊤}
+use Rattle.std.proofs.Common.{◌≡◌, ◌≢◌, ◌⊎◌, ◌↔◌, ℕ, ◌+◌, ◌-◌, ◌*◌, ◌^◌, ◌<◌, ◌≤◌, ◌==◌, Bool, true, false, List, ◌∷◌, length, inl, inr, sym, refl, ap, ap₂, ◌∙◌, subst, ⊎_elim}
+use Rattle.std.proofs.lemmas.Bool.{cases_eq, cases_Bool}
+use Rattle.std.specs.Prelude.{if◌then◌else◌, Option, Some, None, IfSome, ⊤}
+use Rattle.art_cell.specs.declared.layouts.Pool.{Pool}
+use Rattle.art_step.specs.declared.views.Found.{Found}
+use Rattle.art_step.specs.declared.views.Word.TheVariants.{Free}
 use Rattle.art_cell.specs.declared.cells.Node.{Node}
 use Rattle.art_cell.specs.declared.cells.Cell.{Cell}
 use Rattle.art_cell.specs.declared.cells.Cell.TheVariants as cell
@@ -15,15 +18,19 @@ use Rattle.art_step.specs.declared.views.Stamp.{Stamp}
 use Rattle.art_step.specs.declared.views.View.{View}
 use Rattle.art_tree.specs.Heaps.{Cells}
 use Rattle.art_step.specs.Knowledge.{Holds}
-use Rattle.art_step.specs.Sound.{Keeps, OneHolder, IsStampOf, Vouched, StampsVouch, Whereabouts, InTree, IsFree, InHandOf, InLimboOf, Nowhere, HeldAt, Accounts, NumbersAccounted, IsStamped}
+use Rattle.art_step.specs.Sound.{Keeps, OneHolder, IsStampOf, Vouched, StampsVouch, Whereabouts, InTree, IsFree, InHandOf, InLimboOf, Nowhere, HeldAt, Accounts, NumbersAccounted, IsStamped, IsUnder}
 use Rattle.art_step.specs.Sound.{Awaits, IsPinned, MarkedUnstamped, WordsFormed, IsSound}
 use Rattle.art_step.specs.Steps.Take as take_free
 use Rattle.art_step.specs.Steps.Give as give
-use Rattle.art_step.specs.Effects.{SetsFree}
+use Rattle.art_step.specs.Effects.{SetsFreeWord}
 use Rattle.art_step.specs.Steps.Take.{IsTaken}
-use Rattle.art_step.specs.Views.{HaveChildWords, Member, Memory, words_in, IsClear, IsLocked, IsObsolete, IsVersion, cell_named, Views, SetsView}
+use Rattle.art_step.specs.Views.{HaveChildWords, Member, Memory, words_in, IsClear, IsLocked, IsObsolete, IsVersion, bit_of, cell_named, free_bit, free_index, is_free, number_at, pool_of, pool_rank, Views, SetsView}
 use Rattle.art_step.proofs.Histories.{history_stays}
-use Rattle.art_step.proofs.SoundParts.{account_on, unstamped_turn, holder_same, formed_turn}
+use Rattle.art_step.proofs.SoundParts.{IdleHolds, account_on, unstamped_turn, holder_same, formed_turn}
+use Rattle.art_step.proofs.FreeBits.{SetsFree, bit_again, frees_number, index_again, pool_again, takes_number}
+use Rattle.art_step.proofs.Gathered.{key_member}
+use Rattle.art_step.proofs.StepNotes.{quiet}
+use Rattle.art_step.proofs.WordPlaces.{same_pool}
 use Rattle.art_tree.proofs.Places.{same_link}
 use Rattle.art_step.proofs.SetsView.{one_view, stranger_before, each_view}
 
@@ -61,7 +68,7 @@ holder_words m m' f s s' version locked rest k = record {
 abbrev pub HoldingsFrom : View → View → Type 0
 HoldingsFrom v w = (h : Holding) → Member h w.held → (k : Holding) × Member k v.held × (k.cell ≡ h.cell) × (k.stamped ≡ h.stamped)
 
-vouched_on : (m m' : Memory) (s : Cells) (v : View) → m'.version ≡ m.version → Vouched m s v → Vouched m' s v
+pub vouched_on : (m m' : Memory) (s : Cells) (v : View) → m'.version ≡ m.version → Vouched m s v → Vouched m' s v
 vouched_on m m' s v version k = record {
   stamps = λ x i. stamp_on x (k.stamps x i);
   noted = k.noted;
@@ -87,10 +94,10 @@ vouch_turn m m' f g p v w s t is version stamps notes committed held k = each_vi
 
 -- what is given back stays unstamped where numbers, version words, the epoch, pass words, pins, limbo and stamps stay
 pub unstamped_same : (z : Sizes) (m m' : Memory) (f g : Views) (p : ℕ) (v w : View) (s : Cells) (at : Link → Whereabouts) → SetsView f p w g → f p ≡ Some v → NumbersAccounted z m f s at → MarkedUnstamped z m f at
-    → m'.version ≡ m.version → m'.epoch ≡ m.epoch → m'.pass_word ≡ m.pass_word → w.pin ≡ v.pin → w.pins ≡ v.pins → w.noted ≡ v.noted → w.limbo ≡ v.limbo → w.stamps ≡ v.stamps → MarkedUnstamped z m' g at
-unstamped_same z m m' f g p v w s at t is numbers k version epoch words pin pins noted limbo stamps = unstamped_turn z m m' f g p v w s at t is numbers k epoch words
+    → m'.version ≡ m.version → m'.epoch ≡ m.epoch → m'.pass_word ≡ m.pass_word → w.pin ≡ v.pin → w.pins ≡ v.pins → w.noted ≡ v.noted → w.limbo ≡ v.limbo → w.stamps ≡ v.stamps → IdleHolds v w → MarkedUnstamped z m' g at
+unstamped_same z m m' f g p v w s at t is numbers k version epoch words pin pins noted limbo stamps held = unstamped_turn z m m' f g p v w s at t is numbers k epoch words
     (λ d clear. k.clear d (subst (λ (a : Cell → ℕ). IsClear (a (cell_named d))) version clear))
-    pin pins noted limbo (λ x i. inl (subst (Member x) stamps i))
+    pin pins noted limbo (λ x i. inl (subst (Member x) stamps i)) held
 
 -- words have their forms where version words, the epoch and its note stay
 pub formed_same : (z : Sizes) (m m' : Memory) (f g : Views) (p : ℕ) (v w : View) → SetsView f p w g → f p ≡ Some v → m'.version ≡ m.version → m'.epoch ≡ m.epoch → w.noted ≡ v.noted → WordsFormed z m f → HaveChildWords z m'.words → WordsFormed z m' g
@@ -145,9 +152,9 @@ held_not_free p b (Some x) w h e = ⊎_elim (λ (i : w ≡ InTree). cc) (λ (i :
 held_not_free p true None w h e = cc
 held_not_free p false None w h e = cc
 
--- the view with this hand and limbo
-abbrev moved : View → List InHand → List Retired → View
-moved v xs es = record v { hand = xs; limbo = es }
+-- the view after one more step, with this found, hand and limbo
+abbrev moved : View → List Found → List InHand → List Retired → View
+moved v fs xs es = record v { steps = v.steps + 1; found = fs; hand = xs; limbo = es }
 
 -- a number that is neither in the tree nor in a limbo is in no stamp
 no_stamp : (z : Sizes) (m : Memory) (f : Views) (r : IsSound z m f) (d : Link) (w : Whereabouts) → r.at d ≡ w → w ≢ InTree → ((q : ℕ) → w ≢ InLimboOf q)
@@ -162,12 +169,12 @@ held_stays : (at : Link → Whereabouts) (d : Link) (w : Whereabouts) (p : ℕ) 
 held_stays at d w p b h n other = subst (HeldAt p b h.stamped) (sym (put_else at d w (node n) other))
 
 -- what is sound stays so when a number goes from one place outside the tree to another, by a pass that may do so
-module _ (z : Sizes) (m m' : Memory) (f g : Views) (p : ℕ) (v : View) (is-v : f p ≡ Some v) (r : IsSound z m f) (d : Link) (old new : Whereabouts) (b : Bool) (xs : List InHand) (es : List Retired)
-    (was : r.at d ≡ old) (own : IsOwn p old) (comes : IsOwn p new) (frees : (new ≡ IsFree) ↔ (b ≡ true)) (sets : SetsFree m d b m') (t : SetsView f p (moved v xs es) g)
-    (account : Accounts m (put r.at d new) p (moved v xs es)) (unstamped : (q : ℕ) (u : View) (n : Node) → f q ≡ Some u → d ≡ node n → IsStamped u n → ⊥)
+module _ (z : Sizes) (m m' : Memory) (f g : Views) (p : ℕ) (v : View) (is-v : f p ≡ Some v) (r : IsSound z m f) (d : Link) (old new : Whereabouts) (b : Bool) (fs : List Found) (xs : List InHand) (es : List Retired)
+    (was : r.at d ≡ old) (own : IsOwn p old) (comes : IsOwn p new) (frees : (new ≡ IsFree) ↔ (b ≡ true)) (sets : SetsFree m d b m') (t : SetsView f p (moved v fs xs es) g)
+    (account : Accounts m (put r.at d new) p (moved v fs xs es)) (unstamped : (q : ℕ) (u : View) (n : Node) → f q ≡ Some u → d ≡ node n → IsStamped u n → ⊥)
     (fewer : (e : Retired) → Member e es → Member e v.limbo) where
   abbrev w : View
-  w = moved v xs es
+  w = moved v fs xs es
 
   abbrev at : Link → Whereabouts
   at = put r.at d new
@@ -190,17 +197,19 @@ module _ (z : Sizes) (m m' : Memory) (f g : Views) (p : ℕ) (v : View) (is-v : 
     held = λ h n i is.
         let o = k.held h n i is in
         held_stays r.at d new q u.committed h n (λ e. held_not_own p q u.committed h.stamped (r.at (node n)) other o (subst (IsOwn p) (sym (ap r.at e ∙ was)) own)) o;
+    hand_once = k.hand_once;
+    limbo_once = k.limbo_once;
   }
 
-  free_on : (e : Link) (a : Whereabouts) (x : Bool) → at e ≡ a → m'.free e ≡ x → (a ≡ IsFree) ↔ (x ≡ true) → (at e ≡ IsFree) ↔ (m'.free e ≡ true)
+  free_on : (e : Link) (a : Whereabouts) (x : Bool) → at e ≡ a → is_free m' e ≡ x → (a ≡ IsFree) ↔ (x ≡ true) → (at e ≡ IsFree) ↔ (is_free m' e ≡ true)
   free_on e a x place bit = subst (λ (y : Whereabouts × Bool). (y.0 ≡ IsFree) ↔ (y.1 ≡ true)) (λ i. (sym place i, sym bit i))
 
   numbers_move : NumbersAccounted z m' g r.logical at
   numbers_move = record {
     tree = λ e. let k = elsewhere InTree (λ i. i) e in let o = r.numbers.tree e in (λ i. o.0 (k.0 i), λ l. k.1 (o.1 l));
     free = λ e. ⊎_elim
-        (λ (is : e ≡ d). free_on e new b (put_here r.at d new e is) (ap m'.free is ∙ sets.here) frees)
-        (λ (other : e ≢ d). free_on e (r.at e) (m.free e) (put_else r.at d new e other) (sets.there e other) (r.numbers.free e))
+        (λ (is : e ≡ d). free_on e new b (put_here r.at d new e is) (ap (is_free m') is ∙ sets.here) frees)
+        (λ (other : e ≢ d). free_on e (r.at e) (is_free m e) (put_else r.at d new e other) (sets.there e other) (r.numbers.free e))
         (same_link e d);
     numbers = λ e. let k = elsewhere Nowhere (λ i. i) e in let o = r.numbers.numbers e in (λ i. o.0 (λ j. i (k.1 j)), λ i j. o.1 i (k.0 j));
     accounts = each_view f g p w t (λ q u. Accounts m' at q u) (account_on m m' at p w same_words account) (λ q u other is. account_on m m' at q u same_words (others_account q u other is));
@@ -219,6 +228,7 @@ module _ (z : Sizes) (m m' : Memory) (f g : Views) (p : ℕ) (v : View) (is-v : 
     stamped = λ n i.
         let away : node n ≢ d = λ e. unstamped q u n is (sym e) i in
         subst (λ (a : Whereabouts). (a ≡ InTree) ⊎ ((q : ℕ) × (a ≡ InLimboOf q))) (sym (put_else r.at d new (node n) away)) (o.stamped n i);
+    idle = o.idle;
   }
 
   -- what is in limbo was there before
@@ -230,7 +240,7 @@ module _ (z : Sizes) (m m' : Memory) (f g : Views) (p : ℕ) (v : View) (is-v : 
     epoch = subst (λ (n : ℕ). 0 < n) (sym sets.epoch) r.unstamped.epoch;
     clear = λ e clear. (elsewhere InTree (λ i. i) e).1 (r.unstamped.clear e (subst (λ (a : Cell → ℕ). IsClear (a (cell_named e))) sets.version clear));
     pinned = each_view f g p w t (λ q u. IsPinned z m' at q u)
-        (let o = pinned_on p v is-v in record { inside = o.inside; word = o.word; low = o.low; noted = o.noted; pinned = o.pinned; placed = o.placed; stamped = o.stamped })
+        (let o = pinned_on p v is-v in record { inside = o.inside; word = o.word; low = o.low; noted = o.noted; pinned = o.pinned; placed = o.placed; stamped = o.stamped; idle = o.idle })
         (λ q u other is. pinned_on q u is);
     awaits = λ q r' u x e is-u is-x i. let o = in_limbo r' x e is-x i in each_view f g p w t (λ q u. Awaits q u e)
         (let k = r.unstamped.awaits p o.0 v o.1 e is-v o.2 o.3 in record { stamped = k.stamped; marked = k.marked; label = k.label; made = k.made })
@@ -253,49 +263,122 @@ module _ (z : Sizes) (m m' : Memory) (f g : Views) (p : ℕ) (v : View) (is-v : 
     formed = formed_same z m m' f g p v w t is-v sets.version sets.epoch refl r.formed (subst (HaveChildWords z) (sym sets.words) r.formed.children);
   }
 
+-- ---- a word of free numbers stays as it is
+
+same_memory : (m m' : Memory) (pool : Pool) (i : ℕ) → SetsFreeWord m pool i (m.free_word pool i) m' → m' ≡ m
+same_memory m m' pool i sets = (λ k. record {
+  version = sets.version k;
+  words = sets.words k;
+  free_word = (λ q j. word q j k);
+  epoch = sets.epoch k;
+  pass_word = sets.pass_word k;
+})
+  where
+    word : (q : Pool) (j : ℕ) → m'.free_word q j ≡ m.free_word q j
+    word q j = ⊎_elim
+        (λ (rank : pool_rank q ≡ pool_rank pool). ⊎_elim
+        (λ (index : j ≡ i).
+        let both : (q ≡ pool) × (j ≡ i) = (same_pool q pool rank, index) in
+        ap₂ m'.free_word both.0 both.1 ∙ (sets.here ∙ ap₂ m.free_word (sym both.0) (sym both.1)))
+        (λ (apart : j ≢ i). sets.there q j (λ same index. apart index))
+        (cases_eq j i))
+        (λ (apart : pool_rank q ≢ pool_rank pool). sets.there q j (λ same index. apart (ap pool_rank same)))
+        (cases_eq (pool_rank q) (pool_rank pool))
+
 -- ---- the laws
 
--- a free number is taken
+-- a free number comes into the hand
+module _ (z : Sizes) (p : ℕ) (v : View) (m : Memory) (f : Views) (m' : Memory) (g : Views) (is : f p ≡ Some v) (r : IsSound z m f) (d : Link) (copy : List ℕ) (fs : List Found) where
+  abbrev x : InHand
+  x = record { link = d; words = copy }
+
+  mine : Accounts m r.at p v
+  mine = r.numbers.accounts p v is
+
+  takes : is_free m d ≡ true → IsTaken m d copy → SetsFree m d false m' → SetsView f p (moved v fs (x ∷ v.hand) v.limbo) g → IsSound z m' g
+  takes free copied sets t =
+      number_moves z m m' f g p v is r d IsFree (InHandOf p) false fs (x ∷ v.hand) v.limbo was tt refl (λ e. cc, λ e. cc) sets t account (no_stamp z m f r d IsFree was (λ e. cc) (λ q e. cc)) (λ e i. i)
+    where
+      was : r.at d ≡ IsFree
+      was = (r.numbers.free d).1 free
+
+      after : (k : Whereabouts) → IsFree ≢ k → (e : Link) → r.at e ≡ k → put r.at d (InHandOf p) e ≡ k
+      after k = put_after r.at d IsFree (InHandOf p) k was
+
+      account : Accounts m (put r.at d (InHandOf p)) p (moved v fs (x ∷ v.hand) v.limbo)
+      account = record {
+        hand = λ y i. ⊎_elim
+            (λ (e : y ≡ x). put_here r.at d (InHandOf p) y.link (ap (λ (y : InHand). y.link) e))
+            (λ (j : Member y v.hand). after (InHandOf p) (λ e. cc) y.link (mine.hand y j))
+            i;
+        in_hand = λ e i. ⊎_elim
+            (λ (same : e ≡ d). (x, inl refl, sym same))
+            (λ (other : e ≢ d). let k = mine.in_hand e (sym (put_else r.at d (InHandOf p) e other) ∙ i) in (k.0, inr k.1, k.2))
+            (same_link e d);
+        leaves = λ y l i link. ⊎_elim
+            (λ (e : y ≡ x). subst (λ (ws : List ℕ). (length ws ≡ 10) × (m.words (cell.Leaf l) ≡ words_in ws)) (sym (ap (λ (y : InHand). y.words) e))
+            (subst (λ (c : Link). IsTaken m c copy) (sym (ap (λ (y : InHand). y.link) e) ∙ link) copied))
+            (λ (j : Member y v.hand). mine.leaves y l j link)
+            i;
+        limbo = λ e i. after (InLimboOf p) (λ e. cc) e.link (mine.limbo e i);
+        in_limbo = λ e i. mine.in_limbo e (put_before r.at d (InHandOf p) (InLimboOf p) (λ e. cc) e i).1;
+        held = λ h n i cell. let o = mine.held h n i cell in held_stays r.at d (InHandOf p) p v.committed h n (λ e. held_not_free p v.committed h.stamped (r.at (node n)) o (ap r.at e ∙ was)) o;
+        hand_once = (λ i. let o = key_member (λ (y : InHand). y.link) v.hand d i in let a = mine.hand o.0 o.1 in let b : IsFree ≡ InHandOf p = sym was ∙ (ap r.at (sym o.2) ∙ a) in cc, mine.hand_once);
+        limbo_once = mine.limbo_once;
+      }
+
+-- a word of free numbers is found: no number moves, or the one whose bit is cleared
+module _ (z : Sizes) (p : ℕ) (v : View) (m : Memory) (f : Views) (m' : Memory) (g : Views) (is : f p ≡ Some v) (r : IsSound z m f) (pool : Pool) (i : ℕ) (copy : List ℕ) where
+  abbrev word : ℕ
+  word = m.free_word pool i
+
+  -- the word stays, and is noted
+  noted : {failures : ℕ} → SetsFreeWord m pool i word m' → SetsView f p (record (take_free.view_noted v pool i word) { failures = failures }) g → IsSound z m' g
+  noted sets t = subst (λ (k : Memory). IsSound z k g) (sym (same_memory m m' pool i sets))
+      (quiet z m f g p v is r t (λ x j. inl j) (λ y j. inl j) (λ y j. (r.vouch p v is).noted y j))
+
+  -- the view where the bit was set, and where it was not
+  abbrev with_number : ℕ → View
+  with_number k = record (take_free.view_noted v pool i word) { hand = record { link = number_at pool i k; words = copy } ∷ v.hand }
+
+  abbrev without_number : ℕ → View
+  without_number k = record (take_free.view_noted v pool i word) { failures = v.failures + bit_of (take_free.last_found pool i v.found) k }
+
+  by_test : (k : ℕ) → k < 64 → (b : Bool) → (bit_of word k == 1) ≡ b → IfSome (if b then Some (number_at pool i k) else None) (λ d. IsTaken m d copy)
+      → SetsFreeWord m pool i (if b then word - 2 ^ k else word) m' → SetsView f p (if b then with_number k else without_number k) g → IsSound z m' g
+  by_test k low true bit copied sets t =
+      let d : Link = number_at pool i k in
+      let same_pool : pool_of d ≡ pool = pool_again pool (64 * i + k) in
+      let index : free_index d ≡ i = index_again pool i k low in
+      let place : free_bit d ≡ k = bit_again pool i k low in
+      let same : m.free_word (pool_of d) (free_index d) ≡ word = ap₂ m.free_word same_pool index in
+      let free : is_free m d ≡ true = ap₂ (λ (w j : ℕ). bit_of w j == 1) same place ∙ bit in
+      let cleared : m.free_word (pool_of d) (free_index d) - 2 ^ free_bit d ≡ word - 2 ^ k = ap₂ (λ (w j : ℕ). w - 2 ^ j) same place in
+      let of_number : SetsFreeWord m (pool_of d) (free_index d) (m.free_word (pool_of d) (free_index d) - 2 ^ free_bit d) m' =
+          subst (λ (y : Pool × ℕ × ℕ). SetsFreeWord m y.0 y.1 y.2 m') (λ j. (sym same_pool j, sym index j, sym cleared j)) sets in
+      takes z p v m f m' g is r d copy (record { word = Free pool i word; step = v.steps + 1 } ∷ v.found) free copied (takes_number m m' d free of_number) t
+  by_test k low false bit copied sets t = noted sets t
+
+  by_bit : (bit : Option ℕ) → IfSome bit (λ k. k < 64) → IfSome (take_free.taken pool i bit word) (λ d. IsTaken m d copy)
+      → SetsFreeWord m pool i (take_free.without_bit bit word) m' → SetsView f p (take_free.view_after v pool i bit word copy) g → IsSound z m' g
+  by_bit None low copied sets t = noted sets t
+  by_bit (Some k) low copied sets t = by_test k low (bit_of word k == 1) refl copied sets t
+
 pub take_law : take_free.Law
-take_law z p v m f m' g is r row =
-    number_moves z m m' f g p v is r row.link IsFree (InHandOf p) false (x ∷ v.hand) v.limbo was tt refl (λ e. cc, λ e. cc) row.sets row.view account (no_stamp z m f r row.link IsFree was (λ e. cc) (λ q e. cc)) (λ e i. i)
-  where
-    x : InHand
-    x = record { link = row.link; words = row.copy }
+take_law z p v m f m' g is r row = by_bit z p v m f m' g is r row.pool row.index row.copy row.bit row.may.low row.copied row.sets row.view
 
-    was : r.at row.link ≡ IsFree
-    was = (r.numbers.free row.link).1 row.free
-
-    mine : Accounts m r.at p v
-    mine = r.numbers.accounts p v is
-
-    after : (k : Whereabouts) → IsFree ≢ k → (e : Link) → r.at e ≡ k → put r.at row.link (InHandOf p) e ≡ k
-    after k = put_after r.at row.link IsFree (InHandOf p) k was
-
-    account : Accounts m (put r.at row.link (InHandOf p)) p (take_free.view_after v row.link row.copy)
-    account = record {
-      hand = λ y i. ⊎_elim
-          (λ (e : y ≡ x). put_here r.at row.link (InHandOf p) y.link (ap (λ (y : InHand). y.link) e))
-          (λ (j : Member y v.hand). after (InHandOf p) (λ e. cc) y.link (mine.hand y j))
-          i;
-      in_hand = λ e i. ⊎_elim
-          (λ (same : e ≡ row.link). (x, inl refl, sym same))
-          (λ (other : e ≢ row.link). let k = mine.in_hand e (sym (put_else r.at row.link (InHandOf p) e other) ∙ i) in (k.0, inr k.1, k.2))
-          (same_link e row.link);
-      leaves = λ y l i link. ⊎_elim
-          (λ (e : y ≡ x). subst (λ (ws : List ℕ). (length ws ≡ 10) × (m.words (cell.Leaf l) ≡ words_in ws)) (sym (ap (λ (y : InHand). y.words) e))
-          (subst (λ (c : Link). IsTaken m c row.copy) (sym (ap (λ (y : InHand). y.link) e) ∙ link) row.copied))
-          (λ (j : Member y v.hand). mine.leaves y l j link)
-          i;
-      limbo = λ e i. after (InLimboOf p) (λ e. cc) e.link (mine.limbo e i);
-      in_limbo = λ e i. mine.in_limbo e (put_before r.at row.link (InHandOf p) (InLimboOf p) (λ e. cc) e i).1;
-      held = λ h n i cell. let o = mine.held h n i cell in held_stays r.at row.link (InHandOf p) p v.committed h n (λ e. held_not_free p v.committed h.stamped (r.at (node n)) o (ap r.at e ∙ was)) o;
-    }
+-- what is somewhere else than among the free ones is not free
+pub not_free : (z : Sizes) (m : Memory) (f : Views) (r : IsSound z m f) (d : Link) (k : Whereabouts) → r.at d ≡ k → k ≢ IsFree → is_free m d ≡ false
+not_free z m f r d k was other = ⊎_elim
+    (λ (free : is_free m d ≡ true). absurd (other (sym was ∙ (r.numbers.free d).1 free)))
+    (λ (taken : is_free m d ≡ false). taken)
+    (cases_Bool (is_free m d))
 
 -- a number in hand that is not held goes back
 pub give_law : give.Law
 give_law z p v m f m' g is r row =
-    number_moves z m m' f g p v is r row.link (InHandOf p) IsFree true row.hand v.limbo was refl tt (λ e. refl, λ e. refl) row.sets row.view account (no_stamp z m f r row.link (InHandOf p) was (λ e. cc) (λ q e. cc)) (λ e i. i)
+    number_moves z m m' f g p v is r row.link (InHandOf p) IsFree true v.found row.hand v.limbo was refl tt (λ e. refl, λ e. refl) (frees_number m f m' g row.link (not_free z m f r row.link (InHandOf p) was (λ e. cc)) row.sets) row.view account
+    (no_stamp z m f r row.link (InHandOf p) was (λ e. cc) (λ q e. cc)) (λ e i. i)
   where
     mine : Accounts m r.at p v
     mine = r.numbers.accounts p v is
@@ -305,47 +388,71 @@ give_law z p v m f m' g is r row =
 
     account : Accounts m (put r.at row.link IsFree) p (give.view_after v row.hand)
     account = record {
-      hand = λ y i. let k = row.may.rest.was y i in put_else r.at row.link IsFree y.link (λ e. k.1 (inl e)) ∙ mine.hand y k.0;
+      hand = λ y i. let k = row.rest.was y i in put_else r.at row.link IsFree y.link (λ e. k.1 (inl e)) ∙ mine.hand y k.0;
       in_hand = λ e i.
           let o = put_before r.at row.link IsFree (InHandOf p) (λ e. cc) e i in
           let k = mine.in_hand e o.1 in
-          (k.0, row.may.rest.stays k.0 k.1 (⊎_elim (λ (same : k.0.link ≡ row.link). o.0 (sym k.2 ∙ same)) (λ none. none)), k.2);
-      leaves = λ y l i. mine.leaves y l (row.may.rest.was y i).0;
+          (k.0, row.rest.stays k.0 k.1 (⊎_elim (λ (same : k.0.link ≡ row.link). o.0 (sym k.2 ∙ same)) (λ none. none)), k.2);
+      leaves = λ y l i. mine.leaves y l (row.rest.was y i).0;
       limbo = λ e i. put_after r.at row.link (InHandOf p) IsFree (InLimboOf p) was (λ e. cc) e.link (mine.limbo e i);
       in_limbo = λ e i. mine.in_limbo e (put_before r.at row.link IsFree (InLimboOf p) (λ e. cc) e i).1;
       held = λ h n i cell. held_stays r.at row.link IsFree p v.committed h n (λ e. row.may.free n (sym e) h i cell) (mine.held h n i cell);
+      hand_once = row.rest.once mine.hand_once;
+      limbo_once = mine.limbo_once;
     }
 
--- a number in limbo that is not held, that the pass has in no stamp, and whose place is marked for every other pass, goes back
+-- what an idle pass holds was claimed, and so is in the tree or in its hand
+idle_held : (p : ℕ) (b : Bool) (o : Option ℕ) (w : Whereabouts) → o ≡ None → HeldAt p b o w → w ≢ InLimboOf p
+idle_held p b (Some x) w none k e = cc
+idle_held p true None w none k e = cc
+idle_held p false None w none k e = cc
+
+module _ (z : Sizes) (p : ℕ) (v : View) (m : Memory) (f : Views) (d : Link) (is : f p ≡ Some v) (r : IsSound z m f) (may : give.MayFree z v d) where
+  -- no pass is under a pin that the place holds: the other passes are marked, and its own is idle
+  pub under_nobody : (q : ℕ) (u : View) → f q ≡ Some u → IsUnder q u may.place → ⊥
+  under_nobody q u is-u under = ⊎_elim
+      (λ (same : q ≡ p). under.0 (ap (λ (y : View). y.pin) (one_view f q p u v same is-u is) ∙ may.idle))
+      (λ (other : q ≢ p).
+      let k = r.unstamped.awaits q p u v may.place is-u is may.limbo in
+      let marked = may.marked q (r.unstamped.pinned q u is-u).inside (λ own. other (own ∙ (r.history.tells p v is).pass)) in
+      k.marked marked under)
+      (cases_eq q p)
+
+  -- so none has its node in a stamp
+  pub in_no_stamp : (q : ℕ) (u : View) (n : Node) → f q ≡ Some u → d ≡ node n → IsStamped u n → ⊥
+  in_no_stamp q u n is-u e stamped =
+      let k = r.unstamped.awaits q p u v may.place is-u is may.limbo in
+      under_nobody q u is-u (k.stamped n (may.link ∙ e) stamped)
+
+pub nobody_law : give.NobodyLaw
+nobody_law z p v m f d is r may = under_nobody z p v m f d is r may
+
+-- a number in limbo of an idle pass, whose place is marked for every other pass, goes back
 pub free_law : give.FreeLaw
 free_law z p v m f m' g is r row =
-    number_moves z m m' f g p v is r row.link (InLimboOf p) IsFree true v.hand row.limbo was refl tt (λ e. refl, λ e. refl) row.sets row.view account unstamped (λ e i. (row.may.rest.was e i).0)
+    number_moves z m m' f g p v is r row.link (InLimboOf p) IsFree true v.found v.hand row.limbo was refl tt (λ e. refl, λ e. refl) (frees_number m f m' g row.link (not_free z m f r row.link (InLimboOf p) was (λ e. cc)) row.sets) row.view account
+    (in_no_stamp z p v m f row.link is r row.may) (λ e i. (row.rest.was e i).0)
   where
     mine : Accounts m r.at p v
     mine = r.numbers.accounts p v is
 
     was : r.at row.link ≡ InLimboOf p
-    was = ap r.at (sym row.may.limbo.2) ∙ mine.limbo row.may.limbo.0 row.may.limbo.1
-
-    -- another pass that had it in a stamp would stand under a pin that the place holds, for which it is not marked
-    unstamped : (q : ℕ) (u : View) (n : Node) → f q ≡ Some u → row.link ≡ node n → IsStamped u n → ⊥
-    unstamped q u n is-u e stamped = ⊎_elim
-        (λ (same : q ≡ p). row.may.unstamped n e (subst (λ (w : View). IsStamped w n) (one_view f q p u v same is-u is) stamped))
-        (λ (other : q ≢ p).
-        let k = r.unstamped.awaits q p u v row.may.limbo.0 is-u is row.may.limbo.1 in
-        let marked = row.may.marked n row.may.limbo.0 q e row.may.limbo.1 row.may.limbo.2 (r.unstamped.pinned q u is-u).inside (λ own. other (own ∙ (r.history.tells p v is).pass)) in
-        k.marked marked (k.stamped n (row.may.limbo.2 ∙ e) stamped))
-        (cases_eq q p)
+    was = ap r.at (sym row.may.link) ∙ mine.limbo row.may.place row.may.limbo
 
     account : Accounts m (put r.at row.link IsFree) p (give.view_freed v row.limbo)
     account = record {
       hand = λ y i. put_after r.at row.link (InLimboOf p) IsFree (InHandOf p) was (λ e. cc) y.link (mine.hand y i);
       in_hand = λ e i. mine.in_hand e (put_before r.at row.link IsFree (InHandOf p) (λ e. cc) e i).1;
       leaves = mine.leaves;
-      limbo = λ e i. let k = row.may.rest.was e i in put_else r.at row.link IsFree e.link k.1 ∙ mine.limbo e k.0;
+      limbo = λ e i. let k = row.rest.was e i in put_else r.at row.link IsFree e.link k.1 ∙ mine.limbo e k.0;
       in_limbo = λ e i.
           let o = put_before r.at row.link IsFree (InLimboOf p) (λ e. cc) e i in
           let k = mine.in_limbo e o.1 in
-          (k.0, row.may.rest.stays k.0 k.1 (λ same. o.0 (sym k.2 ∙ same)), k.2);
-      held = λ h n i cell. held_stays r.at row.link IsFree p v.committed h n (λ e. row.may.free n (sym e) h i cell) (mine.held h n i cell);
+          (k.0, row.rest.stays k.0 k.1 (λ same. o.0 (sym k.2 ∙ same)), k.2);
+      held = λ h n i cell.
+          let o = mine.held h n i cell in
+          let none = (r.unstamped.pinned p v is).idle row.may.idle h i in
+          held_stays r.at row.link IsFree p v.committed h n (λ e. idle_held p v.committed h.stamped (r.at (node n)) none o (ap r.at e ∙ was)) o;
+      hand_once = mine.hand_once;
+      limbo_once = row.rest.once mine.limbo_once;
     }

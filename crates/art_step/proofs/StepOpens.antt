@@ -12,7 +12,7 @@ use Rattle.art_tree.specs.Heaps.{heap_of}
 use Rattle.art_step.specs.Sound.{HoldsEach, Vouched, Whereabouts, InTree, IsFree, InHandOf, InLimboOf, Nowhere, Accounts, IsPinned, early_of, early_notes, IsSound, IsSeenBy}
 use Rattle.art_step.specs.Opening.{newcomer, Opens, OpenLaw}
 use Rattle.art_tree.specs.Tree.{StandsAt}
-use Rattle.art_step.specs.Views.{Member, Memory, IsLocked, IsObsolete, last_counter, IsVersion, cell_named, Views}
+use Rattle.art_step.specs.Views.{Member, Memory, IsLocked, IsObsolete, last_counter, IsVersion, cell_named, is_free, Views}
 use Rattle.art_tree.proofs.Places.{same_cell}
 use Rattle.art_tree.proofs.Frame.{opened_unlinked, opened_sound, opened_rows}
 
@@ -83,8 +83,8 @@ module _ (z : Sizes) (m : Memory) (f : Views) (o : Opens z m f) where
   obsolete (leaf l) = let k = o.cells (cell.Leaf l) (λ e. cc) in let e : m.version (cell.Leaf l) ≡ 4 * k.0 + 1 = k.2 in omega arith
   obsolete (node n) = let k = o.cells (cell.Node n) (λ e. cc) in let e : m.version (cell.Node n) ≡ 4 * k.0 + 1 = k.2 in omega arith
 
-  no_pass : (d : Link) (p : ℕ) → (place (m.free d) ≢ InHandOf p) × (place (m.free d) ≢ InLimboOf p)
-  no_pass d p = (place_else (m.free d) (InHandOf p) (λ i. cc) (λ i. cc), place_else (m.free d) (InLimboOf p) (λ i. cc) (λ i. cc))
+  no_pass : (d : Link) (p : ℕ) → (place (is_free m d) ≢ InHandOf p) × (place (is_free m d) ≢ InLimboOf p)
+  no_pass d p = (place_else (is_free m d) (InHandOf p) (λ i. cc) (λ i. cc), place_else (is_free m d) (InLimboOf p) (λ i. cc) (λ i. cc))
 
   not_early : (n : ℕ) → early_notes f n ≡ 0
   not_early zero = refl
@@ -98,7 +98,7 @@ module _ (z : Sizes) (m : Memory) (f : Views) (o : Opens z m f) where
   opens = record {
     log = [];
     logical = m.words;
-    at = λ d. place (m.free d);
+    at = λ d. place (is_free m d);
     history = record {
       legal = tt;
       tells = each_newcomer (λ p v. IsSeenBy [] p v) (λ p inside. record { pass = refl; starts = ([], refl); own = refl; all = refl });
@@ -122,23 +122,25 @@ module _ (z : Sizes) (m : Memory) (f : Views) (o : Opens z m f) where
     };
     vouch = each_newcomer (λ p v. Vouched m m.words v) (λ p inside. record { stamps = λ x i. absurd i; noted = λ y i. absurd i; notes = λ y i. absurd i; kept = λ e h y i. absurd i });
     numbers = record {
-      tree = λ d. (λ e. absurd (place_else (m.free d) InTree (λ i. cc) (λ i. cc) e), λ linked. absurd (no_path d linked.0 linked.1));
-      free = λ d. place_free (m.free d);
-      numbers = λ d. (λ e. (o.free d).0 ((place_somewhere (m.free d)).0 e), λ is. (place_somewhere (m.free d)).1 ((o.free d).1 is));
-      accounts = each_newcomer (λ p v. Accounts m (λ d. place (m.free d)) p v) (λ p inside. record {
+      tree = λ d. (λ e. absurd (place_else (is_free m d) InTree (λ i. cc) (λ i. cc) e), λ linked. absurd (no_path d linked.0 linked.1));
+      free = λ d. place_free (is_free m d);
+      numbers = λ d. (λ e. (o.free d).0 ((place_somewhere (is_free m d)).0 e), λ is. (place_somewhere (is_free m d)).1 ((o.free d).1 is));
+      accounts = each_newcomer (λ p v. Accounts m (λ d. place (is_free m d)) p v) (λ p inside. record {
         hand = λ x i. absurd i;
         in_hand = λ d e. absurd ((no_pass d p).0 e);
         leaves = λ x l i. absurd i;
         limbo = λ e i. absurd i;
         in_limbo = λ d e. absurd ((no_pass d p).1 e);
         held = λ h n i. absurd i;
+        hand_once = tt;
+        limbo_once = tt;
       });
       strangers = λ p d is. no_pass d p;
     };
     unstamped = record {
       epoch = omega (arith, o.epoch);
       clear = λ d clear. absurd (let e = obsolete d in omega arith);
-      pinned = each_newcomer (λ p v. IsPinned z m (λ d. place (m.free d)) p v) (λ p inside. record {
+      pinned = each_newcomer (λ p v. IsPinned z m (λ d. place (is_free m d)) p v) (λ p inside. record {
         inside = inside;
         word = o.pass_word p inside;
         low = omega (arith, o.epoch);
@@ -146,6 +148,7 @@ module _ (z : Sizes) (m : Memory) (f : Views) (o : Opens z m f) where
         pinned = λ x i. absurd i;
         placed = λ x i. absurd i;
         stamped = λ n i. absurd i.1;
+        idle = λ e h i. absurd i;
       });
       awaits = λ q r v u e is is-u i. absurd (each_newcomer (λ r u. Member e u.limbo → ⊥) (λ r inside i. i) r u is-u i);
     };

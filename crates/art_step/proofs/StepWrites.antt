@@ -21,13 +21,14 @@ use Rattle.art_step.specs.Steps.Write as write
 use Rattle.art_step.specs.Effects.{SetsWord}
 use Rattle.art_step.specs.Steps.Write.{Puts, with_word, with_leaf_word}
 use Rattle.art_tree.specs.Tree.{StandsAt}
-use Rattle.art_step.specs.Views.{HaveChildWords, IsChildPlace, IsChildWord, Member, Memory, words_in, IsLocked, IsObsolete, Views, SetsView}
+use Rattle.art_cell.specs.declared.layouts.Pool.{Pool}
+use Rattle.art_step.specs.Views.{HaveChildWords, IsChildPlace, IsChildWord, IsOnce, Member, Memory, is_free, links_in_hand, words_in, IsLocked, IsObsolete, Views, SetsView}
 use Rattle.art_tree.specs.WordChanges.{SameByWords}
 use Rattle.art_cell.specs.Words.{Words}
 use Rattle.art_step.proofs.Facts.{SameLeafWords, holds_on}
 use Rattle.art_tree.proofs.Frame.{frame_paths, frame_sound, frame_rows}
 use Rattle.art_step.proofs.Histories.{history_stays}
-use Rattle.art_step.proofs.SoundParts.{account_on, numbers_turn, holder_turn, apart_turn, holder_same, one_entry}
+use Rattle.art_step.proofs.SoundParts.{IdleHolds, account_on, numbers_turn, holder_turn, apart_turn, holder_same, one_entry}
 use Rattle.art_tree.proofs.Meanings.{same_tree}
 use Rattle.art_tree.proofs.Places.{same_cell, same_link}
 use Rattle.art_step.proofs.StepNumbers.{keeps_new, keeps_on, holder_words, HoldingsFrom, vouch_turn, unstamped_same, formed_same}
@@ -132,7 +133,13 @@ module _ (z : Sizes) (m : Memory) (f : Views) (p : ℕ) (v : View) (is : f p ≡
     limbo = k.limbo;
     in_limbo = k.in_limbo;
     held = λ a n j e. let o = from a j in subst (λ (stamped : Option ℕ). HeldAt p v.committed stamped (r.at (node n))) o.3 (k.held o.0 n o.1 (o.2 ∙ e));
+    hand_once = k.hand_once;
+    limbo_once = k.limbo_once;
   }
+
+  -- what is held was so before, by the same stamp
+  still_idle : IdleHolds v writer
+  still_idle k j e = let o = from k j in sym o.3 ∙ (r.unstamped.pinned p v is).idle e o.0 o.1
 
   -- the word that is written is formed at a child's place, and all others are as before
   children_formed : HaveChildWords z m'.words
@@ -154,7 +161,7 @@ module _ (z : Sizes) (m : Memory) (f : Views) (p : ℕ) (v : View) (is : f p ≡
     holder = holder_writes;
     vouch = vouch_turn m m' f g p v writer r.logical t is sets.version refl refl refl from r.vouch;
     numbers = numbers_turn z m m' f g p writer r.logical r.logical r.at t r.numbers r.numbers sets.free leaves_stay writer_account;
-    unstamped = unstamped_same z m m' f g p v writer r.logical r.at t is r.numbers r.unstamped sets.version sets.epoch sets.pass_word refl refl refl refl refl;
+    unstamped = unstamped_same z m m' f g p v writer r.logical r.at t is r.numbers r.unstamped sets.version sets.epoch sets.pass_word refl refl refl refl refl still_idle;
     formed = formed_same z m m' f g p v writer t is sets.version sets.epoch refl r.formed children_formed;
   }
 
@@ -171,7 +178,7 @@ with_leaves s words (cell.Leaf l) = words (cell.Leaf l)
 with_leaves s words (cell.Node n) = s (cell.Node n)
 
 module _ (z : Sizes) (m : Memory) (f : Views) (p : ℕ) (v : View) (is : f p ≡ Some v) (m' : Memory) (g : Views) (y : InHand) (ys : List InHand) (l i x : ℕ) (r : IsSound z m f)
-    (may : write.MayLeaf v y l i) (puts : Puts v.hand y (with_leaf_word y i x) ys) (sets : SetsWord m (cell.Leaf l) i x m') (t : SetsView f p (write.view_after_leaf v ys) g) where
+    (may : write.MayLeaf v y l i) (puts : Puts v.hand y (with_leaf_word y i x) ys) (once : IsOnce (links_in_hand v.hand) → IsOnce (links_in_hand ys)) (sets : SetsWord m (cell.Leaf l) i x m') (t : SetsView f p (write.view_after_leaf v ys) g) where
   abbrev hander : View
   hander = write.view_after_leaf v ys
 
@@ -276,6 +283,8 @@ module _ (z : Sizes) (m : Memory) (f : Views) (p : ℕ) (v : View) (is : f p ≡
     limbo = k.limbo;
     in_limbo = k.in_limbo;
     held = k.held;
+    hand_once = k.hand_once;
+    limbo_once = k.limbo_once;
   }
 
   -- the list has the ten words of the leaf now
@@ -303,12 +312,14 @@ module _ (z : Sizes) (m : Memory) (f : Views) (p : ℕ) (v : View) (is : f p ≡
     limbo = accounts.limbo;
     in_limbo = accounts.in_limbo;
     held = accounts.held;
+    hand_once = once accounts.hand_once;
+    limbo_once = accounts.limbo_once;
   }
 
   numbers : NumbersAccounted z m' g after r.at
   numbers = record {
     tree = λ d. let k = r.numbers.tree d in (λ e. let o = k.0 e in (o.0, (paths d o.0).0 o.1), λ o. k.1 (o.0, (paths d o.0).1 o.1));
-    free = λ d. subst (λ (a : Link → Bool). (r.at d ≡ IsFree) ↔ (a d ≡ true)) (sym sets.free) (r.numbers.free d);
+    free = λ d. subst (λ (a : Pool → ℕ → ℕ). (r.at d ≡ IsFree) ↔ (is_free (record m { free_word = a }) d ≡ true)) (sym sets.free) (r.numbers.free d);
     numbers = r.numbers.numbers;
     accounts = each_view f g p hander t (λ q u. Accounts m' r.at q u) hander_account others_account;
     strangers = λ q d e. r.numbers.strangers q d (stranger_before f g p hander t q e).1;
@@ -331,10 +342,10 @@ module _ (z : Sizes) (m : Memory) (f : Views) (p : ℕ) (v : View) (is : f p ≡
     holder = holder_words m m' g r.logical after sets.version (λ c locked. stays c (λ obsolete. absurd (omega arith))) rests (holder_same m f g p v hander r.logical t is refl refl r.holder);
     vouch = vouch_turn m m' f g p v hander after t is sets.version refl refl refl (λ h j. (h, j, refl, refl)) vouch;
     numbers = numbers;
-    unstamped = unstamped_same z m m' f g p v hander r.logical r.at t is r.numbers r.unstamped sets.version sets.epoch sets.pass_word refl refl refl refl refl;
+    unstamped = unstamped_same z m m' f g p v hander r.logical r.at t is r.numbers r.unstamped sets.version sets.epoch sets.pass_word refl refl refl refl refl (λ h j e. (r.unstamped.pinned p v is).idle e h j);
     formed = formed_same z m m' f g p v hander t is sets.version sets.epoch refl r.formed leaf_children;
   }
 
 -- a word of a leaf in hand is written
 pub write_leaf_law : write.LeafLaw
-write_leaf_law z p v m f m' g is r row = leaf_writes z m f p v is m' g row.leaf row.hand row.number row.place row.value r row.may row.puts row.word row.view
+write_leaf_law z p v m f m' g is r row = leaf_writes z m f p v is m' g row.leaf row.hand row.number row.place row.value r row.may row.puts row.once row.word row.view

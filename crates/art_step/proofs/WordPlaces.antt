@@ -4,17 +4,18 @@ use Rattle.std.proofs.lemmas.Bool.{cases_order, lt-ltb, ltb-true}
 use Rattle.std.proofs.lemmas.Nat.{div-mul-add}
 use Rattle.art_cell.specs.declared.layouts.Layout.{Layout}
 use Rattle.art_cell.specs.declared.layouts.Layout.TheVariants.{Node4, Node16, Node48, Node256}
+use Rattle.art_cell.specs.declared.layouts.Pool.{Pool}
+use Rattle.art_cell.specs.declared.layouts.Pool.TheVariants.{Leaves, N4, N16, N48, N256}
 use Rattle.art_cell.specs.declared.cells.Cell.{Cell}
 use Rattle.art_cell.specs.declared.cells.Cell.TheVariants as cell
 use Rattle.art_cell.specs.declared.cells.Link.{Link}
 use Rattle.art_cell.specs.declared.cells.Link.TheVariants.{Leaf as leaf, Node as node}
 use Rattle.art_step.specs.declared.views.Sizes.{Sizes}
-use Rattle.art_step.specs.Views.{size_of, nodes_of, IsNumber, cell_named}
+use Rattle.art_step.specs.Views.{size_of, nodes_of, free_index, pool_of, pool_of_layout, pool_rank, IsNumber}
 use Rattle.art_cell.specs.Words.{size}
 use Rattle.art_cell.specs.Children.{number_of}
-use Rattle.art_step.specs.WordPlaces.{pool_size, pool_of_layout, pool_of, words_each, IsInside, is_inside}
+use Rattle.art_step.specs.WordPlaces.{pool_size, words_each, HasFreeWord, IsInside, is_inside}
 use Rattle.art_step.specs.WordPlaces.{first_cell, cells_end, free_words, first_free_word, epoch_place, word_count, place_of}
-use Rattle.art_step.specs.WordRows.{free_place}
 
 -- ---- numbers inside
 
@@ -26,12 +27,9 @@ pub is_number : (z : Sizes) (d : Link) → IsNumber z d ↔ (number_of d < pool_
 is_number z (leaf l) = (λ h. h, λ h. h)
 is_number z (node n) = let e = nodes_again z n.layout in (λ h. omega (arith, e), λ h. omega (arith, e))
 
--- the words of its pool have a bit for the number, whether there is such a number or not
-abbrev pub HasBit : Sizes → Link → Type 0
-HasBit z d = number_of d < 64 * free_words (pool_size z (pool_of d))
-
-pub has_bit : (z : Sizes) (d : Link) → IsNumber z d → HasBit z d
-has_bit z d inside = let few = (is_number z d).0 inside in omega arith
+-- the words of its pool have one with its bit
+pub has_free_word : (z : Sizes) (d : Link) → IsNumber z d → HasFreeWord z (pool_of d) (free_index d)
+has_free_word z d inside = let few = (is_number z d).0 inside in omega arith
 
 -- the test of a cell is true of each that there is
 pub is_inside_true : (z : Sizes) (c : Cell) → IsInside z c → is_inside z c ≡ true
@@ -181,50 +179,47 @@ bit_words z = 0 ∷ free_words z.leaves ∷ free_words z.n4 ∷ free_words z.n16
 abbrev BitStandsIn : Sizes → ℕ → ℕ → ℕ → Type 0
 BitStandsIn z place r k = (place ≡ cells_end z + start (bit_words z) r + k) × (k < get_or (bit_words z) r 0)
 
-node_bit_stands : (z : Sizes) (k : Layout) (m : ℕ) → m < 64 * free_words (pool_size z (pool_of_layout k)) → BitStandsIn z (first_free_word z (pool_of_layout k) + m / 64) (region_of k) (m / 64)
-unfolding start bit_words region_of
-node_bit_stands z Node4 m low = omega arith
-node_bit_stands z Node16 m low = omega arith
-node_bit_stands z Node48 m low = omega arith
-node_bit_stands z Node256 m low = omega arith
+bit_stands : (z : Sizes) (pool : Pool) (i : ℕ) → HasFreeWord z pool i → BitStandsIn z (first_free_word z pool + i) (1 + pool_rank pool) i
+unfolding start bit_words
+bit_stands z Leaves i low = omega arith
+bit_stands z N4 i low = omega arith
+bit_stands z N16 i low = omega arith
+bit_stands z N48 i low = omega arith
+bit_stands z N256 i low = omega arith
 
-bit_stands : (z : Sizes) (d : Link) → HasBit z d → BitStandsIn z (free_place z d) (region (cell_named d)) (number_of d / 64)
-unfolding start bit_words region
-bit_stands z (leaf l) low = omega arith
-bit_stands z (node n) low = node_bit_stands z n.layout n.number low
+rank_below : (pool : Pool) → 1 + pool_rank pool < 6
+rank_below Leaves = omega arith
+rank_below N4 = omega arith
+rank_below N16 = omega arith
+rank_below N48 = omega arith
+rank_below N256 = omega arith
 
 bits_stop : (z : Sizes) → cells_end z + start (bit_words z) 6 ≡ epoch_place z
 unfolding start bit_words
 bits_stop z = omega arith
 
--- the word with a number's bit lies after all cells, and before the epoch
-pub free_below : (z : Sizes) (d : Link) → HasBit z d → (cells_end z ≤ free_place z d) × (free_place z d < epoch_place z)
-free_below z d low =
-    let at = bit_stands z d low in
-    let up = starts_rise (bit_words z) (region (cell_named d)) 6 (region_below (cell_named d)) in
+-- the words of free numbers lie after all cells, and before the epoch
+pub free_below : (z : Sizes) (pool : Pool) (i : ℕ) → HasFreeWord z pool i → (cells_end z ≤ first_free_word z pool + i) × (first_free_word z pool + i < epoch_place z)
+free_below z pool i low =
+    let at = bit_stands z pool i low in
+    let up = starts_rise (bit_words z) (1 + pool_rank pool) 6 (rank_below pool) in
     (omega (arith, at.0), omega (arith, at.0, at.1, up, bits_stop z))
 
-link_named : Cell → Link
-link_named cell.Anchor = leaf 0
-link_named (cell.Leaf l) = leaf l
-link_named (cell.Node n) = node n
+-- a pool is told by its rank
+ranked : List Pool
+ranked = Leaves ∷ N4 ∷ N16 ∷ N48 ∷ N256 ∷ []
 
-link_again : (d : Link) → link_named (cell_named d) ≡ d
-unfolding link_named
-link_again (leaf l) = refl
-link_again (node n) = refl
+pool_again : (pool : Pool) → get_or ranked (pool_rank pool) Leaves ≡ pool
+unfolding ranked
+pool_again pool = elim pool as (λ k. get_or ranked (pool_rank k) Leaves ≡ k) [ Leaves ↦ refl | _ ↦ refl ]
 
-number_again : (d : Link) → number (cell_named d) ≡ number_of d
-unfolding number
-number_again (leaf l) = refl
-number_again (node n) = refl
+pub same_pool : (pool q : Pool) → pool_rank pool ≡ pool_rank q → pool ≡ q
+same_pool pool q e = sym (pool_again pool) ∙ (ap (λ (r : ℕ). get_or ranked r Leaves) e ∙ pool_again q)
 
--- two numbers share no bit
-pub bits_apart : (z : Sizes) (c d : Link) → HasBit z c → HasBit z d → free_place z c ≡ free_place z d → number_of c % 64 ≡ number_of d % 64 → c ≡ d
-bits_apart z c d inside within same bit =
-    let at = bit_stands z c inside in
-    let to = bit_stands z d within in
-    let one = one_region (bit_words z) (region (cell_named c)) (region (cell_named d)) (number_of c / 64) (number_of d / 64) at.1 to.1 (omega (arith, at.0, to.0, same)) in
-    let same_number : number_of c ≡ number_of d = omega (arith, one.1, bit) in
-    let same_cell = same_cell_at (cell_named c) (cell_named d) one.0 (number_again c ∙ (same_number ∙ sym (number_again d))) in
-    sym (link_again c) ∙ (ap link_named same_cell ∙ link_again d)
+-- two of them share no place
+pub free_words_apart : (z : Sizes) (pool q : Pool) (i j : ℕ) → HasFreeWord z pool i → HasFreeWord z q j → first_free_word z pool + i ≡ first_free_word z q + j → (pool ≡ q) × (i ≡ j)
+free_words_apart z pool q i j inside within same =
+    let at = bit_stands z pool i inside in
+    let to = bit_stands z q j within in
+    let one = one_region (bit_words z) (1 + pool_rank pool) (1 + pool_rank q) i j at.1 to.1 (omega (arith, at.0, to.0, same)) in
+    (same_pool pool q (omega (arith, one.0)), one.1)

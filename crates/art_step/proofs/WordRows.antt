@@ -6,21 +6,21 @@ use Rattle.std.proofs.lemmas.Bool.{cases_lt, cond-true, cond-false, cond_both}
 use Rattle.std.proofs.lemmas.List.FromFn.{get_or-map-range_with_len, length-map-range_with_len}
 use Rattle.std.proofs.lemmas.List.{get_or_past}
 use Rattle.art_cell.specs.declared.layouts.Layout.TheVariants.{Node4}
+use Rattle.art_cell.specs.declared.layouts.Pool.{Pool}
 use Rattle.art_cell.specs.declared.cells.Cell.{Cell}
 use Rattle.art_cell.specs.declared.cells.Cell.TheVariants as cell
 use Rattle.art_cell.specs.declared.cells.Link.{Link}
 use Rattle.art_cell.specs.declared.cells.Link.TheVariants.{Leaf as leaf, Node as node}
 use Rattle.art_step.specs.declared.views.Sizes.{Sizes}
 use Rattle.art_tree.specs.Heaps.{Cells}
-use Rattle.art_step.specs.Effects.{SetsVersion, SetsWord}
+use Rattle.art_step.specs.Effects.{SetsEpoch, SetsFreeWord, SetsPassWord, SetsVersion, SetsWord}
 use Rattle.art_step.specs.Steps.Upgrade.{IsCopy}
 use Rattle.art_step.specs.Steps.Take.{IsTaken}
 use Rattle.art_step.specs.Views.{Memory, size_of, words_in}
 use Rattle.art_cell.specs.Words.{Words, size}
-use Rattle.art_cell.specs.Children.{number_of}
-use Rattle.art_step.specs.WordPlaces.{pool_size, pool_of, cells_end, free_words, epoch_place, pass_place, word_count, HasVersion, IsInside, is_inside, place_of, first_place}
-use Rattle.art_step.specs.WordRows.{version_in, word_in, free_place, bit_of, is_free, pass_word_in, memory_of}
-use Rattle.art_step.proofs.WordPlaces.{HasBit, is_inside_true, is_inside_of, cell_below, free_below, places_apart}
+use Rattle.art_step.specs.WordPlaces.{pool_size, cells_end, first_free_word, free_words, epoch_place, pass_place, word_count, HasFreeWord, HasVersion, IsInside, is_inside, place_of, first_place}
+use Rattle.art_step.specs.WordRows.{version_in, word_in, free_word_in, pass_word_in, memory_of}
+use Rattle.art_step.proofs.WordPlaces.{is_inside_true, is_inside_of, cell_below, free_below, free_words_apart, places_apart}
 
 -- ---- choices
 
@@ -61,9 +61,9 @@ module _ (z : Sizes) (ws us : List ℕ) where
   same_word c i h = then_same (is_inside z c) _ _ 0 (λ e. else_same (nat_lt i (first_place c)) _ _ 0 (λ late.
       then_same (nat_lt i (size_of c)) _ _ 0 (λ low. h (is_inside_of z c e) (ltb-false i (first_place c) late) (ltb-true i (size_of c) low))))
 
-  -- a number whose bit stands in the words is free by that bit, and no other is free
-  pub same_free : (d : Link) → (HasBit z d → bit_of (get_or us (free_place z d) 0) (number_of d % 64) ≡ bit_of (get_or ws (free_place z d) 0) (number_of d % 64)) → is_free z us d ≡ is_free z ws d
-  same_free d h = then_same (nat_lt (number_of d) (64 * free_words (pool_size z (pool_of d)))) _ _ false (λ e. ap (λ (bit : ℕ). bit == 1) (h (ltb-true _ _ e)))
+  -- each word of free numbers that there is stands in the row
+  pub same_free_word : (pool : Pool) (i : ℕ) → (HasFreeWord z pool i → get_or us (first_free_word z pool + i) 0 ≡ get_or ws (first_free_word z pool + i) 0) → free_word_in z us pool i ≡ free_word_in z ws pool i
+  same_free_word pool i h = then_same (nat_lt i (free_words (pool_size z pool))) _ _ 0 (λ e. h (ltb-true _ _ e))
 
   -- each pass that there is has a word
   pub same_pass_word : (p : ℕ) → (p < z.passes → get_or us (pass_place z p) 0 ≡ get_or ws (pass_place z p) 0) → pass_word_in z us p ≡ pass_word_in z ws p
@@ -105,9 +105,12 @@ versions_apart z c d inside within other e =
 
 module _ (z : Sizes) (ws : List ℕ) (place x : ℕ) where
   -- a word of a cell is no word of free numbers
-  pub frees_stay : place < cells_end z → is_free z (set ws place x) ≡ is_free z ws
-  frees_stay low = (λ k d. same_free z ws (set ws place x) d (λ inside.
-      ap (λ (word : ℕ). bit_of word (number_of d % 64)) (get_or-set_other ws place (free_place z d) x 0 (λ e. let high = (free_below z d inside).0 in omega arith))) k)
+  pub frees_stay : place < cells_end z → free_word_in z (set ws place x) ≡ free_word_in z ws
+  frees_stay low = (λ k pool i. same_free_word z ws (set ws place x) pool i (λ inside. get_or-set_other ws place (first_free_word z pool + i) x 0 (λ e. let high = (free_below z pool i inside).0 in omega arith)) k)
+
+  -- nor is one after them
+  pub frees_stay_late : epoch_place z ≤ place → free_word_in z (set ws place x) ≡ free_word_in z ws
+  frees_stay_late late = (λ k pool i. same_free_word z ws (set ws place x) pool i (λ inside. get_or-set_other ws place (first_free_word z pool + i) x 0 (λ e. let low = (free_below z pool i inside).1 in omega arith)) k)
 
   -- a word before the epoch's is not the epoch's
   pub epoch_stays : place < epoch_place z → get_or (set ws place x) (epoch_place z) 0 ≡ get_or ws (epoch_place z) 0
@@ -140,6 +143,60 @@ word_found z ws c i inside late low =
     ap (λ (b : Bool). if b then (if nat_lt i (first_place c) then 0 else if nat_lt i (size_of c) then word else 0) else 0) (is_inside_true z c inside)
     ∙ (ap (λ (b : Bool). if b then 0 else if nat_lt i (size_of c) then word else 0) (le-ltb i (first_place c) late)
     ∙ ap (λ (b : Bool). if b then word else 0) (lt-ltb i (size_of c) low))
+
+-- a word of free numbers stands at its place
+pub free_word_found : (z : Sizes) (ws : List ℕ) (pool : Pool) (i : ℕ) → HasFreeWord z pool i → free_word_in z ws pool i ≡ get_or ws (first_free_word z pool + i) 0
+free_word_found z ws pool i inside = cond-true _ _ 0 (lt-ltb i (free_words (pool_size z pool)) inside)
+
+-- and so does the word of a pass
+pub pass_word_found : (z : Sizes) (ws : List ℕ) (p : ℕ) → p < z.passes → pass_word_in z ws p ≡ get_or ws (pass_place z p) 0
+pass_word_found z ws p inside = cond-true _ _ 0 (lt-ltb p z.passes inside)
+
+-- ---- a word of free numbers changes, the epoch, or the word of a pass
+
+-- to set a word of free numbers sets that word alone
+pub sets_free_word : (z : Sizes) (ws : List ℕ) (pool : Pool) (i x : ℕ) → HasFreeWord z pool i → length ws ≡ word_count z → SetsFreeWord (memory_of z ws) pool i x (memory_of z (set ws (first_free_word z pool + i) x))
+sets_free_word z ws pool i x inside long =
+    let at : ℕ = first_free_word z pool + i in
+    let us : List ℕ = set ws (first_free_word z pool + i) x in
+    let low = free_below z pool i inside in
+    record {
+      here = free_word_found z us pool i inside ∙ get_or-set_same ws at x 0 (omega (arith, long, low.1));
+      there = λ q j other. same_free_word z ws us q j (λ within. get_or-set_other ws at (first_free_word z q + j) x 0 (λ e. let same = free_words_apart z q pool j i within inside e in other same.0 same.1));
+      version = versions_stay z ws at x low.0;
+      words = words_stay z ws at x low.0;
+      epoch = epoch_stays z ws at x low.1;
+      pass_word = pass_words_stay z ws at x low.1;
+    }
+
+-- to set the epoch's word sets the epoch alone
+pub sets_epoch : (z : Sizes) (ws : List ℕ) (x : ℕ) → length ws ≡ word_count z → SetsEpoch (memory_of z ws) x (memory_of z (set ws (epoch_place z) x))
+sets_epoch z ws x long =
+    let at : ℕ = epoch_place z in
+    let us : List ℕ = set ws (epoch_place z) x in
+    let high : cells_end z ≤ epoch_place z = omega arith in
+    record {
+      here = get_or-set_same ws at x 0 (omega (arith, long));
+      version = versions_stay z ws at x high;
+      words = words_stay z ws at x high;
+      free = frees_stay_late z ws at x (omega arith);
+      pass_word = (λ k p. same_pass_word z ws us p (λ few. get_or-set_other ws at (pass_place z p) x 0 (λ e. omega arith)) k);
+    }
+
+-- to set the word of a pass sets that word alone
+pub sets_pass_word : (z : Sizes) (ws : List ℕ) (p x : ℕ) → p < z.passes → length ws ≡ word_count z → SetsPassWord (memory_of z ws) p x (memory_of z (set ws (pass_place z p) x))
+sets_pass_word z ws p x inside long =
+    let at : ℕ = pass_place z p in
+    let us : List ℕ = set ws (pass_place z p) x in
+    let high : cells_end z ≤ pass_place z p = omega arith in
+    record {
+      here = pass_word_found z us p inside ∙ get_or-set_same ws at x 0 (omega (arith, long));
+      there = λ q other. same_pass_word z ws us q (λ few. get_or-set_other ws at (pass_place z q) x 0 (λ e. other (omega arith)));
+      version = versions_stay z ws at x high;
+      words = words_stay z ws at x high;
+      free = frees_stay_late z ws at x (omega arith);
+      epoch = get_or-set_other ws at (epoch_place z) x 0 (λ e. omega arith);
+    }
 
 -- ---- a word of a cell changes
 

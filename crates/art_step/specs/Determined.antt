@@ -1,5 +1,5 @@
 -- What no view shows, the history and the logical words, is determined by what the words and the views are.
-use Rattle.std.specs.Prelude.{◌≡◌, ℕ, Some}
+use Rattle.std.specs.Prelude.{◌≡◌, ℕ, ◌+◌, Some}
 use Rattle.art_cell.specs.declared.cells.Cell.{Cell}
 use Rattle.art_step.specs.declared.views.Sizes.{Sizes}
 use Rattle.art_step.specs.declared.views.View.{View}
@@ -27,6 +27,11 @@ LogicalLaw = (m : Memory) (f : Views) (s s' : Cells) → OneHolder m f s → One
 abbrev pub PassLaw : Type 0
 PassLaw = (z : Sizes) (p : ℕ) (v w : View) (m : Memory) (f : Views) (m' : Memory) (f' : Views) → OneStep z p m f m' f' → f p ≡ Some v →
     f' p ≡ Some w → w.pass ≡ v.pass
+
+-- each step counts
+abbrev pub CountLaw : Type 0
+CountLaw = (z : Sizes) (p : ℕ) (v w : View) (m : Memory) (f : Views) (m' : Memory) (f' : Views) → OneStep z p m f m' f' → f p ≡ Some v →
+    f' p ≡ Some w → w.steps ≡ v.steps + 1
 
 abbrev pub SeenLaw : Type 0
 SeenLaw = (z : Sizes) (p : ℕ) (v w : View) (m : Memory) (f : Views) (m' : Memory) (f' : Views) → OneStep z p m f m' f' → f p ≡ Some v →

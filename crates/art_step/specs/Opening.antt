@@ -6,9 +6,9 @@ use Rattle.art_cell.specs.declared.cells.Link.{Link}
 use Rattle.art_step.specs.declared.views.Sizes.{Sizes}
 use Rattle.art_step.specs.declared.views.View.{View}
 use Rattle.art_step.specs.Sound.{IsSound}
-use Rattle.art_step.specs.Views.{IsChildPlace, IsNumber, Memory, Views, last_counter}
+use Rattle.art_step.specs.Views.{IsChildPlace, IsNumber, Memory, Views, is_free, last_counter}
 
--- a pass that knows nothing, pinned to the first epoch
+-- a pass that knows nothing, and is idle
 abbrev pub newcomer : ℕ → View
 newcomer p = record {
   pass = p;
@@ -16,8 +16,8 @@ newcomer p = record {
   own = [];
   steps = 0;
   failures = 0;
-  pins = 1;
-  pin = 1;
+  pins = 0;
+  pin = 0;
   noted = None;
   stamps = [];
   notes = [];
@@ -29,15 +29,16 @@ newcomer p = record {
   limbo = [];
 }
 
--- the words at opening: no cell names a child, the anchor is clear, all other cells are obsolete, and all numbers are free
+-- the words at opening: no cell names a child, the anchor is clear, all other cells are obsolete, all numbers are free, the epoch is 1,
+-- and all passes are idle
 pub record Opens (z : Sizes) (m : Memory) (f : Views) : Type 0 where
   pub root : m.words cell.Anchor 1 ≡ 0
   pub children : (c : Cell) (i : ℕ) → IsChildPlace c i → m.words c i ≡ 0
   pub anchor : (k : ℕ) × (k ≤ last_counter) × (m.version cell.Anchor ≡ 4 * k)
   pub cells : (c : Cell) → c ≢ cell.Anchor → (k : ℕ) × (k ≤ last_counter) × (m.version c ≡ 4 * k + 1)
-  pub free : (d : Link) → (m.free d ≡ true → IsNumber z d) × (IsNumber z d → m.free d ≡ true)
+  pub free : (d : Link) → (is_free m d ≡ true → IsNumber z d) × (IsNumber z d → is_free m d ≡ true)
   pub epoch : m.epoch ≡ 1
-  pub pass_word : (p : ℕ) → p < z.passes → m.pass_word p ≡ 1
+  pub pass_word : (p : ℕ) → p < z.passes → m.pass_word p ≡ 0
   pub views : (p : ℕ) (v : View) → f p ≡ Some v → (p < z.passes) × (v ≡ newcomer p)
 
 abbrev pub OpenLaw : Type 0

@@ -30,14 +30,16 @@ opening_free_word z place =
     else if nat_lt place (first_free_word z N256) then first_bits (z.n48 - 64 * (place - first_free_word z N48))
     else first_bits (z.n256 - 64 * (place - first_free_word z N256))
 
--- the anchor, which is clear and names no root; leaves of zeros; nodes; free numbers; the epoch and the words of the passes, all 1
+-- the anchor, which is clear and names no root; leaves of zeros; nodes; free numbers; the epoch, which is 1; and
+-- the words of the passes, which are idle
 abbrev pub opening_word : Sizes → ℕ → ℕ → ℕ
 opening_word z k place =
     if place == 0 then 4 * k
     else if nat_lt place (first_cell z N4) then 0
     else if nat_lt place (cells_end z) then opening_node_word z k place
     else if nat_lt place (epoch_place z) then opening_free_word z place
-    else 1
+    else if place == epoch_place z then 1
+    else 0
 
 unfoldable pub opening_words : Sizes → ℕ → List ℕ
 opening_words z k = map (opening_word z k) (range_with_len 0 (word_count z))

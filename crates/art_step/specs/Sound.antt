@@ -20,7 +20,7 @@ use Rattle.art_step.specs.Knowledge.{IsShape, Holds}
 use Rattle.art_tree.specs.Rows.{HasRows}
 use Rattle.art_tree.specs.Tree.{StandsAt}
 use Rattle.art_step.specs.WordPlaces.{place_of}
-use Rattle.art_step.specs.Views.{Member, Memory, size_of, words_in, IsClear, IsLocked, IsObsolete, last_counter, IsVersion, IsNumber, HaveChildWords, cell_named, Views}
+use Rattle.art_step.specs.Views.{Member, Memory, size_of, words_in, IsClear, IsLocked, IsObsolete, IsOnce, last_counter, IsVersion, IsNumber, HaveChildWords, cell_named, is_free, links_in_hand, links_in_limbo, Views}
 
 -- ---- one history
 
@@ -124,11 +124,13 @@ pub record Accounts (m : Memory) (at : Link → Whereabouts) (p : ℕ) (v : View
   pub limbo : (e : Retired) → Member e v.limbo → at e.link ≡ InLimboOf p
   pub in_limbo : (d : Link) → at d ≡ InLimboOf p → (e : Retired) × Member e v.limbo × (e.link ≡ d)
   pub held : (h : Holding) (n : Node) → Member h v.held → h.cell ≡ cell.Node n → HeldAt p v.committed h.stamped (at (node n))
+  pub hand_once : IsOnce (links_in_hand v.hand)
+  pub limbo_once : IsOnce (links_in_limbo v.limbo)
 
 -- each number of each pool is in exactly one place
 pub record NumbersAccounted (z : Sizes) (m : Memory) (f : Views) (s : Cells) (at : Link → Whereabouts) : Type 0 where
   pub tree : (d : Link) → (at d ≡ InTree) ↔ ((r : List ℕ) × StandsAt (heap_of s) d r)
-  pub free : (d : Link) → (at d ≡ IsFree) ↔ (m.free d ≡ true)
+  pub free : (d : Link) → (at d ≡ IsFree) ↔ (is_free m d ≡ true)
   pub numbers : (d : Link) → (at d ≢ Nowhere) ↔ IsNumber z d
   pub accounts : (p : ℕ) (v : View) → f p ≡ Some v → Accounts m at p v
   pub strangers : (p : ℕ) (d : Link) → f p ≡ None → (at d ≢ InHandOf p) × (at d ≢ InLimboOf p)
@@ -154,7 +156,8 @@ pub record Awaits (q : ℕ) (v : View) (e : Retired) : Type 0 where
   -- the pins that it holds were made
   pub made : (k : ℕ) → Member (record { pass = q; count = k }) e.pins → k ≤ v.pins
 
--- of one pass: its word is its pin, a pinned one has stamps, with the place of the cell, of nodes that are in the tree or in a limbo
+-- of one pass: its word is its pin; only a pinned one has stamps, with the place of the cell, of nodes that are in the tree or in a
+-- limbo, and holds what it upgraded
 pub record IsPinned (z : Sizes) (m : Memory) (at : Link → Whereabouts) (p : ℕ) (v : View) : Type 0 where
   pub inside : p < z.passes
   pub word : m.pass_word p ≡ v.pin
@@ -163,6 +166,7 @@ pub record IsPinned (z : Sizes) (m : Memory) (at : Link → Whereabouts) (p : �
   pub pinned : (x : Stamp) → Member x v.stamps → v.pin ≢ 0
   pub placed : (x : Stamp) → Member x v.stamps → x.first ≡ place_of z x.cell
   pub stamped : (n : Node) → IsStamped v n → (at (node n) ≡ InTree) ⊎ ((r : ℕ) × (at (node n) ≡ InLimboOf r))
+  pub idle : v.pin ≡ 0 → (h : Holding) → Member h v.held → h.stamped ≡ None
 
 -- a number in limbo that is marked for a pass is in no stamp of it; a clear version word is that of a cell of the tree
 pub record MarkedUnstamped (z : Sizes) (m : Memory) (f : Views) (at : Link → Whereabouts) : Type 0 where

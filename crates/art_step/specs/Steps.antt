@@ -10,28 +10,34 @@ use Rattle.art_step.specs.declared.views.View.{View}
 use Rattle.art_tree.specs.Heaps.{Cells}
 use Rattle.art_step.specs.Effects.{FindsVersion, Instant}
 use Rattle.art_step.specs.Sound.{IsSound}
+use Rattle.art_step.specs.Steps.Advance as advance
 use Rattle.art_step.specs.Steps.Begin as begin
 use Rattle.art_step.specs.Steps.Check as check
 use Rattle.art_step.specs.Steps.Claim as claim
 use Rattle.art_step.specs.Steps.Commit as commit
-use Rattle.art_step.specs.Steps.Forget as forget
+use Rattle.art_step.specs.Steps.Epoch as epoch
 use Rattle.art_step.specs.Steps.Give as give
+use Rattle.art_step.specs.Steps.Pin as pin
 use Rattle.art_step.specs.Steps.Read as read
 use Rattle.art_step.specs.Steps.Release as release
 use Rattle.art_step.specs.Steps.Take as take_free
 use Rattle.art_step.specs.Steps.Upgrade as upgrade
+use Rattle.art_step.specs.Steps.Watch as watch
 use Rattle.art_step.specs.Steps.Write as write
 use Rattle.art_step.specs.Views.{Memory, Views}
+pub mod Advance
 pub mod Begin
 pub mod Check
 pub mod Claim
 pub mod Commit
-pub mod Forget
+pub mod Epoch
 pub mod Give
+pub mod Pin
 pub mod Read
 pub mod Release
 pub mod Take
 pub mod Upgrade
+pub mod Watch
 pub mod Write
 
 -- a step of one of these kinds, where log is the history before it and s the tree
@@ -42,7 +48,6 @@ pub data OfAKind (z : Sizes) (p : ℕ) (v : View) (m : Memory) (f : Views) (m' :
   IsReadLeaf : read.LeafStep z p v m f m' f' → OfAKind z p v m f m' f' log s
   IsUnchanged : check.UnchangedStep z p v m f m' f' log s → OfAKind z p v m f m' f' log s
   IsChanged : check.ChangedStep z p v m f m' f' → OfAKind z p v m f m' f' log s
-  IsForget : forget.Step z p v m f m' f' → OfAKind z p v m f m' f' log s
   IsUpgrade : upgrade.Step z p v m f m' f' → OfAKind z p v m f m' f' log s
   IsClaim : claim.Step z p v m f m' f' → OfAKind z p v m f m' f' log s
   IsCommit : commit.Step z p v m f m' f' log → OfAKind z p v m f m' f' log s
@@ -52,6 +57,10 @@ pub data OfAKind (z : Sizes) (p : ℕ) (v : View) (m : Memory) (f : Views) (m' :
   IsTake : take_free.Step z p v m f m' f' → OfAKind z p v m f m' f' log s
   IsGive : give.Step z p v m f m' f' → OfAKind z p v m f m' f' log s
   IsFreed : give.FreeStep z p v m f m' f' → OfAKind z p v m f m' f' log s
+  IsEpoch : epoch.Step z p v m f m' f' → OfAKind z p v m f m' f' log s
+  IsPin : pin.Step z p v m f m' f' → OfAKind z p v m f m' f' log s
+  IsAdvance : advance.Step z p v m f m' f' → OfAKind z p v m f m' f' log s
+  IsWatch : watch.Step z p v m f m' f' → OfAKind z p v m f m' f' log s
 
 -- one step of the pass p, before which all was sound
 pub record OneStep (z : Sizes) (p : ℕ) (m : Memory) (f : Views) (m' : Memory) (f' : Views) : Type 0 where

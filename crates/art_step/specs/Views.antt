@@ -1,5 +1,7 @@
 -- The shared words as passes see them, and what passes know.
-use Rattle.std.specs.Prelude.{◌≡◌, ◌≢◌, ◌⊎◌, ℕ, ◌+◌, ◌*◌, ◌-◌, ◌%◌, ◌^◌, ◌<◌, ◌≤◌, List, [], ◌∷◌, false, get_or, Bool, Option, Some, ⊤}
+use Rattle.std.specs.Prelude.{◌≡◌, ◌≢◌, ◌⊎◌, ℕ, ◌+◌, ◌*◌, ◌-◌, ◌/◌, ◌%◌, ◌^◌, ◌==◌, ◌<◌, ◌≤◌, List, [], ◌∷◌, map, false, get_or, Bool, Option, Some, ⊤}
+use Rattle.art_cell.specs.declared.layouts.Pool.{Pool}
+use Rattle.art_cell.specs.declared.layouts.Pool.TheVariants.{Leaves, N4, N16, N48, N256}
 use Rattle.art_cell.specs.declared.layouts.Layout.{Layout}
 use Rattle.art_cell.specs.declared.layouts.Layout.TheVariants.{Node4, Node16, Node48, Node256}
 use Rattle.art_cell.specs.declared.cells.Cell.{Cell}
@@ -18,7 +20,7 @@ use Rattle.art_step.specs.declared.views.Word.TheVariants.{Version}
 use Rattle.art_step.specs.declared.views.Sizes.{Sizes}
 use Rattle.art_step.specs.declared.views.View.{View}
 use Rattle.art_tree.specs.Heaps.{Cells}
-use Rattle.art_cell.specs.Children.{link_of}
+use Rattle.art_cell.specs.Children.{link_in_pool, link_of, number_of}
 use Rattle.art_cell.specs.Words.{Words, first_child, size}
 
 abbrev pub Member : {A : Type 0} → A → List A → Type 0
@@ -27,12 +29,12 @@ Member x (y ∷ ys) = (x ≡ y) ⊎ Member x ys
 
 -- ---- the shared words
 
--- the version word of each cell, its words after that, which numbers are free, the epoch, and the words of the passes.
--- A leaf has no version word: it counts as obsolete, and its words begin at place 0
+-- the version word of each cell, its words after that, the words of free numbers of each pool, the epoch, and the words of the
+-- passes. A leaf has no version word: it counts as obsolete, and its words begin at place 0
 pub record Memory : Type 0 where
   pub version : Cell → ℕ
   pub words : Cells
-  pub free : Link → Bool
+  pub free_word : Pool → ℕ → ℕ
   pub epoch : ℕ
   pub pass_word : ℕ → ℕ
 
@@ -81,6 +83,49 @@ nodes_of z Node256 = z.n256
 abbrev pub IsNumber : Sizes → Link → Type 0
 IsNumber z (leaf l) = l < z.leaves
 IsNumber z (node n) = n.number < nodes_of z n.layout
+
+-- the pool that the number is of
+abbrev pub pool_of_layout : Layout → Pool
+pool_of_layout Node4 = N4
+pool_of_layout Node16 = N16
+pool_of_layout Node48 = N48
+pool_of_layout Node256 = N256
+
+abbrev pub pool_of : Link → Pool
+pool_of (leaf l) = Leaves
+pool_of (node n) = pool_of_layout n.layout
+
+-- the pools in their order
+abbrev pub pool_rank : Pool → ℕ
+pool_rank Leaves = 0
+pool_rank N4 = 1
+pool_rank N16 = 2
+pool_rank N48 = 3
+pool_rank N256 = 4
+
+-- a bit of a word
+abbrev pub bit_of : ℕ → ℕ → ℕ
+bit_of word i = word / 2 ^ i % 2
+
+-- the words of free numbers have a bit for each number of their pool, 64 a word: which word, and which bit of it
+abbrev pub free_index : Link → ℕ
+free_index d = number_of d / 64
+
+abbrev pub free_bit : Link → ℕ
+free_bit d = number_of d % 64
+
+-- the number with this bit of this word
+abbrev pub number_at : Pool → ℕ → ℕ → Link
+number_at pool index k = link_in_pool pool (64 * index + k)
+
+-- a number is free where its bit is set
+abbrev pub is_free : Memory → Link → Bool
+is_free m d = bit_of (m.free_word (pool_of d) (free_index d)) (free_bit d) == 1
+
+-- no number twice
+abbrev pub IsOnce : List Link → Type 0
+IsOnce [] = ⊤
+IsOnce (d ∷ ds) = (Member d ds → ⊥) × IsOnce ds
 
 -- the cell that the link names
 abbrev pub cell_named : Link → Cell
@@ -138,6 +183,12 @@ IsHolding v c h = Member h v.held × (h.cell ≡ c)
 
 abbrev pub IsInHand : View → Link → InHand → Type 0
 IsInHand v d y = Member y v.hand × (y.link ≡ d)
+
+abbrev pub links_in_hand : List InHand → List Link
+links_in_hand xs = map (λ x. x.link) xs
+
+abbrev pub links_in_limbo : List Retired → List Link
+links_in_limbo es = map (λ e. e.link) es
 
 abbrev pub IsInLimbo : View → Link → Type 0
 IsInLimbo v d = (e : Retired) × Member e v.limbo × (e.link ≡ d)

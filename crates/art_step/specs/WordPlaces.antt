@@ -1,6 +1,6 @@
 -- Where the words of a world stand, in a row: the anchor's, the leaves', the nodes' layout by layout, the words of free numbers
 -- pool by pool, the epoch, and the words of the passes.
-use Rattle.std.specs.Prelude.{ℕ, ◌+◌, ◌*◌, ◌/◌, nat_lt, Bool, true, ⊤}
+use Rattle.std.specs.Prelude.{ℕ, ◌+◌, ◌*◌, ◌/◌, ◌<◌, nat_lt, Bool, true, ⊤}
 use Rattle.art_cell.specs.declared.layouts.Layout.{Layout}
 use Rattle.art_cell.specs.declared.layouts.Layout.TheVariants.{Node4, Node16, Node48, Node256}
 use Rattle.art_cell.specs.declared.layouts.Pool.{Pool}
@@ -10,7 +10,7 @@ use Rattle.art_cell.specs.declared.cells.Cell.TheVariants as cell
 use Rattle.art_cell.specs.declared.cells.Link.{Link}
 use Rattle.art_cell.specs.declared.cells.Link.TheVariants.{Leaf as leaf, Node as node}
 use Rattle.art_step.specs.declared.views.Sizes.{Sizes}
-use Rattle.art_step.specs.Views.{size_of, nodes_of, IsNumber}
+use Rattle.art_step.specs.Views.{size_of, nodes_of, pool_of_layout, IsNumber}
 use Rattle.art_cell.specs.Words.{size}
 
 -- how many numbers a pool has
@@ -20,16 +20,6 @@ pool_size z N4 = nodes_of z Node4
 pool_size z N16 = nodes_of z Node16
 pool_size z N48 = nodes_of z Node48
 pool_size z N256 = nodes_of z Node256
-
-abbrev pub pool_of_layout : Layout → Pool
-pool_of_layout Node4 = N4
-pool_of_layout Node16 = N16
-pool_of_layout Node48 = N48
-pool_of_layout Node256 = N256
-
-abbrev pub pool_of : Link → Pool
-pool_of (leaf l) = Leaves
-pool_of (node n) = pool_of_layout n.layout
 
 -- how many words a cell of the pool has
 abbrev pub words_each : Pool → ℕ
@@ -80,6 +70,10 @@ abbrev pub IsInside : Sizes → Cell → Type 0
 IsInside z cell.Anchor = ⊤
 IsInside z (cell.Leaf l) = IsNumber z (leaf l)
 IsInside z (cell.Node n) = IsNumber z (node n)
+
+-- there is such a word of free numbers
+abbrev pub HasFreeWord : Sizes → Pool → ℕ → Type 0
+HasFreeWord z pool i = i < free_words (pool_size z pool)
 
 -- there is such a cell, and it has a version word
 abbrev pub HasVersion : Sizes → Cell → Type 0

@@ -109,6 +109,7 @@
 #![tactic(auto)]
 
 mod deeds;
+mod epoch_steps;
 mod faults;
 mod held;
 mod numbers;
@@ -121,16 +122,18 @@ mod views;
 mod word_places;
 
 pub use deeds::{Act, Deed};
+pub use epoch_steps::EpochSteps;
 pub use faults::{Changed, Locked, UpgradeFault};
 pub use held::Held;
 pub use numbers::{Number, Unlinked, numbers_of, spent};
 pub use opening::opening_words;
 pub use step_kinds::StepKind;
 pub use step_laws::{
-    beginning_is_sound, checking_is_sound, claiming_is_sound, committing_is_sound,
-    forgetting_is_sound, giving_is_sound, hidden_is_determined, opening_is_sound, reading_is_sound,
-    releasing_is_sound, stepping_is_sound, steps_keep_their_pass, taking_is_sound,
-    upgrading_is_sound, writing_is_sound,
+    advancing_is_sound, beginning_is_sound, checking_is_sound, claiming_is_sound,
+    committing_is_sound, giving_is_sound, hidden_is_determined, noting_the_epoch_is_sound,
+    opening_is_sound, pinning_is_sound, reading_is_sound, releasing_is_sound, stepping_is_sound,
+    steps_keep_their_pass, taking_is_sound, upgrading_is_sound, watching_is_sound,
+    writing_is_sound,
 };
 pub use steps::Steps;
 pub use versions::Version;
@@ -138,4 +141,4 @@ pub use views::{
     EpochSeen, Event, Fact, Found, Holding, InHand, LastCheck, Note, Pin, Retired, Sizes, Stamp,
     View, Word,
 };
-pub use word_places::pool_of_layout;
+pub use word_places::{free_words, pool_of_layout};

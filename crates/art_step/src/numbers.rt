@@ -17,7 +17,7 @@ pub struct Number {
 
 impl Number {
     ghost use Rattle.art_cell.specs.Children.{link_in_pool, number_of};
-    ghost use Rattle.art_step.specs.WordPlaces.{pool_of};
+    ghost use Rattle.art_step.specs.Views.{pool_of};
 
     /// For carriers: a number of the pool, as `of`.
     pub fn in_pool(pool: Pool, number: u32) -> Number

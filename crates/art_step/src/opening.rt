@@ -66,8 +66,10 @@ fn opening_word(sizes: Sizes, counter_start: u64, place: usize) -> u64
         node_word(sizes, counter_start, place)
     } else if place < sizes.epoch_place() {
         free_word(sizes, place)
-    } else {
+    } else if place == sizes.epoch_place() {
         1
+    } else {
+        0
     }
 }
 

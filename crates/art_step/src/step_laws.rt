@@ -1,13 +1,15 @@
 //! One law for each kind of step: what is sound before it is sound after it. Each is the contract of a function with
 //! nothing to do.
-ghost use Rattle.art_step.specs.Determined.{HistoryGrows, HistoryLaw, LogicalLaw, PassLaw, SeenLaw};
+ghost use Rattle.art_step.specs.Determined.{CountLaw, HistoryGrows, HistoryLaw, LogicalLaw, PassLaw, SeenLaw};
+ghost use Rattle.art_step.specs.Steps.Advance as advance;
 ghost use Rattle.art_step.specs.Steps.Begin as begin;
 ghost use Rattle.art_step.specs.Steps.Claim as claim;
 ghost use Rattle.art_step.specs.Steps.Commit as commit;
 ghost use Rattle.art_step.specs.Steps.Check as check;
-ghost use Rattle.art_step.specs.Steps.Forget as forget;
+ghost use Rattle.art_step.specs.Steps.Epoch as epoch;
 ghost use Rattle.art_step.specs.Steps.Give as give;
 ghost use Rattle.art_step.specs.Opening.{OpenLaw};
+ghost use Rattle.art_step.specs.Steps.Pin as pin;
 ghost use Rattle.art_step.specs.Steps.Read as read;
 ghost use Rattle.art_step.specs.Steps.Release as release;
 ghost use Rattle.art_step.specs.Steps.{StepLaw};
@@ -15,6 +17,7 @@ ghost use Rattle.art_step.specs.Steps.Take as take_free;
 ghost use Rattle.art_step.specs.Steps.Claim.{UnclaimedLaw};
 ghost use Rattle.art_step.specs.Steps.Upgrade as upgrade;
 ghost use Rattle.art_step.specs.Steps.Check.{VouchLaw};
+ghost use Rattle.art_step.specs.Steps.Watch as watch;
 ghost use Rattle.art_step.specs.Steps.Write as write;
 
 /// At opening: the anchor names no root, all numbers are free, and no pass knows anything.
@@ -39,11 +42,6 @@ pub fn checking_is_sound()
     ensures passed { check.UnchangedLaw }
     ensures vouched { VouchLaw }
     ensures failed { check.ChangedLaw }
-{}
-
-/// Stamps and notes are let go, a stamp with all its notes.
-pub fn forgetting_is_sound()
-    ensures { forget.Law }
 {}
 
 /// A stamped cell is locked and held.
@@ -73,15 +71,37 @@ pub fn releasing_is_sound()
     ensures { release.Law }
 {}
 
-/// A free number comes into the hand.
+/// A word of free numbers is found; a number whose bit it loses comes into the hand.
 pub fn taking_is_sound()
     ensures { take_free.Law }
 {}
 
-/// A number goes back, from the hand or from limbo.
+/// A number goes back, from the hand or from limbo. When one goes back from limbo, no pass is still under a pin that its place
+/// holds.
 pub fn giving_is_sound()
     ensures hand { give.Law }
     ensures limbo { give.FreeLaw }
+    ensures nobody { give.NobodyLaw }
+{}
+
+/// The epoch is noted.
+pub fn noting_the_epoch_is_sound()
+    ensures { epoch.Law }
+{}
+
+/// A pass is pinned, or goes idle.
+pub fn pinning_is_sound()
+    ensures { pin.Law }
+{}
+
+/// The epoch goes up.
+pub fn advancing_is_sound()
+    ensures { advance.Law }
+{}
+
+/// The word of another pass is found.
+pub fn watching_is_sound()
+    ensures { watch.Law }
 {}
 
 /// A step of any of these kinds.
@@ -97,8 +117,9 @@ pub fn hidden_is_determined()
     ensures logical { LogicalLaw }
 {}
 
-/// A step keeps its pass, and what the pass has seen only grows.
+/// A step keeps its pass and counts, and what the pass has seen only grows.
 pub fn steps_keep_their_pass()
     ensures pass { PassLaw }
+    ensures counts { CountLaw }
     ensures seen { SeenLaw }
 {}

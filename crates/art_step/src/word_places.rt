@@ -3,7 +3,8 @@
 ghost use Rattle.std.specs.Prelude.{◌≡◌, ◌+◌, ◌*◌, ◌<◌, ◌≤◌};
 ghost use Rattle.art_cell.specs.declared.layouts.Pool.TheVariants.{Leaves as leaf_pool, N4 as n4_pool};
 ghost use Rattle.art_cell.specs.Words.{size};
-ghost use Rattle.art_step.specs.WordPlaces.{cells_end, epoch_place, first_cell, first_free_word, free_words, place_of, pool_of_layout, pool_size, word_count};
+ghost use Rattle.art_step.specs.Views.{pool_of_layout};
+ghost use Rattle.art_step.specs.WordPlaces.{cells_end, epoch_place, first_cell, first_free_word, free_words, pass_place, place_of, pool_size, word_count};
 
 use crate::Sizes;
 use art_cell::{Cell, Layout, Pool};
@@ -126,10 +127,18 @@ impl Sizes {
     }
 
     /// The place of the epoch.
-    pub(crate) fn epoch_place(self) -> usize
+    pub fn epoch_place(self) -> usize
         ensures { result ≡ epoch_place self }
     {
         self.first_free_word(Pool::N256) + free_words(self.n256)
+    }
+
+    /// The place of a pass's word.
+    pub fn pass_place(self, pass: usize) -> usize
+        requires { pass < self.passes }
+        ensures { result ≡ pass_place self pass }
+    {
+        self.epoch_place() + 1 + pass
     }
 
     /// How many words there are.
@@ -141,7 +150,7 @@ impl Sizes {
 }
 
 /// How many words have the bits of so many numbers.
-pub(crate) fn free_words(numbers: u32) -> usize
+pub fn free_words(numbers: u32) -> usize
     ensures { result ≡ free_words numbers }
 {
     (numbers as usize + 63) / 64

@@ -7,16 +7,8 @@ use Rattle.art_cell.specs.declared.cells.Cell.TheVariants as cell
 use Rattle.art_cell.specs.declared.cells.Link.{Link}
 use Rattle.art_cell.specs.declared.cells.Link.TheVariants.{Leaf as leaf, Node as node}
 use Rattle.art_cell.specs.declared.cells.Node.{Node}
-use Rattle.art_cell.specs.declared.layouts.Pool.{Pool}
-use Rattle.art_cell.specs.declared.layouts.Pool.TheVariants.{Leaves}
-use Rattle.art_cell.specs.Children.{link_in_pool, number_of}
-use Rattle.art_step.specs.declared.numbers.Number.{Number}
-use Rattle.art_step.specs.Sound.{IsSound}
-use Rattle.art_step.specs.Tokens.{link_of_number}
-use Rattle.art_step.proofs.FreeBits.{free_is_number}
-use Rattle.art_world.specs.FreeNumbers.{IsLeastFree}
 use Rattle.art_step.specs.Steps.Claim as claim
-use Rattle.art_step.specs.WordPlaces.{HasVersion, IsInside, place_of, pool_of}
+use Rattle.art_step.specs.WordPlaces.{HasVersion, IsInside, place_of}
 use Rattle.art_step.proofs.WordPlaces.{cell_below}
 use Rattle.art_step.proofs.WordRows.{inside_of, plain_of, version_below, version_found, word_found}
 use Rattle.art_step.proofs.Changing.{first_low}
@@ -107,23 +99,3 @@ leaf_named d l is z v i o =
     let named : leaf o.0 ≡ leaf l = sym o.2 ∙ is in
     let same : o.0 ≡ l = cc in
     subst (λ (a : ℕ). (y : InHand) × (a < z.leaves) × write.MayLeaf v y a i) same (o.1, o.3, o.4)
-
-pool_again : (pool : Pool) (n : ℕ) → pool_of (link_in_pool pool n) ≡ pool
-pool_again pool n = elim pool as (λ k. pool_of (link_in_pool k n) ≡ k) [ Leaves ↦ refl | _ ↦ refl ]
-
-number_again : (pool : Pool) (n : ℕ) → number_of (link_in_pool pool n) ≡ n
-number_again pool n = elim pool as (λ k. number_of (link_in_pool k n) ≡ n) [ Leaves ↦ refl | _ ↦ refl ]
-
--- the least free number of a pool, as a number in hand
-pub least_of : (k : Contents) (p : Pool) (n : Number) (i : ℕ) → link_of_number n ≡ link_in_pool p i → (memory_now k).free (link_in_pool p i) ≡ true → ((j : ℕ) → j < i → (memory_now k).free (link_in_pool p j) ≡ false)
-    → IsSound k.sizes (memory_now k) (views_of k.views) → i < 2 ^ 32 → IsLeastFree k p n
-least_of k p n i is free least r low =
-    let mine = subst (λ (d : Link). (memory_now k).free d ≡ true) (sym is) free in
-    let same : number_of (link_of_number n) ≡ i = ap number_of is ∙ number_again p i in
-    record {
-      pool = ap pool_of is ∙ pool_again p i;
-      there = free_is_number k.sizes (memory_now k) (views_of k.views) (link_of_number n) r mine;
-      fits = rw same low;
-      free = mine;
-      least = λ j below. least j (subst (λ (m : ℕ). j < m) same below);
-    }

@@ -1,14 +1,17 @@
 -- One turn of an actor, and a list of turns.
-use Rattle.std.proofs.Common.{◌≡◌, ◌≢◌, ℕ, zero, suc, ◌+◌, ◌<◌, ◌≤◌, List, [], ◌∷◌, Bool, Some, refl, length, take, get_or, set, sym, ap, ◌∙◌, subst, ⊎_elim, arith, get_or-set_other, get_or-set_same}
+use Rattle.std.proofs.Common.{◌≡◌, ◌≢◌, ℕ, zero, suc, ◌+◌, ◌<◌, ◌≤◌, List, [], ◌∷◌, Bool, true, Some, inl, inr, refl, length, take, get_or, set, sym, ap, ◌∙◌, subst, ⊎_elim, arith, get_or-set_other, get_or-set_same}
 use Rattle.std.proofs.lemmas.Bool.{cases_eq, cases_lt}
 use Rattle.std.proofs.lemmas.List.{length-set}
 use Rattle.std.proofs.lemmas.Option.{same_Some, slice_get_past, slice_get_within, slice_get-get_or}
 use Rattle.std.specs.List.{slice_get}
 use Rattle.art_step.specs.declared.views.Sizes.{Sizes}
 use Rattle.art_step.specs.declared.views.View.{View}
-use Rattle.art_world.specs.Turns.{IsRun, IsTurn, NamesNobody, TakesTurn}
-use Rattle.art_world.specs.Contents.{Contents, OnlyStepsOf}
-use Rattle.art_step.specs.WordRows.{view_at}
+use Rattle.art_step.specs.Opening.{newcomer}
+use Rattle.art_step.specs.Steps.{OneStep}
+use Rattle.art_step.proofs.Determined.{step_view, steps_count}
+use Rattle.art_world.specs.Turns.{CountsOne, IsRun, IsTurn, MakesOne, NamesNobody, TakesTurn}
+use Rattle.art_world.specs.Contents.{AtOnce, Chain, Contents, OnlyStepsOf, memory_now}
+use Rattle.art_step.specs.WordRows.{view_at, views_of}
 
 -- ---- an actor in its place
 
@@ -38,6 +41,47 @@ fits_on {A} Fits k l xs p x inside only mine all q a is =
     subst (λ (v : View). Fits a l.sizes v) (sym (only.others q other))
     (subst (λ (z : Sizes). Fits a z (view_at k.views q)) (sym only.sizes) (all q a (sym (placed_there xs p q x other) ∙ is))))
     (cases_eq q p)
+
+-- ---- each step counts
+
+-- the view of a pass that there is
+seen_at : (vs : List View) (p : ℕ) (v : View) → views_of vs p ≡ Some v → view_at vs p ≡ v
+seen_at vs p v is = same_Some _ v (sym (slice_get-get_or vs p (newcomer p) (slice_get_within vs p v is)) ∙ is)
+
+-- so many steps of a pass raise its count by so many
+chain_counts : (n p : ℕ) (v : View) (a b : Contents) → views_of a.views p ≡ Some v → Chain n p a b → (w : View) × (views_of b.views p ≡ Some w) × (w.steps ≡ v.steps + n)
+chain_counts zero p v a b at none = (v, subst (λ (k : Contents). views_of k.views p ≡ Some v) (sym none) at, omega arith)
+chain_counts (suc n) p v a b at (c, sizes, step, rest) =
+    let w = step_view a.sizes p (memory_now a) (views_of a.views) (memory_now c) (views_of c.views) step in
+    let one = steps_count a.sizes p v w.0 (memory_now a) (views_of a.views) (memory_now c) (views_of c.views) step at w.1.here in
+    let more = chain_counts n p w.0 c b w.1.here rest in
+    (more.0, more.1, let count = more.2 in omega arith)
+
+-- so a turn that counts one is one step, and one that counts none is none
+pub one_made : (p : ℕ) (a b : Contents) (ended : Bool) → p < length a.views → OnlyStepsOf a b p → CountsOne (view_at a.views p) (view_at b.views p) ended → MakesOne p a b ended
+one_made p a b ended inside only counts = by_count only.made.0 only.made.1
+  where
+    at : views_of a.views p ≡ Some (view_at a.views p)
+    at = slice_get-get_or a.views p (newcomer p) inside
+
+    by_count : (n : ℕ) → Chain n p a b → MakesOne p a b ended
+    by_count n chain =
+        let all = chain_counts n p (view_at a.views p) a b at chain in
+        let now : view_at b.views p ≡ all.0 = seen_at b.views p all.0 all.1 in
+        let count : (view_at b.views p).steps ≡ (view_at a.views p).steps + n = ap (λ (v : View). v.steps) now ∙ all.2 in
+        ⊎_elim
+        (λ (one : (view_at b.views p).steps ≡ (view_at a.views p).steps + 1). inl (just_one n chain (omega arith)))
+        (λ (none : ((view_at b.views p).steps ≡ (view_at a.views p).steps) × (ended ≡ true)). let same = none.0 in inr (not_one n chain (omega arith), none.1))
+        counts
+      where
+        just_one : (n : ℕ) → Chain n p a b → n ≡ 1 → AtOnce (OneStep a.sizes p) a b
+        just_one zero chain is = absurd (omega arith)
+        just_one (suc zero) (c, sizes, step, same) is = subst (λ (k : Contents). AtOnce (OneStep a.sizes p) a k) (sym same) step
+        just_one (suc (suc n)) chain is = absurd (omega arith)
+
+        not_one : (n : ℕ) → Chain n p a b → n ≡ 0 → b ≡ a
+        not_one zero chain is = chain
+        not_one (suc n) chain is = absurd (omega arith)
 
 -- ---- one turn
 

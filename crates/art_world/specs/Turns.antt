@@ -1,11 +1,20 @@
 -- Lists of turns, each the number of a pass.
-use Rattle.std.specs.Prelude.{◌≡◌, ◌⊎◌, ℕ, ◌+◌, ◌≤◌, List, [], ◌∷◌, Bool, true, false, None, Some, slice_set}
+use Rattle.std.specs.Prelude.{◌≡◌, ◌⊎◌, ℕ, ◌+◌, List, [], ◌∷◌, Bool, true, false, None, Some, slice_set}
 use Rattle.std.specs.List.{slice_get}
 use Rattle.art_step.specs.declared.views.Sizes.{Sizes}
 use Rattle.art_step.specs.declared.views.View.{View}
 use Rattle.art_step.specs.WordRows.{view_at, views_of}
 use Rattle.art_step.specs.Sound.{IsSound}
-use Rattle.art_world.specs.Contents.{Contents, OnlyStepsOf, memory_now}
+use Rattle.art_step.specs.Steps.{OneStep}
+use Rattle.art_world.specs.Contents.{AtOnce, Contents, OnlyStepsOf, memory_now}
+
+-- from the view v to the view w the pass made one step, or none, and its actor has ended
+abbrev pub CountsOne : View → View → Bool → Type 0
+CountsOne v w ended = (w.steps ≡ v.steps + 1) ⊎ ((w.steps ≡ v.steps) × (ended ≡ true))
+
+-- the world l is k after one step of the pass; or it is k, and the actor has ended
+abbrev pub MakesOne : ℕ → Contents → Contents → Bool → Type 0
+MakesOne p k l ended = AtOnce (OneStep k.sizes p) k l ⊎ ((l ≡ k) × (ended ≡ true))
 
 -- actors: what each knows of the view of its pass, which have ended, and what a turn of one makes of it and of the world
 module _ {A : Type 0} (fits : A → Sizes → View → Type 0) (ended : A → Bool) (makes : ℕ → A → Contents → A → Contents → Type 0) where
@@ -13,8 +22,7 @@ module _ {A : Type 0} (fits : A → Sizes → View → Type 0) (ended : A → Bo
   abbrev pub NamesNobody : ℕ → List A → Type 0
   NamesNobody p xs = (slice_get xs p ≡ None) ⊎ ((x : A) × (slice_get xs p ≡ Some x) × (ended x ≡ true))
 
-  -- the actor p makes its turn, steps of its pass of which one counts at most: then the world k is the world l, and the actors xs
-  -- are ys
+  -- the actor p makes its turn: then the world k is the world l, and the actors xs are ys
   pub record TakesTurn (p : ℕ) (k : Contents) (xs : List A) (l : Contents) (ys : List A) : Type 0 where
     pub before : A
     pub now : A
@@ -25,7 +33,7 @@ module _ {A : Type 0} (fits : A → Sizes → View → Type 0) (ended : A → Bo
     pub turn : makes p before k now l
     pub actors : ys ≡ slice_set xs p now
     pub only : OnlyStepsOf k l p
-    pub step : (view_at l.views p).steps ≤ (view_at k.views p).steps + 1
+    pub step : MakesOne p k l (ended now)
     pub sound_before : IsSound k.sizes (memory_now k) (views_of k.views)
     pub sound : IsSound l.sizes (memory_now l) (views_of l.views)
 

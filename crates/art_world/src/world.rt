@@ -1,6 +1,6 @@
 //! The words of all cells in one row, with what each pass knows.
+mod epoch_steps;
 mod moves;
-mod numbers;
 mod opening;
 mod run;
 mod steps;
@@ -8,11 +8,11 @@ mod steps;
 ghost use Rattle.std.specs.Prelude.{◌≡◌, ◌+◌, ◌<◌, ◌≤◌, length, slice_index};
 ghost use Rattle.art_step.specs.Sound.{IsSound};
 ghost use Rattle.art_step.specs.Views.{size_of};
-ghost use Rattle.art_step.specs.WordPlaces.{IsInside, first_place, word_count};
+ghost use Rattle.art_step.specs.WordPlaces.{HasFreeWord, IsInside, first_place, word_count};
 ghost use Rattle.art_step.specs.WordRows.{views_of};
 ghost use Rattle.art_world.specs.Contents.{memory_now};
 
-use art_cell::Cell;
+use art_cell::{Cell, Pool};
 use art_ghosts::Ghost;
 use art_step::{Sizes, Version, View};
 pub use run::Actor;
@@ -101,5 +101,28 @@ impl World {
         ensures { result ≡ (memory_now self.now).words cell place }
     {
         self.words[self.sizes.place_of(cell) + place]
+    }
+
+    /// The word of free numbers at an index of the pool.
+    pub fn free_word(&self, pool: Pool, index: usize) -> u64
+        requires { HasFreeWord self.now.sizes pool index }
+        ensures { result ≡ (memory_now self.now).free_word pool index }
+    {
+        self.words[self.sizes.first_free_word(pool) + index]
+    }
+
+    /// The epoch.
+    pub fn epoch(&self) -> u64
+        ensures { result ≡ (memory_now self.now).epoch }
+    {
+        self.words[self.sizes.epoch_place()]
+    }
+
+    /// The word of a pass: the epoch that it is pinned to, or 0.
+    pub fn pass_word(&self, pass: usize) -> u64
+        requires { pass < self.now.sizes.passes }
+        ensures { result ≡ (memory_now self.now).pass_word pass }
+    {
+        self.words[self.sizes.pass_place(pass)]
     }
 }

@@ -1,5 +1,5 @@
 -- Commit: the first release of a change, the one step at which all held cells have their new words and the event is made.
-use Rattle.std.specs.Prelude.{◌≡◌, Some, ℕ, List, [], ⊤, ◌∷◌, ◌⊎◌, None, Bool, false, true, ◌↔◌, Option, ◌≢◌, ◌+◌, ◌++◌, length}
+use Rattle.std.specs.Prelude.{◌≡◌, Some, ℕ, List, [], ◌∷◌, ◌⊎◌, None, Bool, false, true, ◌↔◌, Option, ◌≢◌, ◌+◌, ◌++◌, length}
 use Rattle.art_cell.specs.declared.cells.Cell.TheVariants as cell
 use Rattle.art_cell.specs.declared.cells.Link.TheVariants.{Leaf as leaf, Node as node}
 use Rattle.art_cell.specs.declared.cells.Cell.{Cell}
@@ -12,7 +12,7 @@ use Rattle.art_step.specs.Knowledge.{Holds, IsShape}
 use Rattle.art_step.specs.Sound.{OneHolder, IsSound}
 use Rattle.art_step.specs.Steps.Give.{HandsOver}
 use Rattle.art_step.specs.Steps.Release.{IsNodeAmong, Drops}
-use Rattle.art_step.specs.Views.{Member, words_in, IsNotHeld, Views, Memory, SetsView}
+use Rattle.art_step.specs.Views.{Member, words_in, IsNotHeld, IsOnce, Views, Memory, SetsView}
 use Rattle.art_step.specs.declared.views.Event.{Event}
 use Rattle.art_step.specs.declared.views.Holding.{Holding}
 use Rattle.art_step.specs.declared.views.InHand.{InHand}
@@ -44,11 +44,6 @@ pub record AllNew (hs : List Holding) (s s' : Cells) : Type 0 where
 
 abbrev pub IsLinked : Cells → Link → Type 0
 IsLinked s d = (r : List ℕ) × StandsAt (heap_of s) d r
-
--- no number twice
-abbrev pub IsOnce : List Link → Type 0
-IsOnce [] = ⊤
-IsOnce (d ∷ ds) = (Member d ds → ⊥) × IsOnce ds
 
 -- the tree s becomes s': the rows are those after the command, whose answer is the map's; each linked node that is not held
 -- keeps its path; the numbers of us are unlinked and those of ls linked, and no others; each of us is named once, since it comes

@@ -4,7 +4,7 @@ use Rattle.art_cell.specs.declared.cells.Cell.TheVariants as cell
 use Rattle.art_cell.specs.declared.cells.Link.TheVariants.{Leaf as leaf}
 use Rattle.art_step.specs.Effects.{PutsWord}
 use Rattle.art_step.specs.Sound.{KeepsSound}
-use Rattle.art_step.specs.Views.{IsChildPlace, IsChildWord, Member, size_of, Memory, Views, SetsView}
+use Rattle.art_step.specs.Views.{IsChildPlace, IsChildWord, IsOnce, Member, links_in_hand, size_of, Memory, Views, SetsView}
 use Rattle.art_step.specs.declared.views.Holding.{Holding}
 use Rattle.art_step.specs.declared.views.InHand.{InHand}
 use Rattle.art_step.specs.declared.views.Sizes.{Sizes}
@@ -69,6 +69,7 @@ pub record LeafStep (z : Sizes) (p : ℕ) (v : View) (m : Memory) (f : Views) (m
   pub value : ℕ
   pub may : MayLeaf v leaf number place
   pub puts : Puts v.hand leaf (with_leaf_word leaf place value) hand
+  pub once : IsOnce (links_in_hand v.hand) → IsOnce (links_in_hand hand)
   pub word : PutsWord (cell.Leaf number) place value m f m' f'
   pub view : SetsView f p (view_after_leaf v hand) f'
 

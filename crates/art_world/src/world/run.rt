@@ -1,15 +1,15 @@
 //! A world, run by a list of turns.
-ghost use Rattle.std.specs.Prelude.{◌≡◌, ◌+◌, ◌≤◌, ◌<◌, ℕ, length, false, Some};
+ghost use Rattle.std.specs.Prelude.{◌≡◌, ◌≤◌, ◌<◌, ℕ, length, false, Some};
 ghost use Rattle.std.specs.List.{slice_get};
 ghost use Rattle.art_step.specs.Sound.{IsSound};
 ghost use Rattle.art_step.specs.WordRows.{view_at, views_of};
 ghost use Rattle.art_world.specs.Contents.{OnlyStepsOf, memory_now};
 ghost use Rattle.art_world.specs.Stepper.{OnlyStepped, pass_of, sizes_of, view_of, world_of};
-ghost use Rattle.art_world.specs.Turns.{IsRun, IsTurn};
+ghost use Rattle.art_world.specs.Turns.{CountsOne, IsRun, IsTurn};
 
 use super::{Stepper, World};
 
-/// Who makes at most one counted step of its pass at each of its turns. Numbers that it takes and gives back are not counted.
+/// Who makes one step of its pass at each of its turns, or none at its last.
 pub trait Actor {
     ghost use Rattle.std.specs.Prelude.{ℕ, Bool};
     ghost use Rattle.art_step.specs.declared.views.Sizes.{Sizes};
@@ -24,13 +24,13 @@ pub trait Actor {
     /// A turn of the pass leads from the first actor, in the first world, to the second actor, in the second world.
     ghost makes: { ℕ → Self → Contents → Self → Contents → Type 0 };
 
-    /// Makes one counted step, or none where it only gives up. Says whether it has ended.
+    /// Makes one step, or none where it only gives up: then it has ended. Says whether it has.
     fn turn(&mut self, stepper: &mut Stepper<'_>) -> bool
         requires going { has_ended self.old ≡ false }
         requires fits { fits self.old (sizes_of stepper.old) (view_of stepper.old) }
         ensures only { OnlyStepped stepper.old stepper.new }
         ensures fits { fits self.new (sizes_of stepper.new) (view_of stepper.new) }
-        ensures step { (view_of stepper.new).steps ≤ (view_of stepper.old).steps + 1 }
+        ensures step { CountsOne (view_of stepper.old) (view_of stepper.new) (has_ended self.new) }
         ensures makes { makes (pass_of stepper.old) self.old (world_of stepper.old) self.new (world_of stepper.new) }
         ensures ended { result ≡ has_ended self.new };
 
@@ -40,7 +40,7 @@ pub trait Actor {
 }
 
 impl World {
-    /// Each turn lets the actor that it names make one counted step; actor i is pass i. A turn that names no actor, or one
+    /// Each turn lets the actor that it names make one step, or end with none; actor i is pass i. A turn that names no actor, or one
     /// that has ended, does nothing.
     pub fn run<T: Actor>(&mut self, actors: &mut [T], turns: &[u32])
         requires passes { length actors.old ≤ length self.old.views }
@@ -80,7 +80,7 @@ impl World {
         requires going { T.has_ended actor.old ≡ false }
         requires fits { T.fits actor.old self.old.sizes (view_at self.old.views pass) }
         ensures only { OnlyStepsOf self.old self.new pass }
-        ensures step { (view_at self.new.views pass).steps ≤ (view_at self.old.views pass).steps + 1 }
+        ensures step { CountsOne (view_at self.old.views pass) (view_at self.new.views pass) (T.has_ended actor.new) }
         ensures sound_before { IsSound self.old.sizes (memory_now self.old) (views_of self.old.views) }
         ensures sound { IsSound self.new.sizes (memory_now self.new) (views_of self.new.views) }
         ensures fits { T.fits actor.new self.new.sizes (view_at self.new.views pass) }

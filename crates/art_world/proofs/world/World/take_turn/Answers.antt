@@ -1,7 +1,7 @@
 use Rattle.std.proofs.Common.{◌<◌, ◌∙◌, arith, inl, inr, length, refl, sym}
 use Rattle.std.proofs.lemmas.List.{set-get_or}
 use Rattle.std.proofs.lemmas.Option.{slice_get-get_or}
-use Rattle.art_world.proofs.TakenTurns.{fits_on}
+use Rattle.art_world.proofs.TakenTurns.{fits_on, one_made}
 use Rattle.art_world.proofs.world.World.take_turn.Goals as goal
 
 pub returns-then-ended-clause-is_turn : goal.returns-then-ended-clause-is_turn
@@ -26,7 +26,7 @@ returns-clause-is_turn g c =
       turn = e.makes;
       actors = refl;
       only = e.only;
-      step = e.step;
+      step = one_made c.args.pass c.args.self.now c.lend_to.new.self (g.T.Actor.has_ended c.lend_to.new.actor) (let low = c.requires.passes in omega (arith, low, c.if-pass-actors.false)) e.only e.step;
       sound_before = e.sound_before;
       sound = e.sound;
     })

@@ -1,8 +1,0 @@
--- The number that is free again.
-use Rattle.std.specs.Prelude.{true}
-use Rattle.art_step.specs.Effects.{SetsFree}
-use Rattle.art_step.specs.Steps.Give as give
-use Rattle.art_world.proofs.world.Stepper.put_back.Given as goal
-
-abbrev pub ghosts-put : goal.ghosts-put
-ghosts-put a = record { shown = λ v w. give.Outcome v w a._about.now; happens = λ m f m' f'. SetsFree m a._about.now true m' }

@@ -1,0 +1,12 @@
+-- The word of the pass is found.
+use Rattle.art_world.specs.Stepper.{pass_of, view_of, world_of}
+use Rattle.art_step.specs.WordRows.{views_of}
+use Rattle.art_world.proofs.ViewLists.{at_view}
+use Rattle.art_step.proofs.EpochMoves.{moves_watches}
+use Rattle.art_world.proofs.world.epoch_steps.StepperEpochSteps.pass_load.Goals as goal
+
+pub find-requires-clause-moves : goal.find-requires-clause-moves
+find-requires-clause-moves c i =
+    let s = c.args.self.now in
+    let k = world_of s in
+    moves_watches k.sizes k.words (views_of k.views) (pass_of s) (view_of s) i.sound (at_view k.views (pass_of s) s.inside) i.long c.args.pass c.pass_word-found.result c.requires.may c.pass_word-found.ensures
