@@ -11,8 +11,8 @@ use Rattle.art_step.specs.declared.deeds.Deed.{Deed}
 use Rattle.art_tree.specs.Changes.{Moves}
 use Rattle.art_tree.specs.Heaps.{Cells, heap_of}
 use Rattle.art_step.specs.Knowledge.{IsNodeCell, IsShape}
-use Rattle.art_step.specs.Views.{IsNotHeld}
-use Rattle.art_step.specs.Steps.Commit.{IsLinked, IsOnce, Commits}
+use Rattle.art_step.specs.Views.{IsOnce, IsNotHeld}
+use Rattle.art_step.specs.Steps.Commit.{IsLinked, Commits}
 use Rattle.art_tree.specs.Tree.{Heap, StandsAt}
 use Rattle.art_step.specs.Views.{Member, IsNumber}
 use Rattle.art_tree.specs.WordChanges.{WritesOnly}

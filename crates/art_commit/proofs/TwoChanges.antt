@@ -13,8 +13,8 @@ use Rattle.art_tree.specs.Heaps.{Cells, heap_of}
 use Rattle.art_tree.specs.Rows.{HasRows}
 use Rattle.art_tree.specs.Tree.{StandsAt}
 use Rattle.art_step.specs.Histories.{becomes}
-use Rattle.art_step.specs.Views.{IsNotHeld}
-use Rattle.art_step.specs.Steps.Commit.{Knows, IsLinked, IsOnce, Commits}
+use Rattle.art_step.specs.Views.{IsOnce, IsNotHeld}
+use Rattle.art_step.specs.Steps.Commit.{Knows, IsLinked, Commits}
 use Rattle.art_step.specs.Views.{Member}
 use Rattle.art_step.proofs.SetsView.{member_append, member_front, member_back}
 

@@ -23,9 +23,9 @@ use Rattle.art_step.specs.Histories.{IsAnswered, becomes}
 use Rattle.art_step.specs.Knowledge.{IsShape}
 use Rattle.art_cell.specs.Leaves.{IsLeaf}
 use Rattle.art_tree.specs.Rows.{ByteMap, HasRows}
-use Rattle.art_step.specs.Steps.Commit.{coming, Knows, AllNew, IsOnce, Commits}
+use Rattle.art_step.specs.Steps.Commit.{coming, Knows, AllNew, Commits}
 use Rattle.art_tree.specs.Tree.{Place, Slot, child_at_place, path_past, PlaceAt, Begins, HasTwo}
-use Rattle.art_step.specs.Views.{Member, IsNumber, words_in}
+use Rattle.art_step.specs.Views.{IsOnce, Member, IsNumber, words_in}
 use Rattle.art_tree.specs.WordChanges.{FitsWord, at_byte, WritesPlace, WritesNode, two_children, cell_of, KeepsChildren}
 use Rattle.art_cell.specs.Words.{child_of}
 

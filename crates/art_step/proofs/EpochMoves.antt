@@ -39,8 +39,9 @@ module _ (z : Sizes) (ws : List ℕ) (f : Views) (p : ℕ) (v : View) (r : IsSou
   epoch_fits x is few = let bound = r.formed.epoch in omega arith
 
   -- the epoch is found
-  pub moves_notes : (found : ℕ) → found ≡ m.epoch → Moves z ws f p v ws (λ v w. epoch.Outcome v w found) (FindsEpoch found)
-  moves_notes found is = moved z ws f p v r at long ws (λ v w. epoch.Outcome v w found) (FindsEpoch found) (epoch.view_after v m.epoch) refl (ap (epoch.view_after v) (sym is))
+  pub moves_notes : (found : ℕ) → found ≡ m.epoch → Moves z ws f p v ws (λ v w. epoch.Outcome z v w found) (FindsEpoch found)
+  moves_notes found is = moved z ws f p v r at long ws (λ v w. epoch.Outcome z v w found) (FindsEpoch found) (epoch.view_after v m.epoch) refl
+      record { some = let low = r.unstamped.epoch in omega arith; low = let bound = r.formed.epoch in omega arith; is = ap (epoch.view_after v) (sym is) }
       (λ g t. IsEpoch record { words = refl; view = t })
       (λ g t. record { found = is; same = refl })
 

@@ -35,6 +35,12 @@ index_again pool i k low = let n = number_again pool (64 * i + k) in omega (arit
 pub bit_again : (pool : Pool) (i k : ℕ) → k < 64 → free_bit (number_at pool i k) ≡ k
 bit_again pool i k low = let n = number_again pool (64 * i + k) in omega (arith, n)
 
+-- a number whose bit is set is free
+pub set_is_free : (m : Memory) (pool : Pool) (i k : ℕ) → k < 64 → (bit_of (m.free_word pool i) k == 1) ≡ true → is_free m (number_at pool i k) ≡ true
+set_is_free m pool i k low is =
+    let word : m.free_word (pool_of (number_at pool i k)) (free_index (number_at pool i k)) ≡ m.free_word pool i = ap₂ m.free_word (pool_again pool (64 * i + k)) (index_again pool i k low) in
+    ap₂ (λ (x j : ℕ). bit_of x j == 1) word (bit_again pool i k low) ∙ is
+
 -- two numbers of one pool, word and bit are one
 same_number : (e d : Link) → pool_of e ≡ pool_of d → free_index e ≡ free_index d → free_bit e ≡ free_bit d → e ≡ d
 same_number e d pool index bit =

@@ -22,6 +22,7 @@ use Rattle.art_step.specs.Views.{IsNumber, Memory, Views, bit_of, free_bit, free
 use Rattle.art_step.specs.WordPlaces.{HasFreeWord, first_free_word, word_count}
 use Rattle.art_step.specs.WordRows.{memory_of}
 use Rattle.art_step.proofs.Changing.{handed_over}
+use Rattle.art_step.proofs.FreeBits.{free_is_number, set_is_free}
 use Rattle.art_step.proofs.Gathered.{sifted}
 use Rattle.art_step.proofs.Moves.{Moves, moved}
 use Rattle.art_step.proofs.StepNumbers.{not_free}
@@ -109,17 +110,27 @@ module _ (z : Sizes) (ws : List ℕ) (f : Views) (p : ℕ) (v : View) (r : IsSou
   pub in_use : (d : Link) → give.May v d ⊎ give.MayFree z v d → IsInUse d
   in_use d may = ⊎_elim (λ (a : give.May v d). in_hand d a) (λ (a : give.MayFree z v d). in_limbo d a) may
 
+  -- a number that is taken is one that there is
+  taken_number : (pool : Pool) (i : ℕ) (bit : Option ℕ) → IfSome bit (λ k. k < 64) → IfSome (taken pool i bit (m.free_word pool i)) (λ d. IsNumber z d)
+  taken_number pool i None low = tt
+  taken_number pool i (Some k) low = by_test (bit_of (m.free_word pool i) k == 1) refl
+    where
+      by_test : (b : Bool) → (bit_of (m.free_word pool i) k == 1) ≡ b → IfSome (if b then Some (number_at pool i k) else None) (λ d. IsNumber z d)
+      by_test true is = free_is_number z m f (number_at pool i k) r (set_is_free m pool i k low is)
+      by_test false is = tt
+
   -- a word of free numbers is found, and loses the bit
   pub moves_takes : (us : List ℕ) (pool : Pool) (i : ℕ) (bit : Option ℕ) (found : ℕ) → take_free.May z pool i bit → found ≡ m.free_word pool i → SetsFreeWord m pool i (without_bit bit found) (memory_of z us)
-      → Moves z ws f p v us (λ v w. take_free.Outcome v w pool i bit found) (take_free.Takes pool i bit found)
+      → Moves z ws f p v us (λ v w. take_free.Outcome z v w pool i bit found) (take_free.Takes pool i bit found)
   moves_takes us pool i bit found may is sets =
       let x : ℕ = m.free_word pool i in
       let words : List ℕ = words_for z ws (taken pool i bit x) in
       let copied = taken_words z ws (taken pool i bit x) in
       let loses : SetsFreeWord m pool i (without_bit bit x) (memory_of z us) = subst (λ (y : ℕ). SetsFreeWord m pool i (without_bit bit y) (memory_of z us)) is sets in
-      moved z ws f p v r at long us (λ v w. take_free.Outcome v w pool i bit found) (take_free.Takes pool i bit found) (take_free.view_after v pool i bit x words) (taking_pass v pool i bit x words)
+      moved z ws f p v r at long us (λ v w. take_free.Outcome z v w pool i bit found) (take_free.Takes pool i bit found) (take_free.view_after v pool i bit x words) (taking_pass v pool i bit x words)
       record {
         words = words;
+        there = subst (λ (y : ℕ). IfSome (taken pool i bit y) (λ d. IsNumber z d)) (sym is) (taken_number pool i bit may.low);
         long = subst (λ (y : ℕ). IfSome (taken pool i bit y) (λ d. length words ≡ word_count_of d)) (sym is) (words_counted m (taken pool i bit x) words copied);
         is = ap (λ (y : ℕ). take_free.view_after v pool i bit y words) (sym is);
       }

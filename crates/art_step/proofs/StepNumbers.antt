@@ -27,7 +27,7 @@ use Rattle.art_step.specs.Steps.Take.{IsTaken}
 use Rattle.art_step.specs.Views.{HaveChildWords, Member, Memory, words_in, IsClear, IsLocked, IsObsolete, IsVersion, bit_of, cell_named, free_bit, free_index, is_free, number_at, pool_of, pool_rank, Views, SetsView}
 use Rattle.art_step.proofs.Histories.{history_stays}
 use Rattle.art_step.proofs.SoundParts.{IdleHolds, account_on, unstamped_turn, holder_same, formed_turn}
-use Rattle.art_step.proofs.FreeBits.{SetsFree, bit_again, frees_number, index_again, pool_again, takes_number}
+use Rattle.art_step.proofs.FreeBits.{SetsFree, bit_again, frees_number, index_again, pool_again, set_is_free, takes_number}
 use Rattle.art_step.proofs.Gathered.{key_member}
 use Rattle.art_step.proofs.StepNotes.{quiet}
 use Rattle.art_step.proofs.WordPlaces.{same_pool}
@@ -352,7 +352,7 @@ module _ (z : Sizes) (p : ℕ) (v : View) (m : Memory) (f : Views) (m' : Memory)
       let index : free_index d ≡ i = index_again pool i k low in
       let place : free_bit d ≡ k = bit_again pool i k low in
       let same : m.free_word (pool_of d) (free_index d) ≡ word = ap₂ m.free_word same_pool index in
-      let free : is_free m d ≡ true = ap₂ (λ (w j : ℕ). bit_of w j == 1) same place ∙ bit in
+      let free : is_free m d ≡ true = set_is_free m pool i k low bit in
       let cleared : m.free_word (pool_of d) (free_index d) - 2 ^ free_bit d ≡ word - 2 ^ k = ap₂ (λ (w j : ℕ). w - 2 ^ j) same place in
       let of_number : SetsFreeWord m (pool_of d) (free_index d) (m.free_word (pool_of d) (free_index d) - 2 ^ free_bit d) m' =
           subst (λ (y : Pool × ℕ × ℕ). SetsFreeWord m y.0 y.1 y.2 m') (λ j. (sym same_pool j, sym index j, sym cleared j)) sets in

@@ -1,5 +1,5 @@
 //! The atomic steps that manage numbers and epochs, of one pass, whoever keeps the words.
-ghost use Rattle.std.specs.Prelude.{◌⊎◌};
+ghost use Rattle.std.specs.Prelude.{◌≡◌, ◌⊎◌};
 ghost use Rattle.art_step.specs.Effects.{FindsEpoch, FindsPassWord, PutsPassWord, RaisesEpoch, SetsBit};
 ghost use Rattle.art_step.specs.Steps.{AtStep};
 ghost use Rattle.art_step.specs.Steps.Advance as advance;
@@ -10,12 +10,20 @@ ghost use Rattle.art_step.specs.Steps.Take as take_free;
 ghost use Rattle.art_step.specs.Steps.Watch as watch;
 ghost use Rattle.art_step.specs.Tokens.{link_of_number};
 
-use crate::{Number, Steps};
+use crate::{Number, Sizes, Steps};
 use art_cell::Pool;
 
 /// The steps of one pass by which numbers are taken and given back, and by which the epoch, its own pin and the pins of the
-/// others are seen and changed. Each call makes one atomic step.
+/// others are seen and changed. Each call makes one atomic step, but for the two that tell what never changes.
 pub trait EpochSteps: Steps {
+    /// How many numbers each pool has, and how many passes there are.
+    fn pool_sizes(&self) -> Sizes
+        ensures { result ≡ Self.sizes self.now };
+
+    /// The number of the pass.
+    fn own_pass(&self) -> u32
+        ensures { result ≡ (Self.view self.now).pass };
+
     /// The word of free numbers at an index of the pool, which loses the bit, if one is named. A number whose bit was set is
     /// in the hand of the pass then.
     fn bits_clear(&mut self, pool: Pool, index: u32, bit: Option<u32>) -> u64
@@ -23,7 +31,7 @@ pub trait EpochSteps: Steps {
         ensures only { Self.only self.old self.new }
         ensures at_once { AtStep (Self.sizes self.old) (Self.view self.old) (Self.view self.new) (Self.instants self.old self.new)
             (take_free.Takes pool index bit result) }
-        ensures row { take_free.Outcome (Self.view self.old) (Self.view self.new) pool index bit result };
+        ensures row { take_free.Outcome (Self.sizes self.old) (Self.view self.old) (Self.view self.new) pool index bit result };
 
     /// The bit of a number is set, which is free again: a number in hand that is not held, or, while the pass is idle, one in
     /// its limbo that is marked for every other pass.
@@ -43,7 +51,7 @@ pub trait EpochSteps: Steps {
         ensures only { Self.only self.old self.new }
         ensures at_once { AtStep (Self.sizes self.old) (Self.view self.old) (Self.view self.new) (Self.instants self.old self.new)
             (FindsEpoch result) }
-        ensures row { epoch.Outcome (Self.view self.old) (Self.view self.new) result };
+        ensures row { epoch.Outcome (Self.sizes self.old) (Self.view self.old) (Self.view self.new) result };
 
     /// Stores the word of the pass: from idle the epoch that it noted, or 0, by which it goes idle.
     fn pass_store(&mut self, word: u64)

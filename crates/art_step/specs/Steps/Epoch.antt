@@ -1,5 +1,5 @@
 -- Epoch: the epoch is found and noted, to pin or to advance, and labels what is in limbo without a label.
-use Rattle.std.specs.Prelude.{ℕ, List, map, ◌≡◌, ◌+◌, Option, Some, None}
+use Rattle.std.specs.Prelude.{ℕ, List, map, ◌≡◌, ◌+◌, ◌^◌, ◌<◌, Option, Some, None}
 use Rattle.art_step.specs.Sound.{KeepsSound}
 use Rattle.art_step.specs.Views.{Memory, Views, SetsView}
 use Rattle.art_step.specs.declared.views.Retired.{Retired}
@@ -22,8 +22,11 @@ pub record Step (z : Sizes) (p : ℕ) (v : View) (m : Memory) (f : Views) (m' : 
   pub words : m' ≡ m
   pub view : SetsView f p (view_after v m.epoch) f'
 
-abbrev pub Outcome : View → View → ℕ → Type 0
-Outcome v w x = w ≡ view_after v x
+-- the epoch is never 0, and below its bound
+pub record Outcome (z : Sizes) (v w : View) (x : ℕ) : Type 0 where
+  pub some : 0 < x
+  pub low : x < 2 ^ 62 + z.passes
+  pub is : w ≡ view_after v x
 
 abbrev pub Law : Type 0
 Law = KeepsSound Step

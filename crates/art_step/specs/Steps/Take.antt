@@ -7,7 +7,7 @@ use Rattle.art_cell.specs.declared.cells.Link.{Link}
 use Rattle.art_cell.specs.declared.layouts.Pool.{Pool}
 use Rattle.art_step.specs.Effects.{SetsFreeWord}
 use Rattle.art_step.specs.Sound.{KeepsSound}
-use Rattle.art_step.specs.Views.{Memory, words_in, Views, SetsView, bit_of, number_at, pool_rank}
+use Rattle.art_step.specs.Views.{IsNumber, Memory, words_in, Views, SetsView, bit_of, number_at, pool_rank}
 use Rattle.art_step.specs.WordPlaces.{HasFreeWord}
 use Rattle.art_step.specs.declared.views.Found.{Found}
 use Rattle.art_step.specs.declared.views.Sizes.{Sizes}
@@ -81,8 +81,10 @@ abbrev pub word_count_of : Link → ℕ
 word_count_of (leaf l) = 10
 word_count_of (node n) = 0
 
-pub record Outcome (v w : View) (pool : Pool) (i : ℕ) (bit : Option ℕ) (x : ℕ) : Type 0 where
+-- a number that is taken is one that there is
+pub record Outcome (z : Sizes) (v w : View) (pool : Pool) (i : ℕ) (bit : Option ℕ) (x : ℕ) : Type 0 where
   pub words : List ℕ
+  pub there : IfSome (taken pool i bit x) (λ d. IsNumber z d)
   pub long : IfSome (taken pool i bit x) (λ d. length words ≡ word_count_of d)
   pub is : w ≡ view_after v pool i bit x words
 

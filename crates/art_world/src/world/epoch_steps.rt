@@ -4,10 +4,20 @@ ghost use Rattle.art_step.specs.Steps.Take.{without_bit};
 
 use super::Stepper;
 use art_cell::{Link, Pool};
-use art_step::{EpochSteps, Number};
+use art_step::{EpochSteps, Number, Sizes};
 use std::marker::Brand;
 
 impl EpochSteps for Stepper<'_> {
+    fn pool_sizes(&self) -> Sizes {
+        self.world.sizes()
+    }
+
+    fn own_pass(&self) -> u32 {
+        self.world.stays_sound();
+        let _ = self.world.sizes();
+        self.pass as u32
+    }
+
     fn bits_clear(&mut self, pool: Pool, index: u32, bit: Option<u32>) -> u64 {
         self.world.stays_sound();
         let found = self.world.free_word(pool, index as usize);
