@@ -1,0 +1,216 @@
+-- A search for a number of a pool, from step to step.
+use Rattle.std.proofs.Common.{◌≡◌, ◌≢◌, ◌⊎◌, ℕ, ◌+◌, ◌-◌, ◌*◌, ◌/◌, ◌%◌, ◌^◌, ◌<◌, ◌≤◌, ◌==◌, Bool, true, false, if◌then◌else◌, nat_lt, List, ◌∷◌, length, inl, inr, ⊎_elim, sym, refl, ap, ◌∙◌, subst, arith, ltb-true, ltb-false, w64}
+use Rattle.std.proofs.lemmas.Bool.{cases_Bool, cases_eq, cases_lt, eqb-true, eqb-false, eq-eqb, ne_eqb, lt-ltb, le-ltb}
+use Rattle.std.proofs.lemmas.Nat.Bits.{bit_at-trailing_zeros}
+use Rattle.std.proofs.lemmas.Option.{same_Some}
+use Rattle.std.specs.Int.{trailing_zeros}
+use Rattle.std.specs.Prelude.{Option, Some, None, IfSome}
+use Rattle.art_cell.specs.declared.cells.Link.{Link}
+use Rattle.art_cell.specs.declared.layouts.Pool.{Pool}
+use Rattle.art_epoch.specs.Asking.{Answers, IsAllowed}
+use Rattle.art_epoch.specs.Taking.{Fits, GaveNone, IsLowest, IsSearch, IsSeen, NoneBefore, OnlyTakes, SearchFits, Takes, TookLowest, TookNone, WasFound, WasLost, after_clear, after_look, asks, asks_at, search_after, steps_left}
+use Rattle.art_epoch.specs.declared.asked.Asked.{Asked}
+use Rattle.art_epoch.specs.declared.asked.Asked.TheVariants.{Clear}
+use Rattle.art_epoch.specs.declared.taking.Search.{Search}
+use Rattle.art_epoch.specs.declared.taking.Search.TheVariants.{Looking, Clearing, Took}
+use Rattle.art_epoch.specs.declared.taking.Taking.{Taking}
+use Rattle.art_step.specs.declared.views.Found.{Found}
+use Rattle.art_step.specs.declared.views.InHand.{InHand}
+use Rattle.art_step.specs.declared.views.Sizes.{Sizes}
+use Rattle.art_step.specs.declared.views.View.{View}
+use Rattle.art_step.specs.declared.views.Word.TheVariants.{Free as free_word}
+use Rattle.art_step.specs.Steps.Take as take_free
+use Rattle.art_step.specs.Views.{IsNumber, Member, bit_of, number_at}
+use Rattle.art_step.specs.WordPlaces.{free_words, pool_size}
+
+-- ---- the view after a word was found
+
+-- from v to w the word was found as x, and nothing else changed but steps, failures and the hand
+record FindsWord (v w : View) (pool : Pool) (i x : ℕ) : Type 0 where
+  only : OnlyTakes v w
+  steps : w.steps ≡ v.steps + 1
+  found : w.found ≡ record { word = free_word pool i x; step = v.steps + 1 } ∷ v.found
+
+finds_in : (v : View) (pool : Pool) (i : ℕ) (bit : Option ℕ) (x : ℕ) (ws : List ℕ) → FindsWord v (take_free.view_after v pool i bit x ws) pool i x
+finds_in v pool i None x ws = record { only = refl; steps = refl; found = refl }
+finds_in v pool i (Some k) x ws = ⊎_elim
+    (λ (e : (bit_of x k == 1) ≡ true). rw e record { only = refl; steps = refl; found = refl })
+    (λ (e : (bit_of x k == 1) ≡ false). rw e record { only = refl; steps = refl; found = refl })
+    (cases_Bool (bit_of x k == 1))
+
+only_then : (u v w : View) → OnlyTakes u v → OnlyTakes v w → OnlyTakes u w
+only_then u v w a b = b ∙ ap (λ (y : View). record y { steps = w.steps; failures = w.failures; found = w.found; hand = w.hand }) a
+
+module _ (v w : View) (pool : Pool) (i x : ℕ) (k : FindsWord v w pool i x) where
+  -- what was found stays found
+  found_on : (since : ℕ) (q : Pool) (j y t : ℕ) → WasFound v since q j y t → WasFound w since q j y t
+  found_on since q j y t o = record { later = o.later; found = subst (λ (xs : List Found). Member (record { word = free_word q j y; step = t }) xs) (sym k.found) (inr o.found) }
+
+  gave_none_on : (since : ℕ) (q : Pool) (j : ℕ) → GaveNone v since q j → GaveNone w since q j
+  gave_none_on since q j o = ⊎_elim
+      (λ (e : (t : ℕ) × WasFound v since q j 0 t). inl (e.0, found_on since q j 0 e.0 e.1))
+      (λ (l : WasLost v since q j). inr record {
+        word = l.word; bit = l.bit; lowest = l.lowest;
+        at = l.at; seen = found_on since q j l.word l.at l.seen;
+        again = l.again; later = l.later; after = l.after; gone = l.gone; lost = found_on since q j l.again l.later l.lost;
+      })
+      o
+
+  -- and so does this word
+  found_now : (since : ℕ) → since ≤ v.steps → WasFound w since pool i x (v.steps + 1)
+  found_now since low = record { later = omega arith; found = subst (λ (xs : List Found). Member (record { word = free_word pool i x; step = v.steps + 1 }) xs) (sym k.found) (inl refl) }
+
+  before_on : (since n : ℕ) → NoneBefore v since pool n → NoneBefore w since pool n
+  before_on since n o j low = gave_none_on since pool j (o j low)
+
+  -- where the word gave none, neither did those before the next
+  before_next : (since : ℕ) → NoneBefore v since pool i → GaveNone w since pool i → NoneBefore w since pool (i + 1)
+  before_next since o none j low = ⊎_elim
+      (λ (e : j ≡ i). subst (GaveNone w since pool) (sym e) none)
+      (λ (other : j ≢ i). before_on since i o j (omega arith))
+      (cases_eq j i)
+
+-- ---- from stage to stage
+
+lowest_bit : (x : ℕ) → x ≢ 0 → x < 2 ^ 64 → IsLowest x (trailing_zeros w64 x)
+lowest_bit x some low = let k = bit_at-trailing_zeros w64 x (omega arith) low in record { low = k.0; is = k.1; least = k.2 }
+
+module _ (z : Sizes) (v0 : View) (m : Taking) (v w : View) (x : ℕ) (fits : Fits z v0 m v) where
+  abbrev After : Search → Type 0
+  After s = Fits z v0 (record m { search = s }) w
+
+  module _ (i : ℕ) (bit : Option ℕ) (row : take_free.Outcome z v w m.pool i bit x) where
+    finds : FindsWord v w m.pool i x
+    finds = subst (λ (u : View). FindsWord v u m.pool i x) (sym row.is) (finds_in v m.pool i bit x row.words)
+
+    -- the search has come to another stage
+    comes_to : (s : Search) → v.steps + 1 + steps_left m.words s ≤ v0.steps + 2 * m.words → SearchFits z v0 w m.pool m.words s → After s
+    comes_to s few search = let e = finds.steps in let some = fits.some in record {
+      words = fits.words;
+      few = fits.few;
+      only = only_then v0 v w fits.only finds.only;
+      steps = omega arith;
+      some = omega arith;
+      search = search;
+    }
+
+  -- a word was looked at
+  looks : (i : ℕ) → m.search ≡ Looking i → i < m.words → x < 2 ^ 64 → take_free.Outcome z v w m.pool i None x → After (after_look i x)
+  looks i is inside low row =
+      let was : SearchFits z v0 v m.pool m.words (Looking i) = subst (SearchFits z v0 v m.pool m.words) is fits.search in
+      let steps : v.steps + 2 * (m.words - i) ≤ v0.steps + 2 * m.words = subst (λ (s : Search). v.steps + steps_left m.words s ≤ v0.steps + 2 * m.words) is fits.steps in
+      let k = finds i None row in
+      let hand : w.hand ≡ v0.hand = ap (λ (u : View). u.hand) row.is ∙ was.2 in
+      let now : WasFound w v0.steps m.pool i x (v.steps + 1) = found_now v w m.pool i x k v0.steps fits.some in
+      ⊎_elim
+      (λ (none : x ≡ 0).
+      rw (eq-eqb x 0 none) (comes_to i None row (Looking (i + 1)) (omega arith)
+      (omega arith, before_next v w m.pool i x k v0.steps was.1 (inl (v.steps + 1, subst (λ (y : ℕ). WasFound w v0.steps m.pool i y (v.steps + 1)) none now)), hand)))
+      (λ (some : x ≢ 0).
+      rw (ne_eqb x 0 some) (comes_to i None row (Clearing i (trailing_zeros w64 x)) (omega arith) record {
+        inside = inside;
+        before = before_on v w m.pool i x k v0.steps i was.1;
+        word = x;
+        lowest = lowest_bit x some low;
+        at = v.steps + 1;
+        past = let e = k.steps in omega arith;
+        found = now;
+        hand = hand;
+      }))
+      (cases_eq x 0)
+
+  -- a bit was cleared, or was not there any more
+  clears : (i k : ℕ) → m.search ≡ Clearing i k → take_free.Outcome z v w m.pool i (Some k) x → After (after_clear i k x)
+  clears i k is row =
+      let was : IsSeen v0 v m.pool m.words i k = subst (SearchFits z v0 v m.pool m.words) is fits.search in
+      let steps : v.steps + (2 * (m.words - i) - 1) ≤ v0.steps + 2 * m.words = subst (λ (s : Search). v.steps + steps_left m.words s ≤ v0.steps + 2 * m.words) is fits.steps in
+      let inside = was.inside in
+      let f = finds i (Some k) row in
+      by_bit was f (bit_of x k == 1) refl row.there row.long (ap (λ (u : View). u.hand) row.is)
+    where
+      by_bit : (was : IsSeen v0 v m.pool m.words i k) → FindsWord v w m.pool i x → (b : Bool) → (bit_of x k == 1) ≡ b
+          → IfSome (if b then Some (number_at m.pool i k) else None) (λ d. IsNumber z d) → IfSome (if b then Some (number_at m.pool i k) else None) (λ d. length row.words ≡ take_free.word_count_of d)
+          → w.hand ≡ (take_free.view_after v m.pool i (Some k) x row.words).hand
+          → After (if b then Took i k else Looking (i + 1))
+      by_bit was f true set there long hand = comes_to i (Some k) row (Took i k) (let inside = was.inside in let all = subst (λ (s : Search). v.steps + steps_left m.words s ≤ v0.steps + 2 * m.words) is fits.steps in omega arith) (was.inside, was.lowest.low, record {
+        index = i;
+        bit = k;
+        is = refl;
+        there = there;
+        before = before_on v w m.pool i x f v0.steps i was.before;
+        word = was.word;
+        lowest = was.lowest;
+        at = was.at;
+        found = found_on v w m.pool i x f v0.steps m.pool i was.word was.at was.found;
+        words = row.words;
+        long = long;
+        hand = hand ∙ (ap (λ (b : Bool). (if b then record (take_free.view_noted v m.pool i x) { hand = record { link = number_at m.pool i k; words = row.words } ∷ v.hand } else record (take_free.view_noted v m.pool i x) { failures = v.failures + bit_of (take_free.last_found m.pool i v.found) k }).hand) set
+            ∙ ap (λ (h : List InHand). record { link = number_at m.pool i k; words = row.words } ∷ h) was.hand);
+      })
+      by_bit was f false unset there long hand = comes_to i (Some k) row (Looking (i + 1)) (let inside = was.inside in let all = subst (λ (s : Search). v.steps + steps_left m.words s ≤ v0.steps + 2 * m.words) is fits.steps in omega arith) (
+        let inside = was.inside in omega arith,
+        before_next v w m.pool i x f v0.steps was.before (inr record {
+          word = was.word;
+          bit = k;
+          lowest = was.lowest;
+          at = was.at;
+          seen = found_on v w m.pool i x f v0.steps m.pool i was.word was.at was.found;
+          again = x;
+          later = v.steps + 1;
+          after = let past = was.past in omega arith;
+          gone = let not_one = eqb-false (bit_of x k) 1 unset in omega arith;
+          lost = found_now v w m.pool i x f v0.steps fits.some;
+        }),
+        hand ∙ (ap (λ (b : Bool). (if b then record (take_free.view_noted v m.pool i x) { hand = record { link = number_at m.pool i k; words = row.words } ∷ v.hand } else record (take_free.view_noted v m.pool i x) { failures = v.failures + bit_of (take_free.last_found m.pool i v.found) k }).hand) unset ∙ was.hand),
+      )
+
+-- what was asked at a stage
+asked_looking : (pool : Pool) (words i : ℕ) (a : Asked) → asks_at pool words (Looking i) ≡ Some a → (i < words) × (Clear pool i None ≡ a)
+asked_looking pool words i a is = by_test (nat_lt i words) refl is
+  where
+    by_test : (b : Bool) → nat_lt i words ≡ b → (if b then Some (Clear pool i None) else None) ≡ Some a → (i < words) × (Clear pool i None ≡ a)
+    by_test true low e = (ltb-true i words low, same_Some _ a e)
+    by_test false low e = absurd (cc)
+
+-- the machine goes on as the step was answered
+pub told_fits : (z : Sizes) (v0 : View) (m : Taking) (v w : View) (a : Asked) (x : ℕ) → x < 2 ^ 64 → Fits z v0 m v → asks m ≡ Some a → Answers z a x v w → Fits z v0 (record m { search = search_after x m.search }) w
+told_fits z v0 m v w a x low fits asked row = by_search m.search refl asked
+  where
+    by_search : (s : Search) → m.search ≡ s → asks_at m.pool m.words s ≡ Some a → Fits z v0 (record m { search = search_after x s }) w
+    by_search (Looking i) is e = let k = asked_looking m.pool m.words i a e in looks z v0 m v w x fits i is k.0 low (subst (λ (b : Asked). Answers z b x v w) (sym k.1) row)
+    by_search (Clearing i k) is e = clears z v0 m v w x fits i k is (subst (λ (b : Asked). Answers z b x v w) (sym (same_Some (Clear m.pool i (Some k)) a e)) row)
+    by_search (Took i k) is e = absurd (cc)
+
+-- ---- the stage is one of 32 bits
+
+pub is_search : (z : Sizes) (v0 : View) (m : Taking) (v : View) (a : Asked) → Fits z v0 m v → asks m ≡ Some a → IsSearch m.search
+is_search z v0 m v a fits asked = by_search m.search fits.search asked
+  where
+    by_search : (s : Search) → SearchFits z v0 v m.pool m.words s → asks_at m.pool m.words s ≡ Some a → IsSearch s
+    by_search (Looking i) k e = let low = (asked_looking m.pool m.words i a e).0 in let few = fits.few in omega arith
+    by_search (Clearing i k) o e = let low = o.inside in let few = fits.few in (omega arith, o.lowest.low)
+    by_search (Took i k) o e = tt
+
+-- a number that was taken fits 32 bits
+pub took_low : (z : Sizes) (v0 : View) (m : Taking) (v : View) (i k : ℕ) → Fits z v0 m v → m.search ≡ Took i k → 64 * i + k < 2 ^ 32
+took_low z v0 m v i k fits is = let o = subst (SearchFits z v0 v m.pool m.words) is fits.search in let low = o.0 in let bit = o.1 in let few = fits.few in omega arith
+
+-- ---- how it ends
+
+pub took : (z : Sizes) (v0 : View) (m : Taking) (v : View) (i k : ℕ) → Fits z v0 m v → m.search ≡ Took i k → TookLowest z v0 v m.pool (number_at m.pool i k)
+took z v0 m v i k fits is = (subst (SearchFits z v0 v m.pool m.words) is fits.search).2
+
+pub none_taken : (z : Sizes) (v0 : View) (m : Taking) (v : View) → Fits z v0 m v → asks m ≡ None → ((i k : ℕ) → m.search ≢ Took i k) → TookNone z v0 v m.pool
+none_taken z v0 m v fits asked other = by_search m.search refl fits.search asked
+  where
+    by_search : (s : Search) → m.search ≡ s → SearchFits z v0 v m.pool m.words s → asks_at m.pool m.words s ≡ None → TookNone z v0 v m.pool
+    by_search (Looking i) is o e = by_test (nat_lt i m.words) refl e
+      where
+        by_test : (b : Bool) → nat_lt i m.words ≡ b → (if b then Some (Clear m.pool i None) else None) ≡ None → TookNone z v0 v m.pool
+        by_test true low e = absurd (cc)
+        by_test false high e =
+            let past : m.words ≤ i = ltb-false i m.words high in
+            let words = fits.words in
+            record { none = λ j low. o.1 j (omega arith); hand = o.2 }
+    by_search (Clearing i k) is o e = absurd (cc)
+    by_search (Took i k) is o e = absurd (other i k is)

@@ -1,0 +1,43 @@
+-- The steps are those of the machine.
+use Rattle.std.proofs.Common.{◌≡◌, ◌+◌, ◌*◌, ◌∙◌, arith, refl, sym, subst}
+use Rattle.art_epoch.specs.Asking.{Answers, IsAllowed}
+use Rattle.art_cell.specs.declared.layouts.Pool.{Pool}
+use Rattle.art_epoch.specs.Taking.{Fits, Takes}
+use Rattle.art_epoch.specs.declared.taking.Taking.{Taking}
+use Rattle.art_step.specs.declared.views.Sizes.{Sizes}
+use Rattle.art_epoch.proofs.Counting.{answers_count}
+use Rattle.art_epoch.proofs.taking.take.Goals as goal
+
+pub loop-asked-init : goal.loop-asked-init
+loop-asked-init g c =
+    let s = c.args.steps.now in
+    record {
+      only = g.met.S.Steps.only_same s;
+      sizes = refl;
+      pool = c.new-taking.ensures.pool;
+      words = refl;
+      fits = subst (λ (z : Sizes). Fits z (g.S.Steps.view s) c.new-taking.result (g.S.Steps.view s)) c.pool_sizes.ensures (c.new-taking.ensures.fits (g.S.Steps.view s));
+    }
+
+pub loop-asked-preserved : goal.loop-asked-preserved
+loop-asked-preserved g c =
+    let s = c.args.steps.now in
+    let t = c.loop-asked.steps in
+    let i = c.loop-asked.invariant in
+    let z = g.S.Steps.sizes s in
+    let row = subst (λ (y : Sizes). Answers y c.in-Some.asked c.make-word.result (g.S.Steps.view t) (g.S.Steps.view c.make-word.new.steps)) i.sizes c.make-word.ensures.row in
+    record {
+      only = g.met.S.Steps.only_then s t c.make-word.new.steps i.only c.make-word.ensures.only;
+      sizes = g.met.S.Steps.only_sizes t c.make-word.new.steps c.make-word.ensures.only ∙ i.sizes;
+      pool = c.told.ensures.pool ∙ i.pool;
+      words = c.told.ensures.words ∙ i.words;
+      fits = c.told.ensures.fits z (g.S.Steps.view s) (g.S.Steps.view t) (g.S.Steps.view c.make-word.new.steps) c.in-Some.asked i.fits (sym c.next.ensures.asks ∙ c.in-Some.is) row;
+    }
+
+pub returns-clause-takes : goal.returns-clause-takes
+returns-clause-takes g c =
+    let s = c.args.steps.now in
+    let t = c.loop-asked.steps in
+    let i = c.loop-asked.invariant in
+    let z = g.S.Steps.sizes s in
+    subst (λ (p : Pool). Takes z (g.S.Steps.view s) (g.S.Steps.view t) p c.number.result) i.pool (c.number.ensures z (g.S.Steps.view s) (g.S.Steps.view t) i.fits)

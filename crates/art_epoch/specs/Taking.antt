@@ -1,0 +1,147 @@
+-- Taking a number of a pool: its free words are looked at in their order, and of one with a bit the lowest is taken.
+use Rattle.std.specs.Prelude.{◌≡◌, ◌⊎◌, ℕ, ◌+◌, ◌-◌, ◌*◌, ◌^◌, ◌<◌, ◌≤◌, ◌==◌, nat_lt, if◌then◌else◌, List, ◌∷◌, length, Option, Some, None, ⊤}
+use Rattle.std.proofs.Common.{w64}
+use Rattle.std.specs.Int.{trailing_zeros}
+use Rattle.art_cell.specs.declared.cells.Link.{Link}
+use Rattle.art_cell.specs.declared.layouts.Pool.{Pool}
+use Rattle.art_epoch.specs.declared.asked.Asked.{Asked}
+use Rattle.art_epoch.specs.declared.asked.Asked.TheVariants.{Clear}
+use Rattle.art_epoch.specs.declared.taking.Search.{Search}
+use Rattle.art_epoch.specs.declared.taking.Search.TheVariants.{Looking, Clearing, Took}
+use Rattle.art_epoch.specs.declared.taking.Taking.{Taking}
+use Rattle.art_step.specs.declared.numbers.Number.{Number}
+use Rattle.art_step.specs.declared.views.Found.{Found}
+use Rattle.art_step.specs.declared.views.Sizes.{Sizes}
+use Rattle.art_step.specs.declared.views.View.{View}
+use Rattle.art_step.specs.declared.views.Word.TheVariants.{Free as free_word}
+use Rattle.art_step.specs.Steps.Take.{word_count_of}
+use Rattle.art_step.specs.Tokens.{link_of_number}
+use Rattle.art_step.specs.Views.{IsNumber, Member, bit_of, number_at}
+use Rattle.art_step.specs.WordPlaces.{free_words, pool_size}
+
+-- ---- what was found since a step
+
+-- the word of free numbers at an index was found at the step t, which came after that
+pub record WasFound (v : View) (since : ℕ) (pool : Pool) (i x t : ℕ) : Type 0 where
+  pub later : since < t
+  pub found : Member (record { word = free_word pool i x; step = t }) v.found
+
+-- this is the lowest bit that is set
+pub record IsLowest (x k : ℕ) : Type 0 where
+  pub low : k < 64
+  pub is : bit_of x k ≡ 1
+  pub least : (j : ℕ) → j < k → bit_of x j ≡ 0
+
+-- the word was found without a bit
+abbrev pub WasEmpty : View → ℕ → Pool → ℕ → Type 0
+WasEmpty v since pool i = (t : ℕ) × WasFound v since pool i 0 t
+
+-- its lowest bit was lost: set as it was found, and not as it was found again
+pub record WasLost (v : View) (since : ℕ) (pool : Pool) (i : ℕ) : Type 0 where
+  pub word : ℕ
+  pub bit : ℕ
+  pub lowest : IsLowest word bit
+  pub at : ℕ
+  pub seen : WasFound v since pool i word at
+  pub again : ℕ
+  pub later : ℕ
+  pub after : at < later
+  pub gone : bit_of again bit ≡ 0
+  pub lost : WasFound v since pool i again later
+
+abbrev pub GaveNone : View → ℕ → Pool → ℕ → Type 0
+GaveNone v since pool i = WasEmpty v since pool i ⊎ WasLost v since pool i
+
+-- the words before an index gave none
+abbrev pub NoneBefore : View → ℕ → Pool → ℕ → Type 0
+NoneBefore v since pool n = (i : ℕ) → i < n → GaveNone v since pool i
+
+-- ---- how a call ends
+
+-- nothing changed but steps, failures, what was found, and the hand
+abbrev pub OnlyTakes : View → View → Type 0
+OnlyTakes v w = w ≡ record v { steps = w.steps; failures = w.failures; found = w.found; hand = w.hand }
+
+-- the number is the lowest of the word that it was found in, and no word before that gave one; it alone came into the hand
+pub record TookLowest (z : Sizes) (v w : View) (pool : Pool) (d : Link) : Type 0 where
+  pub index : ℕ
+  pub bit : ℕ
+  pub is : d ≡ number_at pool index bit
+  pub there : IsNumber z d
+  pub before : NoneBefore w v.steps pool index
+  pub word : ℕ
+  pub lowest : IsLowest word bit
+  pub at : ℕ
+  pub found : WasFound w v.steps pool index word at
+  pub words : List ℕ
+  pub long : length words ≡ word_count_of d
+  pub hand : w.hand ≡ record { link = d; words = words } ∷ v.hand
+
+-- no word of the pool gave a number, and the hand stays
+pub record TookNone (z : Sizes) (v w : View) (pool : Pool) : Type 0 where
+  pub none : NoneBefore w v.steps pool (free_words (pool_size z pool))
+  pub hand : w.hand ≡ v.hand
+
+abbrev pub Takes : Sizes → View → View → Pool → Option Number → Type 0
+Takes z v w pool (Some n) = TookLowest z v w pool (link_of_number n)
+Takes z v w pool None = TookNone z v w pool
+
+-- ---- what the machine knows between two steps
+
+-- the next step
+abbrev pub asks_at : Pool → ℕ → Search → Option Asked
+asks_at pool words (Looking i) = if nat_lt i words then Some (Clear pool i None) else None
+asks_at pool words (Clearing i k) = Some (Clear pool i (Some k))
+asks_at pool words (Took i k) = None
+
+abbrev pub asks : Taking → Option Asked
+asks m = asks_at m.pool m.words m.search
+
+-- a word index of 32 bits after which there may be another, and a bit of 64
+abbrev pub IsSearch : Search → Type 0
+IsSearch (Looking i) = i + 1 < 2 ^ 32
+IsSearch (Clearing i k) = (i + 1 < 2 ^ 32) × (k < 64)
+IsSearch (Took i k) = ⊤
+
+-- once a word was found: its lowest bit is to be cleared, or the next word looked at
+abbrev pub after_look : ℕ → ℕ → Search
+after_look i x = if x == 0 then Looking (i + 1) else Clearing i (trailing_zeros w64 x)
+
+abbrev pub after_clear : ℕ → ℕ → ℕ → Search
+after_clear i k x = if bit_of x k == 1 then Took i k else Looking (i + 1)
+
+abbrev pub search_after : ℕ → Search → Search
+search_after x (Looking i) = after_look i x
+search_after x (Clearing i k) = after_clear i k x
+search_after x (Took i k) = Took i k
+
+-- how many steps it makes at most from here on
+abbrev pub steps_left : ℕ → Search → ℕ
+steps_left words (Looking i) = 2 * (words - i)
+steps_left words (Clearing i k) = 2 * (words - i) - 1
+steps_left words (Took i k) = 0
+
+-- the word was found, and this is its lowest bit
+pub record IsSeen (v0 v : View) (pool : Pool) (words i k : ℕ) : Type 0 where
+  pub inside : i < words
+  pub before : NoneBefore v v0.steps pool i
+  pub word : ℕ
+  pub lowest : IsLowest word k
+  pub at : ℕ
+  pub past : at ≤ v.steps
+  pub found : WasFound v v0.steps pool i word at
+  pub hand : v.hand ≡ v0.hand
+
+-- of a pass whose view was v0 when the machine began, and is v
+abbrev pub SearchFits : Sizes → View → View → Pool → ℕ → Search → Type 0
+SearchFits z v0 v pool words (Looking i) = (i ≤ words) × NoneBefore v v0.steps pool i × (v.hand ≡ v0.hand)
+SearchFits z v0 v pool words (Clearing i k) = IsSeen v0 v pool words i k
+SearchFits z v0 v pool words (Took i k) = (i < words) × (k < 64) × TookLowest z v0 v pool (number_at pool i k)
+
+pub record Fits (z : Sizes) (v0 : View) (m : Taking) (v : View) : Type 0 where
+  pub words : m.words ≡ free_words (pool_size z m.pool)
+  pub few : m.words ≤ 2 ^ 26
+  pub only : OnlyTakes v0 v
+  pub steps : v.steps + steps_left m.words m.search ≤ v0.steps + 2 * m.words
+  pub some : v0.steps ≤ v.steps
+  pub search : SearchFits z v0 v m.pool m.words m.search

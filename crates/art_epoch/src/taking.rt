@@ -1,0 +1,135 @@
+//! Taking a number.
+ghost use Rattle.std.specs.Prelude.{◌≡◌, ◌+◌, ◌*◌, ◌≤◌, ◌<◌, ◌^◌, IfSome, Some, None};
+ghost use Rattle.art_epoch.specs.Asking.{Answers, IsAllowed};
+ghost use Rattle.art_epoch.specs.Taking.{Fits, IsSearch, OnlyTakes, Takes, after_clear, after_look, asks, search_after};
+ghost use Rattle.art_step.specs.WordPlaces.{free_words, pool_size};
+
+use crate::{Asked, make};
+use art_cell::Pool;
+use art_step::{EpochSteps, Number, Sizes, free_words};
+
+/// How far a search for a number has come.
+#[derive(Clone, Copy, Debug, PartialEq, Eq)]
+pub enum Search {
+    /// The words before this index gave none.
+    Looking(u32),
+    /// The word at this index was found with this bit, its lowest.
+    Clearing(u32, u32),
+    /// The number with this bit of the word at this index is in hand.
+    Took(u32, u32),
+}
+
+/// Takes a number of a pool: it looks at the words of free numbers in their order, and of one with a bit it takes the lowest.
+/// A bit that another pass took in between sends it to the next word.
+#[derive(Clone, Copy, Debug, PartialEq, Eq)]
+pub struct Taking {
+    pool: Pool,
+    words: u32,
+    search: Search,
+}
+
+impl Taking {
+    ghost use Rattle.std.specs.Prelude.{ℕ};
+    ghost use Rattle.art_step.specs.declared.views.Sizes.{Sizes};
+    ghost use Rattle.art_step.specs.declared.views.View.{View};
+    ghost use Rattle.art_epoch.specs.declared.asked.Asked.{Asked as AskedStep};
+
+    /// A number of this pool.
+    pub fn new(pool: Pool, sizes: Sizes) -> Taking
+        ensures pool { result.pool ≡ pool }
+        ensures fits { (v : View) → Fits sizes v result v }
+    {
+        Taking {
+            pool,
+            words: free_words(sizes.pool_size(pool)) as u32,
+            search: Search::Looking(0),
+        }
+    }
+
+    /// The next step, or none where it has ended.
+    pub fn next(&self) -> Option<Asked>
+        ensures asks { result ≡ asks self.now }
+        ensures allowed { (z : Sizes) (v0 v : View) → Fits z v0 self.now v → IfSome result (IsAllowed z v) }
+    {
+        match self.search {
+            Search::Looking(index) if index < self.words => {
+                Some(Asked::Clear(self.pool, index, None))
+            }
+            Search::Clearing(index, bit) => Some(Asked::Clear(self.pool, index, Some(bit))),
+            _ => None,
+        }
+    }
+
+    /// The step that it asked for was made, and found this word.
+    pub fn told(&mut self, word: u64)
+        requires { (z : Sizes) × (v0 : View) × (v : View) × (asked : AskedStep) × Fits z v0 self.old v × (asks self.old ≡ Some asked) }
+        ensures pool { self.new.pool ≡ self.old.pool }
+        ensures words { self.new.words ≡ self.old.words }
+        ensures fits { (z : Sizes) (v0 v w : View) (asked : AskedStep) → Fits z v0 self.old v → asks self.old ≡ Some asked →
+            Answers z asked word v w → Fits z v0 self.new w }
+    {
+        self.search = after(self.search, word);
+    }
+
+    /// The number that it took, or none.
+    pub fn number(&self) -> Option<Number>
+        requires { (z : Sizes) × (v0 : View) × (v : View) × Fits z v0 self.now v × (asks self.now ≡ None) }
+        ensures { (z : Sizes) (v0 v : View) → Fits z v0 self.now v → Takes z v0 v self.now.pool result }
+    {
+        match self.search {
+            Search::Took(index, bit) => Some(Number::in_pool(self.pool, 64 * index + bit)),
+            _ => None,
+        }
+    }
+}
+
+/// How far the search has come once this word was found.
+fn after(search: Search, word: u64) -> Search
+    requires { IsSearch search }
+    ensures { result ≡ search_after word search }
+{
+    match search {
+        Search::Looking(index) => looked(index, word),
+        Search::Clearing(index, bit) => cleared(index, bit, word),
+        Search::Took(index, bit) => Search::Took(index, bit),
+    }
+}
+
+/// The word at the index was looked at.
+fn looked(index: u32, word: u64) -> Search
+    requires { index + 1 < 2 ^ 32 }
+    ensures { result ≡ after_look index word }
+{
+    if word == 0 {
+        return Search::Looking(index + 1);
+    }
+    Search::Clearing(index, word.trailing_zeros())
+}
+
+/// The word lost the bit, or did not have it.
+fn cleared(index: u32, bit: u32, word: u64) -> Search
+    requires inside { index + 1 < 2 ^ 32 }
+    requires low { bit < 64 }
+    ensures { result ≡ after_clear index bit word }
+{
+    if (word >> bit) % 2 == 1 {
+        return Search::Took(index, bit);
+    }
+    Search::Looking(index + 1)
+}
+
+/// A number of the pool comes into the hand of the pass: the lowest of the first word of free numbers that is found with a bit
+/// which nobody takes in between. None where each word of the pool was found without a bit, or its lowest bit was lost.
+pub fn take<S: EpochSteps>(steps: &mut S, pool: Pool) -> Option<Number>
+    ensures only { S.only steps.old steps.new }
+    ensures same { OnlyTakes (S.view steps.old) (S.view steps.new) }
+    ensures steps { (S.view steps.new).steps ≤ (S.view steps.old).steps + 2 * free_words (pool_size (S.sizes steps.old) pool) }
+    ensures takes { Takes (S.sizes steps.old) (S.view steps.old) (S.view steps.new) pool result }
+{
+    let mut taking = Taking::new(pool, steps.pool_sizes());
+    while let Some(asked) = taking.next() {
+        let word = make(steps, asked);
+        taking.told(word);
+    }
+    taking.number()
+}
