@@ -1,3 +1,4 @@
 pub mod Counting
 pub mod Pinned
 pub mod Searching
+pub mod Waiting

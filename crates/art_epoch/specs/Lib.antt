@@ -1,3 +1,4 @@
 pub mod Asking
+pub mod Limbo
 pub mod Pins
 pub mod Taking

@@ -39,6 +39,12 @@ asks Noting = Some Note
 asks (Storing x) = Some (Store x)
 asks Ended = None
 
+-- how many steps it makes from here on
+abbrev pub steps_left : Pinning → ℕ
+steps_left Noting = 2
+steps_left (Storing x) = 1
+steps_left Ended = 0
+
 -- the epoch was noted
 pub record IsNoting (z : Sizes) (v0 v : View) (x : ℕ) : Type 0 where
   pub may : MayPin v0

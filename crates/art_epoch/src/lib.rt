@@ -2,9 +2,11 @@
 #![tactic(auto)]
 
 mod asked;
+mod limbo;
 mod pins;
 mod taking;
 
 pub use asked::{Asked, make};
+pub use limbo::{Limbo, Place};
 pub use pins::{Pinning, advance, give, pin, unpin};
 pub use taking::{Search, Taking, take};

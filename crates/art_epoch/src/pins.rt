@@ -1,7 +1,7 @@
 //! Pins: the epoch that a pass stands under.
-ghost use Rattle.std.specs.Prelude.{◌≡◌, [], None, IfSome};
+ghost use Rattle.std.specs.Prelude.{◌≡◌, ◌-◌, [], None, IfSome};
 ghost use Rattle.art_epoch.specs.Asking.{Answers, IsAllowed};
-ghost use Rattle.art_epoch.specs.Pins.{Advances, Fits, MayPin, Pins, asks};
+ghost use Rattle.art_epoch.specs.Pins.{Advances, Fits, MayPin, Pins, asks, steps_left};
 ghost use Rattle.art_step.specs.Steps.Give as give;
 ghost use Rattle.art_step.specs.Steps.Pin as pin;
 ghost use Rattle.art_step.specs.Tokens.{link_of_number};
@@ -48,7 +48,8 @@ impl Pinning {
 
     /// The step that it asked for was made, and found this word.
     pub fn told(&mut self, word: u64)
-        ensures { (z : Sizes) (v0 v w : View) (asked : AskedStep) → Fits z v0 self.old v → asks self.old ≡ Some asked →
+        ensures left { steps_left self.new ≡ steps_left self.old - 1 }
+        ensures fits { (z : Sizes) (v0 v w : View) (asked : AskedStep) → Fits z v0 self.old v → asks self.old ≡ Some asked →
             Answers z asked word v w → Fits z v0 self.new w }
     {
         *self = match self {

@@ -1,7 +1,6 @@
 -- The machine fits what the pass did so far.
-use Rattle.std.proofs.Common.{◌≡◌, ◌+◌, ◌-◌, ◌×◌}
-use Rattle.art_epoch.specs.Pins.{Fits}
-use Rattle.art_epoch.proofs.Pinned.{steps_left}
+use Rattle.std.proofs.Common.{◌≡◌}
+use Rattle.art_epoch.specs.Pins.{Fits, steps_left}
 use Rattle.art_epoch.proofs.pins.pin.Given as goal
 
 abbrev pub invariant-loop-asked : goal.invariant-loop-asked
