@@ -1,4 +1,5 @@
 pub mod Counting
 pub mod Pinned
+pub mod Reclaimed
 pub mod Searching
 pub mod Waiting

@@ -1,4 +1,5 @@
 pub mod Asking
 pub mod Limbo
 pub mod Pins
+pub mod Reclaiming
 pub mod Taking

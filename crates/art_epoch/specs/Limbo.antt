@@ -1,5 +1,5 @@
 -- What waits in limbo: in code, and in the view of its pass.
-use Rattle.std.specs.Prelude.{◌≡◌, ◌⊎◌, ℕ, ◌<◌, List, [], ◌∷◌, ◌++◌, map, length, get_or, nat_lt, Bool, true, Option, Some, None}
+use Rattle.std.specs.Prelude.{◌≡◌, ◌⊎◌, ℕ, suc, List, [], ◌∷◌, ◌++◌, map, nat_lt, if◌then◌else◌, Bool, true, Option, Some, None}
 use Rattle.art_cell.specs.declared.cells.Link.{Link}
 use Rattle.art_cell.specs.declared.cells.Link.TheVariants.{Leaf as leaf}
 use Rattle.art_epoch.specs.declared.limbo.Limbo.{Limbo}
@@ -45,7 +45,7 @@ lets_go (Some word) label = nat_lt label word
 abbrev pub no_place : Place
 no_place = record { link = leaf 0; label = 0 }
 
--- the place at the index is the first that may go
-pub record IsOpen (least : Option ℕ) (ps : List Place) (i : ℕ) : Type 0 where
-  pub inside : i < length ps
-  pub goes : lets_go least (get_or ps i no_place).label ≡ true
+-- the index of the first place that may go, and of none where that is past the last
+abbrev pub open_index : Option ℕ → List Place → ℕ
+open_index least [] = 0
+open_index least (x ∷ xs) = if lets_go least x.label then 0 else suc (open_index least xs)

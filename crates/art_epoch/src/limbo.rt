@@ -1,9 +1,8 @@
 //! Limbo: the numbers that a pass unlinked and has not given back.
-ghost use Rattle.std.specs.Prelude.{◌≡◌, ◌+◌, ◌<◌, ◌≤◌, ◌++◌, [], map, filter_map, get_or, length, false, true, remove, IfSome, IfNone};
+ghost use Rattle.std.specs.Prelude.{◌≡◌, ◌+◌, ◌<◌, ◌≤◌, ◌++◌, [], map, filter_map, length, remove, IfSome, IfNone};
 ghost use Rattle.std.specs.Option.{option_map};
-ghost use Rattle.art_epoch.specs.Limbo.{IsOpen, lets_go, place_for, places_for, places_of};
+ghost use Rattle.art_epoch.specs.Limbo.{lets_go, open_index, place_for, places_for, places_of};
 ghost use Rattle.art_step.specs.Tokens.{link_of_number};
-ghost use Rattle.art_step.specs.Views.{Member};
 
 use arrayvec::ArrayVec;
 use art_cell::Link;
@@ -35,8 +34,6 @@ pub struct Limbo {
 }
 
 impl Limbo {
-    ghost use Rattle.art_epoch.specs.declared.limbo.Place.{Place as PlaceOf};
-
     /// With nothing in it.
     pub fn new() -> Limbo
         ensures { places_of result ≡ [] }
@@ -83,8 +80,8 @@ impl Limbo {
 
     /// The first place whose label is below the word, if there is one.
     pub(crate) fn first_open(&self, least: Option<u64>) -> Option<usize>
-        ensures none { IfNone result ((x : PlaceOf) → Member x (places_of self.now) → lets_go least x.label ≡ false) }
-        ensures some { IfSome result (IsOpen least (places_of self.now)) }
+        ensures none { IfNone result (open_index least (places_of self.now) ≡ length (places_of self.now)) }
+        ensures some { IfSome result (λ i. (i ≡ open_index least (places_of self.now)) × (i < length (places_of self.now))) }
     {
         for index in 0..self.places.len() {
             if lets_go(least, self.places[index].label) {
@@ -94,12 +91,14 @@ impl Limbo {
         None
     }
 
-    /// The number at the index no longer waits.
-    pub(crate) fn remove(&mut self, index: usize)
-        requires { index < length (places_of self.old) }
-        ensures { places_of self.new ≡ remove (places_of self.old) index }
+    /// The number of the first place whose label is below the word no longer waits.
+    pub(crate) fn remove_first(&mut self, least: Option<u64>)
+        requires { open_index least (places_of self.old) < length (places_of self.old) }
+        ensures { places_of self.new ≡ remove (places_of self.old) (open_index least (places_of self.old)) }
     {
-        self.places.remove(index);
+        if let Some(index) = self.first_open(least) {
+            self.places.remove(index);
+        }
     }
 }
 

@@ -1,5 +1,5 @@
 //! The atomic steps that manage numbers and epochs, of one pass, whoever keeps the words.
-ghost use Rattle.std.specs.Prelude.{◌≡◌, ◌⊎◌};
+ghost use Rattle.std.specs.Prelude.{◌≡◌, ◌<◌, ◌⊎◌};
 ghost use Rattle.art_step.specs.Effects.{FindsEpoch, FindsPassWord, PutsPassWord, RaisesEpoch, SetsBit};
 ghost use Rattle.art_step.specs.Steps.{AtStep};
 ghost use Rattle.art_step.specs.Steps.Advance as advance;
@@ -22,7 +22,8 @@ pub trait EpochSteps: Steps {
 
     /// The number of the pass.
     fn own_pass(&self) -> u32
-        ensures { result ≡ (Self.view self.now).pass };
+        ensures is { result ≡ (Self.view self.now).pass }
+        ensures inside { result < (Self.sizes self.now).passes };
 
     /// The word of free numbers at an index of the pool, which loses the bit, if one is named. A number whose bit was set is
     /// in the hand of the pass then.

@@ -12,7 +12,7 @@ overflow_cast-result c =
     let same : c.sizes.result.passes ≡ (world_of c.args.self.now).sizes.passes = ap (λ (z : Sizes). z.passes) c.sizes.ensures in
     omega (arith, low, count, same)
 
-pub returns : goal.returns
-returns c =
+pub returns-clause-is : goal.returns-clause-is
+returns-clause-is c =
     let s = c.args.self.now in
     sym (c.stays_sound.ensures.sound.history.tells (pass_of s) (view_of s) (at_view (world_of s).views (pass_of s) s.inside)).pass

@@ -1,0 +1,223 @@
+//! Giving back what waits in limbo, and what comes into it.
+ghost use Rattle.std.specs.Prelude.{◌≡◌, ◌+◌, ◌<◌, ◌≤◌, [], None, IfSome, filter_map, length};
+ghost use Rattle.std.specs.Option.{option_map};
+ghost use Rattle.art_epoch.specs.Asking.{Answers, IsAllowed};
+ghost use Rattle.art_epoch.specs.Limbo.{IsLimbo, places_of};
+ghost use Rattle.art_epoch.specs.Reclaiming.{Fits, IsStage, MayGo, Reclaims, Retires, asks_at, freed_at, least_after, places_after, stage_after, steps_left, watching};
+ghost use Rattle.art_epoch.specs.declared.reclaiming.ReclaimStage.TheVariants.{Noting as noting};
+ghost use Rattle.art_step.specs.Tokens.{link_of_number};
+
+use crate::limbo::Limbo;
+use crate::{Asked, make};
+use art_step::{EpochSteps, Unlinked};
+
+/// The epoch at which it no longer rises.
+const TOP: u64 = 1 << 62;
+
+/// How far the giving back has come.
+#[derive(Clone, Copy, Debug, PartialEq, Eq)]
+pub enum ReclaimStage {
+    /// The epoch is to be found.
+    Noting,
+    /// It is to be raised.
+    Raising,
+    /// The word of this pass is to be found; this is the least before it that is not 0.
+    Watching(u32, Option<u64>),
+    /// This is the least of all; so many numbers have gone back.
+    Freeing(Option<u64>, u32),
+}
+
+/// Gives back what waits in the limbo of an idle pass, and what no other pass may still have in a stamp: it raises the epoch,
+/// finds the word of each other pass once, in the order of their numbers, and gives back each number whose label is below
+/// every word that is not 0. The limbo stands beside it.
+#[derive(Clone, Copy, Debug, PartialEq, Eq)]
+pub struct Reclaiming {
+    own: u32,
+    passes: u32,
+    stage: ReclaimStage,
+}
+
+impl Reclaiming {
+    ghost use Rattle.std.specs.Prelude.{ℕ, List, Some};
+    ghost use Rattle.art_epoch.specs.declared.asked.Asked.{Asked as AskedStep};
+    ghost use Rattle.art_epoch.specs.declared.limbo.Place.{Place};
+    ghost use Rattle.art_step.specs.declared.views.Sizes.{Sizes};
+    ghost use Rattle.art_step.specs.declared.views.View.{View};
+
+    /// The machine of the pass `own`, of so many.
+    pub fn new(own: u32, passes: u32) -> Reclaiming
+        ensures { (z : Sizes) (v : View) (ps : List Place) → own ≡ v.pass → own < passes → passes ≡ z.passes → v.pin ≡ 0 →
+            length ps ≤ 64 → IsLimbo ps [] v.limbo → Fits z v ps result ps v }
+    {
+        Reclaiming {
+            own,
+            passes,
+            stage: ReclaimStage::Noting,
+        }
+    }
+
+    /// The next step, or none where it has ended.
+    pub fn next(&self, limbo: &Limbo) -> Option<Asked>
+        ensures asks { result ≡ asks_at self.now.stage (places_of limbo.now) }
+        ensures allowed { (z : Sizes) (v0 v : View) (ps : List Place) → Fits z v0 ps self.now (places_of limbo.now) v →
+            IfSome result (IsAllowed z v) }
+    {
+        match self.stage {
+            ReclaimStage::Noting => Some(Asked::Note),
+            ReclaimStage::Raising => Some(Asked::Raise),
+            ReclaimStage::Watching(pass, _) => Some(Asked::Watch(pass)),
+            ReclaimStage::Freeing(least, _) => {
+                let index = limbo.first_open(least)?;
+                Some(Asked::Free(limbo.places()[index].link))
+            }
+        }
+    }
+
+    /// The step that it asked for was made, and found this word.
+    pub fn told(&mut self, limbo: &mut Limbo, word: u64)
+        requires { (z : Sizes) × (v0 : View) × (v : View) × (ps : List Place) × (asked : AskedStep) ×
+            Fits z v0 ps self.old (places_of limbo.old) v × (asks_at self.old.stage (places_of limbo.old) ≡ Some asked) }
+        ensures passes { self.new.passes ≡ self.old.passes }
+        ensures left { steps_left self.new.passes self.new.stage (places_of limbo.new) <
+            steps_left self.old.passes self.old.stage (places_of limbo.old) }
+        ensures fits { (z : Sizes) (v0 v w : View) (ps : List Place) (asked : AskedStep) →
+            Fits z v0 ps self.old (places_of limbo.old) v → asks_at self.old.stage (places_of limbo.old) ≡ Some asked →
+            Answers z asked word v w → Fits z v0 ps self.new (places_of limbo.new) w }
+    {
+        let_go(limbo, self.stage);
+        self.stage = after(self.own, self.passes, self.stage, word);
+    }
+
+    /// How many numbers it gave back, once it has ended.
+    pub fn freed(&self) -> u32
+        ensures freed { result ≡ freed_at self.now.stage }
+        ensures reclaims { (z : Sizes) (v0 v : View) (ps qs : List Place) → Fits z v0 ps self.now qs v → asks_at self.now.stage qs ≡ None →
+            Reclaims z v0 v ps qs result }
+    {
+        match self.stage {
+            ReclaimStage::Freeing(_, count) => count,
+            _ => 0,
+        }
+    }
+}
+
+/// What waits once the step was made: where a number went back, the first that may go is gone.
+fn let_go(limbo: &mut Limbo, stage: ReclaimStage)
+    requires { MayGo stage (places_of limbo.old) }
+    ensures { places_of limbo.new ≡ places_after stage (places_of limbo.old) }
+{
+    if let ReclaimStage::Freeing(least, _) = stage {
+        limbo.remove_first(least);
+    }
+}
+
+/// How far it has come once this word was found.
+fn after(own: u32, passes: u32, stage: ReclaimStage, word: u64) -> ReclaimStage
+    requires { IsStage own passes stage }
+    ensures { result ≡ stage_after own passes word stage }
+{
+    match stage {
+        ReclaimStage::Noting => noted(own, passes, word),
+        ReclaimStage::Raising => watching(own, passes, 0, None),
+        ReclaimStage::Watching(pass, least) => {
+            watching(own, passes, pass + 1, least_after(least, word))
+        }
+        ReclaimStage::Freeing(least, count) => ReclaimStage::Freeing(least, count + 1),
+    }
+}
+
+/// The epoch was found: it is raised where it is below its top.
+fn noted(own: u32, passes: u32, epoch: u64) -> ReclaimStage
+    requires { own < passes }
+    ensures { result ≡ stage_after own passes epoch noting }
+{
+    if epoch < TOP {
+        return ReclaimStage::Raising;
+    }
+    watching(own, passes, 0, None)
+}
+
+/// The next pass to be watched, from this one on; past the last, what waits goes back.
+fn watching(own: u32, passes: u32, pass: u32, least: Option<u64>) -> ReclaimStage
+    requires pass { pass ≤ passes }
+    requires own { own < passes }
+    ensures { result ≡ watching own passes pass least }
+{
+    let pass = if pass == own { pass + 1 } else { pass };
+    if pass < passes {
+        return ReclaimStage::Watching(pass, least);
+    }
+    ReclaimStage::Freeing(least, 0)
+}
+
+/// The least word that is not 0, with one more.
+fn least_after(least: Option<u64>, word: u64) -> Option<u64>
+    ensures { result ≡ least_after least word }
+{
+    if word == 0 {
+        return least;
+    }
+    match least {
+        Some(lowest) if lowest < word => Some(lowest),
+        _ => Some(word),
+    }
+}
+
+/// What waits in the limbo of the pass, which is idle, goes back, as far as no other pass may still have it in a stamp. It
+/// answers how many numbers went back.
+pub fn reclaim<S: EpochSteps>(steps: &mut S, limbo: &mut Limbo) -> u32
+    requires idle { (S.view steps.old).pin ≡ 0 }
+    requires limbo { IsLimbo (places_of limbo.old) [] (S.view steps.old).limbo }
+    ensures only { S.only steps.old steps.new }
+    ensures steps { (S.view steps.new).steps ≤ (S.view steps.old).steps + 1 + (S.sizes steps.old).passes + result }
+    ensures reclaims { Reclaims (S.sizes steps.old) (S.view steps.old) (S.view steps.new) (places_of limbo.old) (places_of limbo.new) result }
+{
+    let _ = limbo.room();
+    let mut reclaiming = Reclaiming::new(steps.own_pass(), steps.pool_sizes().passes);
+    while let Some(asked) = reclaiming.next(limbo) {
+        let word = make(steps, asked);
+        reclaiming.told(limbo, word);
+    }
+    reclaiming.freed()
+}
+
+/// Lets numbers into limbo that a commit unlinked: the one step that it asks for finds the epoch, which labels them.
+#[derive(Clone, Copy, Debug, PartialEq, Eq)]
+pub struct Retiring;
+
+impl Retiring {
+    ghost use Rattle.std.specs.Prelude.{List};
+    ghost use Rattle.art_epoch.specs.declared.asked.Asked.TheVariants.{Note as note};
+    ghost use Rattle.art_step.specs.declared.views.Sizes.{Sizes};
+    ghost use Rattle.art_step.specs.declared.views.View.{View};
+
+    /// The step that it makes.
+    pub fn next(&self) -> Asked
+        ensures { result ≡ note }
+    {
+        Asked::Note
+    }
+
+    /// The step was made, and found this epoch.
+    pub fn told(self, limbo: &mut Limbo, numbers: Unlinked, epoch: u64)
+        requires { length (places_of limbo.old) + length (filter_map (option_map link_of_number) numbers) ≤ 64 }
+        ensures { (z : Sizes) (v w : View) → IsLimbo (places_of limbo.old) (filter_map (option_map link_of_number) numbers) v.limbo →
+            Answers z note epoch v w →
+            Retires z v w (places_of limbo.old) (places_of limbo.new) (filter_map (option_map link_of_number) numbers) }
+    {
+        limbo.add_all(numbers, epoch);
+    }
+}
+
+/// The numbers that a commit of the pass unlinked wait in its limbo, labelled with an epoch that is found after it.
+pub fn retire<S: EpochSteps>(steps: &mut S, limbo: &mut Limbo, numbers: Unlinked)
+    requires room { length (places_of limbo.old) + length (filter_map (option_map link_of_number) numbers) ≤ 64 }
+    requires limbo { IsLimbo (places_of limbo.old) (filter_map (option_map link_of_number) numbers) (S.view steps.old).limbo }
+    ensures only { S.only steps.old steps.new }
+    ensures retires { Retires (S.sizes steps.old) (S.view steps.old) (S.view steps.new) (places_of limbo.old) (places_of limbo.new)
+        (filter_map (option_map link_of_number) numbers) }
+{
+    let retiring = Retiring;
+    let epoch = make(steps, retiring.next());
+    retiring.told(limbo, numbers, epoch);
+}
