@@ -1,12 +1,11 @@
 -- Giving back, from step to step.
-use Rattle.std.proofs.Common.{◌≡◌, ◌≢◌, ◌⊎◌, ◌↔◌, ℕ, zero, suc, ◌+◌, ◌-◌, ◌^◌, ◌<◌, ◌≤◌, ◌==◌, Bool, true, false, if◌then◌else◌, nat_lt, List, [], ◌∷◌, ◌++◌, map, length, get_or, inl, inr, ⊎_elim, sym, refl, ap, ap₂, ◌∙◌, subst, arith, ltb-true, ltb-false, append-nil}
+use Rattle.std.proofs.Common.{◌≡◌, ◌≢◌, ◌⊎◌, ℕ, zero, suc, ◌+◌, ◌-◌, ◌^◌, ◌<◌, ◌≤◌, ◌==◌, Bool, true, false, if◌then◌else◌, nat_lt, List, [], ◌∷◌, ◌++◌, map, length, get_or, inl, inr, ⊎_elim, sym, refl, ap, ap₂, ◌∙◌, subst, arith, ltb-true, ltb-false, append-nil}
 use Rattle.std.proofs.lemmas.Bool.{cases_Bool, cases_eq, cases_lt, eq-eqb, ne_eqb, lt-ltb, le-ltb}
 use Rattle.std.proofs.lemmas.List.Edits.{length-remove}
 use Rattle.std.proofs.lemmas.Option.{same_Some}
 use Rattle.std.specs.List.{remove}
-use Rattle.std.specs.Prelude.{Option, Some, None, IfSome}
-use Rattle.art_cell.specs.declared.cells.Link.{Link}
-use Rattle.art_epoch.specs.Asking.{Answers, IsAllowed}
+use Rattle.std.specs.Prelude.{Option, Some, None}
+use Rattle.art_epoch.specs.Asking.{Answers}
 use Rattle.art_epoch.specs.Limbo.{IsLimbo, lets_go, no_place, open_index}
 use Rattle.art_epoch.specs.Pins.{view_advanced}
 use Rattle.art_epoch.specs.Reclaiming.{Fits, IsBelowAll, IsFreeing, IsLeast, IsRaising, IsStage, IsWatched, IsWatching, Look, MayGo, Reclaims, StageFits, asks_at, freed_at, least_after, lower, others, places_after, skip, stage_after, steps_left, view_watched, watching}
@@ -16,7 +15,6 @@ use Rattle.art_epoch.specs.declared.limbo.Place.{Place}
 use Rattle.art_epoch.specs.declared.reclaiming.ReclaimStage.{ReclaimStage}
 use Rattle.art_epoch.specs.declared.reclaiming.ReclaimStage.TheVariants.{Noting, Raising, Watching, Freeing}
 use Rattle.art_epoch.specs.declared.reclaiming.Reclaiming.{Reclaiming}
-use Rattle.art_step.specs.declared.views.EpochSeen.{EpochSeen}
 use Rattle.art_step.specs.declared.views.Retired.{Retired}
 use Rattle.art_step.specs.declared.views.Sizes.{Sizes}
 use Rattle.art_step.specs.declared.views.View.{View}
@@ -27,7 +25,7 @@ use Rattle.art_step.specs.Steps.Give as give
 use Rattle.art_step.specs.Steps.Watch as watch
 use Rattle.art_step.specs.Steps.Watch.{is_past, watched}
 use Rattle.art_step.specs.Views.{Member}
-use Rattle.art_step.proofs.Gathered.{key_member, member_key}
+use Rattle.art_step.proofs.Gathered.{key_member}
 use Rattle.art_step.proofs.SetsView.{member_append, member_back, member_front}
 use Rattle.art_epoch.proofs.Waiting.{at_member, closed_all, limbo_mapped, limbo_without, member_of_rest, open_goes, rest_has}
 
@@ -160,14 +158,14 @@ lower_least o ls q x k = ⊎_elim
     )
     lowered (Some w) k some = ⊎_elim
         (λ (low : w < x). rw (lt-ltb w x low) (
-        (k.0.0, member_front (k.0.0, w) ls ((q, x) ∷ []) k.0.1),
-        k.1,
-        λ l i other. ⊎_elim (λ (j : Member l ls). k.2 l j other) (λ (e : l ≡ (q, x)). let same = word_of l e in omega arith) (in_more l i),
+          (k.0.0, member_front (k.0.0, w) ls ((q, x) ∷ []) k.0.1),
+          k.1,
+          λ l i other. ⊎_elim (λ (j : Member l ls). k.2 l j other) (λ (e : l ≡ (q, x)). let same = word_of l e in omega arith) (in_more l i),
         ))
         (λ (high : x ≤ w). rw (le-ltb w x high) (
-        (q, last),
-        some,
-        λ l i other. ⊎_elim (λ (j : Member l ls). let up = k.2 l j other in omega arith) (λ (e : l ≡ (q, x)). let same = word_of l e in omega arith) (in_more l i),
+          (q, last),
+          some,
+          λ l i other. ⊎_elim (λ (j : Member l ls). let up = k.2 l j other in omega arith) (λ (e : l ≡ (q, x)). let same = word_of l e in omega arith) (in_more l i),
         ))
         (cases_lt w x)
 

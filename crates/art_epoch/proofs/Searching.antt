@@ -1,14 +1,13 @@
 -- A search for a number of a pool, from step to step.
-use Rattle.std.proofs.Common.{◌≡◌, ◌≢◌, ◌⊎◌, ℕ, ◌+◌, ◌-◌, ◌*◌, ◌/◌, ◌%◌, ◌^◌, ◌<◌, ◌≤◌, ◌==◌, Bool, true, false, if◌then◌else◌, nat_lt, List, ◌∷◌, length, inl, inr, ⊎_elim, sym, refl, ap, ◌∙◌, subst, arith, ltb-true, ltb-false, w64}
-use Rattle.std.proofs.lemmas.Bool.{cases_Bool, cases_eq, cases_lt, eqb-true, eqb-false, eq-eqb, ne_eqb, lt-ltb, le-ltb}
+use Rattle.std.proofs.Common.{◌≡◌, ◌≢◌, ℕ, ◌+◌, ◌-◌, ◌*◌, ◌^◌, ◌<◌, ◌≤◌, ◌==◌, Bool, true, false, if◌then◌else◌, nat_lt, List, ◌∷◌, length, inl, inr, ⊎_elim, sym, refl, ap, ◌∙◌, subst, arith, ltb-true, ltb-false, w64}
+use Rattle.std.proofs.lemmas.Bool.{cases_Bool, cases_eq, eqb-false, eq-eqb, ne_eqb}
 use Rattle.std.proofs.lemmas.Nat.Bits.{bit_at-trailing_zeros}
 use Rattle.std.proofs.lemmas.Option.{same_Some}
 use Rattle.std.specs.Int.{trailing_zeros}
 use Rattle.std.specs.Prelude.{Option, Some, None, IfSome}
-use Rattle.art_cell.specs.declared.cells.Link.{Link}
 use Rattle.art_cell.specs.declared.layouts.Pool.{Pool}
-use Rattle.art_epoch.specs.Asking.{Answers, IsAllowed}
-use Rattle.art_epoch.specs.Taking.{Fits, GaveNone, IsLowest, IsSearch, IsSeen, NoneBefore, OnlyTakes, SearchFits, Takes, TookLowest, TookNone, WasFound, WasLost, after_clear, after_look, asks, asks_at, search_after, steps_left}
+use Rattle.art_epoch.specs.Asking.{Answers}
+use Rattle.art_epoch.specs.Taking.{Fits, GaveNone, IsLowest, IsSearch, IsSeen, NoneBefore, OnlyTakes, SearchFits, TookLowest, TookNone, WasFound, WasLost, after_clear, after_look, asks, asks_at, search_after, steps_left}
 use Rattle.art_epoch.specs.declared.asked.Asked.{Asked}
 use Rattle.art_epoch.specs.declared.asked.Asked.TheVariants.{Clear}
 use Rattle.art_epoch.specs.declared.taking.Search.{Search}
@@ -21,7 +20,6 @@ use Rattle.art_step.specs.declared.views.View.{View}
 use Rattle.art_step.specs.declared.views.Word.TheVariants.{Free as free_word}
 use Rattle.art_step.specs.Steps.Take as take_free
 use Rattle.art_step.specs.Views.{IsNumber, Member, bit_of, number_at}
-use Rattle.art_step.specs.WordPlaces.{free_words, pool_size}
 
 -- ---- the view after a word was found
 
@@ -50,9 +48,16 @@ module _ (v w : View) (pool : Pool) (i x : ℕ) (k : FindsWord v w pool i x) whe
   gave_none_on since q j o = ⊎_elim
       (λ (e : (t : ℕ) × WasFound v since q j 0 t). inl (e.0, found_on since q j 0 e.0 e.1))
       (λ (l : WasLost v since q j). inr record {
-        word = l.word; bit = l.bit; lowest = l.lowest;
-        at = l.at; seen = found_on since q j l.word l.at l.seen;
-        again = l.again; later = l.later; after = l.after; gone = l.gone; lost = found_on since q j l.again l.later l.lost;
+        word = l.word;
+        bit = l.bit;
+        lowest = l.lowest;
+        at = l.at;
+        seen = found_on since q j l.word l.at l.seen;
+        again = l.again;
+        later = l.later;
+        after = l.after;
+        gone = l.gone;
+        lost = found_on since q j l.again l.later l.lost;
       })
       o
 
@@ -132,21 +137,25 @@ module _ (z : Sizes) (v0 : View) (m : Taking) (v w : View) (x : ℕ) (fits : Fit
           → IfSome (if b then Some (number_at m.pool i k) else None) (λ d. IsNumber z d) → IfSome (if b then Some (number_at m.pool i k) else None) (λ d. length row.words ≡ take_free.word_count_of d)
           → w.hand ≡ (take_free.view_after v m.pool i (Some k) x row.words).hand
           → After (if b then Took i k else Looking (i + 1))
-      by_bit was f true set there long hand = comes_to i (Some k) row (Took i k) (let inside = was.inside in let all = subst (λ (s : Search). v.steps + steps_left m.words s ≤ v0.steps + 2 * m.words) is fits.steps in omega arith) (was.inside, was.lowest.low, record {
-        index = i;
-        bit = k;
-        is = refl;
-        there = there;
-        before = before_on v w m.pool i x f v0.steps i was.before;
-        word = was.word;
-        lowest = was.lowest;
-        at = was.at;
-        found = found_on v w m.pool i x f v0.steps m.pool i was.word was.at was.found;
-        words = row.words;
-        long = long;
-        hand = hand ∙ (ap (λ (b : Bool). (if b then record (take_free.view_noted v m.pool i x) { hand = record { link = number_at m.pool i k; words = row.words } ∷ v.hand } else record (take_free.view_noted v m.pool i x) { failures = v.failures + bit_of (take_free.last_found m.pool i v.found) k }).hand) set
-            ∙ ap (λ (h : List InHand). record { link = number_at m.pool i k; words = row.words } ∷ h) was.hand);
-      })
+      by_bit was f true set there long hand = comes_to i (Some k) row (Took i k) (let inside = was.inside in let all = subst (λ (s : Search). v.steps + steps_left m.words s ≤ v0.steps + 2 * m.words) is fits.steps in omega arith) (
+        was.inside,
+        was.lowest.low,
+        record {
+          index = i;
+          bit = k;
+          is = refl;
+          there = there;
+          before = before_on v w m.pool i x f v0.steps i was.before;
+          word = was.word;
+          lowest = was.lowest;
+          at = was.at;
+          found = found_on v w m.pool i x f v0.steps m.pool i was.word was.at was.found;
+          words = row.words;
+          long = long;
+          hand = hand ∙ (ap (λ (b : Bool). (if b then record (take_free.view_noted v m.pool i x) { hand = record { link = number_at m.pool i k; words = row.words } ∷ v.hand } else record (take_free.view_noted v m.pool i x) { failures = v.failures + bit_of (take_free.last_found m.pool i v.found) k }).hand) set
+              ∙ ap (λ (h : List InHand). record { link = number_at m.pool i k; words = row.words } ∷ h) was.hand);
+        },
+      )
       by_bit was f false unset there long hand = comes_to i (Some k) row (Looking (i + 1)) (let inside = was.inside in let all = subst (λ (s : Search). v.steps + steps_left m.words s ≤ v0.steps + 2 * m.words) is fits.steps in omega arith) (
         let inside = was.inside in omega arith,
         before_next v w m.pool i x f v0.steps was.before (inr record {

@@ -1,6 +1,5 @@
 -- Places that wait, as they stand in a list, and as the view has them.
-use Rattle.std.proofs.Common.{◌≡◌, ◌≢◌, ◌⊎◌, ℕ, zero, suc, ◌+◌, ◌<◌, Bool, true, false, if◌then◌else◌, List, [], ◌∷◌, ◌++◌, map, take, drop, length, get_or, inl, inr, ⊎_elim, sym, refl, ap, ap₂, ◌∙◌, subst, arith}
-use Rattle.std.proofs.lemmas.Bool.{cases_Bool}
+use Rattle.std.proofs.Common.{◌≡◌, ◌≢◌, ◌⊎◌, ℕ, zero, suc, ◌<◌, Bool, true, false, if◌then◌else◌, List, [], ◌∷◌, ◌++◌, map, length, get_or, inl, inr, ⊎_elim, sym, refl, ap, ◌∙◌, subst, arith}
 use Rattle.std.specs.List.{remove}
 use Rattle.std.specs.Prelude.{Option, Some, None}
 use Rattle.art_cell.specs.declared.cells.Link.{Link}
@@ -97,9 +96,9 @@ limbo_mapped k link label ps es o = record {
   only = λ e i.
       let d = key_member k es e i in
       ⊎_elim
-          (λ (a : (x : Place) × Member x ps × IsPlace x d.0). inl (a.0, a.1, record { link = ap (λ (y : Retired). y.link) (sym d.2) ∙ (link d.0 ∙ a.2.link); label = ap (λ (y : Retired). y.label) (sym d.2) ∙ label d.0 a.0.label a.2.label }))
-          (λ (a : Member d.0.link [] × (d.0.label ≡ None)). absurd a.0)
-          (o.only d.0 d.1);
+      (λ (a : (x : Place) × Member x ps × IsPlace x d.0). inl (a.0, a.1, record { link = ap (λ (y : Retired). y.link) (sym d.2) ∙ (link d.0 ∙ a.2.link); label = ap (λ (y : Retired). y.label) (sym d.2) ∙ label d.0 a.0.label a.2.label }))
+      (λ (a : Member d.0.link [] × (d.0.label ≡ None)). absurd a.0)
+      (o.only d.0 d.1);
   once = o.once;
 }
 
@@ -114,9 +113,9 @@ limbo_without ps i es es' low o was stays = record {
   only = λ e j.
       let k = was e j in
       ⊎_elim
-          (λ (a : (x : Place) × Member x ps × IsPlace x e). inl (a.0, rest_has ps i a.0 a.1 (λ same. k.1 (a.2.link ∙ ap (λ (y : Place). y.link) same)), a.2))
-          (λ (a : Member e.link [] × (e.label ≡ None)). absurd a.0)
-          (o.only e k.0);
+      (λ (a : (x : Place) × Member x ps × IsPlace x e). inl (a.0, rest_has ps i a.0 a.1 (λ same. k.1 (a.2.link ∙ ap (λ (y : Place). y.link) same)), a.2))
+      (λ (a : Member e.link [] × (e.label ≡ None)). absurd a.0)
+      (o.only e k.0);
   once = rest_once ps i o.once;
 }
 
@@ -169,16 +168,16 @@ limbo_labelled x ps us es o = record {
   only = λ e i.
       let d = key_member (labelled x) es e i in
       inl (⊎_elim
-          (λ (a : (y : Place) × Member y ps × IsPlace y d.0). (
-          a.0,
-          member_front a.0 ps (places_for x us) a.1,
-          record { link = ap (λ (y : Retired). y.link) (sym d.2) ∙ a.2.link; label = ap (λ (y : Retired). y.label) (sym d.2) ∙ ap (λ (l : Option ℕ). label_or l x) a.2.label },
-          ))
-          (λ (a : Member d.0.link us × (d.0.label ≡ None)). (
-          place_of_number x d.0.link,
-          member_back (place_of_number x d.0.link) ps (places_for x us) (place_member x us d.0.link a.0),
-          record { link = ap (λ (y : Retired). y.link) (sym d.2); label = ap (λ (y : Retired). y.label) (sym d.2) ∙ ap (λ (l : Option ℕ). label_or l x) a.1 },
-          ))
-          (o.only d.0 d.1));
+      (λ (a : (y : Place) × Member y ps × IsPlace y d.0). (
+        a.0,
+        member_front a.0 ps (places_for x us) a.1,
+        record { link = ap (λ (y : Retired). y.link) (sym d.2) ∙ a.2.link; label = ap (λ (y : Retired). y.label) (sym d.2) ∙ ap (λ (l : Option ℕ). label_or l x) a.2.label },
+      ))
+      (λ (a : Member d.0.link us × (d.0.label ≡ None)). (
+        place_of_number x d.0.link,
+        member_back (place_of_number x d.0.link) ps (places_for x us) (place_member x us d.0.link a.0),
+        record { link = ap (λ (y : Retired). y.link) (sym d.2); label = ap (λ (y : Retired). y.label) (sym d.2) ∙ ap (λ (l : Option ℕ). label_or l x) a.1 },
+      ))
+      (o.only d.0 d.1));
   once = subst IsOnce (sym (links_append ps (places_for x us) ∙ ap (λ (ds : List Link). links_waiting ps ++ ds) (links_for x us))) (once_swapped us (links_waiting ps) o.once);
 }

@@ -1,11 +1,9 @@
 -- The steps are those of the machine.
-use Rattle.std.proofs.Common.{◌≡◌, ◌+◌, ◌*◌, ◌∙◌, arith, refl, sym, subst}
-use Rattle.art_epoch.specs.Asking.{Answers, IsAllowed}
+use Rattle.std.proofs.Common.{◌∙◌, refl, sym, subst}
+use Rattle.art_epoch.specs.Asking.{Answers}
 use Rattle.art_cell.specs.declared.layouts.Pool.{Pool}
 use Rattle.art_epoch.specs.Taking.{Fits, Takes}
-use Rattle.art_epoch.specs.declared.taking.Taking.{Taking}
 use Rattle.art_step.specs.declared.views.Sizes.{Sizes}
-use Rattle.art_epoch.proofs.Counting.{answers_count}
 use Rattle.art_epoch.proofs.taking.take.Goals as goal
 
 pub loop-asked-init : goal.loop-asked-init

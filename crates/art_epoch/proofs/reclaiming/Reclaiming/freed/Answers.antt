@@ -1,5 +1,5 @@
 -- Once the machine has ended, what may go has gone.
-use Rattle.std.proofs.Common.{ℕ, ◌∙◌, ap, subst, sym}
+use Rattle.std.proofs.Common.{ℕ, ap, subst}
 use Rattle.art_epoch.specs.Reclaiming.{Reclaims, freed_at}
 use Rattle.art_epoch.specs.declared.reclaiming.ReclaimStage.{ReclaimStage}
 use Rattle.art_epoch.proofs.Reclaimed.{reclaim_ends}

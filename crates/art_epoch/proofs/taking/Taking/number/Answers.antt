@@ -1,8 +1,6 @@
 -- The number is the one that was taken.
-use Rattle.std.proofs.Common.{◌*◌, ◌+◌, arith, subst, sym}
-use Rattle.art_cell.specs.declared.cells.Link.{Link}
-use Rattle.art_epoch.specs.Taking.{TookLowest}
-use Rattle.art_epoch.proofs.Searching.{none_taken, took, took_low}
+use Rattle.std.proofs.Common.{arith}
+use Rattle.art_epoch.proofs.Searching.{took_low}
 use Rattle.art_epoch.proofs.taking.Taking.number.Goals as goal
 
 pub overflow_mul-index : goal.overflow_mul-index
