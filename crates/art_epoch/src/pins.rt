@@ -1,4 +1,4 @@
-//! Pins: the epoch that a pass stands under.
+//! Pins: the epoch that a pass stands under; and the calls that need no machine.
 ghost use Rattle.std.specs.Prelude.{◌≡◌, ◌-◌, [], None, IfSome};
 ghost use Rattle.art_epoch.specs.Asking.{Answers, IsAllowed};
 ghost use Rattle.art_epoch.specs.Pins.{Advances, Fits, MayPin, Pins, asks, steps_left};

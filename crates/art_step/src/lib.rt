@@ -43,23 +43,33 @@
 //! meanwhile, since no begin gives a stamp of a locked cell: the tree is made of the *logical words*, which are the old ones
 //! of a held cell until the commit, and the new ones from it on.
 //!
-//! One step counts: `commit`, the release of the uppermost cell. At it all held cells have their new words at once, and the
-//! event of the change is made. The other cells are released after it, from the top down; those that left the tree, as
-//! obsolete.
+//! One step makes the change: `commit`, the release of the uppermost cell. At it all held cells have their new words at
+//! once, and the event of the change is made. The other cells are released after it, from the top down; those that left the
+//! tree, as obsolete.
 //!
 //! # Numbers
 //!
 //! Cells are named by numbers, in five pools. A number is in one place: *free*, in the *hand* of a pass that took it, in the
-//! *tree*, or in the *limbo* of the pass that unlinked it. It may not come back while another pass may have it in a stamp:
-//! the place in limbo keeps the pins of the passes that stood then, and a number goes back once it is marked for each.
+//! *tree*, or in the *limbo* of the pass that unlinked it. It is free where its bit in a word of free numbers is set. A step
+//! that finds such a word clears one bit of it, or none; where the bit was set, its number is in hand.
+//!
+//! # Epochs and pins
+//!
+//! A number in limbo may not come back while another pass may have it in a stamp. A pass begins a cell only while it is
+//! *pinned*: it notes the epoch, a word that only goes up, and stores that in its own word. By storing 0 it goes *idle*, and
+//! all its stamps and notes go. A place in limbo keeps the pins that stood at the commit, and the epoch that its pass notes
+//! next is its *label*. To watch another pass is to find its word: the place is *marked* for a pass that is idle, or whose
+//! word is above the label, as it stands under none of those pins any more. An idle pass gives back a number whose place is
+//! marked for every other pass. `art_epoch` teaches this, and has calls for it.
 //!
 //! # What a contract says of a step
 //!
-//! Three things, of each call of `Steps`. What the pass knows then (`row`): how its view changed. What happened at one instant
-//! between the call and its return (`at_once`): which word was found or written, by one step of one of the kinds (`AtStep`).
-//! And that nothing else did (`only`). No contract speaks of other passes: between two calls they may do anything that is a
-//! step. A value that stands for a locked cell (`Held`), or for a number in hand (`Number`), has to be spent; what may be done
-//! with it, the view decides.
+//! Two traits have the steps: `Steps` those of cells, and `EpochSteps`, which stands on it, those of numbers and epochs. Of
+//! each call that makes one, three things are said. What the pass knows then (`row`): how its view changed. What happened at
+//! one instant between the call and its return (`at_once`): which word was found or written, by one step of one of the kinds
+//! (`AtStep`). And that nothing else did (`only`). No contract speaks of other passes: between two calls they may do
+//! anything that is a step. A value that stands for a locked cell (`Held`), or for a number in hand (`Number`), has to be
+//! spent; what may be done with it, the view decides.
 //!
 //! # What always holds
 //!
@@ -71,12 +81,15 @@
 //! | `ShowsReplay` | the logical words mean a tree, whose rows are those that the history leaves |
 //! | `OneHolder` | a cell is locked exactly where one pass holds it |
 //! | `StampsVouch` | while a version word is the stamped one, what was noted under the stamp holds |
-//! | `NumbersAccounted` | each number is in exactly one place |
-//! | `MarkedUnstamped` | a number in limbo that is marked for a pass is in no stamp of it |
+//! | `NumbersAccounted` | each number is in exactly one place, and free exactly where its bit is set |
+//! | `MarkedUnstamped` | only a pinned pass has stamps; a number in limbo that is marked for a pass is in no stamp of it |
 //! | `WordsFormed` | version words have their forms, child words name cells that there are, the epoch stays below its bound |
 //!
+//! The bound is 2^62 and the number of passes together: a note of the epoch lets its pass raise it once, and a note of 2^62
+//! or above does not.
+//!
 //! What no view shows of it, the history and the logical words, is determined by the rest, and the history only grows
-//! (`hidden_is_determined`).
+//! (`hidden_is_determined`). Each step adds 1 to the count of its pass (`steps_keep_their_pass`).
 //!
 //! # One step from end to end
 //!
@@ -90,20 +103,21 @@
 //!
 //! A page in `specs/Steps` with the same names in the same order (`May`, `view_after`, `Step`, `Outcome`, `Law`), a case of
 //! `OfAKind` in `specs/Steps.antt`, a file of its law in `proofs`, a lemma there that makes the view after it (as those of
-//! `Moves.antt`), a line in `AnyStep.antt` and in `Determined.antt`, and a call of the trait. What happens to words at it is
-//! said with the words of `specs/Effects.antt`.
+//! `Moves.antt` and `EpochMoves.antt`), lines in `AnyStep.antt` and in `Determined.antt`, and a call of one of the two
+//! traits. What happens to words at it is said with the words of `specs/Effects.antt`.
 //!
 //! # Letters
 //!
 //! | | |
 //! |---|---|
-//! | z | how many cells there are |
+//! | z | how many cells and passes there are |
 //! | m, f | words and views before a step |
 //! | m', f' | words and views after it |
 //! | p, q | passes; v, w views of one pass before and after |
 //! | x | a stamp, or a word where a stamp is not meant; y a note |
 //! | c, d | a cell; d also a link |
-//! | h, k | what is held of a cell |
+//! | h, k | what is held of a cell; k also a bit of a word |
+//! | e | a place in limbo; i the index of a word of free numbers |
 //! | s, s' | logical words before and after |
 //! | us, ls | numbers that leave the tree, and that come into it |
 #![tactic(auto)]

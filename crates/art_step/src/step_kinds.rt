@@ -1,8 +1,7 @@
 //! The kinds of step, by name.
 use std::fmt;
 
-/// What kind a step is. Each has a page in `specs/Steps`, but for those that manage numbers by epochs, and a look of the anchor
-/// alone, which do not exist yet.
+/// What kind a step is. Each has a page in `specs/Steps`, but for a look of the anchor alone, which does not exist yet.
 #[derive(Clone, Copy, Debug, PartialEq, Eq)]
 pub enum StepKind {
     /// The version word of the anchor or of a node is found.
@@ -21,7 +20,7 @@ pub enum StepKind {
     Release,
     /// A node in hand is locked.
     Claim,
-    /// A free number comes into the hand.
+    /// A word of free numbers is found, and a free number may come into the hand.
     Take,
     /// A number is free again.
     Give,
@@ -29,9 +28,9 @@ pub enum StepKind {
     Epoch,
     /// The pass is pinned to an epoch, or goes idle.
     Pin,
-    /// The epoch goes on.
+    /// The epoch goes up.
     Advance,
-    /// The word of another pass is looked at.
+    /// The word of another pass is found, and places in limbo may be marked for it.
     Watch,
     /// The anchor alone is looked at.
     Anchor,
