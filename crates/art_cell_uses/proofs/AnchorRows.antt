@@ -23,13 +23,17 @@ use Rattle.art_commit.specs.CommitLaws.{HoldsJust, ClaimedAmong}
 use Rattle.art_tree.specs.Heaps.{Cells, heap_of}
 use Rattle.art_cell.specs.Leaves.{leaf_word}
 use Rattle.art_step.specs.Steps.Commit as commit
-use Rattle.art_step.specs.Steps.Give as give
-use Rattle.art_step.specs.Views.{IsHolding, IsInLimbo, note_of}
+use Rattle.art_epoch.proofs.Waiting.{commit_waits}
+use Rattle.art_epoch.specs.Limbo.{IsLimbo}
+use Rattle.art_epoch.specs.declared.limbo.Place.{Place}
+use Rattle.art_step.proofs.AnyStep.{step_law}
+use Rattle.art_step.specs.Effects.{Instant}
+use Rattle.art_step.specs.Steps.{AtStep}
+use Rattle.art_step.specs.Views.{IsHolding, IsOnce, links_in_limbo, note_of}
 use Rattle.art_step.specs.Steps.Begin.{stamp_of}
 use Rattle.art_step.specs.Steps.Write as write
-use Rattle.art_step.specs.Steps.Commit.{claimed_node, claimed_nodes, coming, AllNew, Commits, Knows, all_retired, retired}
+use Rattle.art_step.specs.Steps.Commit.{claimed_node, claimed_nodes, coming, AllNew, Commits, Knows, all_retired}
 use Rattle.art_step.specs.Tokens.{cell_held, link_of_number, links_of}
-use Rattle.art_step.specs.Steps.Give.{LetsGo, MayFree}
 use Rattle.art_tree.specs.Tree.{Top}
 use Rattle.art_step.specs.Views.{Member}
 use Rattle.art_cell_uses.specs.Visits.{HasNone, IsAway, IsIdle, HoldsAnchor, HoldsWord, ChangesWord, Fills, NotesLeaf, anchor_held}
@@ -37,10 +41,7 @@ use Rattle.art_cell.specs.Words.{Words}
 use Rattle.art_commit.proofs.ChangeLeaves.{add_commits, drop_commits}
 use Rattle.art_tree.proofs.ChildWords.{link_back}
 use Rattle.art_cell_uses.proofs.Few.{none_left}
-use Rattle.art_step.proofs.Gathered.{left_over}
-use Rattle.art_cell_uses.proofs.IdlePasses.{still_away, still_empty}
 use Rattle.art_cell_uses.proofs.LeavesInHand.{first_words, has_leaf, key_is_one}
-use Rattle.art_tree.proofs.Places.{same_link}
 
 -- ---- nothing is claimed
 
@@ -132,6 +133,9 @@ module _ (v w : View) (h : Held) (x a b : ℕ) (has : HoldsWord v h x a) (wrote 
   pub child_notes : w.notes ≡ v.notes
   child_notes = ap (λ (y : View). y.notes) child_row.is
 
+  pub child_limbo : w.limbo ≡ v.limbo
+  child_limbo = ap (λ (y : View). y.limbo) child_row.is
+
   pub child_steps : w.steps ≡ v.steps + 1
   child_steps = ap (λ (y : View). y.steps) child_row.is
 
@@ -213,39 +217,20 @@ removed_idle v w h x a b what us ls none c committed = record {
   hand = λ y i. none y (committed_hand v h x c.old c.new c.holds w what us ls committed y i).0;
 }
 
-pub removed_limbo : (v w : View) (h : Held) (x a b l : ℕ) (what : Deed) (us ls : List Link) → us ≡ leaf l ∷ [] → ChangesWord v h x a b → ((y : Holding) → IsHolding v (cell_held h) y → commit.Outcome v w what us ls y) → IsInLimbo w (leaf l)
-removed_limbo v w h x a b l what us ls one c committed =
+-- the leaf's number waits without a label, beside those that waited
+pub removed_waits : {z : Sizes} {I so : Instant} (v w : View) (h : Held) (x a b l : ℕ) (what : Deed) (us ls : List Link) (ps : List Place) → us ≡ leaf l ∷ [] → ChangesWord v h x a b
+    → ((y : Holding) → IsHolding v (cell_held h) y → commit.Outcome v w what us ls y) → AtStep z v w I so → IsLimbo ps [] v.limbo → IsLimbo ps (leaf l ∷ []) w.limbo
+removed_waits {z} v w h x a b l what us ls ps one c committed t waits =
     let r = committed (anchor_held x c.old c.new) (c.holds.just.has, sym c.holds.cell) in
-    let is : w.limbo ≡ retired r.pins (leaf l) ∷ v.limbo = ap (λ (y : View). y.limbo) r.is ∙ ap (λ (ds : List Link). all_retired r.pins ds ++ v.limbo) one in
-    (retired r.pins (leaf l), subst (Member (retired r.pins (leaf l))) (sym is) (inl refl), refl)
+    let is : w.limbo ≡ all_retired r.pins (leaf l ∷ []) ++ v.limbo = ap (λ (y : View). y.limbo) r.is ∙ ap (λ (ds : List Link). all_retired r.pins ds ++ v.limbo) one in
+    let sound = step_law z t.pass t.words t.views t.words_after t.views_after t.step in
+    let once = (sound.numbers.accounts t.pass w t.after).limbo_once in
+    subst (IsLimbo ps (leaf l ∷ [])) (sym is) (commit_waits ps r.pins (leaf l ∷ []) v.limbo waits (subst (λ (es : List Retired). IsOnce (links_in_limbo es)) is once))
+
+-- what waits stays, where nothing is unlinked
+pub added_limbo : (v w : View) (h : Held) (x a b : ℕ) (what : Deed) (ls : List Link) → ChangesWord v h x a b → ((y : Holding) → IsHolding v (cell_held h) y → commit.Outcome v w what [] ls y) → w.limbo ≡ v.limbo
+added_limbo v w h x a b what ls c committed = ap (λ (y : View). y.limbo) (committed (anchor_held x c.old c.new) (c.holds.just.has, sym c.holds.cell)).is
 
 -- the one cell that its child word names
 pub one_link : (word l : ℕ) → l < 2 ^ 32 → word ≡ child_word (leaf l) → links_of (word ∷ []) ≡ leaf l ∷ []
 one_link word l small e = ap (λ (o : Option Link). cons_option o []) (ap link_of e ∙ link_back (leaf l) small)
-
--- ---- and it goes back, since no stamp is a leaf's
-
--- the list without the number
-pub without_link : (d : Link) (es : List Retired) → (ks : List Retired) × LetsGo es d ks
-without_link d es =
-    let rest = left_over (λ (e : Retired). e.link ≡ d) es (λ e. same_link e.link d) in
-    (rest.0, record { was = λ e. (rest.1 e).0; stays = λ e i other. (rest.1 e).1 (i, other) })
-
-pub may_give_back : (z : Sizes) (v : View) (d : Link) (l : ℕ) → d ≡ leaf l → IsInLimbo v (leaf l) → (es : List Retired) × MayFree z v d es
-may_give_back z v d l is limbo =
-    let rest = without_link (leaf l) v.limbo in (
-      rest.0,
-      subst (λ (c : Link). MayFree z v c rest.0) (sym is) (record {
-        limbo = limbo;
-        free = λ n e. absurd (cc);
-        unstamped = λ n e. absurd (cc);
-        marked = λ n e q is. absurd (cc);
-        rest = rest.1;
-      }),
-    )
-
-pub freed_idle : (v w : View) (d : Link) → IsIdle v → give.FreeOutcome v w d → IsIdle w
-freed_idle v w d idle f = record {
-  away = still_away v w (ap (λ (y : View). y.pin) f.is) (ap (λ (y : View). y.held) f.is) idle.away;
-  hand = still_empty v w idle.hand (ap (λ (y : View). y.hand) f.is);
-}

@@ -1,5 +1,5 @@
 -- A pass that holds nothing, or that has stamped the anchor, or that holds the anchor unchanged.
-use Rattle.std.proofs.Common.{◌≡◌, ℕ, ◌+◌, ◌%◌, true, false, cond, eqb, List, [], ◌∷◌, Bool, Some, refl, sym, ap, ◌∙◌, subst, inr}
+use Rattle.std.proofs.Common.{◌≡◌, ℕ, ◌+◌, ◌%◌, true, false, cond, eqb, List, [], ◌∷◌, Bool, Some, refl, sym, ap, ◌∙◌, subst, inr, arith}
 use Rattle.std.specs.Prelude.{MatchResult, Result, Ok, Err}
 use Rattle.art_cell.specs.declared.cells.Cell.{Cell}
 use Rattle.art_cell.specs.declared.cells.Cell.TheVariants as cell
@@ -18,7 +18,7 @@ use Rattle.art_step.specs.Steps.Release as release
 use Rattle.art_step.specs.Steps.Begin as begin
 use Rattle.art_step.specs.Tokens.{cell_held}
 use Rattle.art_step.specs.Views.{size_of}
-use Rattle.art_cell_uses.specs.Visits.{HasNone, HasJust, IsAway, IsIdle, HoldsUnchanged, Locks, StampsAnchor, anchor_held}
+use Rattle.art_cell_uses.specs.Visits.{HasNone, HasJust, IsAway, IsIdle, HoldsUnchanged, Locks, StampsAnchor, anchor_held, steps_made}
 use Rattle.art_cell_uses.proofs.Few.{just_one, no_members, none_left}
 
 -- ---- what is the same of two views
@@ -117,12 +117,12 @@ let_go_away w u h holds released =
       held = subst (λ (hs : List Holding). HasNone hs) (sym (ap (λ (y : View). y.held) r.is)) (none_left w.held r.held _ cell.Anchor k.just refl r.drops);
     }
 
--- with the same in hand, one step later
-pub let_go_same : (w u : View) (h : Held) → HoldsUnchanged w h → IsReleased w u h → (u.hand ≡ w.hand) × (u.steps ≡ w.steps + 1)
+-- with the same in hand and in limbo, one step later
+pub let_go_same : (w u : View) (h : Held) → HoldsUnchanged w h → IsReleased w u h → (u.hand ≡ w.hand) × (u.steps ≡ w.steps + 1) × (u.limbo ≡ w.limbo)
 let_go_same w u h holds released =
     let k = holds.2 in
     let r = released (anchor_held holds.0 holds.1 holds.1) (k.just.has, sym k.cell) in
-    (ap (λ (y : View). y.hand) r.is, ap (λ (y : View). y.steps) r.is)
+    (ap (λ (y : View). y.hand) r.is, ap (λ (y : View). y.steps) r.is, ap (λ (y : View). y.limbo) r.is)
 
 -- ---- what a visitor knows
 
@@ -133,5 +133,11 @@ still_empty v w none hand = subst (λ (xs : List InHand). HasNone xs) (sym hand)
 pub idle_then : (v w : View) → HasNone v.hand → w.hand ≡ v.hand → IsAway w → IsIdle w
 idle_then v w none hand away = record { away = away; hand = still_empty v w none hand }
 
-pub locked_then : (v w : View) (x : Stamp) (h : Held) → HasNone v.hand → w.hand ≡ v.hand → Locks v w x h → HasNone w.hand × HoldsUnchanged w h
-locked_then v w x h none hand made = (still_empty v w none hand, (x.version, made.words, made.holds))
+-- how many steps an upgrade made
+pub upgrade_steps : (v w : View) (x : Stamp) (r : Result Held UpgradeFault) → upgrade.Outcome v w x r → (w.steps ≡ v.steps + steps_made r) × (w.limbo ≡ v.limbo)
+upgrade_steps v w x (Ok h) row = (ap (λ (y : View). y.steps) row.1.is, ap (λ (y : View). y.limbo) row.1.is)
+upgrade_steps v w x (Err (fault.Changed c)) row = (ap (λ (y : View). y.steps) row.3.is, ap (λ (y : View). y.limbo) row.3.is)
+upgrade_steps v w x (Err (fault.Exhausted c)) row = (ap (λ (y : View). y.steps) row.2 ∙ more v.steps, ap (λ (y : View). y.limbo) row.2)
+  where
+    more : (n : ℕ) → n ≡ n + 0
+    more n = omega arith

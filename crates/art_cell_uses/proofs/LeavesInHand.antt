@@ -9,29 +9,24 @@ use Rattle.art_cell.specs.Leaves.{leaf_word}
 use Rattle.art_cell.specs.Lemmas.LeafWords.{words_mean_leaf}
 use Rattle.art_cell.specs.Words.{Words, byte_of, packed}
 use Rattle.art_cell.specs.declared.cells.Link.{Link}
-use Rattle.art_cell.specs.declared.cells.Link.TheVariants.{Leaf as leaf, Node as node}
-use Rattle.art_cell.specs.declared.layouts.Layout.TheVariants.{Node4, Node16, Node48, Node256}
+use Rattle.art_cell.specs.declared.cells.Link.TheVariants.{Leaf as leaf}
 use Rattle.art_cell.specs.declared.layouts.Pool.TheVariants.{Leaves}
-use Rattle.art_cell.specs.declared.layouts.Layout.{Layout}
 use Rattle.art_commit.specs.CommitLaws.{HasLeaf}
-use Rattle.art_step.specs.Steps.Take as take_free
 use Rattle.art_step.specs.Steps.Take.{word_count_of}
 use Rattle.art_step.specs.Steps.Write as write
 use Rattle.art_step.specs.Tokens.{link_of_number}
 use Rattle.art_step.specs.Views.{IsChildWord, IsInHand, IsNumber, Member, words_in}
-use Rattle.art_step.specs.WordPlaces.{pool_of, pool_of_layout}
 use Rattle.art_step.specs.declared.numbers.Number.{Number}
 use Rattle.art_step.specs.declared.views.InHand.{InHand}
 use Rattle.art_step.specs.declared.views.Sizes.{Sizes}
 use Rattle.art_step.specs.declared.views.View.{View}
 use Rattle.art_tree.proofs.ChildWords.{link_back}
+use Rattle.art_epoch.specs.Taking.{OnlyTakes, TookLowest}
 use Rattle.art_tree.specs.Heaps.{key_of}
 use Rattle.art_tree.specs.WordChanges.{FitsWord}
-use Rattle.art_world.specs.Contents.{Contents}
-use Rattle.art_world.specs.FreeNumbers.{IsLeastFree}
 use Rattle.art_cell_uses.proofs.Few.{just_one, no_members}
 use Rattle.art_cell_uses.proofs.IdlePasses.{still_away}
-use Rattle.art_cell_uses.specs.Visits.{HasNone, HasJust, IsAway, IsIdle, Fills, leaf_in_hand}
+use Rattle.art_cell_uses.specs.Visits.{HasJust, IsAway, IsIdle, Fills, leaf_in_hand}
 
 -- ---- the key of one byte
 
@@ -48,49 +43,27 @@ key_is_one w b small len key =
 
 -- ---- the hand
 
-of_no_node : (y : Layout) → pool_of_layout y ≡ Leaves → ⊥
-of_no_node Node4 e = cc
-of_no_node Node16 e = cc
-of_no_node Node48 e = cc
-of_no_node Node256 e = cc
-
--- a number of the pool of leaves is that of a leaf
-leaf_of_pool : (d : Link) → pool_of d ≡ Leaves → (l : ℕ) × (d ≡ leaf l)
-leaf_of_pool (leaf l) e = (l, refl)
-leaf_of_pool (node n) e = absurd (of_no_node n.layout e)
-
--- a number that was just taken
-took_fills : (z : Sizes) (v w : View) (n : Number) (l : ℕ) (ws k : List ℕ) (value : ℕ) → HasNone v.hand → link_of_number n ≡ leaf l → l < z.leaves → l < 2 ^ 32
-    → take_free.Outcome v w (link_of_number n) ws → Fills z w.hand n k value 0
-took_fills z v w n l ws k value none is inside small t = record {
-  number = l;
-  is = is;
-  inside = inside;
-  small = small;
-  words = ws;
-  long = t.long ∙ ap word_count_of is;
-  just = subst (λ (xs : List InHand). HasJust xs (leaf_in_hand l ws)) (sym hand) (just_one (leaf_in_hand l ws));
-  written = λ i low. absurd (omega (arith, low));
-}
-  where
-    hand : w.hand ≡ leaf_in_hand l ws ∷ []
-    hand = ap (λ (y : View). y.hand) t.is
-        ∙ (ap (λ (xs : List InHand). record { link = link_of_number n; words = ws } ∷ xs) (no_members v.hand none)
-        ∙ ap (λ (d : Link). record { link = d; words = ws } ∷ []) is)
-
--- it is that of a leaf, none of whose words is written
-pub took_leaf : (a : Contents) (z : Sizes) (v w : View) (n : Number) (ws k : List ℕ) (value : ℕ) → z ≡ a.sizes → IsIdle v → IsLeastFree a Leaves n → take_free.Outcome v w (link_of_number n) ws
-    → IsAway w × Fills z w.hand n k value 0
-took_leaf a z v w n ws k value same idle free t = (
-  still_away v w (ap (λ (y : View). y.pin) t.is) (ap (λ (y : View). y.held) t.is) idle.away,
-  took_fills z v w n l.0 ws k value idle.hand l.1 inside (subst FitsWord l.1 free.fits) t,
+-- a number that was just taken is that of a leaf, none of whose words is written
+pub took_leaf : (z : Sizes) (v w : View) (n : Number) (k : List ℕ) (value : ℕ) → IsIdle v → OnlyTakes v w → TookLowest z v w Leaves (link_of_number n) → IsAway w × Fills z w.hand n k value 0
+took_leaf z v w n k value idle only t = (
+  still_away v w (ap (λ (y : View). y.pin) only) (ap (λ (y : View). y.held) only) idle.away,
+  record {
+    number = l;
+    is = t.is;
+    inside = subst (IsNumber z) t.is t.there;
+    small = subst FitsWord t.is t.fits;
+    words = t.words;
+    long = t.long ∙ ap word_count_of t.is;
+    just = subst (λ (xs : List InHand). HasJust xs (leaf_in_hand l t.words)) (sym hand) (just_one (leaf_in_hand l t.words));
+    written = λ i low. absurd (omega (arith, low));
+  },
 )
   where
-    l : (l : ℕ) × (link_of_number n ≡ leaf l)
-    l = leaf_of_pool (link_of_number n) free.pool
+    l : ℕ
+    l = 64 * t.index + t.bit
 
-    inside : l.0 < z.leaves
-    inside = subst (λ (y : Sizes). l.0 < y.leaves) (sym same) (subst (IsNumber a.sizes) l.1 free.there)
+    hand : w.hand ≡ leaf_in_hand l t.words ∷ []
+    hand = t.hand ∙ (ap (λ (xs : List InHand). record { link = link_of_number n; words = t.words } ∷ xs) (no_members v.hand idle.hand) ∙ ap (λ (d : Link). record { link = d; words = t.words } ∷ []) t.is)
 
 -- the next word may be written
 pub may_fill : (z : Sizes) (v : View) (n : Number) (k : List ℕ) (value place : ℕ) → place < 10 → Fills z v.hand n k value place
@@ -127,10 +100,10 @@ filled_more z v w n k value place word low is f wrote = record {
     hand = ap (λ (y : View). y.hand) row.is
 
 -- the pass stays away, one step later
-pub filled_away : (v w : View) (d : Link) (place word : ℕ) (y : InHand) → IsAway v → IsInHand v d y → ((x : InHand) → IsInHand v d x → write.LeafOutcome v w x place word) → IsAway w × (w.steps ≡ v.steps + 1)
+pub filled_away : (v w : View) (d : Link) (place word : ℕ) (y : InHand) → IsAway v → IsInHand v d y → ((x : InHand) → IsInHand v d x → write.LeafOutcome v w x place word) → IsAway w × (w.steps ≡ v.steps + 1) × (w.limbo ≡ v.limbo)
 filled_away v w d place word y away has wrote =
     let is = (wrote y has).is in
-    (still_away v w (ap (λ (x : View). x.pin) is) (ap (λ (x : View). x.held) is) away, ap (λ (x : View). x.steps) is)
+    (still_away v w (ap (λ (x : View). x.pin) is) (ap (λ (x : View). x.held) is) away, ap (λ (x : View). x.steps) is, ap (λ (x : View). x.limbo) is)
 
 -- the number's leaf is in hand
 pub fills_hand : (z : Sizes) (v : View) (n : Number) (k : List ℕ) (value place : ℕ) (f : Fills z v.hand n k value place) → IsInHand v (link_of_number n) (leaf_in_hand f.number f.words)

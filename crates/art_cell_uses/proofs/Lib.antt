@@ -3,3 +3,4 @@ pub mod AnchorRows
 pub mod Few
 pub mod IdlePasses
 pub mod LeavesInHand
+pub mod Resting

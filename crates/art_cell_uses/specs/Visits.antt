@@ -1,5 +1,5 @@
 -- What a pass that visits the anchor again and again knows between two of its steps.
-use Rattle.std.specs.Prelude.{◌≡◌, ◌≢◌, ℕ, ◌+◌, ◌%◌, ◌^◌, ◌<◌, ◌≤◌, List, [], length, false, Some}
+use Rattle.std.specs.Prelude.{◌≡◌, ◌≢◌, ℕ, ◌+◌, ◌%◌, ◌^◌, ◌<◌, List, [], ◌∷◌, length, false, Option, Some, Result, Ok, Err}
 use Rattle.art_cell.specs.Children.{child_word}
 use Rattle.art_cell.specs.Leaves.{leaf_word}
 use Rattle.art_cell.specs.declared.cells.Cell.TheVariants as cell
@@ -8,7 +8,6 @@ use Rattle.art_step.specs.Steps.Upgrade.{AgreesWithNotes}
 use Rattle.art_step.specs.Tokens.{cell_held, link_of_number}
 use Rattle.art_step.specs.Views.{Member, note_of, words_in}
 use Rattle.art_step.specs.Steps.Begin.{stamp_of}
-use Rattle.art_step.specs.WordRows.{view_at}
 use Rattle.art_step.specs.declared.held.Held.{Held}
 use Rattle.art_step.specs.declared.numbers.Number.{Number}
 use Rattle.art_step.specs.declared.views.Fact.{Fact}
@@ -19,7 +18,18 @@ use Rattle.art_step.specs.declared.views.Note.{Note}
 use Rattle.art_step.specs.declared.views.Sizes.{Sizes}
 use Rattle.art_step.specs.declared.views.Stamp.{Stamp}
 use Rattle.art_step.specs.declared.views.View.{View}
-use Rattle.art_world.specs.Contents.{Contents}
+use Rattle.art_cell.specs.declared.layouts.Pool.TheVariants.{Leaves}
+use Rattle.art_epoch.specs.Limbo.{IsLimbo}
+use Rattle.art_epoch.specs.Pins as pins
+use Rattle.art_epoch.specs.Reclaiming as reclaiming
+use Rattle.art_epoch.specs.Taking as taking
+use Rattle.art_epoch.specs.declared.asked.Asked.{Asked}
+use Rattle.art_epoch.specs.declared.limbo.Place.{Place}
+use Rattle.art_epoch.specs.declared.pins.Pinning.{Pinning}
+use Rattle.art_epoch.specs.declared.reclaiming.Reclaiming.{Reclaiming}
+use Rattle.art_epoch.specs.declared.taking.Taking.{Taking}
+use Rattle.art_step.specs.declared.faults.UpgradeFault.{UpgradeFault}
+use Rattle.art_step.specs.declared.faults.UpgradeFault.TheVariants as fault
 use Rattle.art_cell_uses.specs.declared.anchor.Adding.{Adding}
 use Rattle.art_cell_uses.specs.declared.anchor.Adding.TheVariants as adding
 use Rattle.art_cell_uses.specs.declared.anchor.Removing.{Removing}
@@ -146,21 +156,85 @@ Removes k value z v removing.Idle = IsIdle v
 Removes k value z v (removing.Stamped x) = IsIdle v × StampsAnchor v x
 Removes k value z v (removing.Reading x l place) = IsIdle v × StampsAnchor v x × NotesLeaf z v x l k value place
 Removes k value z v (removing.Locked h l) = HasNone v.hand × ((x : ℕ) × HoldsWord v h x (child_word (leaf l)) × NotesLeaf z v (stamp_of z cell.Anchor x) l k value 3)
-Removes k value z v (removing.Written h l) = HasNone v.hand × ((x : ℕ) × ChangesWord v h x (child_word (leaf l)) 0 × NotesLeaf z v (stamp_of z cell.Anchor x) l k value 3)
 
-abbrev pub Visits : List ℕ → ℕ → Sizes → View → Visit → Type 0
-Visits k value z v visit.Idle = IsIdle v
-Visits k value z v (visit.Stamped x) = IsIdle v × StampsAnchor v x
-Visits k value z v (visit.Locked h) = HasNone v.hand × HoldsUnchanged v h
-Visits k value z v (visit.Adding a) = Adds k value z v a
-Visits k value z v (visit.Removing r) = Removes k value z v r
+-- the anchor is held, and no longer names the leaf l, which was noted with this key and value
+abbrev pub Unlinks : List ℕ → ℕ → View → Sizes → Held → ℕ → Type 0
+Unlinks k value v z h l = HasNone v.hand × ((x : ℕ) × ChangesWord v h x (child_word (leaf l)) 0 × NotesLeaf z v (stamp_of z cell.Anchor x) l k value 3)
+
+-- ---- the states of a visitor, with what waits in its limbo
+
+-- the pass is idle, with nothing held and nothing in hand
+pub record IsResting (ps : List Place) (v : View) : Type 0 where
+  pub idle : v.pin ≡ 0
+  pub held : v.held ≡ []
+  pub hand : HasNone v.hand
+  pub limbo : IsLimbo ps [] v.limbo
+
+-- these wait, and there is room for one more
+pub record Waits (ps : List Place) (v : View) : Type 0 where
+  pub limbo : IsLimbo ps [] v.limbo
+  pub room : length ps < 64
+
+-- a machine has a next step
+abbrev pub GoesOn : Option Asked → Type 0
+GoesOn o = (a : Asked) × (o ≡ Some a)
+
+-- what waits goes back, of a pass that rested
+pub record Reclaims (z : Sizes) (v : View) (ps : List Place) (m : Reclaiming) : Type 0 where
+  pub waited : List Place
+  pub began : View
+  pub rested : IsResting waited began
+  pub fits : reclaiming.Fits z began waited m ps v
+  pub going : GoesOn (reclaiming.asks_at m.stage ps)
+
+-- a pass that rested is being pinned
+pub record IsPinning (z : Sizes) (v : View) (ps : List Place) (m : Pinning) : Type 0 where
+  pub began : View
+  pub rested : IsResting ps began
+  pub room : length ps < 64
+  pub fits : pins.Fits z began m v
+  pub going : GoesOn (pins.asks m)
+
+-- a leaf's number is being taken, of a pass that was pinned with nothing in hand
+pub record IsTaking (z : Sizes) (v : View) (ps : List Place) (m : Taking) : Type 0 where
+  pub began : View
+  pub idle : IsIdle began
+  pub waits : Waits ps began
+  pub leaves : m.pool ≡ Leaves
+  pub fits : taking.Fits z began m v
+  pub going : GoesOn (taking.asks m)
+
+abbrev pub Visits : List ℕ → ℕ → Sizes → List Place → View → Visit → Type 0
+Visits k value z ps v visit.Resting = IsResting ps v
+Visits k value z ps v (visit.Reclaiming m) = Reclaims z v ps m
+Visits k value z ps v (visit.Pinning m) = IsPinning z v ps m
+Visits k value z ps v (visit.Taking m) = IsTaking z v ps m
+Visits k value z ps v (visit.Adding a) = Adds k value z v a × Waits ps v
+Visits k value z ps v (visit.Removing r) = Removes k value z v r × Waits ps v
+Visits k value z ps v (visit.Unlinking h l) = Unlinks k value v z h l × Waits ps v
+Visits k value z ps v (visit.Retiring n) = IsIdle v × IsLimbo ps (link_of_number n ∷ []) v.limbo × (length ps < 64)
+Visits k value z ps v visit.Leaving = IsIdle v × IsLimbo ps [] v.limbo
+
+-- of one that adds or removes, whatever waits
+abbrev pub Stands : List ℕ → ℕ → Sizes → View → Visit → Type 0
+Stands k value z v visit.Resting = ⊥
+Stands k value z v (visit.Reclaiming m) = ⊥
+Stands k value z v (visit.Pinning m) = ⊥
+Stands k value z v (visit.Taking m) = ⊥
+Stands k value z v (visit.Adding a) = Adds k value z v a
+Stands k value z v (visit.Removing r) = Removes k value z v r
+Stands k value z v (visit.Unlinking h l) = Unlinks k value v z h l
+Stands k value z v (visit.Retiring n) = ⊥
+Stands k value z v visit.Leaving = ⊥
+
+-- how many steps an upgrade made
+abbrev pub steps_made : {A : Type 0} → Result A UpgradeFault → ℕ
+steps_made (Ok h) = 1
+steps_made (Err (fault.Changed c)) = 1
+steps_made (Err (fault.Exhausted c)) = 0
 
 -- ---- turns
 
 -- so many turns lead from the count a to the count b, of a number that wraps
 abbrev pub Counts : ℕ → ℕ → ℕ → Type 0
 Counts n a b = b % 2 ^ 64 ≡ (a + n) % 2 ^ 64
-
--- from the first world to the second the pass makes one counted step or none
-abbrev pub StepsAtMostOnce : ℕ → Contents → Contents → Type 0
-StepsAtMostOnce p k l = (view_at l.views p).steps ≤ (view_at k.views p).steps + 1

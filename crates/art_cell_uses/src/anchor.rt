@@ -1,5 +1,6 @@
 //! A visitor of the anchor, and what it keeps between two of its steps. A definition of specs/ speaks of that, so it stands
 //! outside the tests, which are its only users.
+use art_epoch::{Pinning, Reclaiming, Taking};
 use art_step::{Held, Number, Stamp};
 
 #[cfg(test)]
@@ -12,16 +13,24 @@ mod visitor;
 /// Where a visitor stands between two of its steps.
 #[derive(Debug)]
 pub(crate) enum Visit {
-    /// It has no stamp, holds nothing and has nothing in hand.
-    Idle,
-    /// The anchor is stamped.
-    Stamped(Stamp),
-    /// The anchor is locked, and unchanged.
-    Locked(Held),
+    /// The pass is idle.
+    Resting,
+    /// What waits in its limbo goes back.
+    Reclaiming(Reclaiming),
+    /// It is being pinned.
+    Pinning(Pinning),
+    /// It is pinned, and a leaf's number is being taken.
+    Taking(Taking),
     /// A leaf is on its way into the tree.
     Adding(Adding),
     /// The leaf is on its way out of it.
     Removing(Removing),
+    /// The anchor is locked, and no longer names the leaf with this number.
+    Unlinking(Held, u32),
+    /// The leaf is removed: its number is to wait in limbo.
+    Retiring(Number),
+    /// The pass holds nothing and has nothing in hand: it is to go idle.
+    Leaving,
 }
 
 /// What is done to put a leaf below the anchor. The number is the leaf's, which is in hand.
@@ -50,6 +59,4 @@ pub(crate) enum Removing {
     Reading(Stamp, u32, usize),
     /// The anchor is locked.
     Locked(Held, u32),
-    /// And it names nothing.
-    Written(Held, u32),
 }

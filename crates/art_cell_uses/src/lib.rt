@@ -1,10 +1,11 @@
-//! Whole changes by hand, from the steps that crates below it prove: a visitor adds a leaf below the anchor and takes it
-//! out again, as one of three actors in drawn turns.
+//! Whole changes by hand, from the steps and calls that crates below it prove: a visitor takes a leaf's number, puts the leaf
+//! below the anchor, takes it out again, and gives the number back, as one of four actors in drawn turns.
 //!
-//! It shows that the contracts of `Steps`, `World` and `Actor` are enough to write a change and to prove it, in the order
-//! that each change has: the anchor is stamped, read, upgraded and written, and the commit is its release. Where an
-//! upgrade fails, nothing is written, and the visitor begins anew. Beside it stand tests of numbers, cells and the names
-//! of kinds of step. Nothing stands above this crate.
+//! It shows that the contracts of `Steps`, `EpochSteps`, `World`, `Actor` and the machines of `art_epoch` are enough to write
+//! a change and to prove it, in the order that each change has: the pass is pinned; the anchor is stamped, read, upgraded
+//! and written, and the commit is its release; what left the tree waits in limbo; the pass goes idle, and what waits goes
+//! back. Where an upgrade fails, nothing is written, and the visitor begins anew. Beside it stand tests of numbers, cells
+//! and the names of kinds of step. Nothing stands above this crate.
 #![tactic(auto)]
 
 mod anchor;

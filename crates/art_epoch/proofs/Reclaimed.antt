@@ -8,7 +8,7 @@ use Rattle.std.specs.Prelude.{Option, Some, None}
 use Rattle.art_epoch.specs.Asking.{Answers}
 use Rattle.art_epoch.specs.Limbo.{IsLimbo, lets_go, no_place, open_index}
 use Rattle.art_epoch.specs.Pins.{view_advanced}
-use Rattle.art_epoch.specs.Reclaiming.{Fits, IsBelowAll, IsFreeing, IsLeast, IsRaising, IsStage, IsWatched, IsWatching, Look, MayGo, Reclaims, StageFits, asks_at, freed_at, least_after, lower, others, places_after, skip, stage_after, steps_left, view_watched, watching}
+use Rattle.art_epoch.specs.Reclaiming.{Fits, IsBelowAll, IsFreeing, IsLeast, IsRaising, IsStage, IsWatched, IsWatching, Look, MayGo, OnlyReclaims, Reclaims, StageFits, asks_at, freed_at, least_after, lower, others, places_after, skip, stage_after, steps_left, view_watched, watching}
 use Rattle.art_epoch.specs.declared.asked.Asked.{Asked}
 use Rattle.art_epoch.specs.declared.asked.Asked.TheVariants.{Free, Note, Raise, Watch}
 use Rattle.art_epoch.specs.declared.limbo.Place.{Place}
@@ -465,3 +465,26 @@ reclaim_steps z v w ps qs count inside k =
     length_map : (ls : List Look) → length ls ≡ length (map (λ l. l.0) ls)
     length_map [] = refl
     length_map (l ∷ ls) = ap suc (length_map ls)
+
+-- ---- nothing else changes
+
+only_then : (u v w : View) → OnlyReclaims u v → OnlyReclaims v w → OnlyReclaims u w
+only_then u v w a b = b ∙ ap (λ (y : View). record y { steps = w.steps; noted = w.noted; found = w.found; limbo = w.limbo }) a
+
+only_watched : (v : View) (ls : List Look) → OnlyReclaims v (view_watched v ls)
+only_watched v [] = refl
+only_watched v (l ∷ ls) = only_then v (watch.view_after v l.0 l.1) (view_watched (watch.view_after v l.0 l.1) ls) refl (only_watched (watch.view_after v l.0 l.1) ls)
+
+only_advanced : (v : View) (x : ℕ) → OnlyReclaims v (view_advanced v x)
+only_advanced v x = by_test (nat_lt x (2 ^ 62))
+  where
+    by_test : (b : Bool) → OnlyReclaims v (if b then advance.view_after (epoch.view_after v x) else epoch.view_after v x)
+    by_test true = refl
+    by_test false = refl
+
+-- where the machine has ended
+pub only_reclaims : (z : Sizes) (v w : View) (ps qs : List Place) (count : ℕ) → Reclaims z v w ps qs count → OnlyReclaims v w
+only_reclaims z v w ps qs count k =
+    let seen = subst (OnlyReclaims v) (sym k.seen) (only_then v (view_advanced v k.found) _ (only_advanced v k.found) (only_watched (view_advanced v k.found) k.looks)) in
+    let last : OnlyReclaims k.watched w = k.is ∙ ap (λ (y : View). record k.watched { steps = y.steps; noted = y.noted; found = y.found; limbo = y.limbo }) (sym k.is) in
+    only_then v k.watched w seen last

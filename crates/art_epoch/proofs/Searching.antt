@@ -17,6 +17,7 @@ use Rattle.art_step.specs.declared.views.Found.{Found}
 use Rattle.art_step.specs.declared.views.InHand.{InHand}
 use Rattle.art_step.specs.declared.views.Sizes.{Sizes}
 use Rattle.art_step.specs.declared.views.View.{View}
+use Rattle.art_step.proofs.FreeBits.{number_again}
 use Rattle.art_step.specs.declared.views.Word.TheVariants.{Free as free_word}
 use Rattle.art_step.specs.Steps.Take as take_free
 use Rattle.art_step.specs.Views.{IsNumber, Member, bit_of, number_at}
@@ -145,6 +146,7 @@ module _ (z : Sizes) (v0 : View) (m : Taking) (v w : View) (x : ℕ) (fits : Fit
           bit = k;
           is = refl;
           there = there;
+          fits = let again = number_again m.pool (64 * i + k) in let inside = was.inside in let low = was.lowest.low in let few = fits.few in omega arith;
           before = before_on v w m.pool i x f v0.steps i was.before;
           word = was.word;
           lowest = was.lowest;

@@ -7,7 +7,9 @@ use Rattle.art_epoch.specs.Limbo.{IsLimbo, IsPlace, lets_go, links_waiting, no_p
 use Rattle.art_epoch.specs.declared.limbo.Place.{Place}
 use Rattle.art_step.specs.declared.views.Retired.{Retired}
 use Rattle.art_step.specs.Steps.Epoch.{label_or, labelled}
-use Rattle.art_step.specs.Views.{IsOnce, Member}
+use Rattle.art_step.specs.declared.views.Pin.{Pin}
+use Rattle.art_step.specs.Steps.Commit.{all_retired, retired}
+use Rattle.art_step.specs.Views.{IsOnce, Member, links_in_limbo}
 use Rattle.art_step.proofs.Gathered.{key_member, member_key}
 use Rattle.art_step.proofs.SetsView.{member_append, member_back, member_front}
 
@@ -180,4 +182,47 @@ limbo_labelled x ps us es o = record {
       ))
       (o.only d.0 d.1));
   once = subst IsOnce (sym (links_append ps (places_for x us) ∙ ap (λ (ds : List Link). links_waiting ps ++ ds) (links_for x us))) (once_swapped us (links_waiting ps) o.once);
+}
+
+-- ---- what a commit unlinked
+
+retired_links : (ks : List Pin) (us : List Link) (es : List Retired) → links_in_limbo (all_retired ks us ++ es) ≡ us ++ links_in_limbo es
+retired_links ks [] es = refl
+retired_links ks (d ∷ us) es = ap (λ (ds : List Link). d ∷ ds) (retired_links ks us es)
+
+retired_is : (ks : List Pin) (us : List Link) (e : Retired) → Member e (all_retired ks us) → Member e.link us × (e.label ≡ None)
+retired_is ks [] e i = absurd i
+retired_is ks (d ∷ us) e i = ⊎_elim
+    (λ (is : e ≡ retired ks d). (inl (ap (λ (y : Retired). y.link) is), ap (λ (y : Retired). y.label) is))
+    (λ (j : Member e (all_retired ks us)). let o = retired_is ks us e j in (inr o.0, o.1))
+    i
+
+retires : (ks : List Pin) (us : List Link) (d : Link) → Member d us → Member (retired ks d) (all_retired ks us)
+retires ks [] d i = absurd i
+retires ks (e ∷ us) d i = ⊎_elim (λ (is : d ≡ e). inl (ap (retired ks) is)) (λ (j : Member d us). inr (retires ks us d j)) i
+
+-- no number twice, among fewer
+once_among : (us ds es : List Link) → IsOnce (us ++ es) → IsOnce ds → ((d : Link) → Member d ds → Member d es) → IsOnce (us ++ ds)
+once_among [] ds es once own fewer = own
+once_among (u ∷ us) ds es once own fewer = (
+  λ i. once.0 (⊎_elim (λ (j : Member u us). member_front u us es j) (λ (j : Member u ds). member_back u us es (fewer u j)) (member_append u us ds i)),
+  once_among us ds es once.1 own fewer,
+)
+
+-- its numbers wait without a label, beside those that waited, where hand and limbo name each number once
+pub commit_waits : (ps : List Place) (ks : List Pin) (us : List Link) (es : List Retired) → IsLimbo ps [] es → IsOnce (links_in_limbo (all_retired ks us ++ es)) → IsLimbo ps us (all_retired ks us ++ es)
+commit_waits ps ks us es o once = record {
+  has = λ x i. let e = o.has x i in (e.0, member_back e.0 (all_retired ks us) es e.1, e.2);
+  new = λ d i. (retired ks d, member_front (retired ks d) (all_retired ks us) es (retires ks us d i), refl, refl);
+  only = λ e i. ⊎_elim
+      (λ (j : Member e (all_retired ks us)). inr (retired_is ks us e j))
+      (λ (j : Member e es). ⊎_elim
+      (λ (a : (x : Place) × Member x ps × IsPlace x e). inl a)
+      (λ (a : Member e.link [] × (e.label ≡ None)). absurd a.0)
+      (o.only e j))
+      (member_append e (all_retired ks us) es i);
+  once = once_among us (links_waiting ps) (links_in_limbo es) (subst IsOnce (retired_links ks us es) once) o.once (λ d i.
+      let x = key_member (λ (y : Place). y.link) ps d i in
+      let e = o.has x.0 x.1 in
+      subst (λ (c : Link). Member c (links_in_limbo es)) (e.2.link ∙ x.2) (member_key (λ (y : Retired). y.link) es e.0 e.1));
 }

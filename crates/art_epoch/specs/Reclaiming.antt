@@ -52,6 +52,10 @@ pub record Reclaims (z : Sizes) (v w : View) (ps qs : List Place) (count : ℕ) 
   pub all : count + length qs ≡ length ps
   pub stays : (x : Place) → Member x qs ↔ (Member x ps × (IsBelowAll x.label looks → ⊥))
 
+-- nothing changes but steps, the note of the epoch, what was found, and limbo
+abbrev pub OnlyReclaims : View → View → Type 0
+OnlyReclaims v w = w ≡ record v { steps = w.steps; noted = w.noted; found = w.found; limbo = w.limbo }
+
 -- the epoch that is found labels these numbers, which wait now
 pub record Retires (z : Sizes) (v w : View) (ps qs : List Place) (us : List Link) : Type 0 where
   pub found : ℕ

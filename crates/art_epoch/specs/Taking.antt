@@ -17,6 +17,7 @@ use Rattle.art_step.specs.Steps.Take.{word_count_of}
 use Rattle.art_step.specs.Tokens.{link_of_number}
 use Rattle.art_step.specs.Views.{IsNumber, Member, bit_of, number_at}
 use Rattle.art_step.specs.WordPlaces.{free_words, pool_size}
+use Rattle.art_tree.specs.WordChanges.{FitsWord}
 
 -- ---- what was found since a step
 
@@ -61,12 +62,14 @@ NoneBefore v since pool n = (i : ℕ) → i < n → GaveNone v since pool i
 abbrev pub OnlyTakes : View → View → Type 0
 OnlyTakes v w = w ≡ record v { steps = w.steps; failures = w.failures; found = w.found; hand = w.hand }
 
--- the number is the lowest of the word that it was found in, and no word before that gave one; it alone came into the hand
+-- the number is the lowest of the word that it was found in, and no word before that gave one; it alone came into the hand, and a
+-- child word can name it
 pub record TookLowest (z : Sizes) (v w : View) (pool : Pool) (d : Link) : Type 0 where
   pub index : ℕ
   pub bit : ℕ
   pub is : d ≡ number_at pool index bit
   pub there : IsNumber z d
+  pub fits : FitsWord d
   pub before : NoneBefore w v.steps pool index
   pub word : ℕ
   pub lowest : IsLowest word bit

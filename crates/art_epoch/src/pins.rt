@@ -23,12 +23,14 @@ pub enum Pinning {
 impl Pinning {
     ghost use Rattle.std.specs.Prelude.{ℕ, Some};
     ghost use Rattle.art_epoch.specs.declared.asked.Asked.{Asked as AskedStep};
+    ghost use Rattle.art_epoch.specs.declared.asked.Asked.TheVariants.{Note as note};
     ghost use Rattle.art_step.specs.declared.views.Sizes.{Sizes};
     ghost use Rattle.art_step.specs.declared.views.View.{View};
 
     /// The machine at its beginning.
     pub fn new() -> Pinning
-        ensures { (z : Sizes) (v : View) → MayPin v → Fits z v result v }
+        ensures asks { asks result ≡ Some note }
+        ensures fits { (z : Sizes) (v : View) → MayPin v → Fits z v result v }
     {
         Pinning::Noting
     }

@@ -3,7 +3,7 @@ ghost use Rattle.std.specs.Prelude.{◌≡◌, ◌+◌, ◌<◌, ◌≤◌, [], 
 ghost use Rattle.std.specs.Option.{option_map};
 ghost use Rattle.art_epoch.specs.Asking.{Answers, IsAllowed};
 ghost use Rattle.art_epoch.specs.Limbo.{IsLimbo, places_of};
-ghost use Rattle.art_epoch.specs.Reclaiming.{Fits, IsStage, MayGo, Reclaims, Retires, asks_at, freed_at, least_after, places_after, stage_after, steps_left, watching};
+ghost use Rattle.art_epoch.specs.Reclaiming.{Fits, IsStage, MayGo, OnlyReclaims, Reclaims, Retires, asks_at, freed_at, least_after, places_after, stage_after, steps_left, watching};
 ghost use Rattle.art_epoch.specs.declared.reclaiming.ReclaimStage.TheVariants.{Noting as noting};
 ghost use Rattle.art_step.specs.Tokens.{link_of_number};
 
@@ -40,13 +40,15 @@ pub struct Reclaiming {
 impl Reclaiming {
     ghost use Rattle.std.specs.Prelude.{ℕ, List, Some};
     ghost use Rattle.art_epoch.specs.declared.asked.Asked.{Asked as AskedStep};
+    ghost use Rattle.art_epoch.specs.declared.asked.Asked.TheVariants.{Note as note};
     ghost use Rattle.art_epoch.specs.declared.limbo.Place.{Place};
     ghost use Rattle.art_step.specs.declared.views.Sizes.{Sizes};
     ghost use Rattle.art_step.specs.declared.views.View.{View};
 
     /// The machine of the pass `own`, of so many.
     pub fn new(own: u32, passes: u32) -> Reclaiming
-        ensures { (z : Sizes) (v : View) (ps : List Place) → own ≡ v.pass → own < passes → passes ≡ z.passes → v.pin ≡ 0 →
+        ensures asks { (ps : List Place) → asks_at result.stage ps ≡ Some note }
+        ensures fits { (z : Sizes) (v : View) (ps : List Place) → own ≡ v.pass → own < passes → passes ≡ z.passes → v.pin ≡ 0 →
             length ps ≤ 64 → IsLimbo ps [] v.limbo → Fits z v ps result ps v }
     {
         Reclaiming {
@@ -170,6 +172,7 @@ pub fn reclaim<S: EpochSteps>(steps: &mut S, limbo: &mut Limbo) -> u32
     requires limbo { IsLimbo (places_of limbo.old) [] (S.view steps.old).limbo }
     ensures only { S.only steps.old steps.new }
     ensures steps { (S.view steps.new).steps ≤ (S.view steps.old).steps + 1 + (S.sizes steps.old).passes + result }
+    ensures same { OnlyReclaims (S.view steps.old) (S.view steps.new) }
     ensures reclaims { Reclaims (S.sizes steps.old) (S.view steps.old) (S.view steps.new) (places_of limbo.old) (places_of limbo.new) result }
 {
     let _ = limbo.room();

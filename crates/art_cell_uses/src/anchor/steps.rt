@@ -1,22 +1,21 @@
 //! The steps of a pass that visits the anchor, each by what it knows before and after.
-ghost use Rattle.std.specs.Prelude.{◌≡◌, ◌<◌, ◌≤◌, ◌+◌, ◌∷◌, [], ℕ, filter_map, IfNone, IfSome, MatchResult};
+ghost use Rattle.std.specs.Prelude.{◌≡◌, ◌<◌, ◌+◌, ◌∷◌, [], ℕ, List, filter_map, IfSome, MatchResult};
 ghost use Rattle.std.specs.Option.{option_map};
 ghost use Rattle.art_cell.specs.declared.cells.Link.TheVariants.{Leaf as leaf_link};
 ghost use Rattle.art_step.specs.declared.views.Fact.TheVariants.{LeafWord as leaf_word_fact, Word as word_fact};
-ghost use Rattle.art_cell_uses.specs.declared.anchor.Removing.TheVariants.{Written as written};
 ghost use Rattle.art_cell.specs.Children.{child_word};
 ghost use Rattle.art_cell.specs.Leaves.{leaf_word};
 ghost use Rattle.art_step.specs.Tokens.{link_of_number};
-ghost use Rattle.art_step.specs.Views.{IsChildWord, IsInLimbo};
-ghost use Rattle.art_world.specs.Stepper.{OnlyStepped, sizes_of, view_of};
+ghost use Rattle.art_step.specs.Views.{IsChildWord};
+ghost use Rattle.art_epoch.specs.declared.limbo.Place.{Place};
+ghost use Rattle.art_epoch.specs.Limbo.{IsLimbo};
 ghost use Rattle.art_cell_uses.specs.Visits.{ChangesWord, Fills, HoldsUnchanged, HoldsWord, IsAway, IsIdle, IsNoted, Locks, NotesLeaf};
-ghost use Rattle.art_cell_uses.specs.Visits.{OnlyLearns, Removes, StampsAnchor};
+ghost use Rattle.art_cell_uses.specs.Visits.{OnlyLearns, StampsAnchor, Unlinks, steps_made};
 
-use art_cell::{Cell, Pool};
+use art_cell::Cell;
 use art_key::Key;
 use art_model::Answer;
 use art_step::{Act, Deed, Held, Number, Stamp, Steps, Unlinked, UpgradeFault, spent};
-use art_world::Stepper;
 
 /// The row that comes and goes.
 pub(crate) const KEY: u8 = 97;
@@ -27,7 +26,8 @@ pub(crate) const VALUE: u64 = 7;
 pub(crate) fn begin<S: Steps>(steps: &mut S) -> Option<Stamp>
     requires { IsAway (S.view steps.old) }
     ensures only { S.only steps.old steps.new }
-    ensures step { (S.view steps.new).steps ≤ (S.view steps.old).steps + 1 }
+    ensures step { (S.view steps.new).steps ≡ (S.view steps.old).steps + 1 }
+    ensures limbo { (S.view steps.new).limbo ≡ (S.view steps.old).limbo }
     ensures hand { (S.view steps.new).hand ≡ (S.view steps.old).hand }
     ensures away { IsAway (S.view steps.new) }
     ensures stamp { IfSome result (StampsAnchor (S.view steps.new)) }
@@ -43,7 +43,8 @@ pub(crate) fn check<S: Steps>(steps: &mut S, stamp: Stamp) -> Option<Stamp>
     requires away { IsAway (S.view steps.old) }
     requires stamp { StampsAnchor (S.view steps.old) stamp }
     ensures only { S.only steps.old steps.new }
-    ensures step { (S.view steps.new).steps ≤ (S.view steps.old).steps + 1 }
+    ensures step { (S.view steps.new).steps ≡ (S.view steps.old).steps + 1 }
+    ensures limbo { (S.view steps.new).limbo ≡ (S.view steps.old).limbo }
     ensures hand { (S.view steps.new).hand ≡ (S.view steps.old).hand }
     ensures away { IsAway (S.view steps.new) }
     ensures stamp { IfSome result (StampsAnchor (S.view steps.new)) }
@@ -54,12 +55,32 @@ pub(crate) fn check<S: Steps>(steps: &mut S, stamp: Stamp) -> Option<Stamp>
     }
 }
 
-/// Locks the anchor, if it is unchanged.
+/// Locks the anchor, if it is unchanged. Where its counter is at its end no step is made, and it begins the anchor instead.
 pub(crate) fn upgrade<S: Steps>(steps: &mut S, stamp: Stamp) -> Result<Held, UpgradeFault>
     requires away { IsAway (S.view steps.old) }
     requires stamp { StampsAnchor (S.view steps.old) stamp }
     ensures only { S.only steps.old steps.new }
-    ensures step { (S.view steps.new).steps ≤ (S.view steps.old).steps + 1 }
+    ensures step { (S.view steps.new).steps ≡ (S.view steps.old).steps + 1 }
+    ensures limbo { (S.view steps.new).limbo ≡ (S.view steps.old).limbo }
+    ensures hand { (S.view steps.new).hand ≡ (S.view steps.old).hand }
+    ensures locks { MatchResult result (Locks (S.view steps.old) (S.view steps.new) stamp) (λ _. IsAway (S.view steps.new)) }
+{
+    match lock(steps, stamp) {
+        Err(UpgradeFault::Exhausted(cell)) => {
+            begin(steps);
+            Err(UpgradeFault::Exhausted(cell))
+        }
+        result => result,
+    }
+}
+
+/// Locks the anchor, if it is unchanged, and its counter goes on.
+fn lock<S: Steps>(steps: &mut S, stamp: Stamp) -> Result<Held, UpgradeFault>
+    requires away { IsAway (S.view steps.old) }
+    requires stamp { StampsAnchor (S.view steps.old) stamp }
+    ensures only { S.only steps.old steps.new }
+    ensures step { (S.view steps.new).steps ≡ (S.view steps.old).steps + steps_made result }
+    ensures limbo { (S.view steps.new).limbo ≡ (S.view steps.old).limbo }
     ensures hand { (S.view steps.new).hand ≡ (S.view steps.old).hand }
     ensures locks { MatchResult result (Locks (S.view steps.old) (S.view steps.new) stamp) (λ _. IsAway (S.view steps.new)) }
 {
@@ -70,7 +91,8 @@ pub(crate) fn upgrade<S: Steps>(steps: &mut S, stamp: Stamp) -> Result<Held, Upg
 pub(crate) fn let_go<S: Steps>(steps: &mut S, held: Held)
     requires { HoldsUnchanged (S.view steps.old) held }
     ensures only { S.only steps.old steps.new }
-    ensures step { (S.view steps.new).steps ≤ (S.view steps.old).steps + 1 }
+    ensures step { (S.view steps.new).steps ≡ (S.view steps.old).steps + 1 }
+    ensures limbo { (S.view steps.new).limbo ≡ (S.view steps.old).limbo }
     ensures hand { (S.view steps.new).hand ≡ (S.view steps.old).hand }
     ensures away { IsAway (S.view steps.new) }
 {
@@ -82,7 +104,8 @@ pub(crate) fn read_anchor<S: Steps>(steps: &mut S, stamp: Stamp) -> u64
     requires away { IsAway (S.view steps.old) }
     requires stamp { StampsAnchor (S.view steps.old) stamp }
     ensures only { S.only steps.old steps.new }
-    ensures step { (S.view steps.new).steps ≤ (S.view steps.old).steps + 1 }
+    ensures step { (S.view steps.new).steps ≡ (S.view steps.old).steps + 1 }
+    ensures limbo { (S.view steps.new).limbo ≡ (S.view steps.old).limbo }
     ensures learns { OnlyLearns (S.view steps.old) (S.view steps.new) }
     ensures noted { IsNoted (S.view steps.new) stamp (word_fact 1 result) }
     ensures child { IsChildWord (S.sizes steps.old) result }
@@ -97,25 +120,12 @@ pub(crate) fn read_leaf<S: Steps>(steps: &mut S, stamp: Stamp, leaf: u32, place:
     requires notes { NotesLeaf (S.sizes steps.old) (S.view steps.old) stamp leaf (KEY ∷ []) VALUE place }
     requires place { place < 10 }
     ensures only { S.only steps.old steps.new }
-    ensures step { (S.view steps.new).steps ≤ (S.view steps.old).steps + 1 }
+    ensures step { (S.view steps.new).steps ≡ (S.view steps.old).steps + 1 }
+    ensures limbo { (S.view steps.new).limbo ≡ (S.view steps.old).limbo }
     ensures learns { OnlyLearns (S.view steps.old) (S.view steps.new) }
     ensures noted { IsNoted (S.view steps.new) stamp (leaf_word_fact leaf place result) }
 {
     steps.read_leaf(stamp, leaf, place)
-}
-
-/// Takes a leaf's number into the hand, if one is free. This step is not counted.
-pub(crate) fn take_leaf(stepper: &mut Stepper<'_>) -> Option<Number>
-    requires { IsIdle (view_of stepper.old) }
-    ensures only { OnlyStepped stepper.old stepper.new }
-    ensures step { (view_of stepper.new).steps ≤ (view_of stepper.old).steps + 1 }
-    ensures idle { IfNone result (IsIdle (view_of stepper.new)) }
-    ensures away { IfSome result (λ _. IsAway (view_of stepper.new)) }
-    ensures fills { (key value : ℕ) → IfSome result (λ n.
-        Fills (sizes_of stepper.new) (view_of stepper.new).hand n (key ∷ []) value 0) }
-{
-    let number = stepper.first_free(Pool::Leaves)?;
-    Some(number)
 }
 
 /// Writes the next word of the leaf in hand, whose key has one byte.
@@ -124,7 +134,8 @@ pub(crate) fn fill<S: Steps>(steps: &mut S, number: &mut Number, key: u8, value:
     requires fills { Fills (S.sizes steps.old) (S.view steps.old).hand number.old (key ∷ []) value place }
     requires place { place < 10 }
     ensures only { S.only steps.old steps.new }
-    ensures step { (S.view steps.new).steps ≤ (S.view steps.old).steps + 1 }
+    ensures step { (S.view steps.new).steps ≡ (S.view steps.old).steps + 1 }
+    ensures limbo { (S.view steps.new).limbo ≡ (S.view steps.old).limbo }
     ensures away { IsAway (S.view steps.new) }
     ensures fills { Fills (S.sizes steps.new) (S.view steps.new).hand number.new (key ∷ []) value (place + 1) }
 {
@@ -156,7 +167,8 @@ pub(crate) fn write_child<S: Steps>(steps: &mut S, held: &mut Held, word: u64)
     requires held { (x : ℕ) × (a : ℕ) × HoldsWord (S.view steps.old) held.old x a }
     requires child { IsChildWord (S.sizes steps.old) word }
     ensures only { S.only steps.old steps.new }
-    ensures step { (S.view steps.new).steps ≤ (S.view steps.old).steps + 1 }
+    ensures step { (S.view steps.new).steps ≡ (S.view steps.old).steps + 1 }
+    ensures limbo { (S.view steps.new).limbo ≡ (S.view steps.old).limbo }
     ensures hand { (S.view steps.new).hand ≡ (S.view steps.old).hand }
     ensures notes { (S.view steps.new).notes ≡ (S.view steps.old).notes }
     ensures changes { (x a : ℕ) → HoldsWord (S.view steps.old) held.old x a → ChangesWord (S.view steps.new) held.new x a word }
@@ -179,7 +191,8 @@ pub(crate) fn commit_insert<S: Steps>(steps: &mut S, held: Held, number: Number)
     requires fills { Fills (S.sizes steps.old) (S.view steps.old).hand number (KEY ∷ []) VALUE 10 }
     requires changes { (x : ℕ) × ChangesWord (S.view steps.old) held x 0 (child_word (link_of_number number)) }
     ensures only { S.only steps.old steps.new }
-    ensures step { (S.view steps.new).steps ≤ (S.view steps.old).steps + 1 }
+    ensures step { (S.view steps.new).steps ≡ (S.view steps.old).steps + 1 }
+    ensures limbo { (S.view steps.new).limbo ≡ (S.view steps.old).limbo }
     ensures idle { IsIdle (S.view steps.new) }
 {
     let deed = Deed::Done(Act::Insert(one_byte(KEY), VALUE), Answer::Inserted);
@@ -189,15 +202,15 @@ pub(crate) fn commit_insert<S: Steps>(steps: &mut S, held: Held, number: Number)
     spent(third);
 }
 
-/// Commits that the row is removed. The number of its leaf comes back.
+/// Commits that the row is removed. The number of its leaf comes back, and waits in limbo without a label.
 pub(crate) fn commit_remove<S: Steps>(steps: &mut S, held: Held, leaf: u32) -> Number
     requires admitted { S.admits steps.old (KEY ∷ []) }
-    requires removes { Removes (KEY ∷ []) VALUE (S.sizes steps.old) (S.view steps.old) (written held leaf) }
+    requires removes { Unlinks (KEY ∷ []) VALUE (S.view steps.old) (S.sizes steps.old) held leaf }
     ensures only { S.only steps.old steps.new }
-    ensures step { (S.view steps.new).steps ≤ (S.view steps.old).steps + 1 }
+    ensures step { (S.view steps.new).steps ≡ (S.view steps.old).steps + 1 }
     ensures idle { IsIdle (S.view steps.new) }
     ensures number { link_of_number result ≡ leaf_link leaf }
-    ensures limbo { IsInLimbo (S.view steps.new) (leaf_link leaf) }
+    ensures waits { (ps : List Place) → IsLimbo ps [] (S.view steps.old).limbo → IsLimbo ps (leaf_link leaf ∷ []) (S.view steps.new).limbo }
 {
     let deed = Deed::Done(Act::Remove(one_byte(KEY)), Answer::Removed(VALUE));
     let word = word_of_leaf(leaf);

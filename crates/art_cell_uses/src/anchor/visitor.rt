@@ -1,60 +1,28 @@
 //! A visitor of the anchor, by its turns.
-ghost use Rattle.std.specs.Prelude.{◌≡◌, ◌≤◌, ◌+◌, ◌∷◌, [], false, true, IfSome};
+ghost use Rattle.std.specs.Prelude.{◌≡◌, ◌+◌, ◌<◌, ◌∷◌, [], List, length, false, IfSome};
+ghost use Rattle.art_epoch.specs.Limbo.{IsLimbo, places_of};
+ghost use Rattle.art_epoch.specs.declared.limbo.Place.{Place};
+ghost use Rattle.art_step.specs.Tokens.{link_of_number};
 ghost use Rattle.art_world.specs.Stepper.{OnlyStepped, sizes_of, view_of};
-ghost use Rattle.art_cell_uses.specs.Visits.{Adds, Counts, IsIdle, Removes, StampsAnchor, StepsAtMostOnce, Visits};
+ghost use Rattle.art_cell_uses.specs.Visits.{Adds, Counts, IsIdle, IsPinning, IsResting, IsTaking, Reclaims, Removes, Stands, StampsAnchor, Visits, Waits};
 
 use super::steps::{
-    KEY, VALUE, begin, check, commit_insert, commit_remove, fill, leaf_word, let_go, read_anchor,
-    read_leaf, take_leaf, upgrade, word_of_leaf, write_child,
+    KEY, VALUE, begin, commit_insert, commit_remove, fill, leaf_word, read_anchor, read_leaf,
+    upgrade, word_of_leaf, write_child,
 };
 use super::{Adding, Removing, Visit};
-use art_cell::Link;
-use art_step::{Held, Stamp, Steps};
+use art_cell::{Link, Pool};
+use art_epoch::{Limbo, Pinning, Reclaiming, Taking, make, retire, unpin};
+use art_step::{EpochSteps, Number, Stamp, Steps};
 use art_world::{Actor, Stepper};
 use std::mem::replace;
 
-/// What a visitor does with the anchor.
-#[derive(Clone, Copy, Debug, PartialEq, Eq)]
-pub(crate) enum Task {
-    /// Stamps it, and checks the stamp until it fails.
-    Look,
-    /// Locks it, and lets it go.
-    GiveUp,
-    /// Puts a leaf below it, and takes the leaf out again.
-    Change,
-}
-
-/// Loops for ever over its task, and counts its turns.
+/// Takes a leaf's number, puts the leaf below the anchor, takes it out again, and gives its number back, again and again. It
+/// counts its turns.
 pub(crate) struct Visitor {
-    task: Task,
     turns: u64,
     visit: Visit,
-}
-
-/// The next step of one that changes nothing.
-fn look<S: Steps>(task: Task, stamp: Option<Stamp>, steps: &mut S) -> Visit
-    requires idle { IsIdle (S.view steps.old) }
-    requires stamp { IfSome stamp (StampsAnchor (S.view steps.old)) }
-    ensures only { S.only steps.old steps.new }
-    ensures step { (S.view steps.new).steps ≤ (S.view steps.old).steps + 1 }
-    ensures visits { Visits (KEY ∷ []) VALUE (S.sizes steps.new) (S.view steps.new) result }
-{
-    let Some(stamp) = stamp else {
-        return match begin(steps) {
-            Some(stamp) => Visit::Stamped(stamp),
-            None => Visit::Idle,
-        };
-    };
-    match task {
-        Task::Look => match check(steps, stamp) {
-            Some(stamp) => Visit::Stamped(stamp),
-            None => Visit::Idle,
-        },
-        _ => match upgrade(steps, stamp) {
-            Ok(held) => Visit::Locked(held),
-            Err(_) => Visit::Idle,
-        },
-    }
+    limbo: Limbo,
 }
 
 /// The next step of one that adds the leaf.
@@ -62,8 +30,9 @@ fn add<S: Steps>(adding: Adding, steps: &mut S) -> Visit
     requires admitted { S.admits steps.old (KEY ∷ []) }
     requires adds { Adds (KEY ∷ []) VALUE (S.sizes steps.old) (S.view steps.old) adding }
     ensures only { S.only steps.old steps.new }
-    ensures step { (S.view steps.new).steps ≤ (S.view steps.old).steps + 1 }
-    ensures visits { Visits (KEY ∷ []) VALUE (S.sizes steps.new) (S.view steps.new) result }
+    ensures step { (S.view steps.new).steps ≡ (S.view steps.old).steps + 1 }
+    ensures limbo { (S.view steps.new).limbo ≡ (S.view steps.old).limbo }
+    ensures stands { Stands (KEY ∷ []) VALUE (S.sizes steps.new) (S.view steps.new) result }
 {
     let next = match adding {
         Adding::Filling(number, place) if place < 10 => {
@@ -100,8 +69,9 @@ fn add<S: Steps>(adding: Adding, steps: &mut S) -> Visit
 fn remove(removing: Removing, stepper: &mut Stepper<'_>) -> Visit
     requires { Removes (KEY ∷ []) VALUE (sizes_of stepper.old) (view_of stepper.old) removing }
     ensures only { OnlyStepped stepper.old stepper.new }
-    ensures step { (view_of stepper.new).steps ≤ (view_of stepper.old).steps + 1 }
-    ensures visits { Visits (KEY ∷ []) VALUE (sizes_of stepper.new) (view_of stepper.new) result }
+    ensures step { (view_of stepper.new).steps ≡ (view_of stepper.old).steps + 1 }
+    ensures limbo { (view_of stepper.new).limbo ≡ (view_of stepper.old).limbo }
+    ensures stands { Stands (KEY ∷ []) VALUE (sizes_of stepper.new) (view_of stepper.new) result }
 {
     let next = match removing {
         Removing::Idle => match begin(stepper) {
@@ -122,11 +92,7 @@ fn remove(removing: Removing, stepper: &mut Stepper<'_>) -> Visit
         Removing::Locked(held, leaf) => {
             let mut anchor = held;
             write_child(stepper, &mut anchor, 0);
-            Removing::Written(anchor, leaf)
-        }
-        Removing::Written(held, leaf) => {
-            take_out(stepper, held, leaf);
-            return Visit::Idle;
+            return Visit::Unlinking(anchor, leaf);
         }
     };
     Visit::Removing(next)
@@ -137,7 +103,8 @@ fn see_leaf<S: Steps>(steps: &mut S, stamp: Stamp) -> Removing
     requires idle { IsIdle (S.view steps.old) }
     requires stamp { StampsAnchor (S.view steps.old) stamp }
     ensures only { S.only steps.old steps.new }
-    ensures step { (S.view steps.new).steps ≤ (S.view steps.old).steps + 1 }
+    ensures step { (S.view steps.new).steps ≡ (S.view steps.old).steps + 1 }
+    ensures limbo { (S.view steps.new).limbo ≡ (S.view steps.old).limbo }
     ensures removes { Removes (KEY ∷ []) VALUE (S.sizes steps.new) (S.view steps.new) result }
 {
     match Link::named_by(read_anchor(steps, stamp)) {
@@ -146,69 +113,211 @@ fn see_leaf<S: Steps>(steps: &mut S, stamp: Stamp) -> Removing
     }
 }
 
-/// Commits that the row is removed, and gives the leaf's number back, which no stamp can name.
-fn take_out(stepper: &mut Stepper<'_>, held: Held, leaf: u32)
-    requires { Removes (KEY ∷ []) VALUE (sizes_of stepper.old) (view_of stepper.old) (Removing.Written held leaf) }
-    ensures only { OnlyStepped stepper.old stepper.new }
-    ensures step { (view_of stepper.new).steps ≤ (view_of stepper.old).steps + 1 }
-    ensures idle { IsIdle (view_of stepper.new) }
+/// The next step of one whose limbo is given back.
+fn give_back<S: EpochSteps>(machine: Reclaiming, steps: &mut S, limbo: &mut Limbo) -> Visit
+    requires { Reclaims (S.sizes steps.old) (S.view steps.old) (places_of limbo.old) machine }
+    ensures only { S.only steps.old steps.new }
+    ensures step { (S.view steps.new).steps ≡ (S.view steps.old).steps + 1 }
+    ensures visits { Visits (KEY ∷ []) VALUE (S.sizes steps.new) (places_of limbo.new) (S.view steps.new) result }
 {
-    let number = commit_remove(stepper, held, leaf);
-    stepper.give_back(number);
+    let mut machine = machine;
+    let Some(asked) = machine.next(limbo) else {
+        unreachable!();
+    };
+    let word = make(steps, asked);
+    machine.told(limbo, word);
+    match machine.next(limbo) {
+        Some(_) => Visit::Reclaiming(machine),
+        None if limbo.room() > 0 => Visit::Pinning(Pinning::new()),
+        None => Visit::Resting,
+    }
 }
 
-/// The next step of a task, and what is kept then.
-fn go_on(task: Task, visit: Visit, stepper: &mut Stepper<'_>) -> Visit
-    requires { Visits (KEY ∷ []) VALUE (sizes_of stepper.old) (view_of stepper.old) visit }
+/// The next step of one that is being pinned.
+fn pin_on<S: EpochSteps>(machine: Pinning, steps: &mut S, limbo: &Limbo) -> Visit
+    requires { IsPinning (S.sizes steps.old) (S.view steps.old) (places_of limbo.now) machine }
+    ensures only { S.only steps.old steps.new }
+    ensures step { (S.view steps.new).steps ≡ (S.view steps.old).steps + 1 }
+    ensures visits { Visits (KEY ∷ []) VALUE (S.sizes steps.new) (places_of limbo.now) (S.view steps.new) result }
+{
+    let mut machine = machine;
+    let Some(asked) = machine.next() else {
+        unreachable!();
+    };
+    let word = make(steps, asked);
+    machine.told(word);
+    if machine.next().is_some() {
+        return Visit::Pinning(machine);
+    }
+    let taking = Taking::new(Pool::Leaves, steps.pool_sizes());
+    match taking.next() {
+        Some(_) => Visit::Taking(taking),
+        None => Visit::Leaving,
+    }
+}
+
+/// The next step of one that takes a leaf's number.
+fn take_on<S: EpochSteps>(machine: Taking, steps: &mut S, limbo: &Limbo) -> Visit
+    requires { IsTaking (S.sizes steps.old) (S.view steps.old) (places_of limbo.now) machine }
+    ensures only { S.only steps.old steps.new }
+    ensures step { (S.view steps.new).steps ≡ (S.view steps.old).steps + 1 }
+    ensures visits { Visits (KEY ∷ []) VALUE (S.sizes steps.new) (places_of limbo.now) (S.view steps.new) result }
+{
+    let mut machine = machine;
+    let Some(asked) = machine.next() else {
+        unreachable!();
+    };
+    let word = make(steps, asked);
+    machine.told(word);
+    if machine.next().is_some() {
+        return Visit::Taking(machine);
+    }
+    match machine.number() {
+        Some(number) => Visit::Adding(Adding::Filling(number, 0)),
+        None => Visit::Leaving,
+    }
+}
+
+/// The number of the leaf that was removed waits in limbo.
+fn retire_on<S: EpochSteps>(number: Number, steps: &mut S, limbo: &mut Limbo) -> Visit
+    requires idle { IsIdle (S.view steps.old) }
+    requires limbo { IsLimbo (places_of limbo.old) (link_of_number number ∷ []) (S.view steps.old).limbo }
+    requires room { length (places_of limbo.old) < 64 }
+    ensures only { S.only steps.old steps.new }
+    ensures step { (S.view steps.new).steps ≡ (S.view steps.old).steps + 1 }
+    ensures visits { Visits (KEY ∷ []) VALUE (S.sizes steps.new) (places_of limbo.new) (S.view steps.new) result }
+{
+    retire(steps, limbo, [Some(number), None, None]);
+    Visit::Leaving
+}
+
+/// The pass goes idle.
+fn leave<S: EpochSteps>(steps: &mut S, limbo: &Limbo) -> Visit
+    requires idle { IsIdle (S.view steps.old) }
+    requires limbo { IsLimbo (places_of limbo.now) [] (S.view steps.old).limbo }
+    ensures only { S.only steps.old steps.new }
+    ensures step { (S.view steps.new).steps ≡ (S.view steps.old).steps + 1 }
+    ensures visits { Visits (KEY ∷ []) VALUE (S.sizes steps.new) (places_of limbo.now) (S.view steps.new) result }
+{
+    unpin(steps);
+    Visit::Resting
+}
+
+/// The next step, and what is kept then.
+fn go_on(visit: Visit, stepper: &mut Stepper<'_>, limbo: &mut Limbo) -> Visit
+    requires { Visits (KEY ∷ []) VALUE (sizes_of stepper.old) (places_of limbo.old) (view_of stepper.old) visit }
     ensures only { OnlyStepped stepper.old stepper.new }
-    ensures step { (view_of stepper.new).steps ≤ (view_of stepper.old).steps + 1 }
-    ensures visits { Visits (KEY ∷ []) VALUE (sizes_of stepper.new) (view_of stepper.new) result }
+    ensures step { (view_of stepper.new).steps ≡ (view_of stepper.old).steps + 1 }
+    ensures visits { Visits (KEY ∷ []) VALUE (sizes_of stepper.new) (places_of limbo.new) (view_of stepper.new) result }
 {
     match visit {
-        Visit::Idle => match task {
-            Task::Change => match take_leaf(stepper) {
-                Some(number) => Visit::Adding(Adding::Filling(number, 0)),
-                None => Visit::Idle,
-            },
-            _ => look(task, None, stepper),
-        },
-        Visit::Stamped(stamp) => look(task, Some(stamp), stepper),
-        Visit::Locked(held) => {
-            let_go(stepper, held);
-            Visit::Idle
+        Visit::Resting if limbo.room() == 64 => pin_on(Pinning::new(), stepper, limbo),
+        Visit::Resting => {
+            let machine = Reclaiming::new(stepper.own_pass(), stepper.pool_sizes().passes);
+            give_back(machine, stepper, limbo)
         }
+        Visit::Reclaiming(machine) => give_back(machine, stepper, limbo),
+        Visit::Pinning(machine) => pin_on(machine, stepper, limbo),
+        Visit::Taking(machine) => take_on(machine, stepper, limbo),
         Visit::Adding(adding) => add(adding, stepper),
         Visit::Removing(removing) => remove(removing, stepper),
+        Visit::Unlinking(held, leaf) => Visit::Retiring(commit_remove(stepper, held, leaf)),
+        Visit::Retiring(number) => retire_on(number, stepper, limbo),
+        Visit::Leaving => leave(stepper, limbo),
     }
 }
 
 impl Visitor {
-    pub(crate) fn new(task: Task) -> Visitor
-        ensures { result.visit ≡ Visit.Idle }
+    /// One that rests, and nothing is in its limbo.
+    pub(crate) fn new() -> Visitor
+        ensures visit { result.visit ≡ Visit.Resting }
+        ensures limbo { places_of result.limbo ≡ [] }
     {
         Visitor {
-            task,
             turns: 0,
-            visit: Visit::Idle,
+            visit: Visit::Resting,
+            limbo: Limbo::new(),
         }
+    }
+
+    /// In how many places of its own the leaf's number is: in hand, just removed, or in limbo.
+    pub(crate) fn places_of(&self, leaf: u32) -> u32 {
+        let own = match &self.visit {
+            Visit::Adding(adding) => number_of(adding) == leaf,
+            Visit::Retiring(number) => number.number() == leaf,
+            _ => false,
+        };
+        let mut places = u32::from(own);
+        for place in self.limbo.places() {
+            if place.link == Link::Leaf(leaf) {
+                places = places.wrapping_add(1);
+            }
+        }
+        places
+    }
+
+    /// What waits in its limbo.
+    pub(crate) fn limbo(&self) -> &Limbo {
+        &self.limbo
     }
 
     /// How many turns it had.
     pub(crate) fn end(self) -> u64 {
         let Visitor {
-            task: _,
             turns,
             visit,
+            limbo: _,
+        } = self;
+        end_visit(visit);
+        turns
+    }
+
+    /// Its limbo, where it rests.
+    pub(crate) fn at_rest(self) -> Option<Limbo>
+        ensures { IfSome result (λ l. (self.visit ≡ Visit.Resting) × (l ≡ self.limbo)) }
+    {
+        let Visitor {
+            turns: _,
+            visit,
+            limbo,
         } = self;
         match visit {
-            Visit::Idle | Visit::Stamped(_) => {}
-            Visit::Locked(held) => {
-                held.spend();
+            Visit::Resting => Some(limbo),
+            visit => {
+                end_visit(visit);
+                None
             }
-            Visit::Adding(adding) => end_adding(adding),
-            Visit::Removing(removing) => end_removing(removing),
         }
-        turns
+    }
+}
+
+/// The number of the leaf that is in hand.
+fn number_of(adding: &Adding) -> u32 {
+    match adding {
+        Adding::Filling(number, _)
+        | Adding::Stamped(number, _)
+        | Adding::Seen(number, _)
+        | Adding::Locked(number, _)
+        | Adding::Written(number, _) => number.number(),
+    }
+}
+
+/// The run is over: what is in hand and what is held are let go.
+fn end_visit(visit: Visit) {
+    match visit {
+        Visit::Resting
+        | Visit::Reclaiming(_)
+        | Visit::Pinning(_)
+        | Visit::Taking(_)
+        | Visit::Leaving => {}
+        Visit::Adding(adding) => end_adding(adding),
+        Visit::Removing(removing) => end_removing(removing),
+        Visit::Unlinking(held, _) => {
+            held.spend();
+        }
+        Visit::Retiring(number) => {
+            number.spend();
+        }
     }
 }
 
@@ -229,7 +338,7 @@ fn end_adding(adding: Adding) {
 fn end_removing(removing: Removing) {
     match removing {
         Removing::Idle | Removing::Stamped(_) | Removing::Reading(_, _, _) => {}
-        Removing::Locked(held, _) | Removing::Written(held, _) => {
+        Removing::Locked(held, _) => {
             held.spend();
         }
     }
@@ -238,18 +347,20 @@ fn end_removing(removing: Removing) {
 impl Actor for Visitor {
     ghost use Rattle.art_cell_uses.specs.declared.anchor.steps.TheConstants.{KEY, VALUE};
 
-    ghost fits = { λ a z v. Visits (KEY ∷ []) VALUE z v a.visit };
+    ghost fits = { λ a z v. Visits (KEY ∷ []) VALUE z (places_of a.limbo) v a.visit };
 
     ghost has_ended = { λ a. false };
 
-    ghost makes = { λ p a k b l. (b.task ≡ a.task) × Counts 1 a.turns b.turns × StepsAtMostOnce p k l };
+    ghost makes = { λ p a k b l. Counts 1 a.turns b.turns };
 
     fn turn(&mut self, stepper: &mut Stepper<'_>) -> bool {
         self.turns = self.turns.wrapping_add(1);
-        let visit = replace(&mut self.visit, Visit::Idle);
-        let next = go_on(self.task, visit, stepper);
+        let visit = replace(&mut self.visit, Visit::Leaving);
+        let next = go_on(visit, stepper, &mut self.limbo);
         let before = replace(&mut self.visit, next);
-        let Visit::Idle = before else { unreachable!() };
+        let Visit::Leaving = before else {
+            unreachable!()
+        };
         false
     }
 

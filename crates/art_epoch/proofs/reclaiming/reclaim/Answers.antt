@@ -3,7 +3,7 @@ use Rattle.std.proofs.Common.{◌≡◌, ◌<◌, ◌∙◌, ℕ, ap, arith, ref
 use Rattle.art_epoch.specs.Asking.{Answers}
 use Rattle.art_epoch.specs.Limbo.{places_of}
 use Rattle.art_step.specs.declared.views.Sizes.{Sizes}
-use Rattle.art_epoch.proofs.Reclaimed.{reclaim_steps}
+use Rattle.art_epoch.proofs.Reclaimed.{only_reclaims, reclaim_steps}
 use Rattle.art_epoch.proofs.reclaiming.reclaim.Goals as goal
 
 pub loop-asked-init : goal.loop-asked-init
@@ -17,7 +17,7 @@ loop-asked-init g c =
     record {
       only = g.met.S.Steps.only_same s;
       sizes = refl;
-      fits = c.new-reclaiming.ensures z (g.S.Steps.view s) ps c.own_pass.ensures.is inside passes c.requires.idle (omega (arith, room)) c.requires.limbo;
+      fits = c.new-reclaiming.ensures.fits z (g.S.Steps.view s) ps c.own_pass.ensures.is inside passes c.requires.idle (omega (arith, room)) c.requires.limbo;
     }
 
 pub loop-asked-preserved : goal.loop-asked-preserved
@@ -42,3 +42,12 @@ returns-clause-steps g c =
     let inside = subst (λ (n : ℕ). n < z.passes) c.own_pass.ensures.is c.own_pass.ensures.inside in
     let ended = c.freed.ensures.reclaims z (g.S.Steps.view s) (g.S.Steps.view t) (places_of c.args.limbo.now) (places_of c.loop-asked.limbo) i.fits (sym c.next.ensures.asks ∙ c.in_default.is) in
     reclaim_steps z (g.S.Steps.view s) (g.S.Steps.view t) _ _ c.freed.result inside ended
+
+pub returns-clause-same : goal.returns-clause-same
+returns-clause-same g c =
+    let s = c.args.steps.now in
+    let t = c.loop-asked.steps in
+    let i = c.loop-asked.invariant in
+    let z = g.S.Steps.sizes s in
+    let ended = c.freed.ensures.reclaims z (g.S.Steps.view s) (g.S.Steps.view t) (places_of c.args.limbo.now) (places_of c.loop-asked.limbo) i.fits (sym c.next.ensures.asks ∙ c.in_default.is) in
+    only_reclaims z (g.S.Steps.view s) (g.S.Steps.view t) _ _ c.freed.result ended

@@ -7,7 +7,7 @@ use Rattle.art_step.specs.declared.deeds.Deed.TheVariants.{Done}
 use Rattle.art_step.specs.Steps.Commit.{coming}
 use Rattle.art_step.specs.Tokens.{link_of_number}
 use Rattle.art_step.specs.Steps.Commit as commit
-use Rattle.art_cell_uses.proofs.AnchorRows.{added_idle, anchor_first, committed_steps, may_add}
+use Rattle.art_cell_uses.proofs.AnchorRows.{added_idle, added_limbo, anchor_first, committed_steps, may_add}
 use Rattle.art_cell_uses.proofs.anchor.steps.commit_insert.Goals as goal
 
 pub commit-requires-clause-first : goal.commit-requires-clause-first
@@ -29,3 +29,6 @@ returns-clause-step g c =
 
 pub returns-clause-idle : goal.returns-clause-idle
 returns-clause-idle g c = let r = c.requires.changes in added_idle (g.S.Steps.sizes c.args.steps.now) (g.S.Steps.view c.args.steps.now) (g.S.Steps.view c.commit.new.self) c.args.held c.args.number (KEY ∷ []) VALUE r.0 _ _ _ _ _ c.requires.fills r.1 c.commit.ensures.row
+
+pub returns-clause-limbo : goal.returns-clause-limbo
+returns-clause-limbo g c = let r = c.requires.changes in added_limbo (g.S.Steps.view c.args.steps.now) (g.S.Steps.view c.commit.new.self) c.args.held r.0 _ _ _ _ r.1 c.commit.ensures.row

@@ -7,7 +7,7 @@ use Rattle.art_step.specs.declared.deeds.Act.TheVariants.{Remove}
 use Rattle.art_step.specs.declared.deeds.Deed.TheVariants.{Done}
 use Rattle.art_step.specs.Steps.Commit.{coming}
 use Rattle.art_step.specs.Steps.Commit as commit
-use Rattle.art_cell_uses.proofs.AnchorRows.{anchor_first, committed_steps, may_remove, one_link, removed_idle, removed_limbo}
+use Rattle.art_cell_uses.proofs.AnchorRows.{anchor_first, committed_steps, may_remove, one_link, removed_idle, removed_waits}
 use Rattle.art_cell_uses.proofs.anchor.steps.commit_remove.Goals as goal
 
 pub commit-numbers-requires-clause-first : goal.commit-numbers-requires-clause-first
@@ -32,7 +32,7 @@ returns-clause-idle g c =
     let r = c.requires.removes.1 in
     removed_idle (g.S.Steps.view c.args.steps.now) (g.S.Steps.view c.commit-numbers.new.self) c.args.held r.0 _ _ _ _ _ c.requires.removes.0 r.1 c.commit-numbers.ensures.row
 
-pub returns-clause-limbo : goal.returns-clause-limbo
-returns-clause-limbo g c =
+pub returns-clause-waits : goal.returns-clause-waits
+returns-clause-waits g c = λ ps waits.
     let r = c.requires.removes.1 in
-    removed_limbo (g.S.Steps.view c.args.steps.now) (g.S.Steps.view c.commit-numbers.new.self) c.args.held r.0 _ _ c.args.leaf _ _ _ (one_link c.word_of_leaf-word.result c.args.leaf r.2.small c.word_of_leaf-word.ensures) r.1 c.commit-numbers.ensures.row
+    removed_waits (g.S.Steps.view c.args.steps.now) (g.S.Steps.view c.commit-numbers.new.self) c.args.held r.0 _ _ c.args.leaf _ _ _ ps (one_link c.word_of_leaf-word.result c.args.leaf r.2.small c.word_of_leaf-word.ensures) r.1 c.commit-numbers.ensures.row c.commit-numbers.ensures.at_once waits

@@ -13,6 +13,10 @@ returns-clause-step g c =
     let e = (filled_away (g.S.Steps.view c.args.steps.now) (g.S.Steps.view c.write_leaf.new.self) _ _ _ _ c.requires.away (fills_hand (g.S.Steps.sizes c.args.steps.now) (g.S.Steps.view c.args.steps.now) c.args.number.now (c.args.key ∷ []) c.args.value c.args.place c.requires.fills) c.write_leaf.ensures.row).1 in
     omega (arith, e)
 
+pub returns-clause-limbo : goal.returns-clause-limbo
+returns-clause-limbo g c =
+    (filled_away (g.S.Steps.view c.args.steps.now) (g.S.Steps.view c.write_leaf.new.self) _ _ _ _ c.requires.away (fills_hand (g.S.Steps.sizes c.args.steps.now) (g.S.Steps.view c.args.steps.now) c.args.number.now (c.args.key ∷ []) c.args.value c.args.place c.requires.fills) c.write_leaf.ensures.row).2
+
 pub returns-clause-away : goal.returns-clause-away
 returns-clause-away g c = (filled_away (g.S.Steps.view c.args.steps.now) (g.S.Steps.view c.write_leaf.new.self) _ _ _ _ c.requires.away (fills_hand (g.S.Steps.sizes c.args.steps.now) (g.S.Steps.view c.args.steps.now) c.args.number.now (c.args.key ∷ []) c.args.value c.args.place c.requires.fills) c.write_leaf.ensures.row).0
 

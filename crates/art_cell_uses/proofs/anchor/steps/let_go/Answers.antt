@@ -8,6 +8,9 @@ release-requires-clause-may g c = may_let_go (g.S.Steps.view c.args.steps.now) c
 pub returns-clause-step : goal.returns-clause-step
 returns-clause-step g c = let e = (let_go_same (g.S.Steps.view c.args.steps.now) (g.S.Steps.view c.release.new.self) c.args.held c.requires c.release.ensures.row).1 in omega (arith, e)
 
+pub returns-clause-limbo : goal.returns-clause-limbo
+returns-clause-limbo g c = (let_go_same (g.S.Steps.view c.args.steps.now) (g.S.Steps.view c.release.new.self) c.args.held c.requires c.release.ensures.row).2
+
 pub returns-clause-hand : goal.returns-clause-hand
 returns-clause-hand g c = (let_go_same (g.S.Steps.view c.args.steps.now) (g.S.Steps.view c.release.new.self) c.args.held c.requires c.release.ensures.row).0
 

@@ -1,7 +1,7 @@
 use Rattle.std.proofs.Common.{arith, subst, sym}
 use Rattle.art_step.specs.declared.held.Held.{Held}
 use Rattle.art_cell_uses.specs.Visits.{ChangesWord}
-use Rattle.art_cell_uses.proofs.AnchorRows.{child_hand, child_notes, child_steps, child_written, may_write_child}
+use Rattle.art_cell_uses.proofs.AnchorRows.{child_hand, child_limbo, child_notes, child_steps, child_written, may_write_child}
 use Rattle.art_cell_uses.proofs.anchor.steps.write_child.Goals as goal
 
 pub write-requires-clause-may : goal.write-requires-clause-may
@@ -12,6 +12,9 @@ returns-clause-step g c =
     let r = c.requires.held in
     let e = child_steps (g.S.Steps.view c.args.steps.now) (g.S.Steps.view c.write.new.self) c.args.held.now r.0 r.1 c.args.word r.2 c.write.ensures.row in
     omega (arith, e)
+
+pub returns-clause-limbo : goal.returns-clause-limbo
+returns-clause-limbo g c = let r = c.requires.held in child_limbo (g.S.Steps.view c.args.steps.now) (g.S.Steps.view c.write.new.self) c.args.held.now r.0 r.1 c.args.word r.2 c.write.ensures.row
 
 pub returns-clause-hand : goal.returns-clause-hand
 returns-clause-hand g c = let r = c.requires.held in child_hand (g.S.Steps.view c.args.steps.now) (g.S.Steps.view c.write.new.self) c.args.held.now r.0 r.1 c.args.word r.2 c.write.ensures.row

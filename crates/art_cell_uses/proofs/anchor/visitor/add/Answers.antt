@@ -9,8 +9,8 @@ use Rattle.art_cell_uses.proofs.anchor.visitor.add.Goals as goal
 use Rattle.art_cell_uses.specs.Visits.{Adds, ChangesWord, IsNoted}
 use Rattle.art_cell_uses.specs.declared.anchor.steps.TheConstants.{KEY, VALUE}
 
-pub returns-in-0-clause-visits : goal.returns-in-0-clause-visits
-returns-in-0-clause-visits g c =
+pub returns-in-0-clause-stands : goal.returns-in-0-clause-stands
+returns-in-0-clause-stands g c =
     let k = subst (Adds (KEY ∷ []) VALUE _ _) c.in-Stamped.is c.requires.adds in
     let e = c.read_anchor.ensures in
     let v = g.S.Steps.view c.args.steps.now in
@@ -21,8 +21,8 @@ returns-in-0-clause-visits g c =
       subst (λ (a : ℕ). IsNoted w c.in-Stamped.stamp (Word 1 a)) c.in-0.is e.noted,
     )
 
-pub returns-in_default-clause-visits : goal.returns-in_default-clause-visits
-returns-in_default-clause-visits g c =
+pub returns-in_default-clause-stands : goal.returns-in_default-clause-stands
+returns-in_default-clause-stands g c =
     let k = subst (Adds (KEY ∷ []) VALUE _ _) c.in-Stamped.is c.requires.adds in
     let e = c.read_anchor.ensures in
     let v = g.S.Steps.view c.args.steps.now in
@@ -31,8 +31,8 @@ returns-in_default-clause-visits g c =
       fills_on _ _ v.hand w.hand c.in-Stamped.number (KEY ∷ []) VALUE 10 (g.met.S.Steps.only_sizes _ _ e.only) e.learns.hand k.1,
     )
 
-pub returns-in-Ok-clause-visits : goal.returns-in-Ok-clause-visits
-returns-in-Ok-clause-visits g c =
+pub returns-in-Ok-clause-stands : goal.returns-in-Ok-clause-stands
+returns-in-Ok-clause-stands g c =
     let k = subst (Adds (KEY ∷ []) VALUE _ _) c.in-Seen.is c.requires.adds in
     let e = c.in-Ok.ensures in
     let v = g.S.Steps.view c.args.steps.now in
@@ -46,8 +46,8 @@ write_child-requires-clause-child g c =
     let k = subst (Adds (KEY ∷ []) VALUE _ _) c.in-Locked.is c.requires.adds in
     (word_fills (g.S.Steps.sizes c.args.steps.now) (g.S.Steps.view c.args.steps.now).hand c.in-Locked.number (KEY ∷ []) VALUE 10 c.word_of_leaf.result k.0 (c.word_of_leaf.ensures ∙ ap (λ (l : ℕ). child_word (leaf l)) c.number.ensures)).1
 
-pub returns-in-Locked-clause-visits : goal.returns-in-Locked-clause-visits
-returns-in-Locked-clause-visits g c =
+pub returns-in-Locked-clause-stands : goal.returns-in-Locked-clause-stands
+returns-in-Locked-clause-stands g c =
     let k = subst (Adds (KEY ∷ []) VALUE _ _) c.in-Locked.is c.requires.adds in
     let e = c.write_child.ensures in
     let v = g.S.Steps.view c.args.steps.now in

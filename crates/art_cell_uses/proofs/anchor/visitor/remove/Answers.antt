@@ -11,20 +11,20 @@ use Rattle.art_cell_uses.proofs.AnchorReads.{learns_idle, locks_notes, locks_wor
 use Rattle.art_cell_uses.proofs.IdlePasses.{idle_then, still_empty}
 use Rattle.art_cell_uses.proofs.anchor.visitor.remove.Goals as goal
 
-pub returns-in-Some-clause-visits : goal.returns-in-Some-clause-visits
-returns-in-Some-clause-visits c =
+pub returns-in-Some-clause-stands : goal.returns-in-Some-clause-stands
+returns-in-Some-clause-stands c =
     let k = subst (Removes (KEY ∷ []) VALUE _ _) c.in-Idle.is c.requires in
     let e = c.in-Some.ensures in
     (idle_then (view_of c.args.stepper.now) _ k.hand e.hand e.away, e.stamp)
 
-pub returns-in-None-clause-visits : goal.returns-in-None-clause-visits
-returns-in-None-clause-visits c =
+pub returns-in-None-clause-stands : goal.returns-in-None-clause-stands
+returns-in-None-clause-stands c =
     let k = subst (Removes (KEY ∷ []) VALUE _ _) c.in-Idle.is c.requires in
     let e = c.in-None.ensures in
     idle_then (view_of c.args.stepper.now) _ k.hand e.hand e.away
 
-pub returns-in-true-clause-visits : goal.returns-in-true-clause-visits
-returns-in-true-clause-visits c =
+pub returns-in-true-clause-stands : goal.returns-in-true-clause-stands
+returns-in-true-clause-stands c =
     let k = subst (Removes (KEY ∷ []) VALUE _ _) c.in-Reading.is c.requires in
     let e = c.read_leaf.ensures in
     let v = view_of c.args.stepper.now in
@@ -36,13 +36,13 @@ returns-in-true-clause-visits c =
       notes_more _ _ v w c.in-Reading.stamp c.in-Reading.leaf (KEY ∷ []) VALUE c.in-Reading.place c.read_leaf.result e.only.steps.sizes e.learns e.noted same k.2,
     )
 
-pub returns-in-false-clause-visits : goal.returns-in-false-clause-visits
-returns-in-false-clause-visits c =
+pub returns-in-false-clause-stands : goal.returns-in-false-clause-stands
+returns-in-false-clause-stands c =
     let k = subst (Removes (KEY ∷ []) VALUE _ _) c.in-Reading.is c.requires in
     learns_idle (view_of c.args.stepper.now) _ c.read_leaf.ensures.learns k.0
 
-pub returns-in-Ok-clause-visits : goal.returns-in-Ok-clause-visits
-returns-in-Ok-clause-visits c =
+pub returns-in-Ok-clause-stands : goal.returns-in-Ok-clause-stands
+returns-in-Ok-clause-stands c =
     let k = subst (Removes (KEY ∷ []) VALUE _ _) c.in-Reading-2.is c.requires in
     let e = c.in-Ok.ensures in
     let v = view_of c.args.stepper.now in
@@ -58,14 +58,14 @@ returns-in-Ok-clause-visits c =
       ),
     )
 
-pub returns-in-Err-clause-visits : goal.returns-in-Err-clause-visits
-returns-in-Err-clause-visits c =
+pub returns-in-Err-clause-stands : goal.returns-in-Err-clause-stands
+returns-in-Err-clause-stands c =
     let k = subst (Removes (KEY ∷ []) VALUE _ _) c.in-Reading-2.is c.requires in
     let e = c.in-Err.ensures in
     idle_then (view_of c.args.stepper.now) _ k.0.hand e.hand e.locks
 
-pub returns-in-Locked-clause-visits : goal.returns-in-Locked-clause-visits
-returns-in-Locked-clause-visits c =
+pub returns-in-Locked-clause-stands : goal.returns-in-Locked-clause-stands
+returns-in-Locked-clause-stands c =
     let k = subst (Removes (KEY ∷ []) VALUE _ _) c.in-Locked.is c.requires in
     let e = c.write_child.ensures in
     let v = view_of c.args.stepper.now in

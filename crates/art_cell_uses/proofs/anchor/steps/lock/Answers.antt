@@ -1,6 +1,6 @@
 use Rattle.art_cell_uses.proofs.AnchorReads.{stamps_inside}
-use Rattle.art_cell_uses.proofs.IdlePasses.{locks_or_away, may_lock}
-use Rattle.art_cell_uses.proofs.anchor.steps.upgrade.Goals as goal
+use Rattle.art_cell_uses.proofs.IdlePasses.{locks_or_away, may_lock, upgrade_steps}
+use Rattle.art_cell_uses.proofs.anchor.steps.lock.Goals as goal
 
 pub upgrade-requires-clause-inside : goal.upgrade-requires-clause-inside
 upgrade-requires-clause-inside g c = (stamps_inside (g.S.Steps.sizes c.args.steps.now) (g.S.Steps.view c.args.steps.now) c.args.stamp c.requires.stamp).1
@@ -13,3 +13,9 @@ upgrade-requires-clause-unclaimed g c h i = absurd (c.requires.away.held h i)
 
 pub returns-clause-locks : goal.returns-clause-locks
 returns-clause-locks g c = locks_or_away _ _ c.args.stamp c.upgrade.result c.requires.away c.requires.stamp c.upgrade.ensures.row
+
+pub returns-clause-step : goal.returns-clause-step
+returns-clause-step g c = (upgrade_steps (g.S.Steps.view c.args.steps.now) (g.S.Steps.view c.upgrade.new.self) c.args.stamp c.upgrade.result c.upgrade.ensures.row).0
+
+pub returns-clause-limbo : goal.returns-clause-limbo
+returns-clause-limbo g c = (upgrade_steps (g.S.Steps.view c.args.steps.now) (g.S.Steps.view c.upgrade.new.self) c.args.stamp c.upgrade.result c.upgrade.ensures.row).1
