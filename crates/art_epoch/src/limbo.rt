@@ -1,7 +1,7 @@
 //! Limbo: the numbers that a pass unlinked and has not given back.
 ghost use Rattle.std.specs.Prelude.{◌≡◌, ◌+◌, ◌<◌, ◌≤◌, ◌++◌, [], map, filter_map, length, remove, IfSome, IfNone};
 ghost use Rattle.std.specs.Option.{option_map};
-ghost use Rattle.art_epoch.specs.Limbo.{lets_go, open_index, place_for, places_for, places_of};
+ghost use Rattle.art_epoch.specs.Limbo.{lets_go, no_place, open_index, place_for, places_for, places_of};
 ghost use Rattle.art_step.specs.Tokens.{link_of_number};
 
 use arrayvec::ArrayVec;
@@ -19,7 +19,9 @@ pub struct Place {
 }
 
 impl Default for Place {
-    fn default() -> Place {
+    fn default() -> Place
+        ensures { result ≡ no_place }
+    {
         Place {
             link: Link::Leaf(0),
             label: 0,

@@ -84,7 +84,7 @@ pub fn unpin<S: EpochSteps>(steps: &mut S)
 }
 
 /// The epoch at which it no longer rises.
-const TOP: u64 = 1 << 62;
+pub(crate) const TOP: u64 = 1 << 62;
 
 /// Raises the epoch, where that is not at its top.
 pub fn advance<S: EpochSteps>(steps: &mut S)

@@ -8,11 +8,9 @@ ghost use Rattle.art_epoch.specs.declared.reclaiming.ReclaimStage.TheVariants.{N
 ghost use Rattle.art_step.specs.Tokens.{link_of_number};
 
 use crate::limbo::Limbo;
+use crate::pins::TOP;
 use crate::{Asked, make};
 use art_step::{EpochSteps, Unlinked};
-
-/// The epoch at which it no longer rises.
-const TOP: u64 = 1 << 62;
 
 /// How far the giving back has come.
 #[derive(Clone, Copy, Debug, PartialEq, Eq)]

@@ -118,9 +118,9 @@ retired_once ks (d ∷ us) es new old apart = (
   λ i.
       let o = key_member (λ (e : Retired). e.link) (all_retired ks us ++ es) d i in
       ⊎_elim
-          (λ (j : Member o.0 (all_retired ks us)). new.0 (subst (λ (c : Link). Member c us) o.2 (retired_of ks us o.0 j).0))
-          (λ (j : Member o.0 es). apart o.0 j (inl o.2))
-          (member_append o.0 (all_retired ks us) es o.1),
+      (λ (j : Member o.0 (all_retired ks us)). new.0 (subst (λ (c : Link). Member c us) o.2 (retired_of ks us o.0 j).0))
+      (λ (j : Member o.0 es). apart o.0 j (inl o.2))
+      (member_append o.0 (all_retired ks us) es o.1),
   retired_once ks us es new.1 old (λ e i j. apart e i (inr j)),
 )
 

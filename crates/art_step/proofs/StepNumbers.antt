@@ -355,7 +355,7 @@ module _ (z : Sizes) (p : ℕ) (v : View) (m : Memory) (f : Views) (m' : Memory)
       let free : is_free m d ≡ true = set_is_free m pool i k low bit in
       let cleared : m.free_word (pool_of d) (free_index d) - 2 ^ free_bit d ≡ word - 2 ^ k = ap₂ (λ (w j : ℕ). w - 2 ^ j) same place in
       let of_number : SetsFreeWord m (pool_of d) (free_index d) (m.free_word (pool_of d) (free_index d) - 2 ^ free_bit d) m' =
-          subst (λ (y : Pool × ℕ × ℕ). SetsFreeWord m y.0 y.1 y.2 m') (λ j. (sym same_pool j, sym index j, sym cleared j)) sets in
+      subst (λ (y : Pool × ℕ × ℕ). SetsFreeWord m y.0 y.1 y.2 m') (λ j. (sym same_pool j, sym index j, sym cleared j)) sets in
       takes z p v m f m' g is r d copy (record { word = Free pool i word; step = v.steps + 1 } ∷ v.found) free copied (takes_number m m' d free of_number) t
   by_test k low false bit copied sets t = noted sets t
 
