@@ -8,6 +8,7 @@ pub mod Facts
 pub mod FreeBits
 pub mod Gathered
 pub mod Histories
+pub mod LimboWaits
 pub mod Moves
 pub mod NumberMoves
 pub mod OpeningWords

@@ -1,13 +1,12 @@
 -- Numbers that are taken and given back, over words in a row: the word with a number's bit, and the view after a step that sets it
 -- or takes it away.
-use Rattle.std.proofs.Common.{◌≡◌, ◌≢◌, ◌⊎◌, ℕ, ◌+◌, ◌-◌, ◌*◌, ◌/◌, ◌%◌, ◌^◌, ◌<◌, ◌≤◌, ◌==◌, Bool, true, false, if◌then◌else◌, List, [], ◌∷◌, length, get_or, slice_set, sym, refl, ap, ap₂, ◌∙◌, subst, ⊎_elim, arith}
+use Rattle.std.proofs.Common.{◌≡◌, ◌≢◌, ◌⊎◌, ℕ, ◌+◌, ◌*◌, ◌%◌, ◌^◌, ◌<◌, ◌≤◌, ◌==◌, Bool, true, false, if◌then◌else◌, List, [], ◌∷◌, length, slice_set, sym, refl, ap, ◌∙◌, subst, ⊎_elim, arith}
 use Rattle.std.proofs.lemmas.Bool.{cases_Bool, eqb-false}
 use Rattle.std.proofs.lemmas.Nat.{pow_below}
 use Rattle.std.specs.Prelude.{Option, Some, None, IfSome}
 use Rattle.art_cell.specs.declared.cells.Link.{Link}
 use Rattle.art_cell.specs.declared.cells.Link.TheVariants.{Leaf as leaf, Node as node}
 use Rattle.art_cell.specs.declared.layouts.Pool.{Pool}
-use Rattle.art_step.specs.declared.views.InHand.{InHand}
 use Rattle.art_step.specs.declared.views.Retired.{Retired}
 use Rattle.art_step.specs.declared.views.Sizes.{Sizes}
 use Rattle.art_step.specs.declared.views.View.{View}
@@ -26,8 +25,8 @@ use Rattle.art_step.proofs.FreeBits.{free_is_number, set_is_free}
 use Rattle.art_step.proofs.Gathered.{sifted}
 use Rattle.art_step.proofs.Moves.{Moves, moved}
 use Rattle.art_step.proofs.StepNumbers.{not_free}
-use Rattle.art_step.proofs.WordPlaces.{free_below, has_free_word}
-use Rattle.art_step.proofs.WordRows.{free_word_found, is_taken, sets_free_word, words_taken}
+use Rattle.art_step.proofs.WordPlaces.{free_below}
+use Rattle.art_step.proofs.WordRows.{is_taken, sets_free_word, words_taken}
 use Rattle.art_tree.proofs.Places.{same_link}
 
 -- ---- bits of a word

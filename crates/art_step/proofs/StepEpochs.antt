@@ -1,13 +1,11 @@
 -- Steps of epochs and pins: the epoch is noted or goes up, a pass is pinned or goes idle, and the word of another pass is found.
-use Rattle.std.proofs.Common.{◌≡◌, ◌≢◌, ◌⊎◌, ℕ, zero, suc, ◌+◌, ◌^◌, ◌<◌, ◌≤◌, ◌==◌, Bool, true, false, if◌then◌else◌, nat_lt, List, [], ◌∷◌, map, inl, inr, ⊎_elim, sym, refl, ap, ap₂, ◌∙◌, subst, arith, le_refl, ltb-true}
+use Rattle.std.proofs.Common.{◌≡◌, ◌≢◌, ◌⊎◌, ℕ, zero, suc, ◌+◌, ◌^◌, ◌<◌, ◌≤◌, Bool, true, false, if◌then◌else◌, List, [], ◌∷◌, map, inl, inr, ⊎_elim, sym, refl, ap, ap₂, ◌∙◌, subst, arith, le_refl, ltb-true}
 use Rattle.std.proofs.lemmas.Bool.{cases_eq, eq-eqb, ne_eqb}
 use Rattle.std.proofs.lemmas.Option.{same_Some}
 use Rattle.std.specs.Prelude.{Option, Some, None}
 use Rattle.art_cell.specs.declared.cells.Cell.{Cell}
 use Rattle.art_cell.specs.declared.cells.Cell.TheVariants as cell
 use Rattle.art_cell.specs.declared.cells.Link.{Link}
-use Rattle.art_cell.specs.declared.cells.Node.{Node}
-use Rattle.art_cell.specs.declared.layouts.Pool.{Pool}
 use Rattle.art_step.specs.declared.views.EpochSeen.{EpochSeen}
 use Rattle.art_step.specs.declared.views.Found.{Found}
 use Rattle.art_step.specs.declared.views.Holding.{Holding}
@@ -19,7 +17,7 @@ use Rattle.art_step.specs.declared.views.View.{View}
 use Rattle.art_step.specs.declared.views.Word.TheVariants.{Pass}
 use Rattle.art_tree.specs.Heaps.{Cells}
 use Rattle.art_step.specs.Effects.{SetsEpoch, SetsPassWord}
-use Rattle.art_step.specs.Sound.{Accounts, Awaits, InLimboOf, IsPinned, IsSound, IsUnder, MarkedUnstamped, Vouched, early_notes}
+use Rattle.art_step.specs.Sound.{Accounts, Awaits, IsPinned, IsSound, IsUnder, MarkedUnstamped, Vouched, early_notes}
 use Rattle.art_step.specs.Steps.Advance as advance
 use Rattle.art_step.specs.Steps.Epoch as epoch
 use Rattle.art_step.specs.Steps.Epoch.{label_or, labelled}
@@ -30,7 +28,7 @@ use Rattle.art_step.specs.Views.{HaveChildWords, IsClear, IsObsolete, IsOnce, Is
 use Rattle.art_step.proofs.EpochBound.{bound_notes, bound_rests, bound_rises}
 use Rattle.art_step.proofs.Gathered.{key_member, member_key}
 use Rattle.art_step.proofs.Histories.{history_stays}
-use Rattle.art_step.proofs.SetsView.{each_view, either_view, one_view}
+use Rattle.art_step.proofs.SetsView.{each_view, either_view}
 use Rattle.art_step.proofs.SoundParts.{account_on, holder_same, numbers_turn}
 use Rattle.art_step.proofs.StepNumbers.{holder_words, vouched_on}
 
@@ -54,7 +52,7 @@ same_limbo : (es : List Retired) → SameNumbers es es
 same_limbo es = record { back = λ e i. (e, i, refl); forth = λ e i. (e, i, refl); once = λ o. o }
 
 module _ (k : Retired → Retired) (same : (e : Retired) → (k e).link ≡ e.link) where
-  same_links : (es : List Retired) → links_in_limbo (map k es) ≡ links_in_limbo es
+  pub same_links : (es : List Retired) → links_in_limbo (map k es) ≡ links_in_limbo es
   same_links [] = refl
   same_links (e ∷ es) = ap₂ (λ (d : Link) (ds : List Link). d ∷ ds) (same e) (same_links es)
 

@@ -1,12 +1,14 @@
 -- What no view shows, the history and the logical words, is determined by what the words and the views are.
 use Rattle.std.specs.Prelude.{◌≡◌, ℕ, ◌+◌, Some}
 use Rattle.art_cell.specs.declared.cells.Cell.{Cell}
+use Rattle.art_step.specs.declared.views.Retired.{Retired}
 use Rattle.art_step.specs.declared.views.Sizes.{Sizes}
 use Rattle.art_step.specs.declared.views.View.{View}
 use Rattle.art_tree.specs.Heaps.{Cells}
 use Rattle.art_step.specs.Histories.{StartsWith}
 use Rattle.art_step.specs.Sound.{IsSound, OneHolder}
 use Rattle.art_step.specs.Steps.{OneStep}
+use Rattle.art_step.specs.Steps.Give.{NobodyIsUnder, WentBack}
 use Rattle.art_step.specs.Views.{Memory, Views}
 
 -- there is one history
@@ -36,3 +38,8 @@ CountLaw = (z : Sizes) (p : ℕ) (v w : View) (m : Memory) (f : Views) (m' : Mem
 abbrev pub SeenLaw : Type 0
 SeenLaw = (z : Sizes) (p : ℕ) (v w : View) (m : Memory) (f : Views) (m' : Memory) (f' : Views) → OneStep z p m f m' f' → f p ≡ Some v →
     f' p ≡ Some w → StartsWith w.seen v.seen
+
+-- whatever kind of step takes a number out of limbo, no pass is still under a pin that its place held
+abbrev pub LimboLaw : Type 0
+LimboLaw = (z : Sizes) (p : ℕ) (v w : View) (m : Memory) (f : Views) (m' : Memory) (f' : Views) → OneStep z p m f m' f' → f p ≡ Some v →
+    f' p ≡ Some w → (e : Retired) → WentBack v w e → NobodyIsUnder f e

@@ -89,7 +89,8 @@
 //! or above does not.
 //!
 //! What no view shows of it, the history and the logical words, is determined by the rest, and the history only grows
-//! (`hidden_is_determined`). Each step adds 1 to the count of its pass (`steps_keep_their_pass`).
+//! (`hidden_is_determined`). Each step adds 1 to the count of its pass (`steps_keep_their_pass`). A number stays in limbo while
+//! a pass is under a pin that its place holds, whatever the passes do (`limbo_waits_for_pins`).
 //!
 //! # One step from end to end
 //!
@@ -144,10 +145,10 @@ pub use opening::opening_words;
 pub use step_kinds::StepKind;
 pub use step_laws::{
     advancing_is_sound, beginning_is_sound, checking_is_sound, claiming_is_sound,
-    committing_is_sound, giving_is_sound, hidden_is_determined, noting_the_epoch_is_sound,
-    opening_is_sound, pinning_is_sound, reading_is_sound, releasing_is_sound, stepping_is_sound,
-    steps_keep_their_pass, taking_is_sound, upgrading_is_sound, watching_is_sound,
-    writing_is_sound,
+    committing_is_sound, giving_is_sound, hidden_is_determined, limbo_waits_for_pins,
+    noting_the_epoch_is_sound, opening_is_sound, pinning_is_sound, reading_is_sound,
+    releasing_is_sound, stepping_is_sound, steps_keep_their_pass, taking_is_sound,
+    upgrading_is_sound, watching_is_sound, writing_is_sound,
 };
 pub use steps::Steps;
 pub use versions::Version;

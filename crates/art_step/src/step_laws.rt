@@ -1,6 +1,6 @@
 //! One law for each kind of step: what is sound before it is sound after it. Each is the contract of a function with
 //! nothing to do.
-ghost use Rattle.art_step.specs.Determined.{CountLaw, HistoryGrows, HistoryLaw, LogicalLaw, PassLaw, SeenLaw};
+ghost use Rattle.art_step.specs.Determined.{CountLaw, HistoryGrows, HistoryLaw, LimboLaw, LogicalLaw, PassLaw, SeenLaw};
 ghost use Rattle.art_step.specs.Steps.Advance as advance;
 ghost use Rattle.art_step.specs.Steps.Begin as begin;
 ghost use Rattle.art_step.specs.Steps.Claim as claim;
@@ -122,4 +122,9 @@ pub fn steps_keep_their_pass()
     ensures pass { PassLaw }
     ensures counts { CountLaw }
     ensures seen { SeenLaw }
+{}
+
+/// A number stays in limbo while a pass is under a pin that its place holds, whatever the passes do.
+pub fn limbo_waits_for_pins()
+    ensures { LimboLaw }
 {}

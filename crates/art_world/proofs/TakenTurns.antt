@@ -4,12 +4,16 @@ use Rattle.std.proofs.lemmas.Bool.{cases_eq, cases_lt}
 use Rattle.std.proofs.lemmas.List.{length-set}
 use Rattle.std.proofs.lemmas.Option.{same_Some, slice_get_past, slice_get_within, slice_get-get_or}
 use Rattle.std.specs.List.{slice_get}
+use Rattle.art_step.specs.declared.views.Retired.{Retired}
 use Rattle.art_step.specs.declared.views.Sizes.{Sizes}
 use Rattle.art_step.specs.declared.views.View.{View}
 use Rattle.art_step.specs.Opening.{newcomer}
 use Rattle.art_step.specs.Steps.{OneStep}
+use Rattle.art_step.specs.Steps.Give.{WentBack}
+use Rattle.art_step.proofs.Gathered.{member_key}
+use Rattle.art_step.proofs.LimboWaits.{limbo_law}
 use Rattle.art_step.proofs.Determined.{step_view, steps_count}
-use Rattle.art_world.specs.Turns.{CountsOne, IsRun, IsTurn, MakesOne, NamesNobody, TakesTurn}
+use Rattle.art_world.specs.Turns.{CountsOne, FreesUnderNobody, IsRun, IsTurn, MakesOne, NamesNobody, TakesTurn}
 use Rattle.art_world.specs.Contents.{AtOnce, Chain, Contents, OnlyStepsOf, memory_now}
 use Rattle.art_step.specs.WordRows.{view_at, views_of}
 
@@ -82,6 +86,28 @@ one_made p a b ended inside only counts = by_count only.made.0 only.made.1
         not_one : (n : ℕ) → Chain n p a b → n ≡ 0 → b ≡ a
         not_one zero chain is = chain
         not_one (suc n) chain is = absurd (omega arith)
+
+-- ---- what leaves a limbo
+
+-- a number that waits before a step and not after it went back
+stays_put : (v : View) (e : Retired) → WentBack v v e → ⊥
+stays_put v e back = back.1 (member_key (λ (y : Retired). y.link) v.limbo e back.0)
+
+-- so what leaves one at a turn leaves it under nobody
+pub frees_under_nobody : (p : ℕ) (a b : Contents) (ended : Bool) → p < length a.views → OnlyStepsOf a b p → MakesOne p a b ended → FreesUnderNobody a b
+frees_under_nobody p a b ended inside only made q e back = ⊎_elim
+    (λ (same : q ≡ p). ⊎_elim
+    (λ (one : AtOnce (OneStep a.sizes p) a b).
+    let mine = subst (λ (i : ℕ). WentBack (view_at a.views i) (view_at b.views i) e) same back in
+    limbo_law a.sizes p (view_at a.views p) (view_at b.views p) (memory_now a) (views_of a.views) (memory_now b) (views_of b.views) one
+    (there a.views inside) (there b.views (subst (λ (n : ℕ). p < n) (sym only.count) inside)) e mine)
+    (λ (none : (b ≡ a) × (ended ≡ true)). absurd (stays_put (view_at a.views q) e (subst (λ (c : Contents). WentBack (view_at a.views q) (view_at c.views q) e) none.0 back)))
+    made)
+    (λ (other : q ≢ p). absurd (stays_put (view_at a.views q) e (subst (λ (v : View). WentBack (view_at a.views q) v e) (only.others q other) back)))
+    (cases_eq q p)
+  where
+    there : (vs : List View) → p < length vs → views_of vs p ≡ Some (view_at vs p)
+    there vs low = slice_get-get_or vs p (newcomer p) low
 
 -- ---- one turn
 

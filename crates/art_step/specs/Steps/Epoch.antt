@@ -1,5 +1,5 @@
 -- Epoch: the epoch is found and noted, to pin or to advance, and labels what is in limbo without a label.
-use Rattle.std.specs.Prelude.{ℕ, List, map, ◌≡◌, ◌+◌, ◌^◌, ◌<◌, Option, Some, None}
+use Rattle.std.specs.Prelude.{ℕ, map, ◌≡◌, ◌+◌, ◌^◌, ◌<◌, Option, Some, None}
 use Rattle.art_step.specs.Sound.{KeepsSound}
 use Rattle.art_step.specs.Views.{Memory, Views, SetsView}
 use Rattle.art_step.specs.declared.views.Retired.{Retired}

@@ -79,7 +79,15 @@ pub record FreeOutcome (v w : View) (d : Link) : Type 0 where
 abbrev pub FreeLaw : Type 0
 FreeLaw = KeepsSound FreeStep
 
--- no pass is still under a pin that the place holds, when its number goes back
+-- no pass is under a pin that the place holds
+abbrev pub NobodyIsUnder : Views → Retired → Type 0
+NobodyIsUnder f e = (q : ℕ) (u : View) → f q ≡ Some u → IsUnder q u e → ⊥
+
+-- nor still is one when its number goes back
 abbrev pub NobodyLaw : Type 0
 NobodyLaw = (z : Sizes) (p : ℕ) (v : View) (m : Memory) (f : Views) (d : Link) → f p ≡ Some v → IsSound z m f → (may : MayFree z v d) →
-    (q : ℕ) (u : View) → f q ≡ Some u → IsUnder q u may.place → ⊥
+    NobodyIsUnder f may.place
+
+-- of a pass whose view goes from v to w: the number at the place waits in its limbo before that, and not after it
+abbrev pub WentBack : View → View → Retired → Type 0
+WentBack v w e = Member e v.limbo × (Member e.link (links_in_limbo w.limbo) → ⊥)

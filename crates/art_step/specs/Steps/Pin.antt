@@ -1,5 +1,5 @@
 -- Pin: the pass stores its own word, an epoch that it has noted or 0. From idle it is pinned; at 0 it is idle, and all stamps go.
-use Rattle.std.specs.Prelude.{ℕ, List, [], ◌≡◌, ◌⊎◌, ◌+◌, ◌==◌, if◌then◌else◌, Some}
+use Rattle.std.specs.Prelude.{ℕ, [], ◌≡◌, ◌⊎◌, ◌+◌, ◌==◌, if◌then◌else◌, Some}
 use Rattle.art_step.specs.Effects.{SetsPassWord}
 use Rattle.art_step.specs.Sound.{KeepsSound}
 use Rattle.art_step.specs.Views.{Memory, Views, SetsView}

@@ -1,6 +1,6 @@
 -- Watch: the word of another pass is found. The places in limbo that it has gone past are marked for that pass: all where it is
 -- idle, and else those whose label is below its word.
-use Rattle.std.specs.Prelude.{ℕ, zero, suc, List, map, ◌≡◌, ◌≢◌, ◌+◌, ◌<◌, ◌∷◌, Bool, true, false, nat_lt, if◌then◌else◌, Option, Some, None}
+use Rattle.std.specs.Prelude.{ℕ, zero, suc, map, ◌≡◌, ◌≢◌, ◌+◌, ◌<◌, ◌∷◌, Bool, true, false, nat_lt, if◌then◌else◌, Option, Some, None}
 use Rattle.art_step.specs.Sound.{KeepsSound}
 use Rattle.art_step.specs.Views.{Memory, Views, SetsView}
 use Rattle.art_step.specs.declared.views.Retired.{Retired}

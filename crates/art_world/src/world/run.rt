@@ -41,7 +41,7 @@ pub trait Actor {
 
 impl World {
     /// Each turn lets the actor that it names make one step, or end with none; actor i is pass i. A turn that names no actor, or one
-    /// that has ended, does nothing.
+    /// that has ended, does nothing. What goes back from a limbo at a turn goes back under nobody's pin.
     pub fn run<T: Actor>(&mut self, actors: &mut [T], turns: &[u32])
         requires passes { length actors.old ≤ length self.old.views }
         requires fits { (p : ℕ) (a : _) → slice_get actors.old p ≡ Some a → T.fits a self.old.sizes (view_at self.old.views p) }

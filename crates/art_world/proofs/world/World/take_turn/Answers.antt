@@ -1,7 +1,7 @@
 use Rattle.std.proofs.Common.{◌<◌, ◌∙◌, arith, inl, inr, length, refl, sym}
 use Rattle.std.proofs.lemmas.List.{set-get_or}
 use Rattle.std.proofs.lemmas.Option.{slice_get-get_or}
-use Rattle.art_world.proofs.TakenTurns.{fits_on, one_made}
+use Rattle.art_world.proofs.TakenTurns.{fits_on, frees_under_nobody, one_made}
 use Rattle.art_world.proofs.world.World.take_turn.Goals as goal
 
 pub returns-then-ended-clause-is_turn : goal.returns-then-ended-clause-is_turn
@@ -16,6 +16,9 @@ lend_to-requires-clause-fits g c = c.requires.fits c.args.pass _ (slice_get-get_
 pub returns-clause-is_turn : goal.returns-clause-is_turn
 returns-clause-is_turn g c =
     let e = c.lend_to.ensures in
+    let low = c.requires.passes in
+    let inside : c.args.pass < length c.args.self.now.views = omega (arith, low, c.if-pass-actors.false) in
+    let made = one_made c.args.pass c.args.self.now c.lend_to.new.self (g.T.Actor.has_ended c.lend_to.new.actor) inside e.only e.step in
     inr (record {
       before = _;
       now = c.lend_to.new.actor;
@@ -26,7 +29,8 @@ returns-clause-is_turn g c =
       turn = e.makes;
       actors = refl;
       only = e.only;
-      step = one_made c.args.pass c.args.self.now c.lend_to.new.self (g.T.Actor.has_ended c.lend_to.new.actor) (let low = c.requires.passes in omega (arith, low, c.if-pass-actors.false)) e.only e.step;
+      step = made;
+      frees = frees_under_nobody c.args.pass c.args.self.now c.lend_to.new.self (g.T.Actor.has_ended c.lend_to.new.actor) inside e.only made;
       sound_before = e.sound_before;
       sound = e.sound;
     })

@@ -1,5 +1,5 @@
 -- The pass is one that there is, and its view has its number.
-use Rattle.std.proofs.Common.{◌≡◌, ℕ, ap, arith, sym}
+use Rattle.std.proofs.Common.{◌≡◌, ap, arith, sym}
 use Rattle.art_step.specs.declared.views.Sizes.{Sizes}
 use Rattle.art_world.specs.Stepper.{pass_of, view_of, world_of}
 use Rattle.art_world.proofs.ViewLists.{at_view}
