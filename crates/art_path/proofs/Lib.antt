@@ -1,0 +1,5 @@
+mod CommonFront
+mod ComparedWords
+pub mod Comparing
+mod JustAbove
+pub mod PackedTexts
