@@ -11,9 +11,14 @@ pub record AreSame (bytes : ℕ → ℕ) (count : ℕ) (key : List ℕ) (from : 
 -- how so many bytes stand to the key's
 abbrev pub IsCompared : (ℕ → ℕ) → ℕ → List ℕ → ℕ → Compared → Type 0
 IsCompared bytes count key from Same = AreSame bytes count key from
-IsCompared bytes count key from (Below at) = (at < count) × AreSame bytes at key from × (from + at < length key) × (bytes at < get_or key (from + at) 0)
+IsCompared bytes count key from (Below at) =
+    (at < count) × AreSame bytes at key from × (from + at < length key) × (bytes at < get_or key (from + at) 0)
 IsCompared bytes count key from (Above at) =
     (at < count) × AreSame bytes at key from × ((from + at ≡ length key) ⊎ ((from + at < length key) × (get_or key (from + at) 0 < bytes at)))
+
+-- one result is right at most
+abbrev pub IsDetermined : (ℕ → ℕ) → ℕ → List ℕ → ℕ → Type 0
+IsDetermined bytes count key from = (r s : Compared) → IsCompared bytes count key from r → IsCompared bytes count key from s → r ≡ s
 
 -- the index of the first byte that is not the key's
 abbrev pub index_of : Compared → ℕ

@@ -18,8 +18,8 @@
 //! ```
 //!
 //! Only one of these is right for given bytes (`comparisons_are_determined`). That the key has ended counts as above, for a
-//! text stands before all longer ones that begin with it; so a comparison tells on which side of the key all keys below
-//! the node lie, which is what a look of a range asks, and where a new key parts from the prefix.
+//! text stands before all longer ones that begin with it. So where a prefix is not the key's, the comparison tells on which
+//! side of the key all keys below the node lie, which a look of a range asks, and where a new key parts from the prefix.
 //!
 //! A prefix of many words is compared word by word. What the next bytes give is a comparison of all of them, once their
 //! indices are counted from the first one: that is `Compared::behind`. The lemmas that carry it on stand in
