@@ -98,15 +98,15 @@ byte_there x y m at d high low few less =
 
 -- ---- the bytes of one word beside those of another
 
-front_same : (x y m count : ℕ) → DifferBelow x y m → m + 8 * count ≤ 64 → AreSame (byte_of x) count (to_be_bytes w64 y) 0
-front_same x y m count d high = record {
-  within = omega arith;
-  same = λ i low. byte_before x y m i d (omega arith) ∙ byte_of-to_be_bytes y i (omega arith) ∙ ap (λ (j : ℕ). get_or (to_be_bytes w64 y) j 0) (omega arith);
-}
-
 -- byte i of the word that is compared with
 there : (y i : ℕ) → i < 8 → byte_of y i ≡ get_or (to_be_bytes w64 y) (0 + i) 0
 there y i low = byte_of-to_be_bytes y i low ∙ ap (λ (j : ℕ). get_or (to_be_bytes w64 y) j 0) (omega arith)
+
+front_same : (x y m count : ℕ) → DifferBelow x y m → m + 8 * count ≤ 64 → AreSame (byte_of x) count (to_be_bytes w64 y) 0
+front_same x y m count d high = record {
+  within = omega arith;
+  same = λ i low. byte_before x y m i d (omega arith) ∙ there y i (omega arith);
+}
 
 pub words_same : (x y count : ℕ) → x < 2 ^ 64 → y < 2 ^ 64 → count ≤ 8 → count ≤ count_leading_zeros 64 (bit_xor x y) / 8 → AreSame (byte_of x) count (to_be_bytes w64 y) 0
 words_same x y count small small' few all =
