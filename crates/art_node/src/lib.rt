@@ -8,8 +8,10 @@
 mod leaves;
 mod nodes;
 mod relaid;
+mod searches;
 mod words;
 
 pub use leaves::{pack, unpack};
 pub use nodes::{at_least, grow, list, plan_add, plan_drop, plan_set, probe, shrink};
+pub use searches::{Sought, SoughtFrom, first_word, first_word_from, next_word, next_word_from};
 pub use words::{Header, child_word, link_in, prefix, read_header};
