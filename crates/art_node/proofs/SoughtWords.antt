@@ -1,5 +1,5 @@
 -- What one word after another tells of the children of a node.
-use Rattle.std.proofs.Common.{◌≡◌, ℕ, ◌+◌, ◌*◌, ◌%◌, ◌<◌, ◌≤◌, sym, ap, ◌∙◌, arith}
+use Rattle.std.proofs.Common.{◌≡◌, refl, zero, suc, ◌-◌, ◌^◌, ℕ, ◌+◌, ◌*◌, ◌/◌, ◌%◌, ◌<◌, ◌≤◌, sym, ap, ◌∙◌, arith}
 use Rattle.art_cell.specs.declared.layouts.Layout.{Layout}
 use Rattle.art_cell.specs.declared.layouts.Layout.TheVariants.{Node48}
 use Rattle.art_cell.specs.Bodies.{IsBody}
@@ -27,6 +27,20 @@ pub tells_fewer_from : (k : Layout) (low : ℕ) (so such : Words → Type 0) (r 
 tells_fewer_from k low so such (from.Keys i) some t = (t.0, t.1, λ w body is. t.2 w body (some w is))
 tells_fewer_from k low so such (from.Child p b) some t = (t.0, t.1, t.2, t.3, λ w body is. t.4 w body (some w is))
 tells_fewer_from k low so such from.Nothing some t = λ w body is. t w body (some w is)
+
+-- ---- one of the eight bytes of a word
+
+-- it is what a shift and a remainder leave
+pub shifted_byte : (word i : ℕ) → i < 8 → word / 2 ^ (8 * (7 - i)) % 256 ≡ byte_of word i
+shifted_byte word zero low = refl
+shifted_byte word (suc zero) low = refl
+shifted_byte word (suc (suc zero)) low = refl
+shifted_byte word (suc (suc (suc zero))) low = refl
+shifted_byte word (suc (suc (suc (suc zero)))) low = refl
+shifted_byte word (suc (suc (suc (suc (suc zero))))) low = refl
+shifted_byte word (suc (suc (suc (suc (suc (suc zero)))))) low = refl
+shifted_byte word (suc (suc (suc (suc (suc (suc (suc zero))))))) low = refl
+shifted_byte word (suc (suc (suc (suc (suc (suc (suc (suc i)))))))) low = absurd (omega arith)
 
 -- ---- nodes with sorted bytes
 

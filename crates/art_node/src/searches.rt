@@ -202,5 +202,5 @@ fn byte_at(word: u64, index: usize) -> u8
     requires { index < 8 }
     ensures { result ≡ byte_of word index }
 {
-    word.to_be_bytes()[index]
+    ((word >> (8 * (7 - index))) % 256) as u8
 }
