@@ -1,5 +1,5 @@
 -- What one word after another tells of the children of a node.
-use Rattle.std.proofs.Common.{◌≡◌, refl, zero, suc, ◌-◌, ◌^◌, ℕ, ◌+◌, ◌*◌, ◌/◌, ◌%◌, ◌<◌, ◌≤◌, sym, ap, ◌∙◌, arith}
+use Rattle.std.proofs.Common.{◌≡◌, refl, zero, suc, ◌-◌, ◌^◌, ℕ, ◌+◌, ◌*◌, ◌/◌, ◌%◌, ◌<◌, ◌≤◌, sym, subst, ap, ◌∙◌, arith}
 use Rattle.art_cell.specs.declared.layouts.Layout.{Layout}
 use Rattle.art_cell.specs.declared.layouts.Layout.TheVariants.{Node48}
 use Rattle.art_cell.specs.Bodies.{IsBody}
@@ -44,13 +44,26 @@ shifted_byte word (suc (suc (suc (suc (suc (suc (suc (suc i)))))))) low = absurd
 
 -- ---- nodes with sorted bytes
 
-pub next_is_key_word : (s : Sorted) (b header number word : ℕ) (w : Words) → IsNextWord (layout_of s) b header number word w → IsKeyWord b header number word w
+next_is_key_word : (s : Sorted) (b header number word : ℕ) (w : Words) → IsNextWord (layout_of s) b header number word w → IsKeyWord b header number word w
 next_is_key_word Four b header number word w next = record { is_header = next.is_header; is_word = next.is_word; below = next.known }
 next_is_key_word Sixteen b header number word w next = record { is_header = next.is_header; is_word = next.is_word; below = next.known }
 
-pub next_is_key_word_from : (s : Sorted) (low header number word : ℕ) (w : Words) → IsNextWordFrom (layout_of s) low header number word w → IsKeyWord low header number word w
+next_is_key_word_from : (s : Sorted) (low header number word : ℕ) (w : Words) → IsNextWordFrom (layout_of s) low header number word w → IsKeyWord low header number word w
 next_is_key_word_from Four low header number word w next = record { is_header = next.is_header; is_word = next.is_word; below = next.known }
 next_is_key_word_from Sixteen low header number word w next = record { is_header = next.is_header; is_word = next.is_word; below = next.known }
+
+-- what one word of key bytes tells is told of the word that was asked for
+pub tells_next : (s : Sorted) (k : Layout) (b header number word : ℕ) (r : Sought) → k ≡ layout_of s
+    → SoughtTells (layout_of s) b (IsKeyWord b header number word) r → SoughtTells k b (IsNextWord k b header number word) r
+tells_next s k b header number word r is t =
+    subst (λ (l : Layout). SoughtTells l b (IsNextWord l b header number word) r) (sym is)
+    (tells_fewer (layout_of s) b _ _ r (next_is_key_word s b header number word) t)
+
+pub tells_next_from : (s : Sorted) (k : Layout) (low header number word : ℕ) (r : SoughtFrom) → k ≡ layout_of s
+    → SoughtFromTells (layout_of s) low (IsKeyWord low header number word) r → SoughtFromTells k low (IsNextWordFrom k low header number word) r
+tells_next_from s k low header number word r is t =
+    subst (λ (l : Layout). SoughtFromTells l low (IsNextWordFrom l low header number word) r) (sym is)
+    (tells_fewer_from (layout_of s) low _ _ r (next_is_key_word_from s low header number word) t)
 
 pub below_known : (s : Sorted) (b : ℕ) (w : Words) (i : ℕ) → BelowAll w (8 * i) b → KeysKnown (layout_of s) b w i
 below_known Four b w i below = below

@@ -58,7 +58,8 @@ pub record IsNextWordFrom (k : Layout) (low header number word : ℕ) (w : Words
 abbrev pub SoughtFromTells : Layout → ℕ → (Words → Type 0) → SoughtFrom → Type 0
 SoughtFromTells k low so (from.Keys i) = (i < 32) × (10 + i < size k) × ((w : Words) → IsBody k w → so w → KeysKnownFrom k low w i)
 SoughtFromTells k low so (from.Child p b) =
-    (0 < p) × (p < size k) × (low ≤ b) × (b < 256) × ((w : Words) → IsBody k w → so w → NoneFrom (child_of k w) low b × (child_of k w b ≡ nonzero (w p)))
+    (0 < p) × (p < size k) × (low ≤ b) × (b < 256)
+    × ((w : Words) → IsBody k w → so w → NoneFrom (child_of k w) low b × (child_of k w b ≡ nonzero (w p)))
 SoughtFromTells k low so from.Nothing = (w : Words) → IsBody k w → so w → NoneFrom (child_of k w) low 256
 
 -- ---- in one word
@@ -71,7 +72,8 @@ pub record IsKeyWord (b header number word : ℕ) (w : Words) : Type 0 where
 
 -- what a word of key bytes tells of the first one at a byte or above, of bodies of which this is so
 abbrev pub KeySearchTells : Sorted → ℕ → ℕ → (Words → Type 0) → KeySearch → Type 0
-KeySearchTells s b number so (key.At i found) = (i < places (layout_of s)) × (b ≤ found) × ((w : Words) → IsBody (layout_of s) w → so w → IsFirstFrom w b i found)
+KeySearchTells s b number so (key.At i found) =
+    (i < places (layout_of s)) × (b ≤ found) × ((w : Words) → IsBody (layout_of s) w → so w → IsFirstFrom w b i found)
 KeySearchTells s b number so key.Later =
     (8 * (number + 1) < places (layout_of s)) × ((w : Words) → IsBody (layout_of s) w → so w → BelowAll w (8 * (number + 1)) b)
 KeySearchTells s b number so key.Nothing = (w : Words) → IsBody (layout_of s) w → so w → BelowAll w (count_of w) b
