@@ -1,4 +1,6 @@
+pub mod ChildWords
 pub mod Copies
 pub mod KeyBytes
 pub mod LeafWords
 pub mod Lookups
+pub mod SoughtWords

@@ -63,7 +63,7 @@ fn fill_and_empty<K: NodeKind>(rt: &impl Abort, layout: Layout, bytes: &[u8], mo
 }
 
 /// All bytes, so far apart from one on, and after 255 again from 0 on.
-fn bytes_apart(first: u8, apart: u8) -> [u8; 256] {
+pub(crate) fn bytes_apart(first: u8, apart: u8) -> [u8; 256] {
     let mut bytes = [first; 256];
     let mut byte = first;
     for place in 0..256 {

@@ -24,3 +24,5 @@ mod nodes;
 mod plans;
 #[cfg(test)]
 mod reads;
+#[cfg(test)]
+mod searches;

@@ -14,7 +14,7 @@ use std::process::Abort;
 use std::test::*;
 
 /// A node of no prefix with these bytes, and 8 times the byte and 1 for each child.
-fn with_bytes<K: NodeKind>(rt: &impl Abort, layout: Layout, bytes: &[u8]) -> Body
+pub(crate) fn with_bytes<K: NodeKind>(rt: &impl Abort, layout: Layout, bytes: &[u8]) -> Body
     requires { layout ≡ K.layout }
     ensures { IsBodyOf K.layout result }
 {

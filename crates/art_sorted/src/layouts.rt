@@ -14,7 +14,7 @@ pub enum Sorted {
 
 impl Sorted {
     /// How many positions there are.
-    pub(crate) fn positions(self) -> usize
+    pub fn positions(self) -> usize
         ensures value { result ≡ places (layout_of self) }
         ensures few { result ≤ 16 }
         ensures fits { 10 + (result + 7) / 8 + result ≡ size (layout_of self) }
@@ -26,7 +26,7 @@ impl Sorted {
     }
 
     /// The place of the first child, after the words of key bytes.
-    pub(crate) fn first_child(self) -> usize
+    pub fn first_child(self) -> usize
         ensures value { result ≡ first_child (layout_of self) }
         ensures after_keys { result ≡ 10 + (places (layout_of self) + 7) / 8 }
         ensures last { result + places (layout_of self) ≡ size (layout_of self) }

@@ -1,0 +1,7 @@
+use Rattle.art_cell.specs.Words.{Words}
+use Rattle.art_sorted.specs.Sorted.{BelowAll}
+use Rattle.art_node.specs.Searches.{IsKeyWord}
+use Rattle.art_node.proofs.searches.first_key.Given as goal
+
+abbrev pub invariant-loop-index : goal.invariant-loop-index
+invariant-loop-index l = (w : Words) → IsKeyWord l.byte l.header l.number l.word w → BelowAll w l.index l.byte

@@ -1,0 +1,30 @@
+use Rattle.std.proofs.Common.{◌+◌, arith}
+use Rattle.art_cell.specs.declared.layouts.Layout.TheVariants.{Node48}
+use Rattle.art_cell.specs.Words.{child_of}
+use Rattle.art_cell.specs.Lemmas.Entries.{none_from_more}
+use Rattle.art_node.proofs.SoughtWords.{has_word}
+use Rattle.art_node.proofs.searches.indexed_child_from.Goals as goal
+
+pub returns-in-Some : goal.returns-in-Some
+returns-in-Some c = (
+  c.in-Some.ensures.0,
+  c.in-Some.ensures.1,
+  omega arith,
+  omega arith,
+  λ w body has. (c.loop-at.invariant w body has, c.in-Some.ensures.2 w (has_word w c.args.number c.loop-at.at c.args.word (omega arith) (omega arith) has.0)),
+)
+
+pub loop-at-preserved : goal.loop-at-preserved
+loop-at-preserved c w body has =
+    none_from_more (child_of Node48 w) c.args.low c.loop-at.at (c.loop-at.at + 1) (omega arith) (c.loop-at.invariant w body has)
+    (c.in_default.ensures w body (has_word w c.args.number c.loop-at.at c.args.word (omega arith) (omega arith) has.0))
+
+pub returns-then-number-lt-LAST_INDEX_WORD : goal.returns-then-number-lt-LAST_INDEX_WORD
+returns-then-number-lt-LAST_INDEX_WORD c = (
+  omega arith,
+  omega arith,
+  λ w body has. (omega (arith, has.1.0), λ b above below. c.loop-at.invariant w body has b above (omega arith)),
+)
+
+pub returns-else-number-lt-LAST_INDEX_WORD : goal.returns-else-number-lt-LAST_INDEX_WORD
+returns-else-number-lt-LAST_INDEX_WORD c w body has b above below = c.loop-at.invariant w body has b above (omega arith)

@@ -1,0 +1,23 @@
+use Rattle.std.proofs.Common.{sym, subst}
+use Rattle.art_cell.specs.declared.layouts.Layout.{Layout}
+use Rattle.art_cell.specs.declared.layouts.Layout.TheVariants.{Node48}
+use Rattle.art_sorted.specs.declared.layouts.Sorted.TheVariants.{Four, Sixteen}
+use Rattle.art_node.specs.Searches.{IsNextWord, SoughtTells}
+use Rattle.art_node.proofs.SoughtWords.{tells_fewer, tells_next, next_has_word}
+use Rattle.art_node.proofs.searches.next_word.Goals as goal
+
+pub returns-in-Node4 : goal.returns-in-Node4
+returns-in-Node4 c =
+    tells_next Four c.args.layout c.args.byte c.args.header c.args.number c.args.word c.sorted_child.result c.in-Node4.is c.sorted_child.ensures
+
+pub returns-in-Node16 : goal.returns-in-Node16
+returns-in-Node16 c =
+    tells_next Sixteen c.args.layout c.args.byte c.args.header c.args.number c.args.word c.sorted_child-in-Node16.result c.in-Node16.is
+    c.sorted_child-in-Node16.ensures
+
+pub returns-in-Node48 : goal.returns-in-Node48
+returns-in-Node48 c =
+    subst (λ (k : Layout). SoughtTells k c.args.byte (IsNextWord k c.args.byte c.args.header c.args.number c.args.word) c.indexed_child.result)
+    (sym c.in-Node48.is)
+    (tells_fewer Node48 c.args.byte _ _ c.indexed_child.result (next_has_word c.args.byte c.args.header c.args.number c.args.word)
+    c.indexed_child.ensures)

@@ -1,0 +1,23 @@
+use Rattle.std.proofs.Common.{sym, subst}
+use Rattle.art_cell.specs.declared.layouts.Layout.{Layout}
+use Rattle.art_cell.specs.declared.layouts.Layout.TheVariants.{Node48}
+use Rattle.art_sorted.specs.declared.layouts.Sorted.TheVariants.{Four, Sixteen}
+use Rattle.art_node.specs.Searches.{IsNextWordFrom, SoughtFromTells}
+use Rattle.art_node.proofs.SoughtWords.{tells_fewer_from, tells_next_from, next_has_word_from}
+use Rattle.art_node.proofs.searches.next_word_from.Goals as goal
+
+pub returns-in-Node4 : goal.returns-in-Node4
+returns-in-Node4 c =
+    tells_next_from Four c.args.layout c.args.low c.args.header c.args.number c.args.word c.sorted_child_from.result c.in-Node4.is c.sorted_child_from.ensures
+
+pub returns-in-Node16 : goal.returns-in-Node16
+returns-in-Node16 c =
+    tells_next_from Sixteen c.args.layout c.args.low c.args.header c.args.number c.args.word c.sorted_child_from-in-Node16.result c.in-Node16.is
+    c.sorted_child_from-in-Node16.ensures
+
+pub returns-in-Node48 : goal.returns-in-Node48
+returns-in-Node48 c =
+    subst (λ (k : Layout). SoughtFromTells k c.args.low (IsNextWordFrom k c.args.low c.args.header c.args.number c.args.word) c.indexed_child_from.result)
+    (sym c.in-Node48.is)
+    (tells_fewer_from Node48 c.args.low _ _ c.indexed_child_from.result (next_has_word_from c.args.low c.args.header c.args.number c.args.word)
+    c.indexed_child_from.ensures)

@@ -1,0 +1,26 @@
+use Rattle.std.proofs.Common.{◌+◌, sym, ap, ◌∙◌, arith}
+use Rattle.art_cell.specs.Words.{nonzero}
+use Rattle.art_sorted.proofs.NodeWords.{none_before, none_past}
+use Rattle.art_node.proofs.SoughtWords.{below_known_from, keys_inside, child_found}
+use Rattle.art_node.proofs.searches.sorted_child_from.Goals as goal
+
+pub returns-in-At : goal.returns-in-At
+returns-in-At c = (
+  omega (arith, c.first_child.ensures.after_keys),
+  omega (arith, c.first_child.ensures.last, c.in-At.ensures.0),
+  c.in-At.ensures.1,
+  omega arith,
+  λ w body is.
+      let first = c.in-At.ensures.2 w body is in (
+        none_before c.args.sorted w c.args.low c.in-At.index c.in-At.found body first,
+        child_found c.args.sorted w c.args.low c.in-At.index c.in-At.found body first ∙ ap (λ first. nonzero (w (first + c.in-At.index))) (sym c.first_child.ensures.value),
+      ),
+)
+
+pub returns-in-Later : goal.returns-in-Later
+returns-in-Later c =
+    let inside = keys_inside c.args.sorted (c.args.number + 1) c.in-Later.ensures.0 in
+    (inside.0, inside.1, λ w body is. below_known_from c.args.sorted c.args.low w (c.args.number + 1) (c.in-Later.ensures.1 w body is))
+
+pub returns-in-Nothing : goal.returns-in-Nothing
+returns-in-Nothing c w body is = none_past c.args.sorted w c.args.low body (c.in-Nothing.ensures w body is)

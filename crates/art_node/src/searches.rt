@@ -1,0 +1,206 @@
+//! Where the child of a byte stands in a node, and the least child from a byte on, by one word after another.
+//!
+//! Each answer needs the header, the byte and the word that was read last, and nothing of the words before it.
+ghost use Rattle.std.specs.Prelude.{◌≡◌, ◌<◌};
+ghost use Rattle.art_cell.specs.declared.layouts.Layout.TheVariants as layouts;
+ghost use Rattle.art_cell.specs.Words.{byte_of};
+ghost use Rattle.art_sorted.specs.Sorted.{layout_of};
+ghost use Rattle.art_node.specs.Searches.{IsHeader, IsNextWord, IsNextWordFrom, SoughtTells, SoughtFromTells};
+ghost use Rattle.art_node.specs.Searches.{IsKeyWord, KeySearchTells, PlaceTells, HasWord, HasWordFrom};
+
+use art_cell::Layout;
+use art_sorted::Sorted;
+
+/// What the words of a node that were read tell of the child of a byte.
+#[derive(Clone, Copy, Debug, PartialEq, Eq)]
+pub enum Sought {
+    /// The word of key bytes, or of the index, with this number has to be read first.
+    Keys(u8),
+    /// It is the child word at this place, where 0 is none.
+    Child(usize),
+    /// The byte has no child.
+    Nothing,
+}
+
+/// What the words of a node that were read tell of its least child at a byte or above.
+#[derive(Clone, Copy, Debug, PartialEq, Eq)]
+pub enum SoughtFrom {
+    /// The word of key bytes, or of the index, with this number has to be read first.
+    Keys(u8),
+    /// No byte before this one has a child, from the lowest that is asked for on; its child is the child word at this
+    /// place, where 0 is none.
+    Child(usize, u8),
+    /// No byte has a child, from the lowest that is asked for on.
+    Nothing,
+}
+
+/// Where the first key byte at a byte or above stands, as far as one word of key bytes tells.
+#[derive(Clone, Copy)]
+enum KeySearch {
+    /// At this position stands this byte.
+    At(usize, u8),
+    /// The next word of key bytes has to be read first.
+    Later,
+    /// No key byte is at the byte or above.
+    Nothing,
+}
+
+/// The last word of an index.
+const LAST_INDEX_WORD: u8 = 31;
+
+/// How many places a node with an index has.
+const INDEXED_PLACES: usize = 48;
+
+/// The place of the child of byte 0 in a node with a place for each byte.
+const FIRST_OF_ALL: usize = 10;
+
+/// Where to look for the child of the byte, by the header.
+pub fn first_word(layout: Layout, byte: u8, header: u64) -> Sought
+    ensures { SoughtTells layout byte (IsHeader header) result }
+{
+    match layout {
+        Layout::Node4 | Layout::Node16 => Sought::Keys(0),
+        Layout::Node48 => Sought::Keys(byte / 8),
+        Layout::Node256 => Sought::Child(FIRST_OF_ALL + usize::from(byte)),
+    }
+}
+
+/// Where to look next, by the word of key bytes or of the index with this number, once those before it that were asked
+/// for were read.
+pub fn next_word(layout: Layout, byte: u8, header: u64, number: u8, word: u64) -> Sought
+    requires { number < 32 }
+    ensures { SoughtTells layout byte (IsNextWord layout byte header number word) result }
+{
+    match layout {
+        Layout::Node4 => sorted_child(Sorted::Four, byte, header, number, word),
+        Layout::Node16 => sorted_child(Sorted::Sixteen, byte, header, number, word),
+        Layout::Node48 => indexed_child(byte, word),
+        Layout::Node256 => Sought::Nothing,
+    }
+}
+
+/// Where to look for the least child at the byte or above, by the header.
+pub fn first_word_from(layout: Layout, low: u8, header: u64) -> SoughtFrom
+    ensures { SoughtFromTells layout low (IsHeader header) result }
+{
+    match layout {
+        Layout::Node4 | Layout::Node16 => SoughtFrom::Keys(0),
+        Layout::Node48 => SoughtFrom::Keys(low / 8),
+        Layout::Node256 => SoughtFrom::Child(FIRST_OF_ALL + usize::from(low), low),
+    }
+}
+
+/// Where to look next, by the word of key bytes or of the index with this number, once those before it that were asked
+/// for were read.
+pub fn next_word_from(layout: Layout, low: u8, header: u64, number: u8, word: u64) -> SoughtFrom
+    requires { number < 32 }
+    ensures { SoughtFromTells layout low (IsNextWordFrom layout low header number word) result }
+{
+    match layout {
+        Layout::Node4 => sorted_child_from(Sorted::Four, low, header, number, word),
+        Layout::Node16 => sorted_child_from(Sorted::Sixteen, low, header, number, word),
+        Layout::Node48 => indexed_child_from(low, number, word),
+        Layout::Node256 => SoughtFrom::Nothing,
+    }
+}
+
+/// The child of the byte in a node with sorted bytes, by one word of them.
+fn sorted_child(sorted: Sorted, byte: u8, header: u64, number: u8, word: u64) -> Sought
+    requires { number < 32 }
+    ensures { SoughtTells (layout_of sorted) byte (IsKeyWord byte header number word) result }
+{
+    match first_key(sorted, byte, header, number, word) {
+        KeySearch::At(index, found) => {
+            if found == byte {
+                Sought::Child(sorted.first_child() + index)
+            } else {
+                Sought::Nothing
+            }
+        }
+        KeySearch::Later => Sought::Keys(number + 1),
+        KeySearch::Nothing => Sought::Nothing,
+    }
+}
+
+/// The least child from a byte on in a node with sorted bytes, by one word of them.
+fn sorted_child_from(sorted: Sorted, low: u8, header: u64, number: u8, word: u64) -> SoughtFrom
+    requires { number < 32 }
+    ensures { SoughtFromTells (layout_of sorted) low (IsKeyWord low header number word) result }
+{
+    match first_key(sorted, low, header, number, word) {
+        KeySearch::At(index, found) => SoughtFrom::Child(sorted.first_child() + index, found),
+        KeySearch::Later => SoughtFrom::Keys(number + 1),
+        KeySearch::Nothing => SoughtFrom::Nothing,
+    }
+}
+
+/// The first key byte at a byte or above, among those of one word.
+///
+/// No more positions are looked at than there are, whatever count was read.
+fn first_key(sorted: Sorted, byte: u8, header: u64, number: u8, word: u64) -> KeySearch
+    requires { number < 32 }
+    ensures { KeySearchTells sorted byte number (IsKeyWord byte header number word) result }
+{
+    let count = ((header % 512) as usize).min(sorted.positions());
+    let first = 8 * usize::from(number);
+    let end = count.min(first + 8);
+    for index in first..end {
+        let found = byte_at(word, index % 8);
+        if found >= byte {
+            return KeySearch::At(index, found);
+        }
+    }
+    if end < count {
+        KeySearch::Later
+    } else {
+        KeySearch::Nothing
+    }
+}
+
+/// The child of the byte in a node with an index, by the word of the byte's entry.
+fn indexed_child(byte: u8, word: u64) -> Sought
+    ensures { SoughtTells layouts.Node48 byte (HasWord byte word) result }
+{
+    match place_named(byte, word) {
+        Some(place) => Sought::Child(place),
+        None => Sought::Nothing,
+    }
+}
+
+/// The least child from a byte on in a node with an index, by one word of it.
+fn indexed_child_from(low: u8, number: u8, word: u64) -> SoughtFrom
+    requires { number < 32 }
+    ensures { SoughtFromTells layouts.Node48 low (HasWordFrom low number word) result }
+{
+    let first = 8 * usize::from(number);
+    for at in first.max(usize::from(low))..first + 8 {
+        let byte = at as u8;
+        if let Some(place) = place_named(byte, word) {
+            return SoughtFrom::Child(place, byte);
+        }
+    }
+    if number < LAST_INDEX_WORD {
+        SoughtFrom::Keys(number + 1)
+    } else {
+        SoughtFrom::Nothing
+    }
+}
+
+/// The place of a byte's child, by the word of its index entry: none where the entry is 0, or more than there are places.
+fn place_named(byte: u8, word: u64) -> Option<usize>
+    ensures { PlaceTells byte word result }
+{
+    let entry = usize::from(byte_at(word, usize::from(byte % 8)));
+    if entry == 0 || entry > INDEXED_PLACES {
+        return None;
+    }
+    Some(41 + entry)
+}
+
+/// One of the eight bytes of a word, the first of which is the highest.
+fn byte_at(word: u64, index: usize) -> u8
+    requires { index < 8 }
+    ensures { result ≡ byte_of word index }
+{
+    ((word >> (8 * (7 - index))) % 256) as u8
+}
