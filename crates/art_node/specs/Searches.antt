@@ -1,5 +1,5 @@
 -- What one word after another tells of the child of a byte, and of the least child from a byte on.
-use Rattle.std.specs.Prelude.{◌≡◌, ℕ, ◌+◌, ◌*◌, ◌/◌, ◌<◌, ◌≤◌, Option, Some, None}
+use Rattle.std.specs.Prelude.{◌≡◌, ℕ, ◌+◌, ◌*◌, ◌/◌, ◌<◌, ◌≤◌, Option, Some, None, ⊤}
 use Rattle.art_cell.specs.declared.layouts.Layout.{Layout}
 use Rattle.art_cell.specs.declared.layouts.Layout.TheVariants.{Node4, Node16, Node48, Node256}
 use Rattle.art_cell.specs.Bodies.{IsBody}
@@ -39,6 +39,12 @@ SoughtTells k b so (sought.Keys i) = (i < 32) × (10 + i < size k) × ((w : Word
 SoughtTells k b so (sought.Child p) = (0 < p) × (p < size k) × ((w : Words) → IsBody k w → so w → child_of k w b ≡ nonzero (w p))
 SoughtTells k b so sought.Nothing = (w : Words) → IsBody k w → so w → child_of k w b ≡ None
 
+-- a word of keys that has to be read next comes after that with a number
+abbrev pub AsksLater : ℕ → Sought → Type 0
+AsksLater number (sought.Keys i) = number < i
+AsksLater number (sought.Child p) = ⊤
+AsksLater number sought.Nothing = ⊤
+
 -- ---- the least child from a byte on
 
 -- before the word of keys with a number is read: the bytes before it are below the byte, or have no child from it on
@@ -61,6 +67,11 @@ SoughtFromTells k low so (from.Child p b) =
     (0 < p) × (p < size k) × (low ≤ b) × (b < 256)
     × ((w : Words) → IsBody k w → so w → NoneFrom (child_of k w) low b × (child_of k w b ≡ nonzero (w p)))
 SoughtFromTells k low so from.Nothing = (w : Words) → IsBody k w → so w → NoneFrom (child_of k w) low 256
+
+abbrev pub AsksLaterFrom : ℕ → SoughtFrom → Type 0
+AsksLaterFrom number (from.Keys i) = number < i
+AsksLaterFrom number (from.Child p b) = ⊤
+AsksLaterFrom number from.Nothing = ⊤
 
 -- ---- in one word
 

@@ -1,11 +1,11 @@
 //! Where the child of a byte stands in a node, and the least child from a byte on, by one word after another.
 //!
 //! Each answer needs the header, the byte and the word that was read last, and nothing of the words before it.
-ghost use Rattle.std.specs.Prelude.{◌≡◌, ◌<◌};
+ghost use Rattle.std.specs.Prelude.{◌≡◌, ◌<◌, ℕ};
 ghost use Rattle.art_cell.specs.declared.layouts.Layout.TheVariants as layouts;
 ghost use Rattle.art_cell.specs.Words.{byte_of};
 ghost use Rattle.art_sorted.specs.Sorted.{layout_of};
-ghost use Rattle.art_node.specs.Searches.{IsHeader, IsNextWord, IsNextWordFrom, SoughtTells, SoughtFromTells};
+ghost use Rattle.art_node.specs.Searches.{AsksLater, AsksLaterFrom, IsHeader, IsNextWord, IsNextWordFrom, SoughtTells, SoughtFromTells};
 ghost use Rattle.art_node.specs.Searches.{IsKeyWord, KeySearchTells, PlaceTells, HasWord, HasWordFrom};
 
 use art_cell::Layout;
@@ -69,7 +69,8 @@ pub fn first_word(layout: Layout, byte: u8, header: u64) -> Sought
 /// for were read.
 pub fn next_word(layout: Layout, byte: u8, header: u64, number: u8, word: u64) -> Sought
     requires { number < 32 }
-    ensures { SoughtTells layout byte (IsNextWord layout byte header number word) result }
+    ensures tells { SoughtTells layout byte (IsNextWord layout byte header number word) result }
+    ensures later { AsksLater number result }
 {
     match layout {
         Layout::Node4 => sorted_child(Sorted::Four, byte, header, number, word),
@@ -94,7 +95,8 @@ pub fn first_word_from(layout: Layout, low: u8, header: u64) -> SoughtFrom
 /// for were read.
 pub fn next_word_from(layout: Layout, low: u8, header: u64, number: u8, word: u64) -> SoughtFrom
     requires { number < 32 }
-    ensures { SoughtFromTells layout low (IsNextWordFrom layout low header number word) result }
+    ensures tells { SoughtFromTells layout low (IsNextWordFrom layout low header number word) result }
+    ensures later { AsksLaterFrom number result }
 {
     match layout {
         Layout::Node4 => sorted_child_from(Sorted::Four, low, header, number, word),
@@ -107,7 +109,8 @@ pub fn next_word_from(layout: Layout, low: u8, header: u64, number: u8, word: u6
 /// The child of the byte in a node with sorted bytes, by one word of them.
 fn sorted_child(sorted: Sorted, byte: u8, header: u64, number: u8, word: u64) -> Sought
     requires { number < 32 }
-    ensures { SoughtTells (layout_of sorted) byte (IsKeyWord byte header number word) result }
+    ensures tells { SoughtTells (layout_of sorted) byte (IsKeyWord byte header number word) result }
+    ensures later { AsksLater number result }
 {
     match first_key(sorted, byte, header, number, word) {
         KeySearch::At(index, found) => {
@@ -125,7 +128,8 @@ fn sorted_child(sorted: Sorted, byte: u8, header: u64, number: u8, word: u64) ->
 /// The least child from a byte on in a node with sorted bytes, by one word of them.
 fn sorted_child_from(sorted: Sorted, low: u8, header: u64, number: u8, word: u64) -> SoughtFrom
     requires { number < 32 }
-    ensures { SoughtFromTells (layout_of sorted) low (IsKeyWord low header number word) result }
+    ensures tells { SoughtFromTells (layout_of sorted) low (IsKeyWord low header number word) result }
+    ensures later { AsksLaterFrom number result }
 {
     match first_key(sorted, low, header, number, word) {
         KeySearch::At(index, found) => SoughtFrom::Child(sorted.first_child() + index, found),
@@ -159,7 +163,8 @@ fn first_key(sorted: Sorted, byte: u8, header: u64, number: u8, word: u64) -> Ke
 
 /// The child of the byte in a node with an index, by the word of the byte's entry.
 fn indexed_child(byte: u8, word: u64) -> Sought
-    ensures { SoughtTells layouts.Node48 byte (HasWord byte word) result }
+    ensures tells { SoughtTells layouts.Node48 byte (HasWord byte word) result }
+    ensures later { (number : ℕ) → AsksLater number result }
 {
     match place_named(byte, word) {
         Some(place) => Sought::Child(place),
@@ -170,7 +175,8 @@ fn indexed_child(byte: u8, word: u64) -> Sought
 /// The least child from a byte on in a node with an index, by one word of it.
 fn indexed_child_from(low: u8, number: u8, word: u64) -> SoughtFrom
     requires { number < 32 }
-    ensures { SoughtFromTells layouts.Node48 low (HasWordFrom low number word) result }
+    ensures tells { SoughtFromTells layouts.Node48 low (HasWordFrom low number word) result }
+    ensures later { AsksLaterFrom number result }
 {
     let first = 8 * usize::from(number);
     for at in first.max(usize::from(low))..first + 8 {

@@ -4,10 +4,12 @@ ghost use Rattle.art_cell_uses.specs.declared.anchor.Visit.TheVariants.{Resting 
 ghost use Rattle.art_cell_uses.specs.declared.anchor.visitor.Visitor.{Visitor};
 ghost use Rattle.art_world.specs.Stepper.{OnlyStepped};
 
-use super::steps::{begin, check, let_go, upgrade};
+use super::steps::{KEY, VALUE, begin, check, let_go, upgrade};
 use super::visitor::Visitor;
 use art_cell::{Cell, Link, Pool};
 use art_epoch::{Limbo, Place, pin, reclaim, take, unpin};
+use art_find::{Got, get};
+use art_key::Key;
 use art_step::{Sizes, UpgradeFault};
 use art_world::{Stepper, World};
 use rand_pcg::Pcg32;
@@ -136,6 +138,33 @@ fn a_number_waits_for_a_pass_that_is_pinned(rt: HostRuntime) -> Result<(), Fail>
     assert_eq!(rt; reclaim(&mut first, &mut limbo), 1);
     assert_eq!(rt; limbo.room(), 64);
     assert_eq!(rt; world.free_word(Pool::Leaves, 0), 1 << 7);
+    Ok(())
+}
+
+/// In how many turns a visitor puts the leaf below the anchor.
+const LINKED: usize = 20;
+
+/// How many turns the visitor had.
+fn turns_of(visitors: [Visitor; 1]) -> u64 {
+    let [visitor] = visitors;
+    visitor.end()
+}
+
+#[test]
+fn a_get_finds_the_leaf_that_stands(rt: HostRuntime) -> Result<(), Fail> {
+    let mut world = World::open(rt.alloc(), &EIGHT_LEAVES, 0)?;
+    let mut visitors = [Visitor::new()];
+    world.run(&mut visitors, &[0; LINKED]);
+    assert_eq!(rt; world.word(Cell::Anchor, 1), 1);
+    let mut key = Key::new();
+    key.push(KEY);
+    let mut second = world.at(1);
+    pin(&mut second);
+    assert_eq!(rt; get(&mut second, &key, 6).got, Got::Busy);
+    assert_eq!(rt; get(&mut second, &key, 7).got, Got::Found(VALUE));
+    key.push(0);
+    assert_eq!(rt; get(&mut second, &key, 7).got, Got::Absent);
+    assert_eq!(rt; turns_of(visitors), 20);
     Ok(())
 }
 

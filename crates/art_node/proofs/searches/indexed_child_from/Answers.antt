@@ -5,8 +5,8 @@ use Rattle.art_cell.specs.Lemmas.Entries.{none_from_more}
 use Rattle.art_node.proofs.SoughtWords.{has_word}
 use Rattle.art_node.proofs.searches.indexed_child_from.Goals as goal
 
-pub returns-in-Some : goal.returns-in-Some
-returns-in-Some c = (
+pub returns-in-Some-clause-tells : goal.returns-in-Some-clause-tells
+returns-in-Some-clause-tells c = (
   c.in-Some.ensures.0,
   c.in-Some.ensures.1,
   omega arith,
@@ -19,12 +19,12 @@ loop-at-preserved c w body has =
     none_from_more (child_of Node48 w) c.args.low c.loop-at.at (c.loop-at.at + 1) (omega arith) (c.loop-at.invariant w body has)
     (c.in_default.ensures w body (has_word w c.args.number c.loop-at.at c.args.word (omega arith) (omega arith) has.0))
 
-pub returns-then-number-lt-LAST_INDEX_WORD : goal.returns-then-number-lt-LAST_INDEX_WORD
-returns-then-number-lt-LAST_INDEX_WORD c = (
+pub returns-then-number-lt-LAST_INDEX_WORD-clause-tells : goal.returns-then-number-lt-LAST_INDEX_WORD-clause-tells
+returns-then-number-lt-LAST_INDEX_WORD-clause-tells c = (
   omega arith,
   omega arith,
   λ w body has. (omega (arith, has.1.0), λ b above below. c.loop-at.invariant w body has b above (omega arith)),
 )
 
-pub returns-else-number-lt-LAST_INDEX_WORD : goal.returns-else-number-lt-LAST_INDEX_WORD
-returns-else-number-lt-LAST_INDEX_WORD c w body has b above below = c.loop-at.invariant w body has b above (omega arith)
+pub returns-else-number-lt-LAST_INDEX_WORD-clause-tells : goal.returns-else-number-lt-LAST_INDEX_WORD-clause-tells
+returns-else-number-lt-LAST_INDEX_WORD-clause-tells c w body has b above below = c.loop-at.invariant w body has b above (omega arith)

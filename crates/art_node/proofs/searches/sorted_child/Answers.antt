@@ -5,8 +5,8 @@ use Rattle.art_sorted.proofs.NodeWords.{none_before, none_past}
 use Rattle.art_node.proofs.SoughtWords.{below_known, keys_inside, child_found}
 use Rattle.art_node.proofs.searches.sorted_child.Goals as goal
 
-pub returns-then-found-byte : goal.returns-then-found-byte
-returns-then-found-byte c = (
+pub returns-then-found-byte-clause-tells : goal.returns-then-found-byte-clause-tells
+returns-then-found-byte-clause-tells c = (
   omega (arith, c.first_child.ensures.after_keys),
   omega (arith, c.first_child.ensures.last, c.in-At.ensures.0),
   λ w body is.
@@ -15,16 +15,16 @@ returns-then-found-byte c = (
       ∙ ap (λ first. nonzero (w (first + c.in-At.index))) (sym c.first_child.ensures.value),
 )
 
-pub returns-else-found-byte : goal.returns-else-found-byte
-returns-else-found-byte c w body is =
+pub returns-else-found-byte-clause-tells : goal.returns-else-found-byte-clause-tells
+returns-else-found-byte-clause-tells c w body is =
     let first = c.in-At.ensures.2 w body is in
     none_before c.args.sorted w c.args.byte c.in-At.index c.in-At.found body first c.args.byte (omega arith) (omega (arith, first.above))
 
-pub returns-in-Later : goal.returns-in-Later
-returns-in-Later c =
+pub returns-in-Later-clause-tells : goal.returns-in-Later-clause-tells
+returns-in-Later-clause-tells c =
     let inside = keys_inside c.args.sorted (c.args.number + 1) c.in-Later.ensures.0 in
     (inside.0, inside.1, λ w body is. below_known c.args.sorted c.args.byte w (c.args.number + 1) (c.in-Later.ensures.1 w body is))
 
-pub returns-in-Nothing : goal.returns-in-Nothing
-returns-in-Nothing c w body is =
+pub returns-in-Nothing-clause-tells : goal.returns-in-Nothing-clause-tells
+returns-in-Nothing-clause-tells c w body is =
     none_past c.args.sorted w c.args.byte body (c.in-Nothing.ensures w body is) c.args.byte (omega arith) c.ranges.byte.fits

@@ -4,8 +4,8 @@ use Rattle.art_sorted.proofs.NodeWords.{none_before, none_past}
 use Rattle.art_node.proofs.SoughtWords.{below_known_from, keys_inside, child_found}
 use Rattle.art_node.proofs.searches.sorted_child_from.Goals as goal
 
-pub returns-in-At : goal.returns-in-At
-returns-in-At c = (
+pub returns-in-At-clause-tells : goal.returns-in-At-clause-tells
+returns-in-At-clause-tells c = (
   omega (arith, c.first_child.ensures.after_keys),
   omega (arith, c.first_child.ensures.last, c.in-At.ensures.0),
   c.in-At.ensures.1,
@@ -17,10 +17,10 @@ returns-in-At c = (
       ),
 )
 
-pub returns-in-Later : goal.returns-in-Later
-returns-in-Later c =
+pub returns-in-Later-clause-tells : goal.returns-in-Later-clause-tells
+returns-in-Later-clause-tells c =
     let inside = keys_inside c.args.sorted (c.args.number + 1) c.in-Later.ensures.0 in
     (inside.0, inside.1, λ w body is. below_known_from c.args.sorted c.args.low w (c.args.number + 1) (c.in-Later.ensures.1 w body is))
 
-pub returns-in-Nothing : goal.returns-in-Nothing
-returns-in-Nothing c w body is = none_past c.args.sorted w c.args.low body (c.in-Nothing.ensures w body is)
+pub returns-in-Nothing-clause-tells : goal.returns-in-Nothing-clause-tells
+returns-in-Nothing-clause-tells c w body is = none_past c.args.sorted w c.args.low body (c.in-Nothing.ensures w body is)

@@ -1,0 +1,98 @@
+-- Each step counts, one that fails counts as a failure, and a descent makes few steps.
+use Rattle.std.proofs.Common.{◌≡◌, ℕ, ◌+◌, ◌*◌, ◌%◌, ◌<◌, ◌≤◌, ◌==◌, Bool, true, false, if◌then◌else◌, List, length, Option, Some, None, refl, ap, ◌∙◌, arith}
+use Rattle.std.proofs.lemmas.Bool.{eq-eqb, ne_eqb}
+use Rattle.std.specs.Prelude.{Result, Ok, Err}
+use Rattle.art_cell.specs.declared.cells.Cell.{Cell}
+use Rattle.art_find.specs.Asking.{Answers, goes_on}
+use Rattle.art_find.specs.Descents.{StageFits, ended_at, most_steps, staged}
+use Rattle.art_find.specs.Driven.{Counts, restarts_after}
+use Rattle.art_find.specs.declared.descents.Descent.{Descent}
+use Rattle.art_find.specs.declared.asked.Answer.{Answer}
+use Rattle.art_find.specs.declared.asked.Answer.TheVariants.{Begun, Word, Checked}
+use Rattle.art_find.specs.declared.asked.Asked.{Asked}
+use Rattle.art_find.specs.declared.asked.Asked.TheVariants.{Begin, Read, ReadLeaf, Check, Settle}
+use Rattle.art_find.specs.declared.descents.Stage.{Stage}
+use Rattle.art_find.specs.declared.descents.Stage.TheVariants.{Start, Anchor, Child, Below, Both, Header, Prefix, Keys, Slot, Value, Length, Bytes, Decided, Ended}
+use Rattle.art_find.specs.declared.descents.NodeSeen.{NodeSeen}
+use Rattle.art_node.specs.Searches.{AsksLater}
+use Rattle.art_node.specs.declared.searches.Sought.{Sought}
+use Rattle.art_node.specs.declared.searches.Sought.TheVariants as sought
+use Rattle.art_step.specs.Steps.Begin as begin
+use Rattle.art_step.specs.Steps.Check as check
+use Rattle.art_step.specs.declared.deeds.Deed.{Deed}
+use Rattle.art_step.specs.declared.faults.Changed.{Changed}
+use Rattle.art_step.specs.declared.views.Sizes.{Sizes}
+use Rattle.art_step.specs.declared.views.Stamp.{Stamp}
+use Rattle.art_step.specs.declared.views.View.{View}
+
+-- after a step, which failed or not
+pub record Counted (v w : View) (on : Bool) : Type 0 where
+  pub steps : w.steps ≡ v.steps + 1
+  pub failures : w.failures ≡ (if on then v.failures else v.failures + 1)
+
+begun_counts : (z : Sizes) (v w : View) (c : Cell) (x : ℕ) (on : Bool) → (x % 4 == 0) ≡ on → w ≡ begin.view_after z v c x → Counted v w on
+begun_counts z v w c x true clear is = record {
+  steps = ap (λ (u : View). u.steps) is ∙ rw clear refl;
+  failures = ap (λ (u : View). u.failures) is ∙ rw clear refl;
+}
+begun_counts z v w c x false clear is = record {
+  steps = ap (λ (u : View). u.steps) is ∙ rw clear refl;
+  failures = ap (λ (u : View). u.failures) is ∙ rw clear refl;
+}
+
+checked_counts : (z : Sizes) (v w : View) (x : Stamp) (o : Option Deed) (r : Result (Unit {0}) Changed) → check.Outcome z v w x o r → Counted v w (goes_on (Checked r))
+checked_counts z v w x o (Ok done) row = record { steps = ap (λ (u : View). u.steps) row.is; failures = ap (λ (u : View). u.failures) row.is }
+checked_counts z v w x o (Err c) row = record { steps = ap (λ (u : View). u.steps) row.3.is; failures = ap (λ (u : View). u.failures) row.3.is }
+
+pub answers_count : (z : Sizes) (d : Deed) (a : Asked) (r : Answer) (v w : View) → Answers z d a r v w → Counted v w (goes_on r)
+answers_count z d (Begin c) (Begun (Ok x)) v w row = begun_counts z v w c x.version true (eq-eqb (x.version % 4) 0 row.1) row.2
+answers_count z d (Begin c) (Begun (Err l)) v w row = begun_counts z v w c l.found false (ne_eqb (l.found % 4) 0 row.1) row.2
+answers_count z d (Read x i) (Word a) v w row = record { steps = ap (λ (u : View). u.steps) row.is; failures = ap (λ (u : View). u.failures) row.is }
+answers_count z d (ReadLeaf x l i) (Word a) v w row = record { steps = ap (λ (u : View). u.steps) row; failures = ap (λ (u : View). u.failures) row }
+answers_count z d (Check x) (Checked r) v w row = checked_counts z v w x None r row
+answers_count z d (Settle x) (Checked r) v w row = checked_counts z v w x (Some d) r row
+answers_count z d (Begin c) (Word a) v w row = absurd row
+answers_count z d (Begin c) (Checked r) v w row = absurd row
+answers_count z d (Read x i) (Begun r) v w row = absurd row
+answers_count z d (Read x i) (Checked r) v w row = absurd row
+answers_count z d (ReadLeaf x l i) (Begun r) v w row = absurd row
+answers_count z d (ReadLeaf x l i) (Checked r) v w row = absurd row
+answers_count z d (Check x) (Begun r) v w row = absurd row
+answers_count z d (Check x) (Word a) v w row = absurd row
+answers_count z d (Settle x) (Begun r) v w row = absurd row
+answers_count z d (Settle x) (Word a) v w row = absurd row
+
+-- until it has ended, a descent made at most 4,300 steps since it last began
+pub few_steps : (z : Sizes) (k : List ℕ) (what : Option ℕ → Deed) (depth : ℕ) (stage : Stage) (u v : View) → length k ≤ 64 → ended_at stage ≡ None → StageFits z k what depth stage u v → most_steps depth stage ≤ 4300
+few_steps z k what depth Start u v short going fits = omega arith
+few_steps z k what depth (Anchor x) u v short going fits = omega arith
+few_steps z k what depth (Child x d) u v short going fits = let deep = fits.1.deep in omega (arith, deep, short)
+few_steps z k what depth (Below x n) u v short going fits = let deep = fits.1.deep in omega (arith, deep, short)
+few_steps z k what depth (Both x y n) u v short going fits = let deep = fits.1.deep in omega (arith, deep, short)
+few_steps z k what depth (Header y n) u v short going fits = let deep = fits.1 in omega (arith, deep, short)
+few_steps z k what depth (Prefix seen i r) u v short going fits = let deep = fits.1.short in let more = fits.1.more in omega (arith, deep, more)
+few_steps z k what depth (Keys seen i) u v short going fits = let deep = fits.1.deep in let few = fits.1.few in omega (arith, deep, few, short)
+few_steps z k what depth (Slot y n place) u v short going fits = let deep = fits.1.deep in omega (arith, deep, short)
+few_steps z k what depth (Value x l) u v short going fits = let deep = fits.1.deep in omega (arith, deep, short)
+few_steps z k what depth (Length x l value) u v short going fits = let deep = fits.1 in omega (arith, deep, short)
+few_steps z k what depth (Bytes seen i r) u v short going fits = let deep = fits.1 in let more = fits.2.more in let few = fits.2.few in omega (arith, deep, more, few, short)
+few_steps z k what depth (Decided x o) u v short going fits = let deep = fits.1 in omega (arith, deep, short)
+few_steps z k what depth (Ended o) u v short going fits = cc
+
+-- after a search the descent has come further
+pub staged_later : (depth number : ℕ) (r : Sought) (seen : NodeSeen) → number < 32 → AsksLater number r → 64 * depth + 14 + number < most_steps depth (staged r seen)
+staged_later depth number (sought.Keys i) seen few later = omega arith
+staged_later depth number (sought.Child p) seen few later = omega arith
+staged_later depth number sought.Nothing seen few later = omega arith
+
+-- a step that goes on, and one that does not
+pub counts_on : (u v w : View) (m m' : Descent) (n : ℕ) (on : Bool) → (on ≡ true → most_steps m.depth m.stage < most_steps m'.depth m'.stage) → most_steps m.depth m.stage ≤ 4300
+    → Counted v w on → Counts u v m n → Counts u w m' (restarts_after n on)
+counts_on u v w m m' n true further few step counts = record {
+  failures = step.failures ∙ counts.failures;
+  steps = let one = step.steps in let low = counts.steps in let more = further refl in omega (arith, one, low, more);
+}
+counts_on u v w m m' n false further few step counts = record {
+  failures = let one = step.failures in let low = counts.failures in omega (arith, one, low);
+  steps = let one = step.steps in let low = counts.steps in omega (arith, one, low, few);
+}

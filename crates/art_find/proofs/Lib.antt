@@ -1,0 +1,6 @@
+pub mod Allowed
+pub mod NodeWords
+pub mod LeafKeys
+pub mod ComparedWords
+pub mod Stages
+pub mod Counting

@@ -1,0 +1,61 @@
+-- What each step that a machine asks for needs of the pass's view, and what its answer says of the view after it.
+use Rattle.std.specs.Prelude.{ℕ, ◌<◌, List, Bool, true, false, Option, None, Some, Ok, Err, ⊤}
+use Rattle.art_find.specs.declared.asked.Answer.{Answer}
+use Rattle.art_find.specs.declared.asked.Answer.TheVariants.{Begun, Word, Checked}
+use Rattle.art_find.specs.declared.asked.Asked.{Asked}
+use Rattle.art_find.specs.declared.asked.Asked.TheVariants.{Begin, Read, ReadLeaf, Check, Settle}
+use Rattle.art_step.specs.Shows.{HasValue, Shows}
+use Rattle.art_step.specs.Steps.Begin as begin
+use Rattle.art_step.specs.Steps.Check as check
+use Rattle.art_step.specs.Steps.Read as read
+use Rattle.art_step.specs.Views.{Member}
+use Rattle.art_step.specs.WordPlaces.{HasVersion, IsInside}
+use Rattle.art_step.specs.declared.deeds.Deed.{Deed}
+use Rattle.art_step.specs.declared.views.Sizes.{Sizes}
+use Rattle.art_step.specs.declared.views.Stamp.{Stamp}
+use Rattle.art_step.specs.declared.views.View.{View}
+
+-- what was read under the stamp shows that the key has this value, or none: so an event that says so may be made at the check
+pub record MaySettle (z : Sizes) (k : List ℕ) (o : Option ℕ) (v : View) (x : Stamp) : Type 0 where
+  pub stamp : Member x v.stamps
+  pub shows : Shows z v x (λ s. HasValue s k o)
+
+-- the step may be made, of a machine for the key k that answers o where it settles that
+abbrev pub IsAllowed : Sizes → List ℕ → Option ℕ → View → Asked → Type 0
+IsAllowed z k o v (Begin c) = HasVersion z c × begin.May v c
+IsAllowed z k o v (Read x i) = IsInside z x.cell × read.May v x i
+IsAllowed z k o v (ReadLeaf x l i) = (l < z.leaves) × read.MayLeaf z v x l i
+IsAllowed z k o v (Check x) = HasVersion z x.cell × check.May z v x None
+IsAllowed z k o v (Settle x) = HasVersion z x.cell × MaySettle z k o v x
+
+-- it was made, with this answer; where it settles, it was made with this deed
+abbrev pub Answers : Sizes → Deed → Asked → Answer → View → View → Type 0
+Answers z d (Begin c) (Begun r) v w = begin.Outcome z v w c r
+Answers z d (Read x i) (Word a) v w = read.Outcome z v w x i a
+Answers z d (ReadLeaf x l i) (Word a) v w = read.LeafOutcome v w x l i a
+Answers z d (Check x) (Checked r) v w = check.Outcome z v w x None r
+Answers z d (Settle x) (Checked r) v w = check.Outcome z v w x (Some d) r
+Answers z d asked answer v w = ⊥
+
+-- whether it lets the machine go on: a version word was clear, or unchanged
+abbrev pub goes_on : Answer → Bool
+goes_on (Begun (Ok x)) = true
+goes_on (Begun (Err l)) = false
+goes_on (Word a) = true
+goes_on (Checked (Ok x)) = true
+goes_on (Checked (Err c)) = false
+
+-- which kind of answer there is to what is asked
+abbrev pub WantsVersion : Option Asked → Type 0
+WantsVersion (Some (Begin c)) = ⊤
+WantsVersion asked = ⊥
+
+abbrev pub WantsWord : Option Asked → Type 0
+WantsWord (Some (Read x i)) = ⊤
+WantsWord (Some (ReadLeaf x l i)) = ⊤
+WantsWord asked = ⊥
+
+abbrev pub WantsCheck : Option Asked → Type 0
+WantsCheck (Some (Check x)) = ⊤
+WantsCheck (Some (Settle x)) = ⊤
+WantsCheck asked = ⊥

@@ -1,0 +1,169 @@
+-- What a descent by a key knows between two of its steps.
+use Rattle.std.specs.Prelude.{◌≡◌, ◌≢◌, ℕ, ◌+◌, ◌*◌, ◌<◌, ◌≤◌, List, [], length, take, Option, Some, None}
+use Rattle.art_cell.specs.declared.cells.Cell.TheVariants as cell
+use Rattle.art_cell.specs.declared.cells.Link.{Link}
+use Rattle.art_cell.specs.declared.cells.Link.TheVariants.{Leaf as leaf, Node as node}
+use Rattle.art_cell.specs.declared.cells.Node.{Node}
+use Rattle.art_cell.specs.Words.{size}
+use Rattle.art_find.specs.Compares.{IsWithin}
+use Rattle.art_find.specs.Ways.{IsAtKeys, IsAtLeaf, IsAtSlot, IsInKey, IsInPrefix, IsOnNode, count_in}
+use Rattle.art_find.specs.declared.asked.Asked.{Asked}
+use Rattle.art_find.specs.declared.asked.Asked.TheVariants.{Begin, Read, ReadLeaf, Check, Settle}
+use Rattle.art_find.specs.declared.descents.Descent.{Descent}
+use Rattle.art_find.specs.declared.descents.LeafSeen.{LeafSeen}
+use Rattle.art_find.specs.declared.descents.NodeSeen.{NodeSeen}
+use Rattle.art_find.specs.declared.descents.Stage.{Stage}
+use Rattle.art_find.specs.declared.descents.Stage.TheVariants.{Start, Anchor, Child, Below, Both, Header, Prefix, Keys, Slot, Value, Length, Bytes, Decided, Ended}
+use Rattle.art_node.specs.declared.searches.Sought.{Sought}
+use Rattle.art_node.specs.declared.searches.Sought.TheVariants as sought
+use Rattle.art_path.specs.declared.compared.Compared.{Compared}
+use Rattle.art_step.specs.Events.{MakesEvent}
+use Rattle.art_step.specs.Shows.{HasChild, HasStamp, HasValue, OnlyReads, OnlyTells, Shows}
+use Rattle.art_step.specs.Views.{Member, NamesLink}
+use Rattle.art_step.specs.WordPlaces.{HasVersion}
+use Rattle.art_step.specs.declared.deeds.Deed.{Deed}
+use Rattle.art_step.specs.declared.views.Fact.TheVariants.{Word}
+use Rattle.art_step.specs.declared.views.Note.{Note}
+use Rattle.art_step.specs.declared.views.Sizes.{Sizes}
+use Rattle.art_step.specs.declared.views.Stamp.{Stamp}
+use Rattle.art_step.specs.declared.views.View.{View}
+
+-- ---- what it asks and answers
+
+-- the next step
+abbrev pub asks : Stage → Option Asked
+asks Start = Some (Begin cell.Anchor)
+asks (Anchor x) = Some (Read x 1)
+asks (Child x d) = Some (Check x)
+asks (Below x n) = Some (Begin (cell.Node n))
+asks (Both x y n) = Some (Check x)
+asks (Header y n) = Some (Read y 1)
+asks (Prefix seen i r) = Some (Read seen.stamp (2 + i))
+asks (Keys seen i) = Some (Read seen.stamp (10 + i))
+asks (Slot y n place) = Some (Read y place)
+asks (Value x l) = Some (ReadLeaf x l 0)
+asks (Length x l value) = Some (ReadLeaf x l 1)
+asks (Bytes seen i r) = Some (ReadLeaf seen.stamp seen.leaf (2 + i))
+asks (Decided x o) = Some (Settle x)
+asks (Ended o) = None
+
+-- what it answers, where it has come to that
+abbrev pub answer_at : Stage → Option ℕ
+answer_at (Decided x o) = o
+answer_at (Ended o) = o
+answer_at stage = None
+
+abbrev pub ended_at : Stage → Option (Option ℕ)
+ended_at (Ended o) = Some o
+ended_at stage = None
+
+-- the stage after the cell that names a link was checked
+abbrev pub stage_below : Stamp → Link → Stage
+stage_below x (leaf l) = Value x l
+stage_below x (node n) = Below x n
+
+-- the stage after a search in a node
+abbrev pub staged : Sought → NodeSeen → Stage
+staged (sought.Keys i) seen = Keys seen i
+staged (sought.Child place) seen = Slot seen.stamp seen.node place
+staged sought.Nothing seen = Decided seen.stamp None
+
+-- ---- how far it has come
+
+-- at most so many steps were made since the descent last began
+abbrev pub most_steps : ℕ → Stage → ℕ
+most_steps depth Start = 0
+most_steps depth (Anchor x) = 1
+most_steps depth (Child x d) = 64 * depth + 2
+most_steps depth (Below x n) = 64 * depth + 3
+most_steps depth (Both x y n) = 64 * depth + 4
+most_steps depth (Header y n) = 64 * depth + 5
+most_steps depth (Prefix seen i r) = 64 * depth + 6 + i
+most_steps depth (Keys seen i) = 64 * depth + 14 + i
+most_steps depth (Slot y n place) = 64 * depth + 46
+most_steps depth (Value x l) = 64 * depth + 3
+most_steps depth (Length x l value) = 64 * depth + 4
+most_steps depth (Bytes seen i r) = 64 * depth + 5 + i
+most_steps depth (Decided x o) = 64 * depth + 47
+most_steps depth (Ended o) = 64 * depth + 48
+
+-- ---- what it knows
+
+-- the pass, which began with the view u, did nothing but read; it is pinned and holds nothing
+pub record IsReading (u v : View) : Type 0 where
+  pub only : OnlyReads u v
+  pub free : v.held ≡ []
+  pub pinned : v.pin ≢ 0
+
+-- and the node is stamped
+pub record IsOn (z : Sizes) (u v : View) (y : Stamp) (n : Node) : Type 0 where
+  pub reads : IsReading u v
+  pub stamp : HasStamp z v y
+  pub cell : y.cell ≡ cell.Node n
+
+-- or a cell that names a leaf
+pub record IsAbove (z : Sizes) (u v : View) (x : Stamp) (l : ℕ) : Type 0 where
+  pub reads : IsReading u v
+  pub stamp : HasStamp z v x
+  pub inside : l < z.leaves
+
+-- the path to a node, of whose prefix and words something was read
+pub record IsPrefix (z : Sizes) (k : List ℕ) (depth : ℕ) (seen : NodeSeen) (i : ℕ) (r : Compared) (v : View) : Type 0 where
+  pub deep : depth ≤ length k
+  pub more : 8 * i < count_in seen.header
+  pub short : depth + count_in seen.header < 64
+  pub within : IsWithin k depth (8 * i) r
+  pub shows : Shows z v seen.stamp (λ s. IsInPrefix s seen.node k depth seen.header i r)
+
+pub record IsSearch (z : Sizes) (k : List ℕ) (depth : ℕ) (seen : NodeSeen) (i : ℕ) (v : View) : Type 0 where
+  pub deep : depth < length k
+  pub few : i < 32
+  pub inside : 10 + i < size seen.node.layout
+  pub shows : Shows z v seen.stamp (λ s. IsAtKeys s seen.node k depth seen.header i)
+
+pub record IsSlot (z : Sizes) (k : List ℕ) (depth : ℕ) (y : Stamp) (n : Node) (place : ℕ) (v : View) : Type 0 where
+  pub deep : depth < length k
+  pub after : 0 < place
+  pub inside : place < size n.layout
+  pub shows : Shows z v y (λ s. IsAtSlot s n k depth place)
+
+pub record IsKey (z : Sizes) (k : List ℕ) (depth : ℕ) (seen : LeafSeen) (i : ℕ) (r : Compared) (v : View) : Type 0 where
+  pub more : 8 * i < seen.count
+  pub few : seen.count ≤ 64
+  pub within : IsWithin k 0 (8 * i) r
+  pub shows : Shows z v seen.stamp (λ s. IsInKey s seen.stamp.cell seen.leaf k (take depth k) seen.value seen.count i r)
+
+-- the word of a stamped cell was noted
+pub record WasNoted (v : View) (word : ℕ) : Type 0 where
+  pub note : Note
+  pub place : ℕ
+  pub noted : Member note v.notes
+  pub is : note.fact ≡ Word place word
+
+-- the cell is stamped, and names what the first bytes of the key lead to
+pub record IsChild (z : Sizes) (k : List ℕ) (depth : ℕ) (x : Stamp) (d : Link) (v : View) : Type 0 where
+  pub stamp : HasStamp z v x
+  pub deep : depth ≤ length k
+  pub noted : (y : Note) × Member y v.notes × NamesLink y.fact d
+  pub shows : Shows z v x (λ s. HasChild s x.cell d (take depth k))
+
+-- at each stage, of a pass that began with the view u and now has the view v; what it does where it settles the answer is this
+abbrev pub StageFits : Sizes → List ℕ → (Option ℕ → Deed) → ℕ → Stage → View → View → Type 0
+StageFits z k what depth Start u v = IsReading u v
+StageFits z k what depth (Anchor x) u v = IsReading u v × HasStamp z v x × (x.cell ≡ cell.Anchor)
+StageFits z k what depth (Child x d) u v = IsReading u v × IsChild z k depth x d v
+StageFits z k what depth (Below x n) u v = IsReading u v × IsChild z k depth x (node n) v × HasVersion z (cell.Node n)
+StageFits z k what depth (Both x y n) u v = IsOn z u v y n × IsChild z k depth x (node n) v
+StageFits z k what depth (Header y n) u v = IsOn z u v y n × (depth ≤ length k) × Shows z v y (λ s. IsOnNode s n k depth)
+StageFits z k what depth (Prefix seen i r) u v = IsOn z u v seen.stamp seen.node × IsPrefix z k depth seen i r v
+StageFits z k what depth (Keys seen i) u v = IsOn z u v seen.stamp seen.node × IsSearch z k depth seen i v
+StageFits z k what depth (Slot y n place) u v = IsOn z u v y n × IsSlot z k depth y n place v
+StageFits z k what depth (Value x l) u v = IsAbove z u v x l × IsChild z k depth x (leaf l) v
+StageFits z k what depth (Length x l value) u v = IsAbove z u v x l × (depth ≤ length k) × Shows z v x (λ s. IsAtLeaf s x.cell l (take depth k) value)
+StageFits z k what depth (Bytes seen i r) u v = IsAbove z u v seen.stamp seen.leaf × (depth ≤ length k) × IsKey z k depth seen i r v
+StageFits z k what depth (Decided x o) u v = IsReading u v × (depth ≤ length k) × HasStamp z v x × Shows z v x (λ s. HasValue s k o)
+StageFits z k what depth (Ended o) u v = MakesEvent u v (what o) × OnlyTells u v
+
+-- the descent by the key k
+abbrev pub Fits : Sizes → List ℕ → (Option ℕ → Deed) → Descent → View → View → Type 0
+Fits z k what m u v = StageFits z k what m.depth m.stage u v

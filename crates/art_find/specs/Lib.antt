@@ -1,0 +1,5 @@
+pub mod Asking
+pub mod Compares
+pub mod Descents
+pub mod Driven
+pub mod Ways

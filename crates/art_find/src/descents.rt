@@ -1,0 +1,223 @@
+//! A descent by a key.
+ghost use Rattle.std.specs.Prelude.{◌≡◌, ℕ, List, Option, length, ◌≤◌, ◌<◌, ◌+◌, ◌*◌, None, Ok, take};
+ghost use Rattle.art_find.specs.Descents.{stage_below};
+
+use crate::compares::compare_word;
+use crate::{Answer, Asked};
+use art_cell::{Cell, Link, Node};
+use art_node::{Sought, first_word, next_word, read_header};
+use art_path::Compared;
+use art_step::Stamp;
+
+/// A node that is stamped, and its header.
+#[derive(Clone, Copy, Debug, PartialEq, Eq)]
+pub struct NodeSeen {
+    pub stamp: Stamp,
+    pub node: Node,
+    pub header: u64,
+}
+
+/// A leaf that the stamp's cell names, its value, and how many bytes its key has.
+#[derive(Clone, Copy, Debug, PartialEq, Eq)]
+pub struct LeafSeen {
+    pub stamp: Stamp,
+    pub leaf: u32,
+    pub value: u64,
+    pub count: usize,
+}
+
+/// Where a descent stands between two of its steps.
+#[derive(Clone, Copy, Debug, PartialEq, Eq)]
+pub enum Stage {
+    /// Nothing is stamped.
+    Start,
+    /// The anchor is stamped.
+    Anchor(Stamp),
+    /// The stamp's cell names this on the key's way.
+    Child(Stamp, Link),
+    /// A cell that was checked names this node on the key's way.
+    Below(Stamp, Node),
+    /// The cell and the node are stamped.
+    Both(Stamp, Stamp, Node),
+    /// The node was stamped while the cell above it named it.
+    Header(Stamp, Node),
+    /// The word of the prefix with this number comes next; how the bytes before it stand to the key's.
+    Prefix(NodeSeen, u8, Compared),
+    /// The word of key bytes, or of the index, with this number comes next.
+    Keys(NodeSeen, u8),
+    /// The child word at this place comes next.
+    Slot(Stamp, Node, usize),
+    /// The stamp's cell names this leaf; its value comes next.
+    Value(Stamp, u32),
+    /// Its value is this; its length comes next.
+    Length(Stamp, u32, u64),
+    /// The word of the leaf's key with this number comes next; how the bytes before it stand to the key's.
+    Bytes(LeafSeen, u8, Compared),
+    /// What was read under the stamp shows the key's value, or that it has none.
+    Decided(Stamp, Option<u64>),
+    /// That is settled.
+    Ended(Option<u64>),
+}
+
+/// A look for the value of one key, which stands beside it: from the anchor down to the leaf that has the key, or to where it is
+/// seen that none has.
+#[derive(Clone, Copy, Debug, PartialEq, Eq)]
+pub struct Descent {
+    /// How many bytes of the key lead to where it stands.
+    pub(crate) depth: usize,
+    pub(crate) stage: Stage,
+}
+
+impl Descent {
+    ghost use Rattle.art_find.specs.Asking.{Answers, IsAllowed, WantsCheck, WantsVersion, goes_on};
+    ghost use Rattle.art_find.specs.Descents.{Fits, IsReading, answer_at, asks, ended_at, most_steps};
+    ghost use Rattle.art_find.specs.declared.asked.Answer.{Answer as AnswerTold};
+    ghost use Rattle.art_find.specs.declared.asked.Answer.TheVariants as told;
+    ghost use Rattle.art_find.specs.declared.asked.Asked.{Asked as AskedStep};
+    ghost use Rattle.art_step.specs.declared.deeds.Deed.{Deed};
+    ghost use Rattle.art_step.specs.declared.views.Sizes.{Sizes};
+    ghost use Rattle.art_step.specs.declared.views.View.{View};
+    ghost use Rattle.std.specs.Prelude.{Some, IfSome, true, false};
+
+    /// At its beginning.
+    pub fn new() -> Descent
+        ensures steps { most_steps result.depth result.stage ≡ 0 }
+        ensures going { ended_at result.stage ≡ None }
+        ensures fits { (z : Sizes) (k : List ℕ) (what : Option ℕ → Deed) (u v : View) → IsReading u v → Fits z k what result u v }
+    {
+        Descent {
+            depth: 0,
+            stage: Stage::Start,
+        }
+    }
+
+    /// The next step, or none where it has ended.
+    pub fn next(&self) -> Option<Asked>
+        ensures asks { result ≡ asks self.now.stage }
+        ensures allowed { (z : Sizes) (k : List ℕ) (what : Option ℕ → Deed) (u v : View) → Fits z k what self.now u v →
+            IfSome result (IsAllowed z k (answer_at self.now.stage) v) }
+    {
+        match self.stage {
+            Stage::Start => Some(Asked::Begin(Cell::Anchor)),
+            Stage::Anchor(stamp) => Some(Asked::Read(stamp, 1)),
+            Stage::Child(stamp, _) => Some(Asked::Check(stamp)),
+            Stage::Below(_, node) => Some(Asked::Begin(Cell::Node(node))),
+            Stage::Both(above, _, _) => Some(Asked::Check(above)),
+            Stage::Header(stamp, _) => Some(Asked::Read(stamp, 1)),
+            Stage::Prefix(seen, number, _) => Some(Asked::Read(
+                seen.stamp,
+                2 + usize::from(number),
+            )),
+            Stage::Keys(seen, number) => Some(Asked::Read(seen.stamp, 10 + usize::from(number))),
+            Stage::Slot(stamp, _, place) => Some(Asked::Read(stamp, place)),
+            Stage::Value(stamp, leaf) => Some(Asked::ReadLeaf(stamp, leaf, 0)),
+            Stage::Length(stamp, leaf, _) => Some(Asked::ReadLeaf(stamp, leaf, 1)),
+            Stage::Bytes(seen, number, _) => {
+                Some(Asked::ReadLeaf(seen.stamp, seen.leaf, 2 + usize::from(number)))
+            }
+            Stage::Decided(stamp, _) => Some(Asked::Settle(stamp)),
+            Stage::Ended(_) => None,
+        }
+    }
+
+    /// The key's value, or that it has none: at the step that settles it, and once that is settled.
+    pub fn answer(&self) -> Option<u64>
+        ensures { result ≡ answer_at self.now.stage }
+    {
+        match self.stage {
+            Stage::Decided(_, value) => value,
+            Stage::Ended(value) => value,
+            _ => None,
+        }
+    }
+
+    /// The key's value, or that it has none, once that is settled.
+    pub fn ended(&self) -> Option<Option<u64>>
+        ensures { result ≡ ended_at self.now.stage }
+    {
+        match self.stage {
+            Stage::Ended(value) => Some(value),
+            _ => None,
+        }
+    }
+
+    /// The step that it asked for was made, with this answer. Whether it goes on: else it begins anew.
+    pub fn told(&mut self, key: &[u8], answer: Answer) -> bool
+        requires few { length key.now ≤ 64 }
+        requires fits { (z : Sizes) × (what : Option ℕ → Deed) × (u : View) × (v : View) × (w : View) × (asked : AskedStep) ×
+            Fits z key.now what self.old u v × (asks self.old.stage ≡ Some asked) ×
+            Answers z (what (answer_at self.old.stage)) asked answer v w }
+        ensures on { result ≡ goes_on answer }
+        ensures steps { result ≡ true → most_steps self.old.depth self.old.stage < most_steps self.new.depth self.new.stage }
+        ensures anew { result ≡ false → most_steps self.new.depth self.new.stage ≡ 0 }
+        ensures fits { (z : Sizes) (what : Option ℕ → Deed) (u v w : View) (asked : AskedStep) →
+            Fits z key.now what self.old u v → asks self.old.stage ≡ Some asked →
+            Answers z (what (answer_at self.old.stage)) asked answer v w → Fits z key.now what self.new u w }
+    {
+        match answer {
+            Answer::Begun(Ok(stamp)) => self.began(stamp),
+            Answer::Word(word) => self.read(key, word),
+            Answer::Checked(checked) => match checked {
+                Ok(()) => self.checked(),
+                Err(_) => {
+                    self.failed();
+                    return false;
+                }
+            },
+            Answer::Begun(Err(_)) => {
+                self.failed();
+                return false;
+            }
+        }
+        true
+    }
+
+    /// A version word was clear, and gave this stamp.
+    pub fn began(&mut self, stamp: Stamp)
+        requires { WantsVersion (asks self.old.stage) }
+        ensures steps { most_steps self.old.depth self.old.stage < most_steps self.new.depth self.new.stage }
+        ensures fits { (z : Sizes) (k : List ℕ) (what : Option ℕ → Deed) (u v w : View) (asked : AskedStep) →
+            Fits z k what self.old u v → asks self.old.stage ≡ Some asked →
+            Answers z (what (answer_at self.old.stage)) asked (told.Begun (Ok stamp)) v w → Fits z k what self.new u w }
+    {
+        self.stage = match self.stage {
+            Stage::Start => Stage::Anchor(stamp),
+            Stage::Below(above, node) => Stage::Both(above, stamp, node),
+            _ => unreachable!(),
+        };
+    }
+
+    /// A version word was unchanged.
+    pub fn checked(&mut self)
+        requires { WantsCheck (asks self.old.stage) }
+        ensures steps { most_steps self.old.depth self.old.stage < most_steps self.new.depth self.new.stage }
+        ensures fits { (z : Sizes) (k : List ℕ) (what : Option ℕ → Deed) (u v w : View) (asked : AskedStep) →
+            Fits z k what self.old u v → asks self.old.stage ≡ Some asked →
+            Answers z (what (answer_at self.old.stage)) asked (told.Checked (Ok tt)) v w → Fits z k what self.new u w }
+    {
+        self.stage = match self.stage {
+            Stage::Child(stamp, link) => below(stamp, link),
+            Stage::Both(_, stamp, node) => Stage::Header(stamp, node),
+            Stage::Decided(_, value) => Stage::Ended(value),
+            _ => unreachable!(),
+        };
+    }
+
+    /// A version word was locked, obsolete or changed: the descent begins anew.
+    pub fn failed(&mut self)
+        ensures steps { most_steps self.new.depth self.new.stage ≡ 0 }
+        ensures fits { (z : Sizes) (k : List ℕ) (what : Option ℕ → Deed) (u v : View) → IsReading u v → Fits z k what self.new u v }
+    {
+        self.stage = Stage::Start;
+    }
+}
+
+/// The cell that names the link was checked.
+fn below(stamp: Stamp, link: Link) -> Stage
+    ensures { result ≡ stage_below stamp link }
+{
+    match link {
+        Link::Leaf(leaf) => Stage::Value(stamp, leaf),
+        Link::Node(node) => Stage::Below(stamp, node),
+    }
+}

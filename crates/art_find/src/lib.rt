@@ -1,0 +1,68 @@
+//! Looks that walk the tree: so far the look for one key.
+//!
+//! # The problem
+//!
+//! Many passes read and change one tree (ICDE 2013) at once, and no lock keeps a reader out (DaMoN 2016). Who looks for a
+//! key goes down from the anchor, one word at a time; between any two words the tree may change. So what was read is worth
+//! nothing until a check finds that the version word of its cell is still the stamped one: then all that was read under the
+//! stamp is what the cell says at that step.
+//!
+//! # A descent
+//!
+//! `Descent` is the look for one key, as a machine. It is a value that names no carrier and keeps no key: scalars alone, and
+//! the key stands beside it. `next` names the step that it asks for (`Asked`), or none where it has ended, and `told` hands it
+//! the answer (`Answer`). So the same machine makes one step at each turn of an actor, with those of others in between, or runs
+//! to its end in a loop (`get`).
+//!
+//! ```text
+//!          anchor: stamp, child word, check
+//!            │
+//!            ▼
+//!       ┌── what the child word names
+//!       │    ├─ nothing: absent, at that check
+//!       │    ├─ a leaf: value, length, its key, word by word; then the check of the cell that names it decides
+//!       │    └─ a node: stamp it, and check the cell that names it; then read, under the new stamp,
+//!       │         header, prefix, key bytes or index, and the child word of the key's next byte
+//!       └───────── check the node, and go on below it
+//! ```
+//!
+//! The node is stamped before the cell that names it is checked: at that check the node stands where the cell says, and its
+//! stamp vouches for it from then on. No child word is followed before its cell was checked, but that the version word of the
+//! node which it names may be loaded.
+//!
+//! What was read may be of different moments, and then be of no node at all: a prefix that is too long, an entry of an index
+//! that is no place. The descent reads on within the cell, or stops and has the cell checked: that check fails.
+//!
+//! # Where it begins anew
+//!
+//! A version word that is locked, obsolete or changed sends the descent back to the anchor (`failed`). Old stamps stay in the
+//! view and do no harm.
+//!
+//! # What it knows
+//!
+//! `Fits` says at each stage what the notes under the stamps show, in every tree in which they hold: that the cell has this
+//! child on the key's way (`HasChild`), that the prefix was the key's so far (`IsInPrefix`), that the key has this value, or
+//! none (`HasValue`). Two lemmas carry all of it: what is shown stays shown as more is noted, and a word that is read is shown
+//! too. `next` is allowed wherever `Fits` holds, and `told` keeps it by the answer's row.
+//!
+//! # What settles
+//!
+//! The check that decides is asked for as `Settle`. What was read under the stamp then shows the key's value, or that it has
+//! none; which deed that is, whoever drives the descent says: the get of the key, or an insert that finds its key there. `get`
+//! makes the get.
+//!
+//! # How many steps
+//!
+//! Each step comes further (`most_steps`), so that a descent that meets no failure ends within 4,300 steps: a byte of the key
+//! costs at most 64. A failure begins the count anew. So a get that used all its turns met many failures, or had few turns.
+#![tactic(auto)]
+
+mod asked;
+mod compares;
+mod descents;
+mod driver;
+mod reads;
+
+pub use asked::{Answer, Asked};
+pub use descents::{Descent, LeafSeen, NodeSeen, Stage};
+pub use driver::{Got, Gotten, get, step};

@@ -1,0 +1,230 @@
+//! What a descent is told of words that were read.
+ghost use Rattle.std.specs.Prelude.{◌≡◌, ℕ, List, Option, length, ◌≤◌, ◌<◌, ◌+◌, ◌*◌, None, take};
+ghost use Rattle.art_find.specs.Descents.{staged};
+
+use crate::compares::compare_word;
+use crate::{Descent, LeafSeen, NodeSeen, Stage};
+use art_cell::{Link, Node};
+use art_node::{Sought, first_word, next_word, read_header};
+use art_path::Compared;
+use art_step::Stamp;
+
+impl Descent {
+    ghost use Rattle.art_cell.specs.declared.cells.Cell.TheVariants as cells;
+    ghost use Rattle.art_find.specs.Asking.{Answers, WantsWord};
+    ghost use Rattle.art_find.specs.Compares.{IsWithin};
+    ghost use Rattle.art_find.specs.Descents.{Fits, IsAbove, IsOn, IsReading, WasNoted, answer_at, asks, most_steps};
+    ghost use Rattle.art_find.specs.Ways.{HasHeader, IsAtKeys, IsAtLeaf, IsAtSlot, IsInKey, IsInPrefix, IsOnNode, IsPassed, count_in};
+    ghost use Rattle.art_find.specs.declared.asked.Answer.TheVariants as told;
+    ghost use Rattle.art_find.specs.declared.asked.Asked.{Asked as AskedStep};
+    ghost use Rattle.art_step.specs.Shows.{HasStamp, Shows};
+    ghost use Rattle.art_step.specs.declared.deeds.Deed.{Deed};
+    ghost use Rattle.art_step.specs.declared.views.Sizes.{Sizes};
+    ghost use Rattle.art_step.specs.declared.views.View.{View};
+    ghost use Rattle.std.specs.Prelude.{Some};
+
+    /// The word that it asked for is this.
+    pub fn read(&mut self, key: &[u8], word: u64)
+        requires few { length key.now ≤ 64 }
+        requires wants { WantsWord (asks self.old.stage) }
+        requires fits { (z : Sizes) × (what : Option ℕ → Deed) × (u : View) × (v : View) × Fits z key.now what self.old u v }
+        ensures steps { most_steps self.old.depth self.old.stage < most_steps self.new.depth self.new.stage }
+        ensures fits { (z : Sizes) (what : Option ℕ → Deed) (u v w : View) (asked : AskedStep) →
+            Fits z key.now what self.old u v → asks self.old.stage ≡ Some asked →
+            Answers z (what (answer_at self.old.stage)) asked (told.Word word) v w → Fits z key.now what self.new u w }
+    {
+        match self.stage {
+            Stage::Anchor(stamp) => self.see_root(key, stamp, word),
+            Stage::Header(stamp, node) => self.see_header(
+                key,
+                NodeSeen {
+                    stamp,
+                    node,
+                    header: word,
+                },
+            ),
+            Stage::Prefix(seen, number, before) => self.see_prefix(key, seen, number, before, word),
+            Stage::Keys(seen, number) => self.see_keys(key, seen, number, word),
+            Stage::Slot(stamp, node, place) => self.see_slot(key, stamp, node, place, word),
+            Stage::Value(stamp, leaf) => self.stage = Stage::Length(stamp, leaf, word),
+            Stage::Length(stamp, leaf, value) => self.see_length(key, stamp, leaf, value, word),
+            Stage::Bytes(seen, number, before) => self.see_bytes(key, seen, number, before, word),
+            _ => unreachable!(),
+        }
+    }
+
+    /// The anchor's child word was read.
+    fn see_root(&mut self, key: &[u8], stamp: Stamp, word: u64)
+        ensures steps { 1 < most_steps self.new.depth self.new.stage }
+        ensures fits { (z : Sizes) (what : Option ℕ → Deed) (u w : View) → IsReading u w → HasStamp z w stamp →
+            stamp.cell ≡ cells.Anchor → Shows z w stamp (λ s. s cells.Anchor 1 ≡ word) → WasNoted w word → Fits z key.now what self.new u w }
+    {
+        let _ = key;
+        self.depth = 0;
+        self.stage = match Link::named_by(word) {
+            Some(link) => Stage::Child(stamp, link),
+            None => Stage::Decided(stamp, None),
+        };
+    }
+
+    /// The header of a node was read.
+    fn see_header(&mut self, key: &[u8], seen: NodeSeen)
+        requires few { length key.now ≤ 64 }
+        requires deep { self.old.depth ≤ length key.now }
+        ensures steps { 64 * self.old.depth + 5 < most_steps self.new.depth self.new.stage }
+        ensures fits { (z : Sizes) (what : Option ℕ → Deed) (u w : View) → IsOn z u w seen.stamp seen.node →
+            Shows z w seen.stamp (λ s. HasHeader s seen.node key.now self.old.depth seen.header) → Fits z key.now what self.new u w }
+    {
+        let count = read_header(seen.header).prefix_length;
+        if self.depth + count > 63 {
+            self.stage = Stage::Decided(seen.stamp, None);
+        } else if count > 0 {
+            self.stage = Stage::Prefix(seen, 0, Compared::Same);
+        } else {
+            self.pass(key, seen)
+        }
+    }
+
+    /// A word of the prefix was read.
+    fn see_prefix(&mut self, key: &[u8], seen: NodeSeen, number: u8, before: Compared, word: u64)
+        requires few { length key.now ≤ 64 }
+        requires deep { self.old.depth ≤ length key.now }
+        requires more { 8 * number < count_in seen.header }
+        requires short { self.old.depth + count_in seen.header < 64 }
+        requires within { IsWithin key.now self.old.depth (8 * number) before }
+        ensures steps { 64 * self.old.depth + 6 + number < most_steps self.new.depth self.new.stage }
+        ensures fits { (z : Sizes) (what : Option ℕ → Deed) (u w : View) → IsOn z u w seen.stamp seen.node →
+            Shows z w seen.stamp (λ s. IsInPrefix s seen.node key.now self.old.depth seen.header number before) →
+            Shows z w seen.stamp (λ s. s (cells.Node seen.node) (2 + number) ≡ word) → Fits z key.now what self.new u w }
+    {
+        let count = read_header(seen.header).prefix_length;
+        let compared = compare_word(key, self.depth, count, number, word, before);
+        if 8 * usize::from(number) + 8 < count {
+            self.stage = Stage::Prefix(seen, number + 1, compared);
+            return;
+        }
+        match compared {
+            Compared::Same => self.pass(key, seen),
+            _ => self.stage = Stage::Decided(seen.stamp, None),
+        }
+    }
+
+    /// All bytes of the prefix are the key's.
+    fn pass(&mut self, key: &[u8], seen: NodeSeen)
+        requires deep { self.old.depth ≤ length key.now }
+        requires short { self.old.depth + count_in seen.header < 64 }
+        ensures steps { 64 * self.old.depth + 13 < most_steps self.new.depth self.new.stage }
+        ensures fits { (z : Sizes) (what : Option ℕ → Deed) (u w : View) → IsOn z u w seen.stamp seen.node →
+            Shows z w seen.stamp (λ s. IsPassed s seen.node key.now self.old.depth seen.header) → Fits z key.now what self.new u w }
+    {
+        let depth = self.depth + read_header(seen.header).prefix_length;
+        if depth >= key.len() {
+            self.stage = Stage::Decided(seen.stamp, None);
+            return;
+        }
+        self.depth = depth;
+        self.stage = staged(first_word(seen.node.layout, key[depth], seen.header), seen);
+    }
+
+    /// A word of key bytes, or of the index, was read.
+    fn see_keys(&mut self, key: &[u8], seen: NodeSeen, number: u8, word: u64)
+        requires deep { self.old.depth < length key.now }
+        requires number { number < 32 }
+        ensures steps { 64 * self.old.depth + 14 + number < most_steps self.new.depth self.new.stage }
+        ensures fits { (z : Sizes) (what : Option ℕ → Deed) (u w : View) → IsOn z u w seen.stamp seen.node →
+            Shows z w seen.stamp (λ s. IsAtKeys s seen.node key.now self.old.depth seen.header number) →
+            Shows z w seen.stamp (λ s. s (cells.Node seen.node) (10 + number) ≡ word) → Fits z key.now what self.new u w }
+    {
+        let byte = key[self.depth];
+        self.stage = staged(
+            next_word(seen.node.layout, byte, seen.header, number, word),
+            seen,
+        );
+    }
+
+    /// The child word was read.
+    fn see_slot(&mut self, key: &[u8], stamp: Stamp, node: Node, place: usize, word: u64)
+        requires deep { self.old.depth < length key.now }
+        ensures steps { 64 * self.old.depth + 46 < most_steps self.new.depth self.new.stage }
+        ensures fits { (z : Sizes) (what : Option ℕ → Deed) (u w : View) → IsOn z u w stamp node →
+            Shows z w stamp (λ s. IsAtSlot s node key.now self.old.depth place) →
+            Shows z w stamp (λ s. s (cells.Node node) place ≡ word) → WasNoted w word → Fits z key.now what self.new u w }
+    {
+        let _ = key;
+        let _ = place;
+        let _ = node.number;
+        match Link::named_by(word) {
+            Some(link) => {
+                self.depth += 1;
+                self.stage = Stage::Child(stamp, link);
+            }
+            None => self.stage = Stage::Decided(stamp, None),
+        }
+    }
+
+    /// The length of a leaf's key was read.
+    fn see_length(&mut self, key: &[u8], stamp: Stamp, leaf: u32, value: u64, bytes: u64)
+        requires deep { self.old.depth ≤ length key.now }
+        ensures steps { 64 * self.old.depth + 4 < most_steps self.new.depth self.new.stage }
+        ensures fits { (z : Sizes) (what : Option ℕ → Deed) (u w : View) → IsAbove z u w stamp leaf →
+            Shows z w stamp (λ s. IsAtLeaf s stamp.cell leaf (take self.old.depth key.now) value) →
+            Shows z w stamp (λ s. s (cells.Leaf leaf) 1 ≡ bytes) → Fits z key.now what self.new u w }
+    {
+        if bytes > 64 {
+            self.stage = Stage::Decided(stamp, None);
+        } else if bytes > 0 {
+            let count = bytes as usize;
+            self.stage = Stage::Bytes(
+                LeafSeen {
+                    stamp,
+                    leaf,
+                    value,
+                    count,
+                },
+                0,
+                Compared::Same,
+            );
+        } else if key.is_empty() {
+            self.stage = Stage::Decided(stamp, Some(value));
+        } else {
+            self.stage = Stage::Decided(stamp, None);
+        }
+    }
+
+    /// A word of a leaf's key was read.
+    fn see_bytes(&mut self, key: &[u8], seen: LeafSeen, number: u8, before: Compared, word: u64)
+        requires deep { self.old.depth ≤ length key.now }
+        requires more { 8 * number < seen.count }
+        requires few { seen.count ≤ 64 }
+        requires within { IsWithin key.now 0 (8 * number) before }
+        ensures steps { 64 * self.old.depth + 5 + number < most_steps self.new.depth self.new.stage }
+        ensures fits { (z : Sizes) (what : Option ℕ → Deed) (u w : View) → IsAbove z u w seen.stamp seen.leaf →
+            Shows z w seen.stamp (λ s. IsInKey s seen.stamp.cell seen.leaf key.now (take self.old.depth key.now) seen.value seen.count number before) →
+            Shows z w seen.stamp (λ s. s (cells.Leaf seen.leaf) (2 + number) ≡ word) → Fits z key.now what self.new u w }
+    {
+        let compared = compare_word(key, 0, seen.count, number, word, before);
+        if 8 * usize::from(number) + 8 < seen.count {
+            self.stage = Stage::Bytes(seen, number + 1, compared);
+            return;
+        }
+        if seen.count != key.len() {
+            self.stage = Stage::Decided(seen.stamp, None);
+            return;
+        }
+        match compared {
+            Compared::Same => self.stage = Stage::Decided(seen.stamp, Some(seen.value)),
+            _ => self.stage = Stage::Decided(seen.stamp, None),
+        }
+    }
+}
+
+/// The stage after a search in a node.
+fn staged(sought: Sought, seen: NodeSeen) -> Stage
+    ensures { result ≡ staged sought seen }
+{
+    match sought {
+        Sought::Keys(number) => Stage::Keys(seen, number),
+        Sought::Child(place) => Stage::Slot(seen.stamp, seen.node, place),
+        Sought::Nothing => Stage::Decided(seen.stamp, None),
+    }
+}
