@@ -1,7 +1,6 @@
 //! Bytes that are packed in the words of a cell, beside those of a key.
 ghost use Rattle.std.specs.Prelude.{◌≡◌, ◌≤◌, ◌<◌, ◌+◌, ◌*◌, length};
 ghost use Rattle.art_find.specs.Compares.{ComparesWord, IsWithin};
-ghost use Rattle.art_path.specs.declared.compared.Compared.TheVariants as compared_as;
 
 use art_path::{Compared, compare_prefix};
 

@@ -35,8 +35,8 @@
 //!
 //! # Where it begins anew
 //!
-//! A version word that is locked, obsolete or changed sends the descent back to the anchor (`failed`). Old stamps stay in the
-//! view and do no harm.
+//! A version word that is locked, obsolete or changed sends the descent back to the anchor (`failed`). At a changed word the
+//! other stamps stay in the view, and do no harm; at one that is not clear all of them go.
 //!
 //! # What it knows
 //!
