@@ -7,11 +7,11 @@ use Rattle.art_cell.specs.declared.cells.Node.{Node}
 use Rattle.art_cell.specs.declared.layouts.Layout.{Layout}
 use Rattle.art_cell.specs.declared.layouts.Layout.TheVariants.{Node4, Node16, Node48, Node256}
 use Rattle.art_cell.specs.Words.{size}
-use Rattle.art_find.specs.Asking.{IsAllowed}
+use Rattle.art_find.specs.Asking.{IsAllowed, WasChecked}
 use Rattle.art_find.specs.Descents.{IsAbove, IsOn, StageFits, answer_at, asks}
 use Rattle.art_find.specs.declared.descents.Stage.{Stage}
 use Rattle.art_find.specs.declared.descents.Stage.TheVariants.{Start, Anchor, Child, Below, Both, Header, Prefix, Keys, Slot, Value, Length, Bytes, Decided, Ended}
-use Rattle.art_step.specs.Shows.{HasChild, Shows}
+use Rattle.art_step.specs.Shows.{HasChild, HasValue, Shows}
 use Rattle.art_step.specs.Steps.Read as read
 use Rattle.art_step.specs.Views.{IsNotHeld, Member, size_of}
 use Rattle.art_step.specs.WordPlaces.{HasVersion, IsInside}
@@ -21,10 +21,10 @@ use Rattle.art_step.specs.declared.views.Stamp.{Stamp}
 use Rattle.art_step.specs.declared.views.View.{View}
 use Rattle.art_step.proofs.Shows.{child_names}
 
-none_held : (v : View) (c : Cell) → v.held ≡ [] → IsNotHeld v.held c
+pub none_held : (v : View) (c : Cell) → v.held ≡ [] → IsNotHeld v.held c
 none_held v c none h i = absurd (subst (Member h) none i)
 
-reads_node : (z : Sizes) (u v : View) (y : Stamp) (n : Node) (place : ℕ) → IsOn z u v y n → 0 < place → place < size n.layout → IsInside z y.cell × read.May v y place
+pub reads_node : (z : Sizes) (u v : View) (y : Stamp) (n : Node) (place : ℕ) → IsOn z u v y n → 0 < place → place < size n.layout → IsInside z y.cell × read.May v y place
 reads_node z u v y n place on after within = (
   subst (IsInside z) (sym on.cell) (subst (HasVersion z) on.cell on.stamp.inside),
   record {
@@ -34,7 +34,7 @@ reads_node z u v y n place on after within = (
   },
 )
 
-reads_leaf : (z : Sizes) (u v : View) (x : Stamp) (l place : ℕ) (q : List ℕ) → IsAbove z u v x l → place < 10 → Shows z v x (λ s. HasChild s x.cell (leaf l) q) → (l < z.leaves) × read.MayLeaf z v x l place
+pub reads_leaf : (z : Sizes) (u v : View) (x : Stamp) (l place : ℕ) (q : List ℕ) → IsAbove z u v x l → place < 10 → Shows z v x (λ s. HasChild s x.cell (leaf l) q) → (l < z.leaves) × read.MayLeaf z v x l place × WasChecked (leaf l) v
 reads_leaf z u v x l place q on low shows = (
   on.inside,
   record {
@@ -43,15 +43,16 @@ reads_leaf z u v x l place q on low shows = (
     names = child_names z v x l q shows;
     place = low;
   },
+  on.checked,
 )
 
-front_inside : (k : Layout) (i : ℕ) → i < 10 → i < size k
+pub front_inside : (k : Layout) (i : ℕ) → i < 10 → i < size k
 front_inside Node4 i low = omega arith
 front_inside Node16 i low = omega arith
 front_inside Node48 i low = omega arith
 front_inside Node256 i low = omega arith
 
-pub allowed : (z : Sizes) (k : List ℕ) (what : Option ℕ → Deed) (depth : ℕ) (stage : Stage) (u v : View) → StageFits z k what depth stage u v → IfSome (asks stage) (IsAllowed z k (answer_at stage) v)
+pub allowed : (z : Sizes) (k : List ℕ) (what : Option ℕ → Deed) (depth : ℕ) (stage : Stage) (u v : View) → StageFits z k what depth stage u v → IfSome (asks stage) (IsAllowed z (λ s. HasValue s k (answer_at stage)) v)
 allowed z k what depth Start u v fits = (tt, record { pinned = fits.pinned; named = tt })
 allowed z k what depth (Anchor x) u v fits = (
   subst (IsInside z) (sym fits.2) tt,

@@ -6,7 +6,6 @@ use Rattle.art_cell.specs.declared.cells.Cell.{Cell}
 use Rattle.art_find.specs.Asking.{Answers, goes_on}
 use Rattle.art_find.specs.Descents.{StageFits, ended_at, most_steps, staged}
 use Rattle.art_find.specs.Driven.{Counts, restarts_after}
-use Rattle.art_find.specs.declared.descents.Descent.{Descent}
 use Rattle.art_find.specs.declared.asked.Answer.{Answer}
 use Rattle.art_find.specs.declared.asked.Answer.TheVariants.{Begun, Word, Checked}
 use Rattle.art_find.specs.declared.asked.Asked.{Asked}
@@ -86,13 +85,12 @@ staged_later depth number (sought.Child p) seen few later = omega arith
 staged_later depth number sought.Nothing seen few later = omega arith
 
 -- a step that goes on, and one that does not
-pub counts_on : (u v w : View) (m m' : Descent) (n : ℕ) (on : Bool) → (on ≡ true → most_steps m.depth m.stage < most_steps m'.depth m'.stage) → most_steps m.depth m.stage ≤ 4300
-    → Counted v w on → Counts u v m n → Counts u w m' (restarts_after n on)
-counts_on u v w m m' n true further few step counts = record {
+pub counts_on : (u v w : View) (before after n : ℕ) (on : Bool) → (on ≡ true → before < after) → before < 30000 → Counted v w on → Counts u v before n → Counts u w after (restarts_after n on)
+counts_on u v w before after n true further few step counts = record {
   failures = step.failures ∙ counts.failures;
   steps = let one = step.steps in let low = counts.steps in let more = further refl in omega (arith, one, low, more);
 }
-counts_on u v w m m' n false further few step counts = record {
+counts_on u v w before after n false further few step counts = record {
   failures = let one = step.failures in let low = counts.failures in omega (arith, one, low);
   steps = let one = step.steps in let low = counts.steps in omega (arith, one, low, few);
 }

@@ -9,7 +9,7 @@ use Rattle.art_cell.specs.declared.cells.Link.TheVariants.{Leaf as leaf, Node as
 use Rattle.art_cell.specs.declared.cells.Node.{Node}
 use Rattle.art_cell.specs.Children.{link_of}
 use Rattle.art_cell.specs.Words.{Words, packed}
-use Rattle.art_find.specs.Asking.{Answers, WantsCheck, WantsVersion, WantsWord}
+use Rattle.art_find.specs.Asking.{Answers, WantsCheck, WantsVersion, WantsWord, WasChecked}
 use Rattle.art_find.specs.Compares.{ComparesWord}
 use Rattle.art_find.specs.Descents.{IsAbove, IsChild, IsOn, IsReading, StageFits, WasNoted, answer_at, asks, ended_at, stage_below, staged}
 use Rattle.art_find.specs.Driven.{GetEnds, GetFits, get_done, settled}
@@ -64,6 +64,14 @@ reads_on u v w same reads = record {
 
 -- ---- a cell was checked
 
+-- then so was a word that was noted
+pub passed_names : (z : Sizes) (v w : View) (x : Stamp) (o : Option Deed) (d : Link) → ((y : Note) × Member y v.notes × NamesLink y.fact d) → check.Unchanged z v w x o → WasChecked d w
+passed_names z v w x o d named p = record {
+  note = named.0;
+  noted = subst (λ (t : View). Member named.0 t.checked.notes) (sym p.is) (member_back named.0 p.paths v.notes named.1);
+  names = named.2;
+}
+
 module _ (z : Sizes) (k : List ℕ) (what : Option ℕ → Deed) (depth : ℕ) (u v w : View) where
   child_on : (x y : Stamp) (d : Link) → IsChild z k depth x d v → check.Unchanged z v w y None → IsChild z k depth x d w
   child_on x y d child p = record {
@@ -79,6 +87,7 @@ module _ (z : Sizes) (k : List ℕ) (what : Option ℕ → Deed) (depth : ℕ) (
       reads = reads_on u v w (passed_rest z v w x p) fits.0;
       stamp = passed_stamp z v w x x None p fits.1.stamp;
       inside = passed_number z v w x None (leaf l) (take depth k) p fits.1.shows;
+      checked = passed_names z v w x None (leaf l) fits.1.noted p;
     },
     child_on x x (leaf l) fits.1 p,
   )
@@ -136,7 +145,7 @@ module _ (z : Sizes) (k : List ℕ) (what : Option ℕ → Deed) (depth : ℕ) (
 -- ---- the word of the anchor
 
 -- a word that was noted names what it names
-note_names : (w : View) (word : ℕ) (d : Link) → WasNoted w word → link_of word ≡ Some d → (y : Note) × Member y w.notes × NamesLink y.fact d
+pub note_names : (w : View) (word : ℕ) (d : Link) → WasNoted w word → link_of word ≡ Some d → (y : Note) × Member y w.notes × NamesLink y.fact d
 note_names w word d noted names = (noted.note, noted.noted, subst (λ (f : Fact). NamesLink f d) (sym noted.is) names)
 
 module _ (z : Sizes) (k : List ℕ) (what : Option ℕ → Deed) (u w : View) (x : Stamp) (reads : IsReading u w) (stamp : HasStamp z w x) (word : ℕ) (shows : Shows z w x (λ s. s cell.Anchor 1 ≡ word)) where
@@ -375,6 +384,7 @@ module _ (z : Sizes) (u v w : View) (y : Stamp) (place word : ℕ) where
     reads = reads_on u v w (read_rest v w y (LeafWord l place word) is) on.reads;
     stamp = read_stamp z v w y (LeafWord l place word) y is on.stamp;
     inside = on.inside;
+    checked = record { note = on.checked.note; noted = subst (λ (t : View). Member on.checked.note t.checked.notes) (sym is) on.checked.noted; names = on.checked.names };
   }
 
   pub leaf_word : (l : ℕ) → read.LeafOutcome v w y l place word → Shows z w y (λ s. s (cell.Leaf l) place ≡ word)

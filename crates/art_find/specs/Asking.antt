@@ -1,32 +1,42 @@
 -- What each step that a machine asks for needs of the pass's view, and what its answer says of the view after it.
-use Rattle.std.specs.Prelude.{ℕ, ◌<◌, List, Bool, true, false, Option, None, Some, Ok, Err, ⊤}
+use Rattle.std.specs.Prelude.{◌<◌, Bool, true, false, Option, None, Some, Ok, Err, ⊤}
 use Rattle.art_find.specs.declared.asked.Answer.{Answer}
 use Rattle.art_find.specs.declared.asked.Answer.TheVariants.{Begun, Word, Checked}
 use Rattle.art_find.specs.declared.asked.Asked.{Asked}
 use Rattle.art_find.specs.declared.asked.Asked.TheVariants.{Begin, Read, ReadLeaf, Check, Settle}
-use Rattle.art_step.specs.Shows.{HasValue, Shows}
+use Rattle.art_cell.specs.declared.cells.Link.{Link}
+use Rattle.art_cell.specs.declared.cells.Link.TheVariants.{Leaf as leaf}
+use Rattle.art_step.specs.Shows.{Shows}
 use Rattle.art_step.specs.Steps.Begin as begin
 use Rattle.art_step.specs.Steps.Check as check
 use Rattle.art_step.specs.Steps.Read as read
-use Rattle.art_step.specs.Views.{Member}
+use Rattle.art_step.specs.Views.{Member, NamesLink}
 use Rattle.art_step.specs.WordPlaces.{HasVersion, IsInside}
 use Rattle.art_step.specs.declared.deeds.Deed.{Deed}
+use Rattle.art_step.specs.declared.views.Note.{Note}
 use Rattle.art_step.specs.declared.views.Sizes.{Sizes}
 use Rattle.art_step.specs.declared.views.Stamp.{Stamp}
 use Rattle.art_step.specs.declared.views.View.{View}
+use Rattle.art_tree.specs.Heaps.{Cells}
 
--- what was read under the stamp shows that the key has this value, or none: so an event that says so may be made at the check
-pub record MaySettle (z : Sizes) (k : List ℕ) (o : Option ℕ) (v : View) (x : Stamp) : Type 0 where
+-- what was read under the stamp shows that this is so: then an event that says it may be made at the check
+pub record MaySettle (z : Sizes) (so : Cells → Type 0) (v : View) (x : Stamp) : Type 0 where
   pub stamp : Member x v.stamps
-  pub shows : Shows z v x (λ s. HasValue s k o)
+  pub shows : Shows z v x so
 
--- the step may be made, of a machine for the key k that answers o where it settles that
-abbrev pub IsAllowed : Sizes → List ℕ → Option ℕ → View → Asked → Type 0
-IsAllowed z k o v (Begin c) = HasVersion z c × begin.May v c
-IsAllowed z k o v (Read x i) = IsInside z x.cell × read.May v x i
-IsAllowed z k o v (ReadLeaf x l i) = (l < z.leaves) × read.MayLeaf z v x l i
-IsAllowed z k o v (Check x) = HasVersion z x.cell × check.May z v x None
-IsAllowed z k o v (Settle x) = HasVersion z x.cell × MaySettle z k o v x
+-- a word that names the cell was read before the last check that found its word unchanged
+pub record WasChecked (d : Link) (v : View) : Type 0 where
+  pub note : Note
+  pub noted : Member note v.checked.notes
+  pub names : NamesLink note.fact d
+
+-- the step may be made, of a machine that settles that this is so; no word of a leaf is read before the word that names it was checked
+abbrev pub IsAllowed : Sizes → (Cells → Type 0) → View → Asked → Type 0
+IsAllowed z so v (Begin c) = HasVersion z c × begin.May v c
+IsAllowed z so v (Read x i) = IsInside z x.cell × read.May v x i
+IsAllowed z so v (ReadLeaf x l i) = (l < z.leaves) × read.MayLeaf z v x l i × WasChecked (leaf l) v
+IsAllowed z so v (Check x) = HasVersion z x.cell × check.May z v x None
+IsAllowed z so v (Settle x) = HasVersion z x.cell × MaySettle z so v x
 
 -- it was made, with this answer; where it settles, it was made with this deed
 abbrev pub Answers : Sizes → Deed → Asked → Answer → View → View → Type 0

@@ -5,6 +5,7 @@ use Rattle.art_cell.specs.declared.cells.Link.{Link}
 use Rattle.art_cell.specs.declared.cells.Link.TheVariants.{Leaf as leaf, Node as node}
 use Rattle.art_cell.specs.declared.cells.Node.{Node}
 use Rattle.art_cell.specs.Words.{size}
+use Rattle.art_find.specs.Asking.{WasChecked}
 use Rattle.art_find.specs.Compares.{IsWithin}
 use Rattle.art_find.specs.Ways.{IsAtKeys, IsAtLeaf, IsAtSlot, IsInKey, IsInPrefix, IsOnNode, count_in}
 use Rattle.art_find.specs.declared.asked.Asked.{Asked}
@@ -101,11 +102,12 @@ pub record IsOn (z : Sizes) (u v : View) (y : Stamp) (n : Node) : Type 0 where
   pub stamp : HasStamp z v y
   pub cell : y.cell ≡ cell.Node n
 
--- or a cell that names a leaf
+-- or a cell that was checked and names a leaf
 pub record IsAbove (z : Sizes) (u v : View) (x : Stamp) (l : ℕ) : Type 0 where
   pub reads : IsReading u v
   pub stamp : HasStamp z v x
   pub inside : l < z.leaves
+  pub checked : WasChecked (leaf l) v
 
 -- the path to a node, of whose prefix and words something was read
 pub record IsPrefix (z : Sizes) (k : List ℕ) (depth : ℕ) (seen : NodeSeen) (i : ℕ) (r : Compared) (v : View) : Type 0 where

@@ -34,11 +34,11 @@ GetEnds k u w Busy = OnlyReads u w
 abbrev pub restarts_after : ℕ → Bool → ℕ
 restarts_after n went_on = if went_on then n else n + 1
 
--- a failure begins the descent anew, and between two of them it makes few steps
-pub record Counts (u v : View) (m : Descent) (restarts : ℕ) : Type 0 where
+-- a failure begins a descent anew, which makes few steps between two of them, and made so many since the last
+pub record Counts (u v : View) (made restarts : ℕ) : Type 0 where
   pub failures : v.failures ≡ u.failures + restarts
-  pub steps : v.steps ≤ u.steps + 30000 * restarts + most_steps m.depth m.stage
+  pub steps : v.steps ≤ u.steps + 30000 * restarts + made
 
 pub record GetFits (z : Sizes) (k : List ℕ) (u v : View) (m : Descent) (restarts : ℕ) : Type 0 where
   pub fits : Fits z k (get_done k) m u v
-  pub counts : Counts u v m restarts
+  pub counts : Counts u v (most_steps m.depth m.stage) restarts

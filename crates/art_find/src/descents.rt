@@ -74,6 +74,7 @@ impl Descent {
     ghost use Rattle.art_find.specs.declared.asked.Answer.{Answer as AnswerTold};
     ghost use Rattle.art_find.specs.declared.asked.Answer.TheVariants as told;
     ghost use Rattle.art_find.specs.declared.asked.Asked.{Asked as AskedStep};
+    ghost use Rattle.art_step.specs.Shows.{HasValue};
     ghost use Rattle.art_step.specs.declared.deeds.Deed.{Deed};
     ghost use Rattle.art_step.specs.declared.views.Sizes.{Sizes};
     ghost use Rattle.art_step.specs.declared.views.View.{View};
@@ -95,7 +96,7 @@ impl Descent {
     pub fn next(&self) -> Option<Asked>
         ensures asks { result ≡ asks self.now.stage }
         ensures allowed { (z : Sizes) (k : List ℕ) (what : Option ℕ → Deed) (u v : View) → Fits z k what self.now u v →
-            IfSome result (IsAllowed z k (answer_at self.now.stage) v) }
+            IfSome result (IsAllowed z (λ s. HasValue s k (answer_at self.now.stage)) v) }
     {
         match self.stage {
             Stage::Start => Some(Asked::Begin(Cell::Anchor)),

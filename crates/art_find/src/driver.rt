@@ -3,6 +3,7 @@ ghost use Rattle.std.specs.Prelude.{◌≡◌, ◌≢◌, ℕ, ◌+◌, ◌*◌,
 ghost use Rattle.art_find.specs.Asking.{Answers, IsAllowed};
 ghost use Rattle.art_find.specs.Descents.{ended_at};
 ghost use Rattle.art_find.specs.Driven.{GetEnds, GetFits, get_done, restarts_after, settled};
+ghost use Rattle.art_step.specs.Shows.{HasValue};
 ghost use Rattle.art_step.specs.declared.views.View.{View};
 
 use crate::{Answer, Asked, Descent};
@@ -64,7 +65,7 @@ fn copied(bytes: &[u8]) -> Key
 fn make<S: Steps>(steps: &mut S, asked: Asked, key: &[u8], value: Option<u64>) -> Answer
     requires short { length key.now ≤ 64 }
     requires admitted { S.admits steps.old key.now }
-    requires allowed { IsAllowed (S.sizes steps.old) key.now value (S.view steps.old) asked }
+    requires allowed { IsAllowed (S.sizes steps.old) (λ s. HasValue s key.now value) (S.view steps.old) asked }
     ensures only { S.only steps.old steps.new }
     ensures row { Answers (S.sizes steps.old) (get_done key.now value) asked result (S.view steps.old) (S.view steps.new) }
 {

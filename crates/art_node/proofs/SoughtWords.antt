@@ -14,7 +14,7 @@ use Rattle.art_node.specs.declared.searches.Sought.{Sought}
 use Rattle.art_node.specs.declared.searches.Sought.TheVariants as sought
 use Rattle.art_node.specs.declared.searches.SoughtFrom.{SoughtFrom}
 use Rattle.art_node.specs.declared.searches.SoughtFrom.TheVariants as from
-use Rattle.art_node.specs.Searches.{KeysKnown, IsNextWord, SoughtTells, KeysKnownFrom, IsNextWordFrom, SoughtFromTells, IsKeyWord, HasWord, HasWordFrom}
+use Rattle.art_node.specs.Searches.{KeysKnown, IsNextWord, SoughtTells, KeysKnownFrom, IsNextWordFrom, IsOccupied, SoughtFromTells, IsKeyWord, HasWord, HasWordFrom}
 
 -- ---- what is told of some words is told of fewer
 
@@ -88,7 +88,22 @@ child_found s w b i found body first =
     let form = form_is s w body.form in
     child_at s w b i found body first ∙ sym (nonzero_some (w (first_child (layout_of s) + i)) (form.some i first.used))
 
+-- and its place has it
+occupied : (s : Sorted) (w : Words) (p : ℕ) → 0 < w p → IsOccupied (layout_of s) w p
+occupied Four w p some = some
+occupied Sixteen w p some = some
+
+pub found_occupied : (s : Sorted) (w : Words) (b i found p : ℕ) → IsBody (layout_of s) w → IsFirstFrom w b i found → first_child (layout_of s) + i ≡ p → IsOccupied (layout_of s) w p
+found_occupied s w b i found p body first at =
+    let form = form_is s w body.form in
+    occupied s w p (subst (λ (j : ℕ). 0 < w j) at (form.some i first.used))
+
 -- ---- nodes with an index
+
+-- the place that an entry names has a child
+pub entry_occupied : (w : Words) (b entry p : ℕ) → IsBody Node48 w → b < 256 → key_byte w b ≡ entry → (entry ≡ 0 → ⊥) → 41 + entry ≡ p → 0 < w p
+entry_occupied w b zero p body low is some at = absurd (some refl)
+entry_occupied w b (suc e) p body low is some at = subst (λ (i : ℕ). 0 < w i) (omega arith) ((body.form.named b e low is).1)
 
 pub next_has_word : (b header number word : ℕ) (w : Words) → IsNextWord Node48 b header number word w → HasWord b word w
 next_has_word b header number word w next = sym (ap (λ (i : ℕ). w (10 + i)) next.known) ∙ next.is_word

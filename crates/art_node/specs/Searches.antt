@@ -60,12 +60,19 @@ pub record IsNextWordFrom (k : Layout) (low header number word : ℕ) (w : Words
   pub is_word : w (10 + number) ≡ word
   pub known : KeysKnownFrom k low w number
 
+-- the place has a child, but where the layout has a place for each byte
+abbrev pub IsOccupied : Layout → Words → ℕ → Type 0
+IsOccupied Node4 w p = 0 < w p
+IsOccupied Node16 w p = 0 < w p
+IsOccupied Node48 w p = 0 < w p
+IsOccupied Node256 w p = ⊤
+
 -- what is told of bodies of which this is so
 abbrev pub SoughtFromTells : Layout → ℕ → (Words → Type 0) → SoughtFrom → Type 0
 SoughtFromTells k low so (from.Keys i) = (i < 32) × (10 + i < size k) × ((w : Words) → IsBody k w → so w → KeysKnownFrom k low w i)
 SoughtFromTells k low so (from.Child p b) =
     (0 < p) × (p < size k) × (low ≤ b) × (b < 256)
-    × ((w : Words) → IsBody k w → so w → NoneFrom (child_of k w) low b × (child_of k w b ≡ nonzero (w p)))
+    × ((w : Words) → IsBody k w → so w → NoneFrom (child_of k w) low b × (child_of k w b ≡ nonzero (w p)) × IsOccupied k w p)
 SoughtFromTells k low so from.Nothing = (w : Words) → IsBody k w → so w → NoneFrom (child_of k w) low 256
 
 abbrev pub AsksLaterFrom : ℕ → SoughtFrom → Type 0
@@ -99,5 +106,7 @@ HasWordFrom low number word w = (w (10 + number) ≡ word) × KeysKnownFrom Node
 
 -- what the word of a byte's index entry tells of its child
 abbrev pub PlaceTells : ℕ → ℕ → Option ℕ → Type 0
-PlaceTells b word (Some p) = (0 < p) × (p < size Node48) × ((w : Words) → HasWord b word w → child_of Node48 w b ≡ nonzero (w p))
+PlaceTells b word (Some p) =
+    (0 < p) × (p < size Node48) × ((w : Words) → HasWord b word w → child_of Node48 w b ≡ nonzero (w p))
+    × ((w : Words) → IsBody Node48 w → HasWord b word w → 0 < w p)
 PlaceTells b word None = (w : Words) → IsBody Node48 w → HasWord b word w → child_of Node48 w b ≡ None

@@ -43,7 +43,7 @@ child_byte cells n b c e = ⊎_elim
     absurd (cc))
     (cases_lt b 256)
 
-append_bytes : (p q : List ℕ) → AreBytes p → AreBytes q → AreBytes (p ++ q)
+pub append_bytes : (p q : List ℕ) → AreBytes p → AreBytes q → AreBytes (p ++ q)
 append_bytes [] q first second = second
 append_bytes (a ∷ p) q first second = (first.0, append_bytes p q first.1 second)
 

@@ -11,7 +11,9 @@ returns-in-Some-clause-tells c = (
   c.in-Some.ensures.1,
   omega arith,
   omega arith,
-  λ w body has. (c.loop-at.invariant w body has, c.in-Some.ensures.2 w (has_word w c.args.number c.loop-at.at c.args.word (omega arith) (omega arith) has.0)),
+  λ w body has.
+      let here = has_word w c.args.number c.loop-at.at c.args.word (omega arith) (omega arith) has.0 in
+      (c.loop-at.invariant w body has, c.in-Some.ensures.2 w here, c.in-Some.ensures.3 w body here),
 )
 
 pub loop-at-preserved : goal.loop-at-preserved

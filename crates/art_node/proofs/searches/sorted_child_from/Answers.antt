@@ -1,7 +1,7 @@
-use Rattle.std.proofs.Common.{◌+◌, sym, ap, ◌∙◌, arith}
+use Rattle.std.proofs.Common.{ℕ, ◌+◌, sym, ap, ◌∙◌, arith}
 use Rattle.art_cell.specs.Words.{nonzero}
 use Rattle.art_sorted.proofs.NodeWords.{none_before, none_past}
-use Rattle.art_node.proofs.SoughtWords.{below_known_from, keys_inside, child_found}
+use Rattle.art_node.proofs.SoughtWords.{below_known_from, keys_inside, child_found, found_occupied}
 use Rattle.art_node.proofs.searches.sorted_child_from.Goals as goal
 
 pub returns-in-At-clause-tells : goal.returns-in-At-clause-tells
@@ -14,6 +14,7 @@ returns-in-At-clause-tells c = (
       let first = c.in-At.ensures.2 w body is in (
         none_before c.args.sorted w c.args.low c.in-At.index c.in-At.found body first,
         child_found c.args.sorted w c.args.low c.in-At.index c.in-At.found body first ∙ ap (λ first. nonzero (w (first + c.in-At.index))) (sym c.first_child.ensures.value),
+        found_occupied c.args.sorted w c.args.low c.in-At.index c.in-At.found (c.first_child.result + c.in-At.index) body first (ap (λ (i : ℕ). i + c.in-At.index) (sym c.first_child.ensures.value)),
       ),
 )
 

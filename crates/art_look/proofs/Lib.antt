@@ -1,0 +1,7 @@
+pub mod Allowed
+pub mod Counting
+pub mod Driven
+pub mod Ends
+pub mod Spelling
+pub mod Stages
+pub mod Table

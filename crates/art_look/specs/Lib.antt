@@ -1,0 +1,6 @@
+pub mod Driven
+pub mod Fronts
+pub mod Looks
+pub mod Seen
+pub mod Table
+pub mod Trails

@@ -1,0 +1,290 @@
+//! A look of a range.
+ghost use Rattle.std.specs.Prelude.{◌≡◌, ℕ, ◌≤◌, ◌<◌, List, Option, length, None, Ok};
+ghost use Rattle.art_key.specs.declared.bounds.Bound.{Bound as KeyBound};
+ghost use Rattle.art_look.specs.Looks.{stage_below};
+ghost use Rattle.art_look.specs.Seen.{bound_at, nearer, row_within, seen_of};
+ghost use Rattle.art_look.specs.Table.{end_at};
+
+use crate::Trail;
+use crate::fronts::Front;
+use crate::trails::copied;
+use art_cell::{Cell, Link, Node};
+use art_find::{Answer, Asked, LeafSeen, NodeSeen};
+use art_key::{Bound, Key};
+use art_path::after;
+use art_step::Stamp;
+
+/// How far a look sees that ends at a path.
+#[derive(Clone, Copy, Debug, PartialEq, Eq)]
+pub enum Reach {
+    /// Past all texts that begin with the path.
+    Past,
+    /// Up to the path.
+    UpTo,
+}
+
+/// The child of a node that is looked for.
+#[derive(Clone, Copy, Debug, PartialEq, Eq)]
+pub struct ChildSought {
+    pub seen: NodeSeen,
+    pub front: Front,
+    /// No byte has a child from where it is looked for on, before this one.
+    pub byte: u8,
+    /// Where its child word stands.
+    pub place: usize,
+}
+
+/// Where a look stands between two of its steps.
+#[derive(Clone, Copy, Debug, PartialEq, Eq)]
+pub enum LookStage {
+    /// Nothing is stamped.
+    Start,
+    /// The anchor is stamped.
+    Anchor(Stamp),
+    /// The stamp's cell names this, to which the path leads.
+    Child(Stamp, Link),
+    /// A cell that was checked names this node.
+    Below(Stamp, Node),
+    /// The cell and the node are stamped.
+    Both(Stamp, Stamp, Node),
+    /// The node was stamped while the cell above it named it.
+    Header(Stamp, Node),
+    /// The word of the prefix with this number comes next.
+    Prefix(NodeSeen, u8),
+    /// The word of key bytes, or of the index, with this number comes next.
+    Keys(NodeSeen, Front, u8),
+    /// The child word comes next.
+    Slot(ChildSought),
+    /// The stamp's cell names this leaf; its value comes next.
+    Value(Stamp, u32),
+    /// Its value is this; its length comes next.
+    Length(Stamp, u32, u64),
+    /// The word of the leaf's key with this number comes next.
+    Bytes(LeafSeen, u8),
+    /// What was read under the stamp shows what there is up to here: a leaf with this value, or none.
+    Decided(Stamp, Reach, Option<u64>),
+    /// That is settled.
+    Ended(Reach, Option<u64>),
+}
+
+/// What a look has seen: at one step the rows from `lo` on, before `hi`, were exactly this one, or none.
+#[derive(Clone, Debug, PartialEq, Eq, Drop)]
+pub struct Seen {
+    pub lo: Key,
+    pub hi: Bound,
+    pub row: Option<(Key, u64)>,
+}
+
+/// A look of a range, whose ends and trail stand beside it: from the anchor down to the first leaf from the lower end on, or to
+/// where it is seen that there is none up to some path.
+#[derive(Clone, Copy, Debug, PartialEq, Eq)]
+pub struct Look {
+    /// How many bytes lead to the cell where it stands; the trail may have more.
+    pub(crate) depth: usize,
+    pub(crate) stage: LookStage,
+}
+
+impl Look {
+    ghost use Rattle.art_find.specs.Asking.{Answers, IsAllowed, WantsCheck, WantsVersion, goes_on};
+    ghost use Rattle.art_find.specs.Descents.{IsReading};
+    ghost use Rattle.art_find.specs.declared.asked.Answer.TheVariants as told;
+    ghost use Rattle.art_find.specs.declared.asked.Asked.{Asked as AskedStep};
+    ghost use Rattle.art_look.specs.Looks.{Fits, Settles, asks, deed_at, has_ended, most_steps, seen_at};
+    ghost use Rattle.art_look.specs.declared.trails.Trail.{Trail as Trailed};
+    ghost use Rattle.art_step.specs.declared.views.Sizes.{Sizes};
+    ghost use Rattle.art_step.specs.declared.views.View.{View};
+    ghost use Rattle.std.specs.Prelude.{Some, IfSome, true, false};
+
+    /// At its beginning.
+    pub fn new() -> Look
+        ensures steps { most_steps result.depth result.stage ≡ 0 }
+        ensures going { has_ended result.stage ≡ false }
+        ensures fits { (z : Sizes) (lo : List ℕ) (hi : KeyBound) (t : Trailed) (u v : View) → IsReading u v → Fits z lo hi result t u v }
+    {
+        Look {
+            depth: 0,
+            stage: LookStage::Start,
+        }
+    }
+
+    /// The next step, or none where it has ended.
+    pub fn next(&self) -> Option<Asked>
+        ensures asks { result ≡ asks self.now.stage }
+        ensures allowed { (z : Sizes) (lo : List ℕ) (hi : KeyBound) (t : Trailed) (u v : View) → Fits z lo hi self.now t u v →
+            IfSome result (IsAllowed z (Settles lo t self.now.stage) v) }
+    {
+        match self.stage {
+            LookStage::Start => Some(Asked::Begin(Cell::Anchor)),
+            LookStage::Anchor(stamp) => Some(Asked::Read(stamp, 1)),
+            LookStage::Child(stamp, _) => Some(Asked::Check(stamp)),
+            LookStage::Below(_, node) => Some(Asked::Begin(Cell::Node(node))),
+            LookStage::Both(above, _, _) => Some(Asked::Check(above)),
+            LookStage::Header(stamp, _) => Some(Asked::Read(stamp, 1)),
+            LookStage::Prefix(seen, number) => {
+                Some(Asked::Read(seen.stamp, 2 + usize::from(number)))
+            }
+            LookStage::Keys(seen, _, number) => {
+                Some(Asked::Read(seen.stamp, 10 + usize::from(number)))
+            }
+            LookStage::Slot(sought) => Some(Asked::Read(sought.seen.stamp, sought.place)),
+            LookStage::Value(stamp, leaf) => Some(Asked::ReadLeaf(stamp, leaf, 0)),
+            LookStage::Length(stamp, leaf, _) => Some(Asked::ReadLeaf(stamp, leaf, 1)),
+            LookStage::Bytes(seen, number) => Some(Asked::ReadLeaf(
+                seen.stamp,
+                seen.leaf,
+                2 + usize::from(number),
+            )),
+            LookStage::Decided(stamp, _, _) => Some(Asked::Settle(stamp)),
+            LookStage::Ended(_, _) => None,
+        }
+    }
+
+    /// Whether what it has seen is settled.
+    pub fn ended(&self) -> bool
+        ensures { result ≡ has_ended self.now.stage }
+    {
+        matches!(self.stage, LookStage::Ended(_, _))
+    }
+
+    /// What it has seen, of the range from the key on, before the bound: at the step that settles it, and once that is settled.
+    pub fn seen(&self, lo: &[u8], hi: &Bound, trail: &Trail) -> Option<Seen>
+        requires { length lo.now ≤ 64 }
+        ensures { result ≡ seen_at lo.now hi.now trail.now self.now.stage }
+    {
+        match self.stage {
+            LookStage::Decided(_, reach, value) => Some(seen_of(lo, hi, trail, reach, value)),
+            LookStage::Ended(reach, value) => Some(seen_of(lo, hi, trail, reach, value)),
+            _ => None,
+        }
+    }
+
+    /// The step that it asked for was made, with this answer. Whether it goes on: else it begins anew.
+    pub fn told(&mut self, lo: &[u8], trail: &mut Trail, answer: Answer) -> bool
+        requires fits { (z : Sizes) × (hi : KeyBound) × (u : View) × (v : View) × (w : View) × (asked : AskedStep) ×
+            Fits z lo.now hi self.old trail.old u v × (asks self.old.stage ≡ Some asked) ×
+            Answers z (deed_at lo.now hi trail.old self.old.stage) asked answer v w }
+        ensures on { result ≡ goes_on answer }
+        ensures steps { result ≡ true → most_steps self.old.depth self.old.stage < most_steps self.new.depth self.new.stage }
+        ensures anew { result ≡ false → most_steps self.new.depth self.new.stage ≡ 0 }
+        ensures fits { (z : Sizes) (hi : KeyBound) (u v w : View) (asked : AskedStep) →
+            Fits z lo.now hi self.old trail.old u v → asks self.old.stage ≡ Some asked →
+            Answers z (deed_at lo.now hi trail.old self.old.stage) asked answer v w → Fits z lo.now hi self.new trail.new u w }
+    {
+        match answer {
+            Answer::Begun(Ok(stamp)) => self.began(stamp),
+            Answer::Word(word) => self.read(lo, trail, word),
+            Answer::Checked(checked) => match checked {
+                Ok(()) => self.checked(),
+                Err(_) => {
+                    self.failed();
+                    return false;
+                }
+            },
+            Answer::Begun(Err(_)) => {
+                self.failed();
+                return false;
+            }
+        }
+        true
+    }
+
+    /// A version word was clear, and gave this stamp.
+    pub fn began(&mut self, stamp: Stamp)
+        requires { WantsVersion (asks self.old.stage) }
+        ensures steps { most_steps self.old.depth self.old.stage < most_steps self.new.depth self.new.stage }
+        ensures fits { (z : Sizes) (lo : List ℕ) (hi : KeyBound) (t : Trailed) (u v w : View) (asked : AskedStep) →
+            Fits z lo hi self.old t u v → asks self.old.stage ≡ Some asked →
+            Answers z (deed_at lo hi t self.old.stage) asked (told.Begun (Ok stamp)) v w → Fits z lo hi self.new t u w }
+    {
+        self.stage = match self.stage {
+            LookStage::Start => LookStage::Anchor(stamp),
+            LookStage::Below(above, node) => LookStage::Both(above, stamp, node),
+            _ => unreachable!(),
+        };
+    }
+
+    /// A version word was unchanged.
+    pub fn checked(&mut self)
+        requires { WantsCheck (asks self.old.stage) }
+        ensures steps { most_steps self.old.depth self.old.stage < most_steps self.new.depth self.new.stage }
+        ensures fits { (z : Sizes) (lo : List ℕ) (hi : KeyBound) (t : Trailed) (u v w : View) (asked : AskedStep) →
+            Fits z lo hi self.old t u v → asks self.old.stage ≡ Some asked →
+            Answers z (deed_at lo hi t self.old.stage) asked (told.Checked (Ok tt)) v w → Fits z lo hi self.new t u w }
+    {
+        self.stage = match self.stage {
+            LookStage::Child(stamp, link) => below(stamp, link),
+            LookStage::Both(_, stamp, node) => LookStage::Header(stamp, node),
+            LookStage::Decided(_, reach, value) => LookStage::Ended(reach, value),
+            _ => unreachable!(),
+        };
+    }
+
+    /// A version word was locked, obsolete or changed: the look begins anew.
+    pub fn failed(&mut self)
+        ensures steps { most_steps self.new.depth self.new.stage ≡ 0 }
+        ensures fits { (z : Sizes) (lo : List ℕ) (hi : KeyBound) (t : Trailed) (u v : View) → IsReading u v → Fits z lo hi self.new t u v }
+    {
+        self.stage = LookStage::Start;
+    }
+}
+
+/// The cell that names the link was checked.
+fn below(stamp: Stamp, link: Link) -> LookStage
+    ensures { result ≡ stage_below stamp link }
+{
+    match link {
+        Link::Leaf(leaf) => LookStage::Value(stamp, leaf),
+        Link::Node(node) => LookStage::Below(stamp, node),
+    }
+}
+
+/// What was seen by a look that ends at the trail's path, and found a leaf with the trail's key and this value, or none.
+fn seen_of(lo: &[u8], hi: &Bound, trail: &Trail, reach: Reach, value: Option<u64>) -> Seen
+    requires { length lo.now ≤ 64 }
+    ensures { result ≡ seen_of lo.now hi.now trail.now.path.items trail.now.key.items reach value }
+{
+    Seen {
+        lo: copied(lo),
+        hi: nearer(end_at(reach, trail.path.as_slice()), hi),
+        row: value.and_then(|value| row_within(lo, hi, trail.key.as_slice(), value)),
+    }
+}
+
+/// How far a look sees that ends at the path.
+fn end_at(reach: Reach, path: &[u8]) -> Bound
+    requires { length path.now ≤ 64 }
+    ensures { result ≡ bound_at (end_at reach path.now) }
+{
+    match reach {
+        Reach::Past => after(path),
+        Reach::UpTo => Bound::At(copied(path)),
+    }
+}
+
+/// The nearer of two ends.
+fn nearer(end: Bound, hi: &Bound) -> Bound
+    ensures { result ≡ nearer end hi.now }
+{
+    if end.before(hi) {
+        return end;
+    }
+    match hi {
+        Bound::At(key) => Bound::At(copied(key.as_slice())),
+        Bound::End => Bound::End,
+    }
+}
+
+/// The row, where its key is not before the lower end and is before the upper one.
+fn row_within(lo: &[u8], hi: &Bound, key: &[u8], value: u64) -> Option<(Key, u64)>
+    requires { length key.now ≤ 64 }
+    ensures { result ≡ row_within lo.now hi.now key.now value }
+{
+    if key.cmp(lo).is_lt() {
+        return None;
+    }
+    let at = Bound::At(copied(key));
+    if !at.before(hi) {
+        return None;
+    }
+    Some((copied(key), value))
+}

@@ -1,0 +1,56 @@
+//! The bytes that a look has read.
+ghost use Rattle.std.specs.Prelude.{◌≡◌, ◌+◌, ◌≤◌, ◌++◌, [], length, map};
+ghost use Rattle.std.specs.List.{range_with_len};
+ghost use Rattle.art_cell.specs.Words.{byte_of};
+
+use art_key::Key;
+
+/// The bytes that a look has read, which stand beside it.
+#[derive(Clone, Debug, PartialEq, Eq, Drop)]
+pub struct Trail {
+    /// The path to where it stands; in a node with the bytes of its prefix that were read.
+    pub path: Key,
+    /// The bytes of a leaf's key that were read.
+    pub key: Key,
+}
+
+impl Trail {
+    /// Of a look at its beginning.
+    pub fn new() -> Trail
+        ensures path { result.path.items ≡ [] }
+        ensures key { result.key.items ≡ [] }
+    {
+        Trail {
+            path: Key::new(),
+            key: Key::new(),
+        }
+    }
+}
+
+/// Appends the first bytes of a word, so many.
+pub(crate) fn spell(text: &mut Key, word: u64, count: usize)
+    requires few { count ≤ 8 }
+    requires room { length text.old.items + count ≤ 64 }
+    ensures { text.new.items ≡ text.old.items ++ map (byte_of word) (range_with_len 0 count) }
+{
+    let bytes = word.to_be_bytes();
+    append(text, &bytes[..count]);
+}
+
+/// Appends these bytes.
+fn append(text: &mut Key, bytes: &[u8])
+    requires { length text.old.items + length bytes.now ≤ 64 }
+    ensures { text.new.items ≡ text.old.items ++ bytes.now }
+{
+    text.try_extend_from_slice(bytes).unwrap();
+}
+
+/// The bytes as a key.
+pub(crate) fn copied(bytes: &[u8]) -> Key
+    requires { length bytes.now ≤ 64 }
+    ensures { result.items ≡ bytes.now }
+{
+    let mut key = Key::new();
+    key.try_extend_from_slice(bytes).unwrap();
+    key
+}
