@@ -1,5 +1,5 @@
 //! Four actors on one world, what waits in limbo while another pass is pinned, and an anchor at the end of its counter.
-ghost use Rattle.std.specs.Prelude.{◌≡◌, ◌<◌, ◌∷◌, []};
+ghost use Rattle.std.specs.Prelude.{◌≡◌, ◌≢◌, ◌<◌, ◌∷◌, []};
 ghost use Rattle.art_cell_uses.specs.declared.anchor.Visit.TheVariants.{Resting as resting};
 ghost use Rattle.art_cell_uses.specs.declared.anchor.visitor.Visitor.{Visitor};
 ghost use Rattle.art_world.specs.Stepper.{OnlyStepped};
@@ -9,8 +9,9 @@ use super::visitor::Visitor;
 use art_cell::{Cell, Link, Pool};
 use art_epoch::{Limbo, Place, pin, reclaim, take, unpin};
 use art_find::{Got, get};
-use art_key::Key;
-use art_step::{Sizes, UpgradeFault};
+use art_key::{Bound, Key};
+use art_look::{Seen, look_from};
+use art_step::{Sizes, Steps, UpgradeFault};
 use art_world::{Stepper, World};
 use rand_pcg::Pcg32;
 use rand_pcg::rand_core::{Rng, SeedableRng};
@@ -164,6 +165,39 @@ fn a_get_finds_the_leaf_that_stands(rt: HostRuntime) -> Result<(), Fail> {
     assert_eq!(rt; get(&mut second, &key, 7).got, Got::Found(VALUE));
     key.push(0);
     assert_eq!(rt; get(&mut second, &key, 7).got, Got::Absent);
+    assert_eq!(rt; turns_of(visitors), 20);
+    Ok(())
+}
+
+/// What a look from the key on sees, in so many steps.
+fn seen_from<S: Steps>(steps: &mut S, lo: &Key, turns: u32) -> Option<Seen>
+    requires free { (S.view steps.old).held ≡ [] }
+    requires pinned { (S.view steps.old).pin ≢ 0 }
+    ensures free { (S.view steps.new).held ≡ [] }
+    ensures pinned { (S.view steps.new).pin ≢ 0 }
+    ensures only { S.only steps.old steps.new }
+{
+    look_from(steps, lo, &Bound::End, turns).seen
+}
+
+#[test]
+fn a_look_sees_the_leaf_that_stands_from_its_key_on(rt: HostRuntime) -> Result<(), Fail> {
+    let mut world = World::open(rt.alloc(), &EIGHT_LEAVES, 0)?;
+    let mut visitors = [Visitor::new()];
+    world.run(&mut visitors, &[0; LINKED]);
+    let mut key = Key::new();
+    let mut second = world.at(1);
+    pin(&mut second);
+    let first = seen_from(&mut second, &key, 7).expect(&rt, "seven steps are enough");
+    key.push(KEY);
+    assert_eq!(rt; first.hi, Bound::End);
+    assert_eq!(rt; first.row.is_some(), true);
+    assert_eq!(rt; seen_from(&mut second, &key, 6), None);
+    let here = seen_from(&mut second, &key, 7).expect(&rt, "seven steps are enough");
+    assert_eq!(rt; here.row.map(|row| row.1), Some(VALUE));
+    key.push(0);
+    let past = seen_from(&mut second, &key, 7).expect(&rt, "seven steps are enough");
+    assert_eq!(rt; past.row, None);
     assert_eq!(rt; turns_of(visitors), 20);
     Ok(())
 }
