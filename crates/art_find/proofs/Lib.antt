@@ -4,3 +4,4 @@ pub mod LeafKeys
 pub mod ComparedWords
 pub mod Stages
 pub mod Counting
+pub mod Driven

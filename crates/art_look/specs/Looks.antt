@@ -17,7 +17,7 @@ use Rattle.art_key.specs.declared.bounds.Bound.{Bound as KeyBound}
 use Rattle.art_look.specs.Fronts.{IsFront, low_at}
 use Rattle.art_look.specs.Seen.{Stood, look_done, seen_of, with_key}
 use Rattle.art_look.specs.Table.{IsRow}
-use Rattle.art_look.specs.Trails.{HasFirst, HasFirstValue, Leads, SeeksChild, SeeksKeys, SpellsKey, SpellsPrefix}
+use Rattle.art_look.specs.Trails.{HasFirst, HasFirstValue, Leads, SeeksChild, SeeksKeys, SpellsKey, SpellsWords}
 use Rattle.art_look.specs.declared.fronts.Front.{Front}
 use Rattle.art_look.specs.declared.looks.ChildSought.{ChildSought}
 use Rattle.art_look.specs.declared.looks.Look.{Look}
@@ -148,7 +148,7 @@ pub record IsSpelled (z : Sizes) (lo : List ℕ) (depth : ℕ) (seen : NodeSeen)
   pub more : 8 * i < count_in seen.header
   pub short : depth + count_in seen.header < 64
   pub front : Begins (take depth q) lo
-  pub shows : Shows z v seen.stamp (λ s. SpellsPrefix s seen.node (take depth q) seen.header (8 * i) q)
+  pub shows : Shows z v seen.stamp (λ s. SpellsWords s seen depth i q)
 
 -- q is the path to a node with its prefix, and its least child is looked for
 pub record IsSought (lo : List ℕ) (depth : ℕ) (q : List ℕ) (f : Front) : Type 0 where
@@ -189,8 +189,10 @@ StageFits z lo hi depth (Header y n) t u v = IsOn z u v y n × IsEntered z lo de
 StageFits z lo hi depth (Prefix seen i) t u v = IsOn z u v seen.stamp seen.node × IsSpelled z lo depth seen i t.path.items v
 StageFits z lo hi depth (Keys seen f i) t u v = IsOn z u v seen.stamp seen.node × IsInKeys z lo depth seen f i t.path.items v
 StageFits z lo hi depth (Slot a) t u v = IsOn z u v a.seen.stamp a.seen.node × IsInSlots z lo depth a t.path.items v
-StageFits z lo hi depth (Value x l) t u v = IsAbove z u v x l × (depth ≤ 64) × Shows z v x (λ s. HasFirst s x.cell lo t.path.items l)
-StageFits z lo hi depth (Length x l value) t u v = IsAbove z u v x l × (depth ≤ 64) × Shows z v x (λ s. HasFirstValue s x.cell lo t.path.items l value)
+StageFits z lo hi depth (Value x l) t u v = IsAbove z u v x l × (depth ≤ 64) ×
+    Shows z v x (λ s. HasFirst s x.cell lo t.path.items l)
+StageFits z lo hi depth (Length x l value) t u v = IsAbove z u v x l × (depth ≤ 64) ×
+    Shows z v x (λ s. HasFirstValue s x.cell lo t.path.items l value)
 StageFits z lo hi depth (Bytes seen i) t u v = IsAbove z u v seen.stamp seen.leaf × (depth ≤ 64) × IsInKey z lo seen i t.path.items t.key.items v
 StageFits z lo hi depth (Decided x r o) t u v = IsReading u v × (depth ≤ 64) × HasStamp z v x ×
     Shows z v x (λ s. IsRow (heap_of s) lo t.path.items r (with_key t.key.items o))

@@ -1,5 +1,5 @@
 -- What the cell where a look stands shows of its trail.
-use Rattle.std.specs.Prelude.{◌≡◌, ℕ, List, ◌++◌, map}
+use Rattle.std.specs.Prelude.{◌≡◌, ℕ, ◌*◌, List, ◌++◌, map, take}
 use Rattle.std.specs.List.{range_with_len}
 use Rattle.art_cell.specs.declared.cells.Cell.{Cell}
 use Rattle.art_cell.specs.declared.cells.Cell.TheVariants as cell
@@ -8,6 +8,7 @@ use Rattle.art_cell.specs.declared.cells.Link.TheVariants.{Leaf as leaf, Node as
 use Rattle.art_cell.specs.declared.cells.Node.{Node}
 use Rattle.art_cell.specs.Words.{child_of, nonzero, packed}
 use Rattle.art_find.specs.declared.descents.LeafSeen.{LeafSeen}
+use Rattle.art_find.specs.declared.descents.NodeSeen.{NodeSeen}
 use Rattle.art_look.specs.Table.{IsFirst}
 use Rattle.art_node.specs.Searches.{IsOccupied, KeysKnownFrom}
 use Rattle.art_step.specs.Shows.{HasChild}
@@ -20,6 +21,10 @@ pub record SpellsPrefix (s : Cells) (n : Node) (r : List ℕ) (header count : �
   pub at : StandsAt (heap_of s) (node n) r
   pub is_header : s (cell.Node n) 1 ≡ header
   pub spelled : q ≡ r ++ map (packed (s (cell.Node n)) 2) (range_with_len 0 count)
+
+-- so far as the word with a number, where the path to it has so many bytes
+abbrev pub SpellsWords : Cells → NodeSeen → ℕ → ℕ → List ℕ → Type 0
+SpellsWords s seen depth number q = SpellsPrefix s seen.node (take depth q) seen.header (8 * number) q
 
 -- with all of them
 pub record SpellsPath (s : Cells) (n : Node) (r : List ℕ) (header : ℕ) (q : List ℕ) : Type 0 where

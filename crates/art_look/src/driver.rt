@@ -36,7 +36,8 @@ fn make<S: Steps>(
     requires asked { asks look.now.stage ≡ Some asked }
     requires allowed { IsAllowed (S.sizes steps.old) (Settles lo.now trail.now look.now.stage) (S.view steps.old) asked }
     ensures only { S.only steps.old steps.new }
-    ensures row { Answers (S.sizes steps.old) (deed_at lo.now hi.now trail.now look.now.stage) asked result (S.view steps.old) (S.view steps.new) }
+    ensures row { Answers (S.sizes steps.old) (deed_at lo.now hi.now trail.now look.now.stage) asked result
+        (S.view steps.old) (S.view steps.new) }
 {
     match asked {
         Asked::Begin(cell) => Answer::Begun(steps.begin(cell)),

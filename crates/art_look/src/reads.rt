@@ -22,7 +22,7 @@ impl Look {
     ghost use Rattle.art_find.specs.declared.asked.Asked.{Asked as AskedStep};
     ghost use Rattle.art_look.specs.Fronts.{low_at};
     ghost use Rattle.art_look.specs.Looks.{Fits, IsSought, asks, deed_at, most_steps};
-    ghost use Rattle.art_look.specs.Trails.{HasFirstValue, SeeksChild, SeeksKeys, SpellsKey, SpellsPath, SpellsPrefix};
+    ghost use Rattle.art_look.specs.Trails.{HasFirstValue, SeeksChild, SeeksKeys, SpellsKey, SpellsPath, SpellsPrefix, SpellsWords};
     ghost use Rattle.art_step.specs.Shows.{HasStamp, Shows};
     ghost use Rattle.art_step.specs.declared.views.Sizes.{Sizes};
     ghost use Rattle.art_step.specs.declared.views.View.{View};
@@ -110,7 +110,7 @@ impl Look {
         requires front { Begins (take self.old.depth trail.old.path.items) lo.now }
         ensures steps { 320 * self.old.depth + 6 + number < most_steps self.new.depth self.new.stage }
         ensures fits { (z : Sizes) (hi : KeyBound) (u w : View) → IsOn z u w seen.stamp seen.node →
-            Shows z w seen.stamp (λ s. SpellsPrefix s seen.node (take self.old.depth trail.old.path.items) seen.header (8 * number) trail.old.path.items) →
+            Shows z w seen.stamp (λ s. SpellsWords s seen self.old.depth number trail.old.path.items) →
             Shows z w seen.stamp (λ s. s (cells.Node seen.node) (2 + number) ≡ word) → Fits z lo.now hi self.new trail.new u w }
     {
         let rest = read_header(seen.header).prefix_length - 8 * usize::from(number);

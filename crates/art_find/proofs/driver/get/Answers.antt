@@ -1,8 +1,8 @@
 use Rattle.std.proofs.Common.{◌≡◌, ◌+◌, ℕ, List, refl, sym, ap, ◌∙◌, subst, arith, rules}
 use Rattle.art_find.specs.Driven.{GetEnds, GetFits, get_done, restarts_after}
 use Rattle.art_find.proofs.Counting.{few_steps}
-use Rattle.art_find.proofs.Stages.{get_ends, has_ended, still_reading, tells_free, tells_pinned}
-use Rattle.art_step.specs.declared.views.Sizes.{Sizes}
+use Rattle.art_find.proofs.Driven.{ended_free, ended_pinned, stepped}
+use Rattle.art_find.proofs.Stages.{get_ends, still_reading}
 use Rattle.art_find.proofs.driver.get.Goals as goal
 use Rattle.art_find.proofs.driver.get.Goals.{then-not-step, else-not-step}
 
@@ -10,22 +10,28 @@ pub returns-in-Some-clause-ends : goal.returns-in-Some-clause-ends
 returns-in-Some-clause-ends g c =
     let i = c.loop.invariant in
     let u = g.S.Steps.view c.args.steps.now in
-    let fits = c.step.ensures.fits u c.loop.restarts (subst (λ (y : Sizes). GetFits y c.as_slice-bytes.result.now u (g.S.Steps.view c.loop.steps) c.loop.descent c.loop.restarts) (sym i.sizes) i.fits) in
+    let z = g.S.Steps.sizes c.args.steps.now in
+    let k = c.as_slice-bytes.result.now in
     let w = g.S.Steps.view c.step.new.steps in
-    subst (λ (k : List ℕ). GetEnds k u w c.settled.result) c.as_slice-bytes.ensures.value
-    (subst (GetEnds c.as_slice-bytes.result.now u w) (sym c.settled.ensures)
-    (get_ends (g.S.Steps.sizes c.loop.steps) c.as_slice-bytes.result.now c.step.new.descent c.in-Some.value u w (restarts_after c.loop.restarts c.step.result) (sym c.ended.ensures ∙ c.in-Some.is) fits))
+    let after = restarts_after c.loop.restarts c.step.result in
+    let fits = stepped (g.S.Steps.sizes c.loop.steps) z i.sizes k u (g.S.Steps.view c.loop.steps) w c.loop.descent c.step.new.descent c.loop.restarts after (c.step.ensures.fits u c.loop.restarts) i.fits in
+    subst (λ (l : List ℕ). GetEnds l u w c.settled.result) c.as_slice-bytes.ensures.value
+    (subst (GetEnds k u w) (sym c.settled.ensures) (get_ends z k c.step.new.descent c.in-Some.value u w after (sym c.ended.ensures ∙ c.in-Some.is) fits))
 
 pub returns-in-Some-clause-restarts : goal.returns-in-Some-clause-restarts
 returns-in-Some-clause-restarts g c =
     let i = c.loop.invariant in
     let u = g.S.Steps.view c.args.steps.now in
-    let fits = c.step.ensures.fits u c.loop.restarts (subst (λ (y : Sizes). GetFits y c.as_slice-bytes.result.now u (g.S.Steps.view c.loop.steps) c.loop.descent c.loop.restarts) (sym i.sizes) i.fits) in
-    let after : c.if-not-step.restarts ≡ restarts_after c.loop.restarts c.step.result = elim c.if-not-step.branch [
+    let z = g.S.Steps.sizes c.args.steps.now in
+    let k = c.as_slice-bytes.result.now in
+    let w = g.S.Steps.view c.step.new.steps in
+    let after = restarts_after c.loop.restarts c.step.result in
+    let fits = stepped (g.S.Steps.sizes c.loop.steps) z i.sizes k u (g.S.Steps.view c.loop.steps) w c.loop.descent c.step.new.descent c.loop.restarts after (c.step.ensures.fits u c.loop.restarts) i.fits in
+    let same : c.if-not-step.restarts ≡ restarts_after c.loop.restarts c.step.result = elim c.if-not-step.branch [
       | then-not-step b ↦ b.restarts-is ∙ rw b.if-not-step.true refl
       | else-not-step b ↦ b.restarts-is ∙ rw b.if-not-step.false refl
     ] in
-    fits.counts.failures ∙ ap (λ (n : ℕ). u.failures + n) (sym after)
+    fits.counts.failures ∙ ap (λ (n : ℕ). u.failures + n) (sym same)
 
 pub loop-preserved : goal.loop-preserved
 loop-preserved g c =
@@ -34,9 +40,10 @@ loop-preserved g c =
     let i = c.loop.invariant in
     let z = g.S.Steps.sizes s in
     let u = g.S.Steps.view s in
-    let fits = subst (λ (y : Sizes). GetFits y c.as_slice-bytes.result.now u (g.S.Steps.view c.step.new.steps) c.step.new.descent (restarts_after c.loop.restarts c.step.result)) i.sizes
-    (c.step.ensures.fits u c.loop.restarts (subst (λ (y : Sizes). GetFits y c.as_slice-bytes.result.now u (g.S.Steps.view t) c.loop.descent c.loop.restarts) (sym i.sizes) i.fits)) in
-    let after : c.if-not-step.restarts ≡ restarts_after c.loop.restarts c.step.result = elim c.if-not-step.branch [
+    let k = c.as_slice-bytes.result.now in
+    let w = g.S.Steps.view c.step.new.steps in
+    let fits = stepped (g.S.Steps.sizes t) z i.sizes k u (g.S.Steps.view t) w c.loop.descent c.step.new.descent c.loop.restarts (restarts_after c.loop.restarts c.step.result) (c.step.ensures.fits u c.loop.restarts) i.fits in
+    let same : c.if-not-step.restarts ≡ restarts_after c.loop.restarts c.step.result = elim c.if-not-step.branch [
       | then-not-step b ↦ b.restarts-is ∙ rw b.if-not-step.true refl
       | else-not-step b ↦ b.restarts-is ∙ rw b.if-not-step.false refl
     ] in
@@ -44,7 +51,7 @@ loop-preserved g c =
       only = g.met.S.Steps.only_then s t c.step.new.steps i.only c.step.ensures.only;
       sizes = g.met.S.Steps.only_sizes t c.step.new.steps c.step.ensures.only ∙ i.sizes;
       going = search rules;
-      fits = subst (GetFits z c.as_slice-bytes.result.now u (g.S.Steps.view c.step.new.steps) c.step.new.descent) (sym after) fits;
+      fits = subst (GetFits z k u w c.step.new.descent) (sym same) fits;
       counted = search rules;
       few = search rules;
     }
@@ -64,23 +71,23 @@ pub returns-in-Some-clause-free : goal.returns-in-Some-clause-free
 returns-in-Some-clause-free g c =
     let i = c.loop.invariant in
     let u = g.S.Steps.view c.args.steps.now in
-    let fits = c.step.ensures.fits u c.loop.restarts (subst (λ (y : Sizes). GetFits y c.as_slice-bytes.result.now u (g.S.Steps.view c.loop.steps) c.loop.descent c.loop.restarts) (sym i.sizes) i.fits) in
-    let w = g.S.Steps.view c.step.new.steps in
-    let m = c.step.new.descent in
+    let z = g.S.Steps.sizes c.args.steps.now in
     let k = c.as_slice-bytes.result.now in
-    let made = has_ended (g.S.Steps.sizes c.loop.steps) k (get_done k) m.depth m.stage c.in-Some.value u w (sym c.ended.ensures ∙ c.in-Some.is) fits.fits in
-    tells_free u w made.1 c.requires.free
+    let w = g.S.Steps.view c.step.new.steps in
+    let after = restarts_after c.loop.restarts c.step.result in
+    let fits = stepped (g.S.Steps.sizes c.loop.steps) z i.sizes k u (g.S.Steps.view c.loop.steps) w c.loop.descent c.step.new.descent c.loop.restarts after (c.step.ensures.fits u c.loop.restarts) i.fits in
+    ended_free z k u w c.step.new.descent after c.in-Some.value (sym c.ended.ensures ∙ c.in-Some.is) fits c.requires.free
 
 pub returns-in-Some-clause-pinned : goal.returns-in-Some-clause-pinned
 returns-in-Some-clause-pinned g c =
     let i = c.loop.invariant in
     let u = g.S.Steps.view c.args.steps.now in
-    let fits = c.step.ensures.fits u c.loop.restarts (subst (λ (y : Sizes). GetFits y c.as_slice-bytes.result.now u (g.S.Steps.view c.loop.steps) c.loop.descent c.loop.restarts) (sym i.sizes) i.fits) in
-    let w = g.S.Steps.view c.step.new.steps in
-    let m = c.step.new.descent in
+    let z = g.S.Steps.sizes c.args.steps.now in
     let k = c.as_slice-bytes.result.now in
-    let made = has_ended (g.S.Steps.sizes c.loop.steps) k (get_done k) m.depth m.stage c.in-Some.value u w (sym c.ended.ensures ∙ c.in-Some.is) fits.fits in
-    tells_pinned u w made.1 c.requires.pinned
+    let w = g.S.Steps.view c.step.new.steps in
+    let after = restarts_after c.loop.restarts c.step.result in
+    let fits = stepped (g.S.Steps.sizes c.loop.steps) z i.sizes k u (g.S.Steps.view c.loop.steps) w c.loop.descent c.step.new.descent c.loop.restarts after (c.step.ensures.fits u c.loop.restarts) i.fits in
+    ended_pinned z k u w c.step.new.descent after c.in-Some.value (sym c.ended.ensures ∙ c.in-Some.is) fits c.requires.pinned
 
 pub returns-clause-free : goal.returns-clause-free
 returns-clause-free g c =
