@@ -4,10 +4,8 @@
 //! It shows that the contracts of `Steps`, `EpochSteps`, `World`, `Actor` and the machines of `art_epoch` are enough to write
 //! a change and to prove it, in the order that each change has: the pass is pinned; the anchor is stamped, read, upgraded
 //! and written, and the commit is its release; what left the tree waits in limbo; the pass goes idle, and what waits goes
-//! back. Where an upgrade fails, nothing is written, and the visitor begins anew. Beside it stand tests of numbers, cells
-//! and the names of kinds of step. Nothing stands above this crate.
+//! back. Where an upgrade fails, nothing is written, and the visitor begins anew. Nothing stands above this
+//! crate.
 #![tactic(auto)]
 
 mod anchor;
-#[cfg(test)]
-mod tests;

@@ -3,7 +3,7 @@ use Rattle.std.proofs.Common.{◌∙◌, refl, sym, subst}
 use Rattle.art_epoch.specs.Asking.{Answers}
 use Rattle.art_epoch.specs.Taking.{Fits}
 use Rattle.art_step.specs.declared.views.Sizes.{Sizes}
-use Rattle.art_cell_uses.proofs.tests.free_numbers.counted_take.Goals as goal
+use Rattle.art_world_uses.proofs.free_numbers.counted_take.Goals as goal
 
 pub loop-asked-init : goal.loop-asked-init
 loop-asked-init g c =

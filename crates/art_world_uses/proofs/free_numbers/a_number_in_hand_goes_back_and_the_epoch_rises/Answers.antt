@@ -13,7 +13,7 @@ use Rattle.art_step.specs.Steps.Give as give
 use Rattle.art_step.specs.Tokens.{link_of_number}
 use Rattle.art_step.specs.Views.{IsNotHeld, Member}
 use Rattle.art_world.specs.Stepper.{sizes_of, view_of}
-use Rattle.art_cell_uses.proofs.tests.free_numbers.a_number_in_hand_goes_back_and_the_epoch_rises.Goals as goal
+use Rattle.art_world_uses.proofs.free_numbers.a_number_in_hand_goes_back_and_the_epoch_rises.Goals as goal
 
 -- a number that was taken by one that holds nothing may be given back
 may_give : (z : Sizes) (v w : View) (pool : Pool) (n : Number) → v.held ≡ [] → OnlyTakes v w → TookLowest z v w pool (link_of_number n) →

@@ -1,7 +1,7 @@
 -- The machine fits what the pass did so far.
 use Rattle.std.proofs.Common.{◌≡◌, ◌+◌, ◌-◌, ◌*◌}
 use Rattle.art_epoch.specs.Taking.{Fits}
-use Rattle.art_cell_uses.proofs.tests.free_numbers.counted_take.Given as goal
+use Rattle.art_world_uses.proofs.free_numbers.counted_take.Given as goal
 
 abbrev pub invariant-loop-asked : goal.invariant-loop-asked
 invariant-loop-asked g l = record {

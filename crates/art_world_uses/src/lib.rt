@@ -1,0 +1,20 @@
+//! Worked rows of cells, numbers, gets, looks and paths, most of them over a world of one thread.
+//!
+//! Each test makes few steps of one pass. Whole changes, in turns with those of other passes, stand in `art_cell_uses`.
+//! Nothing stands above this crate.
+#![tactic(auto)]
+
+#[cfg(test)]
+mod cells;
+#[cfg(test)]
+mod free_numbers;
+#[cfg(test)]
+mod gets;
+#[cfg(test)]
+mod looks;
+#[cfg(test)]
+mod numbers;
+#[cfg(test)]
+mod paths;
+#[cfg(test)]
+mod step_names;
