@@ -24,13 +24,13 @@ pub record MaySettle (z : Sizes) (so : Cells → Type 0) (v : View) (x : Stamp) 
   pub stamp : Member x v.stamps
   pub shows : Shows z v x so
 
--- a word that names the cell was read before the last check that found its word unchanged
+-- a word that names the cell was read before the last check that succeeded; a view does not keep of which cell that was
 pub record WasChecked (d : Link) (v : View) : Type 0 where
   pub note : Note
   pub noted : Member note v.checked.notes
   pub names : NamesLink note.fact d
 
--- the step may be made, of a machine that settles that this is so; no word of a leaf is read before the word that names it was checked
+-- the step may be made, of a machine that settles that this is so; a leaf's words wait for a check after the word that names it
 abbrev pub IsAllowed : Sizes → (Cells → Type 0) → View → Asked → Type 0
 IsAllowed z so v (Begin c) = HasVersion z c × begin.May v c
 IsAllowed z so v (Read x i) = IsInside z x.cell × read.May v x i
