@@ -2,13 +2,14 @@
 use Rattle.std.proofs.Common.{◌≡◌, ℕ, ◌+◌, ◌<◌, List, [], take, Option, sym, subst, arith}
 use Rattle.std.specs.Prelude.{IfSome}
 use Rattle.art_cell.specs.declared.cells.Cell.{Cell}
-use Rattle.art_cell.specs.declared.cells.Link.TheVariants.{Leaf as leaf}
+use Rattle.art_cell.specs.declared.cells.Link.TheVariants.{Leaf as leaf, Node as node}
 use Rattle.art_cell.specs.declared.cells.Node.{Node}
 use Rattle.art_cell.specs.declared.layouts.Layout.{Layout}
 use Rattle.art_cell.specs.declared.layouts.Layout.TheVariants.{Node4, Node16, Node48, Node256}
 use Rattle.art_cell.specs.Words.{size}
 use Rattle.art_find.specs.Asking.{IsAllowed, WasChecked}
 use Rattle.art_find.specs.Descents.{IsAbove, IsOn, StageFits, answer_at, asks}
+use Rattle.art_find.proofs.Stages.{noted_names}
 use Rattle.art_find.specs.declared.descents.Stage.{Stage}
 use Rattle.art_find.specs.declared.descents.Stage.TheVariants.{Start, Anchor, Child, Below, Both, Header, Prefix, Keys, Slot, Value, Length, Bytes, Decided, Ended}
 use Rattle.art_step.specs.Shows.{HasChild, HasValue, Shows}
@@ -34,7 +35,7 @@ reads_node z u v y n place on after within = (
   },
 )
 
-pub reads_leaf : (z : Sizes) (u v : View) (x : Stamp) (l place : ℕ) (q : List ℕ) → IsAbove z u v x l → place < 10 → Shows z v x (λ s. HasChild s x.cell (leaf l) q) → (l < z.leaves) × read.MayLeaf z v x l place × WasChecked (leaf l) v
+pub reads_leaf : (z : Sizes) (u v : View) (x : Stamp) (l place : ℕ) (q : List ℕ) → IsAbove z u v x l → place < 10 → Shows z v x (λ s. HasChild s x.cell (leaf l) q) → (l < z.leaves) × read.MayLeaf z v x l place × WasChecked x (leaf l) v
 reads_leaf z u v x l place q on low shows = (
   on.inside,
   record {
@@ -63,7 +64,7 @@ allowed z k what depth (Anchor x) u v fits = (
   },
 )
 allowed z k what depth (Child x d) u v fits = (fits.1.stamp.inside, record { stamp = fits.1.stamp.stamp; tells = tt })
-allowed z k what depth (Below x n) u v fits = (fits.2, record { pinned = fits.0.pinned; named = fits.1.noted })
+allowed z k what depth (Below x n) u v fits = (fits.2, record { pinned = fits.0.pinned; named = noted_names v x (node n) fits.1.noted })
 allowed z k what depth (Both x y n) u v fits = (fits.1.stamp.inside, record { stamp = fits.1.stamp.stamp; tells = tt })
 allowed z k what depth (Header y n) u v fits = reads_node z u v y n 1 fits.0 (omega arith) (front_inside n.layout 1 (omega arith))
 allowed z k what depth (Prefix seen i r) u v fits =

@@ -11,7 +11,7 @@ use Rattle.art_cell.specs.Children.{link_of}
 use Rattle.art_cell.specs.Words.{Words, packed}
 use Rattle.art_find.specs.Asking.{Answers, WantsCheck, WantsVersion, WantsWord, WasChecked}
 use Rattle.art_find.specs.Compares.{ComparesWord}
-use Rattle.art_find.specs.Descents.{IsAbove, IsChild, IsOn, IsReading, StageFits, WasNoted, answer_at, asks, ended_at, stage_below, staged}
+use Rattle.art_find.specs.Descents.{IsAbove, IsChild, IsOn, IsReading, StageFits, WasNamed, WasNoted, answer_at, asks, ended_at, stage_below, staged}
 use Rattle.art_find.specs.Driven.{GetEnds, GetFits, get_done, settled}
 use Rattle.art_find.specs.declared.descents.Descent.{Descent}
 use Rattle.art_step.specs.Events.{MakesEvent}
@@ -43,12 +43,12 @@ use Rattle.art_step.specs.Views.{Member, NamesLink, note_of}
 use Rattle.art_step.specs.declared.deeds.Deed.{Deed}
 use Rattle.art_step.specs.declared.faults.Changed.{Changed}
 use Rattle.art_step.specs.declared.faults.Locked.{Locked}
-use Rattle.art_step.specs.declared.views.Fact.{Fact}
 use Rattle.art_step.specs.declared.views.Fact.TheVariants.{Word, LeafWord}
 use Rattle.art_step.specs.declared.views.Note.{Note}
 use Rattle.art_step.specs.declared.views.Sizes.{Sizes}
 use Rattle.art_step.specs.declared.views.Stamp.{Stamp}
 use Rattle.art_step.specs.declared.views.View.{View}
+use Rattle.art_step.specs.declared.views.Word.TheVariants.{Version}
 use Rattle.art_step.proofs.SetsView.{member_back}
 use Rattle.art_step.proofs.Shows.{begun_clear, begun_others, begun_rest, begun_shows, begun_stamp, passed_number, passed_path, passed_rest, passed_shows, passed_stamp, read_rest, read_shows, read_stamp, root_child, root_none, shows_then, told_rest}
 use Rattle.art_tree.specs.Heaps.{Cells}
@@ -64,20 +64,41 @@ reads_on u v w same reads = record {
 
 -- ---- a cell was checked
 
--- then so was a word that was noted
-pub passed_names : (z : Sizes) (v w : View) (x : Stamp) (o : Option Deed) (d : Link) → ((y : Note) × Member y v.notes × NamesLink y.fact d) → check.Unchanged z v w x o → WasChecked d w
-passed_names z v w x o d named p = record {
-  note = named.0;
-  noted = subst (λ (t : View). Member named.0 t.checked.notes) (sym p.is) (member_back named.0 p.paths v.notes named.1);
-  names = named.2;
+-- what was noted stays so
+pub still_named : (z : Sizes) (v w : View) (x y : Stamp) (o : Option Deed) (d : Link) → WasNamed x d v → check.Unchanged z v w y o → WasNamed x d w
+still_named z v w x y o d named p = record {
+  fact = named.fact;
+  noted = subst (λ (t : View). Member (note_of x named.fact) t.notes) (sym p.is) (member_back (note_of x named.fact) p.paths v.notes named.noted);
+  names = named.names;
 }
+
+-- and was noted before the check, where it was noted under the stamp
+pub passed_names : (z : Sizes) (v w : View) (x : Stamp) (o : Option Deed) (d : Link) → WasNamed x d v → check.Unchanged z v w x o → WasChecked x d w
+passed_names z v w x o d named p = record {
+  fact = named.fact;
+  noted = subst (λ (t : View). Member (note_of x named.fact) t.checked.notes) (sym p.is) (member_back (note_of x named.fact) p.paths v.notes named.noted);
+  names = named.names;
+  found = subst (λ (t : View). Member (record { word = Version x.cell x.version; step = t.checked.step }) t.found) (sym p.is) (inl refl);
+}
+
+-- or before a version word was found clear
+pub begun_names : (z : Sizes) (v w : View) (x y : Stamp) (n : Node) (d : Link) → WasNamed x d v → begin.Outcome z v w (cell.Node n) (Ok y) → WasNamed x d w
+begun_names z v w x y n d named row = record {
+  fact = named.fact;
+  noted = subst (λ (t : View). Member (note_of x named.fact) t.notes) (sym (row.2 ∙ begun_clear z v (cell.Node n) y.version row.1)) named.noted;
+  names = named.names;
+}
+
+-- it is a note of a word that names the cell
+pub noted_names : (v : View) (x : Stamp) (d : Link) → WasNamed x d v → (y : Note) × Member y v.notes × NamesLink y.fact d
+noted_names v x d named = (note_of x named.fact, named.noted, named.names)
 
 module _ (z : Sizes) (k : List ℕ) (what : Option ℕ → Deed) (depth : ℕ) (u v w : View) where
   child_on : (x y : Stamp) (d : Link) → IsChild z k depth x d v → check.Unchanged z v w y None → IsChild z k depth x d w
   child_on x y d child p = record {
     stamp = passed_stamp z v w y x None p child.stamp;
     deep = child.deep;
-    noted = (child.noted.0, subst (λ (t : View). Member child.noted.0 t.notes) (sym p.is) (member_back child.noted.0 p.paths v.notes child.noted.1), child.noted.2);
+    noted = still_named z v w x y None d child.noted p;
     shows = passed_shows z v w y x None _ p child.shows;
   }
 
@@ -137,7 +158,7 @@ module _ (z : Sizes) (k : List ℕ) (what : Option ℕ → Deed) (depth : ℕ) (
         record {
           stamp = begun_others z v w (cell.Node n) y.version x row.1 row.2 child.stamp;
           deep = child.deep;
-          noted = (child.noted.0, subst (λ (t : View). Member child.noted.0 t.notes) (sym (row.2 ∙ begun_clear z v (cell.Node n) y.version row.1)) child.noted.1, child.noted.2);
+          noted = begun_names z v w x y n (node n) child.noted row;
           shows = begun_shows z v w (cell.Node n) y.version x _ row.1 row.2 child.shows;
         },
       )
@@ -145,17 +166,17 @@ module _ (z : Sizes) (k : List ℕ) (what : Option ℕ → Deed) (depth : ℕ) (
 -- ---- the word of the anchor
 
 -- a word that was noted names what it names
-pub note_names : (w : View) (word : ℕ) (d : Link) → WasNoted w word → link_of word ≡ Some d → (y : Note) × Member y w.notes × NamesLink y.fact d
-note_names w word d noted names = (noted.note, noted.noted, subst (λ (f : Fact). NamesLink f d) (sym noted.is) names)
+pub note_names : (w : View) (x : Stamp) (word : ℕ) (d : Link) → WasNoted w x word → link_of word ≡ Some d → WasNamed x d w
+note_names w x word d noted names = record { fact = Word noted.place word; noted = noted.noted; names = names }
 
 module _ (z : Sizes) (k : List ℕ) (what : Option ℕ → Deed) (u w : View) (x : Stamp) (reads : IsReading u w) (stamp : HasStamp z w x) (word : ℕ) (shows : Shows z w x (λ s. s cell.Anchor 1 ≡ word)) where
-  pub root_fits : (d : Link) → x.cell ≡ cell.Anchor → WasNoted w word → link_of word ≡ Some d → StageFits z k what 0 (Child x d) u w
+  pub root_fits : (d : Link) → x.cell ≡ cell.Anchor → WasNoted w x word → link_of word ≡ Some d → StageFits z k what 0 (Child x d) u w
   root_fits d at noted names = (
     reads,
     record {
       stamp = stamp;
       deep = omega arith;
-      noted = note_names w word d noted names;
+      noted = note_names w x word d noted names;
       shows = λ s shape holds. subst (λ (c : Cell). HasChild s c d []) (sym at) (root_child s word d (shows s shape holds) names);
     },
   )
@@ -172,13 +193,13 @@ module _ (z : Sizes) (k : List ℕ) (what : Option ℕ → Deed) (depth : ℕ) (
 
     -- its child word
     module _ (place word : ℕ) (deep : depth < length k) (small : get_or k depth 0 < 256) (shows : Shows z w y (λ s. IsAtSlot s n k depth place)) (is : Shows z w y (λ s. s (cell.Node n) place ≡ word)) where
-      pub slot_fits : (d : Link) → WasNoted w word → link_of word ≡ Some d → StageFits z k what (depth + 1) (Child y d) u w
+      pub slot_fits : (d : Link) → WasNoted w y word → link_of word ≡ Some d → StageFits z k what (depth + 1) (Child y d) u w
       slot_fits d noted names = (
         on.reads,
         record {
           stamp = on.stamp;
           deep = omega arith;
-          noted = note_names w word d noted names;
+          noted = note_names w y word d noted names;
           shows = λ s shape holds.
               let at = shows s shape holds in
               subst (λ (c : Cell). HasChild s c d (take (depth + 1) k)) (sym on.cell) (child_there z s n k depth at.header shape at.past deep small place word d at.tells (is s shape holds) names);
@@ -376,15 +397,20 @@ module _ (z : Sizes) (u v w : View) (y : Stamp) (place word : ℕ) where
   pub node_still : (so : Cells → Type 0) → read.Outcome z v w y place word → Shows z v y so → Shows z w y so
   node_still so row shows s shape holds = (read_shows z v w y (Word place word) so row.is shows s shape holds).0
 
-  pub node_noted : read.Outcome z v w y place word → WasNoted w word
-  node_noted row = record { note = note_of y (Word place word); place = place; noted = subst (λ (t : View). Member (note_of y (Word place word)) t.notes) (sym row.is) (inl refl); is = refl }
+  pub node_noted : read.Outcome z v w y place word → WasNoted w y word
+  node_noted row = record { place = place; noted = subst (λ (t : View). Member (note_of y (Word place word)) t.notes) (sym row.is) (inl refl) }
 
   pub leaf_on : (l : ℕ) → IsAbove z u v y l → read.LeafOutcome v w y l place word → IsAbove z u w y l
   leaf_on l on is = record {
     reads = reads_on u v w (read_rest v w y (LeafWord l place word) is) on.reads;
     stamp = read_stamp z v w y (LeafWord l place word) y is on.stamp;
     inside = on.inside;
-    checked = record { note = on.checked.note; noted = subst (λ (t : View). Member on.checked.note t.checked.notes) (sym is) on.checked.noted; names = on.checked.names };
+    checked = record {
+      fact = on.checked.fact;
+      noted = subst (λ (t : View). Member (note_of y on.checked.fact) t.checked.notes) (sym is) on.checked.noted;
+      names = on.checked.names;
+      found = subst (λ (t : View). Member (record { word = Version y.cell y.version; step = t.checked.step }) t.found) (sym is) on.checked.found;
+    };
   }
 
   pub leaf_word : (l : ℕ) → read.LeafOutcome v w y l place word → Shows z w y (λ s. s (cell.Leaf l) place ≡ word)

@@ -10,13 +10,14 @@ use Rattle.art_step.specs.Shows.{Shows}
 use Rattle.art_step.specs.Steps.Begin as begin
 use Rattle.art_step.specs.Steps.Check as check
 use Rattle.art_step.specs.Steps.Read as read
-use Rattle.art_step.specs.Views.{Member, NamesLink}
+use Rattle.art_step.specs.Views.{Member, NamesLink, note_of}
 use Rattle.art_step.specs.WordPlaces.{HasVersion, IsInside}
 use Rattle.art_step.specs.declared.deeds.Deed.{Deed}
-use Rattle.art_step.specs.declared.views.Note.{Note}
+use Rattle.art_step.specs.declared.views.Fact.{Fact}
 use Rattle.art_step.specs.declared.views.Sizes.{Sizes}
 use Rattle.art_step.specs.declared.views.Stamp.{Stamp}
 use Rattle.art_step.specs.declared.views.View.{View}
+use Rattle.art_step.specs.declared.views.Word.TheVariants.{Version}
 use Rattle.art_tree.specs.Heaps.{Cells}
 
 -- what was read under the stamp shows that this is so: then an event that says it may be made at the check
@@ -24,17 +25,19 @@ pub record MaySettle (z : Sizes) (so : Cells → Type 0) (v : View) (x : Stamp) 
   pub stamp : Member x v.stamps
   pub shows : Shows z v x so
 
--- a word that names the cell was read before the last check that succeeded; a view does not keep of which cell that was
-pub record WasChecked (d : Link) (v : View) : Type 0 where
-  pub note : Note
-  pub noted : Member note v.checked.notes
-  pub names : NamesLink note.fact d
+-- a word that names the cell was read under the stamp before the last check that succeeded, and that was the check of the stamp:
+-- it found the stamp's version word
+pub record WasChecked (x : Stamp) (d : Link) (v : View) : Type 0 where
+  pub fact : Fact
+  pub noted : Member (note_of x fact) v.checked.notes
+  pub names : NamesLink fact d
+  pub found : Member (record { word = Version x.cell x.version; step = v.checked.step }) v.found
 
--- the step may be made, of a machine that settles that this is so; a leaf's words wait for a check after the word that names it
+-- the step may be made, of a machine that settles that this is so; a leaf's words wait for the check of the cell that names it
 abbrev pub IsAllowed : Sizes → (Cells → Type 0) → View → Asked → Type 0
 IsAllowed z so v (Begin c) = HasVersion z c × begin.May v c
 IsAllowed z so v (Read x i) = IsInside z x.cell × read.May v x i
-IsAllowed z so v (ReadLeaf x l i) = (l < z.leaves) × read.MayLeaf z v x l i × WasChecked (leaf l) v
+IsAllowed z so v (ReadLeaf x l i) = (l < z.leaves) × read.MayLeaf z v x l i × WasChecked x (leaf l) v
 IsAllowed z so v (Check x) = HasVersion z x.cell × check.May z v x None
 IsAllowed z so v (Settle x) = HasVersion z x.cell × MaySettle z so v x
 

@@ -20,11 +20,11 @@ use Rattle.art_node.specs.declared.searches.Sought.TheVariants as sought
 use Rattle.art_path.specs.declared.compared.Compared.{Compared}
 use Rattle.art_step.specs.Events.{MakesEvent}
 use Rattle.art_step.specs.Shows.{HasChild, HasStamp, HasValue, OnlyReads, OnlyTells, Shows}
-use Rattle.art_step.specs.Views.{Member, NamesLink}
+use Rattle.art_step.specs.Views.{Member, NamesLink, note_of}
 use Rattle.art_step.specs.WordPlaces.{HasVersion}
 use Rattle.art_step.specs.declared.deeds.Deed.{Deed}
+use Rattle.art_step.specs.declared.views.Fact.{Fact}
 use Rattle.art_step.specs.declared.views.Fact.TheVariants.{Word}
-use Rattle.art_step.specs.declared.views.Note.{Note}
 use Rattle.art_step.specs.declared.views.Sizes.{Sizes}
 use Rattle.art_step.specs.declared.views.Stamp.{Stamp}
 use Rattle.art_step.specs.declared.views.View.{View}
@@ -107,7 +107,7 @@ pub record IsAbove (z : Sizes) (u v : View) (x : Stamp) (l : ℕ) : Type 0 where
   pub reads : IsReading u v
   pub stamp : HasStamp z v x
   pub inside : l < z.leaves
-  pub checked : WasChecked (leaf l) v
+  pub checked : WasChecked x (leaf l) v
 
 -- the path to a node, of whose prefix and words something was read
 pub record IsPrefix (z : Sizes) (k : List ℕ) (depth : ℕ) (seen : NodeSeen) (i : ℕ) (r : Compared) (v : View) : Type 0 where
@@ -135,18 +135,22 @@ pub record IsKey (z : Sizes) (k : List ℕ) (depth : ℕ) (seen : LeafSeen) (i :
   pub within : IsWithin k 0 (8 * i) r
   pub shows : Shows z v seen.stamp (λ s. IsInKey s seen.stamp.cell seen.leaf k (take depth k) seen.value seen.count i r)
 
--- the word of a stamped cell was noted
-pub record WasNoted (v : View) (word : ℕ) : Type 0 where
-  pub note : Note
+-- the word was noted under the stamp
+pub record WasNoted (v : View) (x : Stamp) (word : ℕ) : Type 0 where
   pub place : ℕ
-  pub noted : Member note v.notes
-  pub is : note.fact ≡ Word place word
+  pub noted : Member (note_of x (Word place word)) v.notes
+
+-- a word that names the cell was
+pub record WasNamed (x : Stamp) (d : Link) (v : View) : Type 0 where
+  pub fact : Fact
+  pub noted : Member (note_of x fact) v.notes
+  pub names : NamesLink fact d
 
 -- the cell is stamped, and names what the first bytes of the key lead to
 pub record IsChild (z : Sizes) (k : List ℕ) (depth : ℕ) (x : Stamp) (d : Link) (v : View) : Type 0 where
   pub stamp : HasStamp z v x
   pub deep : depth ≤ length k
-  pub noted : (y : Note) × Member y v.notes × NamesLink y.fact d
+  pub noted : WasNamed x d v
   pub shows : Shows z v x (λ s. HasChild s x.cell d (take depth k))
 
 -- at each stage, of a pass that began with the view u and now has the view v; what it does where it settles the answer is this

@@ -93,6 +93,7 @@ impl Descent {
     }
 
     /// The next step, or none where it has ended.
+    #[inline(always)]
     pub fn next(&self) -> Option<Asked>
         ensures asks { result ≡ asks self.now.stage }
         ensures allowed { (z : Sizes) (k : List ℕ) (what : Option ℕ → Deed) (u v : View) → Fits z k what self.now u v →
@@ -122,6 +123,7 @@ impl Descent {
     }
 
     /// The key's value, or that it has none: at the step that settles it, and once that is settled.
+    #[inline(always)]
     pub fn answer(&self) -> Option<u64>
         ensures { result ≡ answer_at self.now.stage }
     {
@@ -133,6 +135,7 @@ impl Descent {
     }
 
     /// The key's value, or that it has none, once that is settled.
+    #[inline(always)]
     pub fn ended(&self) -> Option<Option<u64>>
         ensures { result ≡ ended_at self.now.stage }
     {
@@ -143,6 +146,7 @@ impl Descent {
     }
 
     /// The step that it asked for was made, with this answer. Whether it goes on: else it begins anew.
+    #[inline(always)]
     pub fn told(&mut self, key: &[u8], answer: Answer) -> bool
         requires few { length key.now ≤ 64 }
         requires fits { (z : Sizes) × (what : Option ℕ → Deed) × (u : View) × (v : View) × (w : View) × (asked : AskedStep) ×
@@ -174,6 +178,7 @@ impl Descent {
     }
 
     /// A version word was clear, and gave this stamp.
+    #[inline(always)]
     pub fn began(&mut self, stamp: Stamp)
         requires { WantsVersion (asks self.old.stage) }
         ensures steps { most_steps self.old.depth self.old.stage < most_steps self.new.depth self.new.stage }
@@ -189,6 +194,7 @@ impl Descent {
     }
 
     /// A version word was unchanged.
+    #[inline(always)]
     pub fn checked(&mut self)
         requires { WantsCheck (asks self.old.stage) }
         ensures steps { most_steps self.old.depth self.old.stage < most_steps self.new.depth self.new.stage }
@@ -205,6 +211,7 @@ impl Descent {
     }
 
     /// A version word was locked, obsolete or changed: the descent begins anew.
+    #[inline(always)]
     pub fn failed(&mut self)
         ensures steps { most_steps self.new.depth self.new.stage ≡ 0 }
         ensures fits { (z : Sizes) (k : List ℕ) (what : Option ℕ → Deed) (u v : View) → IsReading u v → Fits z k what self.new u v }
@@ -214,6 +221,7 @@ impl Descent {
 }
 
 /// The cell that names the link was checked.
+#[inline(always)]
 fn below(stamp: Stamp, link: Link) -> Stage
     ensures { result ≡ stage_below stamp link }
 {

@@ -6,7 +6,7 @@ ghost use Rattle.art_find.specs.Driven.{GetEnds, GetFits, get_done, restarts_aft
 ghost use Rattle.art_step.specs.Shows.{HasValue};
 ghost use Rattle.art_step.specs.declared.views.View.{View};
 
-use crate::{Answer, Asked, Descent};
+use crate::{Answer, Asked, Descent, Stage};
 use art_key::Key;
 use art_model::Answer as Reply;
 use art_step::{Act, Deed, Steps};
@@ -62,6 +62,7 @@ fn copied(bytes: &[u8]) -> Key
 }
 
 /// Makes the step that a get of the key asks for; where it settles the answer, the get is done with this value, or with none.
+#[inline(always)]
 fn make<S: Steps>(steps: &mut S, asked: Asked, key: &[u8], value: Option<u64>) -> Answer
     requires short { length key.now ≤ 64 }
     requires admitted { S.admits steps.old key.now }
@@ -84,6 +85,37 @@ fn make<S: Steps>(steps: &mut S, asked: Asked, key: &[u8], value: Option<u64>) -
 /// Makes the next step of a get of the key. Whether it went on: it begins anew where a version word was locked, obsolete or
 /// changed.
 pub fn step<S: Steps>(steps: &mut S, descent: &mut Descent, key: &[u8]) -> bool
+    requires short { length key.now ≤ 64 }
+    requires admitted { S.admits steps.old key.now }
+    requires going { ended_at descent.old.stage ≡ None }
+    requires fits { (u : View) × (n : ℕ) × GetFits (S.sizes steps.old) key.now u (S.view steps.old) descent.old n }
+    ensures only { S.only steps.old steps.new }
+    ensures one { (S.view steps.new).steps ≡ (S.view steps.old).steps + 1 }
+    ensures fits { (u : View) (n : ℕ) → GetFits (S.sizes steps.old) key.now u (S.view steps.old) descent.old n →
+        GetFits (S.sizes steps.old) key.now u (S.view steps.new) descent.new (restarts_after n result) }
+{
+    // a call for each stage, so that at its place the compiled code knows the stage, and what may come of the answer
+    match descent.stage {
+        Stage::Start => go(steps, descent, key),
+        Stage::Anchor(_) => go(steps, descent, key),
+        Stage::Child(_, _) => go(steps, descent, key),
+        Stage::Below(_, _) => go(steps, descent, key),
+        Stage::Both(_, _, _) => go(steps, descent, key),
+        Stage::Header(_, _) => go(steps, descent, key),
+        Stage::Prefix(_, _, _) => go(steps, descent, key),
+        Stage::Keys(_, _) => go(steps, descent, key),
+        Stage::Slot(_, _, _) => go(steps, descent, key),
+        Stage::Value(_, _) => go(steps, descent, key),
+        Stage::Length(_, _, _) => go(steps, descent, key),
+        Stage::Bytes(_, _, _) => go(steps, descent, key),
+        Stage::Decided(_, _) => go(steps, descent, key),
+        Stage::Ended(_) => unreachable!(),
+    }
+}
+
+/// Makes the step at the stage where the descent stands.
+#[inline(always)]
+fn go<S: Steps>(steps: &mut S, descent: &mut Descent, key: &[u8]) -> bool
     requires short { length key.now ≤ 64 }
     requires admitted { S.admits steps.old key.now }
     requires going { ended_at descent.old.stage ≡ None }

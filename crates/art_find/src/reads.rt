@@ -24,6 +24,7 @@ impl Descent {
     ghost use Rattle.std.specs.Prelude.{Some};
 
     /// The word that it asked for is this.
+    #[inline(always)]
     pub fn read(&mut self, key: &[u8], word: u64)
         requires few { length key.now ≤ 64 }
         requires wants { WantsWord (asks self.old.stage) }
@@ -54,10 +55,11 @@ impl Descent {
     }
 
     /// The anchor's child word was read.
+    #[inline(always)]
     fn see_root(&mut self, key: &[u8], stamp: Stamp, word: u64)
         ensures steps { 1 < most_steps self.new.depth self.new.stage }
         ensures fits { (z : Sizes) (what : Option ℕ → Deed) (u w : View) → IsReading u w → HasStamp z w stamp →
-            stamp.cell ≡ cells.Anchor → Shows z w stamp (λ s. s cells.Anchor 1 ≡ word) → WasNoted w word → Fits z key.now what self.new u w }
+            stamp.cell ≡ cells.Anchor → Shows z w stamp (λ s. s cells.Anchor 1 ≡ word) → WasNoted w stamp word → Fits z key.now what self.new u w }
     {
         let _ = key;
         self.depth = 0;
@@ -68,6 +70,7 @@ impl Descent {
     }
 
     /// The header of a node was read.
+    #[inline(always)]
     fn see_header(&mut self, key: &[u8], seen: NodeSeen)
         requires few { length key.now ≤ 64 }
         requires deep { self.old.depth ≤ length key.now }
@@ -86,6 +89,7 @@ impl Descent {
     }
 
     /// A word of the prefix was read.
+    #[inline(always)]
     fn see_prefix(&mut self, key: &[u8], seen: NodeSeen, number: u8, before: Compared, word: u64)
         requires few { length key.now ≤ 64 }
         requires deep { self.old.depth ≤ length key.now }
@@ -110,6 +114,7 @@ impl Descent {
     }
 
     /// All bytes of the prefix are the key's.
+    #[inline(always)]
     fn pass(&mut self, key: &[u8], seen: NodeSeen)
         requires deep { self.old.depth ≤ length key.now }
         requires short { self.old.depth + count_in seen.header < 64 }
@@ -127,6 +132,7 @@ impl Descent {
     }
 
     /// A word of key bytes, or of the index, was read.
+    #[inline(always)]
     fn see_keys(&mut self, key: &[u8], seen: NodeSeen, number: u8, word: u64)
         requires deep { self.old.depth < length key.now }
         requires number { number < 32 }
@@ -143,12 +149,13 @@ impl Descent {
     }
 
     /// The child word was read.
+    #[inline(always)]
     fn see_slot(&mut self, key: &[u8], stamp: Stamp, node: Node, place: usize, word: u64)
         requires deep { self.old.depth < length key.now }
         ensures steps { 64 * self.old.depth + 46 < most_steps self.new.depth self.new.stage }
         ensures fits { (z : Sizes) (what : Option ℕ → Deed) (u w : View) → IsOn z u w stamp node →
             Shows z w stamp (λ s. IsAtSlot s node key.now self.old.depth place) →
-            Shows z w stamp (λ s. s (cells.Node node) place ≡ word) → WasNoted w word → Fits z key.now what self.new u w }
+            Shows z w stamp (λ s. s (cells.Node node) place ≡ word) → WasNoted w stamp word → Fits z key.now what self.new u w }
     {
         let _ = key;
         let _ = place;
@@ -163,6 +170,7 @@ impl Descent {
     }
 
     /// The length of a leaf's key was read.
+    #[inline(always)]
     fn see_length(&mut self, key: &[u8], stamp: Stamp, leaf: u32, value: u64, bytes: u64)
         requires deep { self.old.depth ≤ length key.now }
         ensures steps { 64 * self.old.depth + 4 < most_steps self.new.depth self.new.stage }
@@ -192,6 +200,7 @@ impl Descent {
     }
 
     /// A word of a leaf's key was read.
+    #[inline(always)]
     fn see_bytes(&mut self, key: &[u8], seen: LeafSeen, number: u8, before: Compared, word: u64)
         requires deep { self.old.depth ≤ length key.now }
         requires more { 8 * number < seen.count }
@@ -219,6 +228,7 @@ impl Descent {
 }
 
 /// The stage after a search in a node.
+#[inline(always)]
 fn staged(sought: Sought, seen: NodeSeen) -> Stage
     ensures { result ≡ staged sought seen }
 {

@@ -2,8 +2,10 @@
 use Rattle.std.proofs.Common.{ℕ, ◌+◌, ◌<◌, List, sym, subst, arith}
 use Rattle.std.specs.Prelude.{IfSome}
 use Rattle.art_cell.specs.declared.cells.Cell.{Cell}
+use Rattle.art_cell.specs.declared.cells.Link.TheVariants.{Node as node}
 use Rattle.art_find.specs.Asking.{IsAllowed}
 use Rattle.art_find.proofs.Allowed.{front_inside, none_held, reads_leaf, reads_node}
+use Rattle.art_find.proofs.Stages.{noted_names}
 use Rattle.art_key.specs.declared.bounds.Bound.{Bound as KeyBound}
 use Rattle.art_look.specs.Looks.{Settles, StageFits, asks}
 use Rattle.art_look.specs.declared.looks.LookStage.{LookStage}
@@ -25,7 +27,7 @@ allowed z lo hi depth t (Anchor x) u v fits = (
   },
 )
 allowed z lo hi depth t (Child x d) u v fits = (fits.1.stamp.inside, record { stamp = fits.1.stamp.stamp; tells = tt })
-allowed z lo hi depth t (Below x n) u v fits = (fits.2, record { pinned = fits.0.pinned; named = fits.1.noted })
+allowed z lo hi depth t (Below x n) u v fits = (fits.2, record { pinned = fits.0.pinned; named = noted_names v x (node n) fits.1.noted })
 allowed z lo hi depth t (Both x y n) u v fits = (fits.1.stamp.inside, record { stamp = fits.1.stamp.stamp; tells = tt })
 allowed z lo hi depth t (Header y n) u v fits = reads_node z u v y n 1 fits.0 (omega arith) (front_inside n.layout 1 (omega arith))
 allowed z lo hi depth t (Prefix seen i) u v fits =

@@ -27,7 +27,7 @@ use Rattle.art_find.specs.declared.asked.Asked.{Asked}
 use Rattle.art_find.specs.declared.asked.Asked.TheVariants.{Settle}
 use Rattle.art_find.specs.declared.descents.LeafSeen.{LeafSeen}
 use Rattle.art_find.specs.declared.descents.NodeSeen.{NodeSeen}
-use Rattle.art_find.proofs.Stages.{note_names, passed_names, reads_on}
+use Rattle.art_find.proofs.Stages.{begun_names, note_names, passed_names, reads_on, still_named}
 use Rattle.art_key.specs.Bounds.{is_before}
 use Rattle.art_key.specs.declared.bounds.Bound.{Bound as KeyBound}
 use Rattle.art_look.specs.Driven.{IsSeen, LookEnds}
@@ -59,12 +59,10 @@ use Rattle.art_step.specs.Knowledge.{IsShape, NamesCell}
 use Rattle.art_step.specs.Shows.{HasChild, HasStamp, Shows}
 use Rattle.art_step.specs.Steps.Begin as begin
 use Rattle.art_step.specs.Steps.Check as check
-use Rattle.art_step.specs.Views.{Member}
 use Rattle.art_step.specs.declared.views.Sizes.{Sizes}
 use Rattle.art_step.specs.declared.views.Stamp.{Stamp}
 use Rattle.art_step.specs.declared.views.View.{View}
-use Rattle.art_step.proofs.SetsView.{member_back}
-use Rattle.art_step.proofs.Shows.{begun_clear, begun_others, begun_rest, begun_shows, begun_stamp, child_on, key_on, passed_number, passed_path, passed_rest, passed_shows, passed_so, passed_stamp, prefix_on, root_child, told_rest, value_on}
+use Rattle.art_step.proofs.Shows.{begun_others, begun_rest, begun_shows, begun_stamp, child_on, key_on, passed_number, passed_path, passed_rest, passed_shows, passed_so, passed_stamp, prefix_on, root_child, told_rest, value_on}
 use Rattle.art_tree.specs.Heaps.{Cells, heap_of}
 use Rattle.art_tree.specs.Looks.{AreBytes, Before, IsBelow, NoChildFrom}
 use Rattle.art_tree.specs.Rows.{ByteMap, HasRows}
@@ -87,7 +85,7 @@ module _ (z : Sizes) (lo : List ℕ) (hi : KeyBound) (depth : ℕ) (t : Trail) (
     long = named.long;
     few = named.few;
     front = named.front;
-    noted = (named.noted.0, subst (λ (a : View). Member named.noted.0 a.notes) (sym p.is) (member_back named.noted.0 p.paths v.notes named.noted.1), named.noted.2);
+    noted = still_named z v w x y None d named.noted p;
     shows = passed_shows z v w y x None _ p named.shows;
   }
 
@@ -151,7 +149,7 @@ module _ (z : Sizes) (lo : List ℕ) (hi : KeyBound) (depth : ℕ) (t : Trail) (
           long = named.long;
           few = named.few;
           front = named.front;
-          noted = (named.noted.0, subst (λ (a : View). Member named.noted.0 a.notes) (sym (row.2 ∙ begun_clear z v (cell.Node n) y.version row.1)) named.noted.1, named.noted.2);
+          noted = begun_names z v w x y n (node n) named.noted row;
           shows = begun_shows z v w (cell.Node n) y.version x _ row.1 row.2 named.shows;
         },
       )
@@ -170,7 +168,7 @@ module _ (z : Sizes) (lo : List ℕ) (hi : KeyBound) (t : Trail) (u w : View) (x
   on_way (leaf l) = tt
   on_way (node n) = (lo, refl)
 
-  pub root_fits : (d : Link) → x.cell ≡ cell.Anchor → WasNoted w word → link_of word ≡ Some d → StageFits z lo hi 0 (Child x d) t u w
+  pub root_fits : (d : Link) → x.cell ≡ cell.Anchor → WasNoted w x word → link_of word ≡ Some d → StageFits z lo hi 0 (Child x d) t u w
   root_fits d at noted names = (
     reads,
     record {
@@ -178,7 +176,7 @@ module _ (z : Sizes) (lo : List ℕ) (hi : KeyBound) (t : Trail) (u w : View) (x
       long = ap length at_front;
       few = omega arith;
       front = subst (λ (p : List ℕ). IsOnWay lo p d) (sym at_front) (on_way d);
-      noted = note_names w word d noted names;
+      noted = note_names w x word d noted names;
       shows = λ s shape holds. subst (λ (c : Cell). Leads s c lo t.path.items d) (sym at) (subst (λ (p : List ℕ). Leads s cell.Anchor lo p d) (sym at_front) (root_leads s d (shows s shape holds) names));
     },
   )
@@ -473,7 +471,7 @@ module _ (z : Sizes) (lo : List ℕ) (hi : KeyBound) (depth : ℕ) (t : Trail) (
   child_leads s (node m) names shape at here = has_child (node m) names s shape at here
 
   -- it is followed
-  pub child_fits : (t' : Trail) (d : Link) → t'.path.items ≡ p ++ a.byte ∷ [] → WasNoted w word → link_of word ≡ Some d → IsOnWay lo (p ++ a.byte ∷ []) d → StageFits z lo hi (length t'.path.items) (Child x d) t' u w
+  pub child_fits : (t' : Trail) (d : Link) → t'.path.items ≡ p ++ a.byte ∷ [] → WasNoted w x word → link_of word ≡ Some d → IsOnWay lo (p ++ a.byte ∷ []) d → StageFits z lo hi (length t'.path.items) (Child x d) t' u w
   child_fits t' d grown noted names way = (
     on.reads,
     record {
@@ -481,7 +479,7 @@ module _ (z : Sizes) (lo : List ℕ) (hi : KeyBound) (depth : ℕ) (t : Trail) (
       long = refl;
       few = let short = sought.short in omega (arith, short, ap length grown, length-append p (a.byte ∷ []));
       front = subst (λ (l : List ℕ). IsOnWay lo l d) (sym grown) way;
-      noted = note_names w word d noted names;
+      noted = note_names w x word d noted names;
       shows = λ s shape holds. subst (λ (c : Cell). Leads s c lo t'.path.items d) (sym on.cell)
           (subst (λ (l : List ℕ). Leads s (cell.Node inner) lo l d) (sym grown) (child_leads s d names shape (shows s shape holds) (is s shape holds)));
     },

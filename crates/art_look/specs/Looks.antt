@@ -7,7 +7,7 @@ use Rattle.art_cell.specs.declared.cells.Node.{Node}
 use Rattle.art_cell.specs.declared.layouts.Layout.{Layout}
 use Rattle.art_cell.specs.declared.layouts.Layout.TheVariants.{Node4, Node16, Node48, Node256}
 use Rattle.art_cell.specs.Words.{size}
-use Rattle.art_find.specs.Descents.{IsAbove, IsOn, IsReading}
+use Rattle.art_find.specs.Descents.{IsAbove, IsOn, IsReading, WasNamed}
 use Rattle.art_find.specs.Ways.{count_in}
 use Rattle.art_find.specs.declared.asked.Asked.{Asked}
 use Rattle.art_find.specs.declared.asked.Asked.TheVariants.{Begin, Read, ReadLeaf, Check, Settle}
@@ -30,10 +30,8 @@ use Rattle.art_node.specs.declared.searches.SoughtFrom.{SoughtFrom}
 use Rattle.art_node.specs.declared.searches.SoughtFrom.TheVariants as sought
 use Rattle.art_step.specs.Events.{MakesEvent}
 use Rattle.art_step.specs.Shows.{HasStamp, OnlyTells, Shows}
-use Rattle.art_step.specs.Views.{Member, NamesLink}
 use Rattle.art_step.specs.WordPlaces.{HasVersion}
 use Rattle.art_step.specs.declared.deeds.Deed.{Deed}
-use Rattle.art_step.specs.declared.views.Note.{Note}
 use Rattle.art_step.specs.declared.views.Sizes.{Sizes}
 use Rattle.art_step.specs.declared.views.Stamp.{Stamp}
 use Rattle.art_step.specs.declared.views.View.{View}
@@ -132,7 +130,7 @@ pub record IsNamed (z : Sizes) (lo : List ℕ) (depth : ℕ) (x : Stamp) (d : Li
   pub long : length q ≡ depth
   pub few : depth ≤ 64
   pub front : IsOnWay lo q d
-  pub noted : (y : Note) × Member y v.notes × NamesLink y.fact d
+  pub noted : WasNamed x d v
   pub shows : Shows z v x (λ s. Leads s x.cell lo q d)
 
 -- a node stands at q, and nothing of it was read

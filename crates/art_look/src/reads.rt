@@ -71,7 +71,7 @@ impl Look {
     fn see_root(&mut self, trail: &mut Trail, stamp: Stamp, word: u64)
         ensures steps { 1 < most_steps self.new.depth self.new.stage }
         ensures fits { (z : Sizes) (lo : List ℕ) (hi : KeyBound) (u w : View) → IsReading u w → HasStamp z w stamp →
-            stamp.cell ≡ cells.Anchor → Shows z w stamp (λ s. s cells.Anchor 1 ≡ word) → WasNoted w word →
+            stamp.cell ≡ cells.Anchor → Shows z w stamp (λ s. s cells.Anchor 1 ≡ word) → WasNoted w stamp word →
             Fits z lo hi self.new trail.new u w }
     {
         trail.path.clear();
@@ -180,7 +180,8 @@ impl Look {
         ensures fits { (z : Sizes) (hi : KeyBound) (u w : View) → IsOn z u w sought.seen.stamp sought.seen.node →
             Shows z w sought.seen.stamp (λ s. SeeksChild s sought.seen.node (take self.old.depth trail.old.path.items) trail.old.path.items
             (low_at sought.front lo.now trail.old.path.items) sought.byte sought.place) →
-            Shows z w sought.seen.stamp (λ s. s (cells.Node sought.seen.node) sought.place ≡ word) → WasNoted w word →
+            Shows z w sought.seen.stamp (λ s. s (cells.Node sought.seen.node) sought.place ≡ word) →
+            WasNoted w sought.seen.stamp word →
             Fits z lo.now hi self.new trail.new u w }
     {
         match Link::named_by(word) {
@@ -198,7 +199,8 @@ impl Look {
         ensures fits { (z : Sizes) (hi : KeyBound) (u w : View) (word : ℕ) → IsOn z u w sought.seen.stamp sought.seen.node →
             Shows z w sought.seen.stamp (λ s. SeeksChild s sought.seen.node (take self.old.depth trail.old.path.items) trail.old.path.items
             (low_at sought.front lo.now trail.old.path.items) sought.byte sought.place) →
-            Shows z w sought.seen.stamp (λ s. s (cells.Node sought.seen.node) sought.place ≡ word) → WasNoted w word →
+            Shows z w sought.seen.stamp (λ s. s (cells.Node sought.seen.node) sought.place ≡ word) →
+            WasNoted w sought.seen.stamp word →
             link_of word ≡ Some link → Fits z lo.now hi self.new trail.new u w }
     {
         let goes_down = match link {

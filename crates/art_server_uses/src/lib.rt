@@ -1,4 +1,4 @@
-//! Tests of what no clause of `art_server` and `art_table` says: the texts that clients see, lines as they write them, and
+//! Tests of what no clause of `art_server` says: the texts that clients see, lines as they write them, and
 //! readers and writers that fail.
 #![tactic(auto)]
 
@@ -8,5 +8,3 @@ mod lines;
 mod replies;
 #[cfg(test)]
 mod sessions;
-#[cfg(test)]
-mod tables;

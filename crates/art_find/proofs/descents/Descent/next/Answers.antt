@@ -8,6 +8,11 @@ use Rattle.art_find.specs.declared.descents.Stage.{Stage}
 use Rattle.art_step.specs.Shows.{HasValue}
 use Rattle.art_find.proofs.descents.Descent.next.Goals as goal
 
+pub returns-in-Below-clause-allowed : goal.returns-in-Below-clause-allowed
+returns-in-Below-clause-allowed c = λ z k what u v fits.
+    let m = c.args.self.now in
+    subst (λ (t : Stage). IfSome (asks t) (IsAllowed z (λ s. HasValue s k (answer_at m.stage)) v)) c.in-Below.is (allowed z k what m.depth m.stage u v fits)
+
 pub returns-in-Value-clause-allowed : goal.returns-in-Value-clause-allowed
 returns-in-Value-clause-allowed c = λ z k what u v fits.
     let m = c.args.self.now in

@@ -7,6 +7,11 @@ use Rattle.art_look.specs.declared.looks.LookStage.{LookStage}
 use Rattle.art_look.proofs.Allowed.{allowed}
 use Rattle.art_look.proofs.looks.Look.next.Goals as goal
 
+pub returns-in-Below-clause-allowed : goal.returns-in-Below-clause-allowed
+returns-in-Below-clause-allowed c = λ z lo hi t u v fits.
+    let m = c.args.self.now in
+    subst (λ (g : LookStage). IfSome (asks g) (IsAllowed z (Settles lo t m.stage) v)) c.in-Below.is (allowed z lo hi m.depth t m.stage u v fits)
+
 pub returns-in-Value-clause-allowed : goal.returns-in-Value-clause-allowed
 returns-in-Value-clause-allowed c = λ z lo hi t u v fits.
     let m = c.args.self.now in

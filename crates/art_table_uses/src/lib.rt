@@ -1,0 +1,5 @@
+//! Tests of what no clause of `art_table` says: that each call succeeds where memory is there.
+#![tactic(auto)]
+
+#[cfg(test)]
+mod tables;
