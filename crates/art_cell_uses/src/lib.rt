@@ -1,11 +1,6 @@
-//! Whole changes by hand, from the steps and calls that crates below it prove: a visitor takes a leaf's number, puts the leaf
-//! below the anchor, takes it out again, and gives the number back, as one of four actors in drawn turns.
-//!
-//! It shows that the contracts of `Steps`, `EpochSteps`, `World`, `Actor` and the machines of `art_epoch` are enough to write
-//! a change and to prove it, in the order that each change has: the pass is pinned; the anchor is stamped, read, upgraded
-//! and written, and the commit is its release; what left the tree waits in limbo; the pass goes idle, and what waits goes
-//! back. Where an upgrade fails, nothing is written, and the visitor begins anew. Nothing stands above this
-//! crate.
+//! Visitors of the anchor, run: four actors on one world in drawn turns, what waits in limbo while another pass is pinned,
+//! and an anchor at the end of its counter. Nothing stands above this crate.
 #![tactic(auto)]
 
+#[cfg(test)]
 mod anchor;

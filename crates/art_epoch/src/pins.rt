@@ -10,7 +10,7 @@ use crate::{Asked, make};
 use art_step::{EpochSteps, Number};
 
 /// Pins a pass that is idle to the epoch: it notes the epoch and stores it in its own word.
-#[derive(Clone, Copy, Debug, PartialEq, Eq)]
+#[derive(Clone, Copy)]
 pub enum Pinning {
     /// The epoch is to be noted.
     Noting,

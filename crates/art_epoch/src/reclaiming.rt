@@ -13,7 +13,7 @@ use crate::{Asked, make};
 use art_step::{EpochSteps, Unlinked};
 
 /// How far the giving back has come.
-#[derive(Clone, Copy, Debug, PartialEq, Eq)]
+#[derive(Clone, Copy)]
 pub enum ReclaimStage {
     /// The epoch is to be found.
     Noting,
@@ -28,7 +28,7 @@ pub enum ReclaimStage {
 /// Gives back what waits in the limbo of an idle pass, and what no other pass may still have in a stamp: it raises the epoch,
 /// finds the word of each other pass once, in the order of their numbers, and gives back each number whose label is below
 /// every word that is not 0. The limbo stands beside it.
-#[derive(Clone, Copy, Debug, PartialEq, Eq)]
+#[derive(Clone, Copy)]
 pub struct Reclaiming {
     own: u32,
     passes: u32,
@@ -183,7 +183,7 @@ pub fn reclaim<S: EpochSteps>(steps: &mut S, limbo: &mut Limbo) -> u32
 }
 
 /// Lets numbers into limbo that a commit unlinked: the one step that it asks for finds the epoch, which labels them.
-#[derive(Clone, Copy, Debug, PartialEq, Eq)]
+#[derive(Clone, Copy)]
 pub struct Retiring;
 
 impl Retiring {

@@ -9,7 +9,7 @@ use art_cell::Pool;
 use art_step::{EpochSteps, Number, Sizes, free_words};
 
 /// How far a search for a number has come.
-#[derive(Clone, Copy, Debug, PartialEq, Eq)]
+#[derive(Clone, Copy)]
 pub enum Search {
     /// The words before this index gave none.
     Looking(u32),
@@ -21,7 +21,7 @@ pub enum Search {
 
 /// Takes a number of a pool: it looks at the words of free numbers in their order, and of one with a bit it takes the lowest.
 /// A bit that another pass took in between sends it to the next word.
-#[derive(Clone, Copy, Debug, PartialEq, Eq)]
+#[derive(Clone, Copy)]
 pub struct Taking {
     pool: Pool,
     words: u32,

@@ -10,7 +10,7 @@ use art_path::Compared;
 use art_step::Stamp;
 
 /// A node that is stamped, and its header.
-#[derive(Clone, Copy, Debug, PartialEq, Eq)]
+#[derive(Clone, Copy)]
 pub struct NodeSeen {
     pub stamp: Stamp,
     pub node: Node,
@@ -18,7 +18,7 @@ pub struct NodeSeen {
 }
 
 /// A leaf that the stamp's cell names, its value, and how many bytes its key has.
-#[derive(Clone, Copy, Debug, PartialEq, Eq)]
+#[derive(Clone, Copy)]
 pub struct LeafSeen {
     pub stamp: Stamp,
     pub leaf: u32,
@@ -27,7 +27,7 @@ pub struct LeafSeen {
 }
 
 /// Where a descent stands between two of its steps.
-#[derive(Clone, Copy, Debug, PartialEq, Eq)]
+#[derive(Clone, Copy)]
 pub enum Stage {
     /// Nothing is stamped.
     Start,
@@ -61,7 +61,7 @@ pub enum Stage {
 
 /// A look for the value of one key, which stands beside it: from the anchor down to the leaf that has the key, or to where it is
 /// seen that none has.
-#[derive(Clone, Copy, Debug, PartialEq, Eq)]
+#[derive(Clone, Copy)]
 pub struct Descent {
     /// How many bytes of the key lead to where it stands.
     pub(crate) depth: usize,

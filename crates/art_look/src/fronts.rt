@@ -5,7 +5,7 @@ ghost use Rattle.art_look.specs.Fronts.{IsFound, IsFront, low_at};
 use art_path::common;
 
 /// How the path of a node, with its prefix, stands to the lower end, of which the path to the node is the beginning.
-#[derive(Clone, Copy, Debug, PartialEq, Eq)]
+#[derive(Clone, Copy)]
 pub enum Front {
     /// It begins the lower end, which goes on behind it.
     Within,

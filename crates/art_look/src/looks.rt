@@ -15,7 +15,7 @@ use art_path::after;
 use art_step::Stamp;
 
 /// How far a look sees that ends at a path.
-#[derive(Clone, Copy, Debug, PartialEq, Eq)]
+#[derive(Clone, Copy)]
 pub enum Reach {
     /// Past all texts that begin with the path.
     Past,
@@ -24,7 +24,7 @@ pub enum Reach {
 }
 
 /// The child of a node that is looked for.
-#[derive(Clone, Copy, Debug, PartialEq, Eq)]
+#[derive(Clone, Copy)]
 pub struct ChildSought {
     pub seen: NodeSeen,
     pub front: Front,
@@ -35,7 +35,7 @@ pub struct ChildSought {
 }
 
 /// Where a look stands between two of its steps.
-#[derive(Clone, Copy, Debug, PartialEq, Eq)]
+#[derive(Clone, Copy)]
 pub enum LookStage {
     /// Nothing is stamped.
     Start,
@@ -77,7 +77,7 @@ pub struct Seen {
 
 /// A look of a range, whose ends and trail stand beside it: from the anchor down to the first leaf from the lower end on, or to
 /// where it is seen that there is none up to some path.
-#[derive(Clone, Copy, Debug, PartialEq, Eq)]
+#[derive(Clone, Copy)]
 pub struct Look {
     /// How many bytes lead to the cell where it stands; the trail may have more.
     pub(crate) depth: usize,

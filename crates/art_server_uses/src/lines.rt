@@ -2,6 +2,7 @@
 use art_key::ValueFault;
 use art_model::{Command, Text, Tuple, Value};
 use art_server::{LineFault, lines_are_read_back, long_lines_are_alike, parse_line};
+use std::alloc::Global;
 use std::process::Abort;
 use std::test::Fail;
 
@@ -13,22 +14,16 @@ fn one(number: u64) -> Tuple {
 
 #[test]
 fn reads_commands(rt: HostRuntime) {
-    let alloc = rt.alloc();
-    let get = Ok(Command::Get(one(5)));
-    assert_eq!(rt; parse_line(alloc, b"[\"get\",[5]]"), get);
-    assert_eq!(rt; parse_line(alloc, b"\t[ \"get\" ,\t[ 5 ] ] \r"), get);
-    assert_eq!(rt;
-        parse_line(alloc, b"[\"remove\",[5]]"),
-        Ok(Command::Remove(one(5)))
-    );
-    assert_eq!(rt;
-        parse_line(alloc, b"[\"insert\",[5],18446744073709551615]"),
-        Ok(Command::Insert(one(5), u64::MAX))
-    );
-    assert_eq!(rt;
-        parse_line(alloc, b"[\"insert\",[],0]"),
-        Ok(Command::Insert(Tuple::new(), 0))
-    );
+    let most = "[\"insert\",[5],18446744073709551615]";
+    for (line, command) in [
+        ("[\"get\",[5]]", Command::Get(one(5))),
+        ("\t[ \"get\" ,\t[ 5 ] ] \r", Command::Get(one(5))),
+        ("[\"remove\",[5]]", Command::Remove(one(5))),
+        (most, Command::Insert(one(5), u64::MAX)),
+        ("[\"insert\",[],0]", Command::Insert(Tuple::new(), 0)),
+    ] {
+        assert_eq!(rt; parse_line(rt.alloc(), line.as_bytes()), Ok(command));
+    }
 }
 
 #[test]
@@ -151,32 +146,34 @@ fn refuses_what_is_no_json_text(rt: HostRuntime) {
     );
 }
 
+/// A text, so many arrays that are opened, and so many brackets that close, are refused so.
+fn check_nested(
+    rt: &impl Abort,
+    alloc: Global,
+    text: &str,
+    opened: usize,
+    closed: usize,
+    fault: LineFault,
+) -> Result<(), Fail> {
+    let mut line = Vec::new(alloc);
+    line.extend_from_slice(text.as_bytes())?;
+    for _ in 0..opened {
+        line.push(b'[')?;
+    }
+    for _ in 0..closed {
+        line.push(b']')?;
+    }
+    assert_eq!(rt; parse_line(alloc, line.as_slice()), Err(fault));
+    Ok(())
+}
+
 #[test]
 fn arrays_nest_up_to_the_limit_of_the_reader(rt: HostRuntime) -> Result<(), Fail> {
     let alloc = rt.alloc();
-    let mut within = Vec::new(alloc);
-    within.extend_from_slice(&[b'['; 127])?;
-    within.extend_from_slice(&[b']'; 127])?;
-    assert_eq!(rt;
-        parse_line(alloc, within.as_slice()),
-        Err(LineFault::BadCommand)
-    );
-    let mut beyond = Vec::new(alloc);
-    beyond.extend_from_slice(&[b'['; 128])?;
-    beyond.extend_from_slice(&[b']'; 128])?;
-    assert_eq!(rt;
-        parse_line(alloc, beyond.as_slice()),
-        Err(LineFault::BadLine)
-    );
-    let mut element = Vec::new(alloc);
-    element.extend_from_slice(b"[\"get\",")?;
-    element.extend_from_slice(&[b'['; 126])?;
-    element.extend_from_slice(&[b']'; 127])?;
-    assert_eq!(rt;
-        parse_line(alloc, element.as_slice()),
-        Err(LineFault::Value(ValueFault::WrongType(0)))
-    );
-    Ok(())
+    check_nested(&rt, alloc, "", 127, 127, LineFault::BadCommand)?;
+    check_nested(&rt, alloc, "", 128, 128, LineFault::BadLine)?;
+    let element = LineFault::Value(ValueFault::WrongType(0));
+    check_nested(&rt, alloc, "[\"get\",", 126, 127, element)
 }
 
 #[test]

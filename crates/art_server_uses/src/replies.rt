@@ -1,29 +1,40 @@
 //! The texts that clients see.
-ghost use Rattle.art_server.specs.Replies.{IsPrintableRow};
+ghost use Rattle.art_server.specs.Replies.{IsPrintable, IsPrintableRow};
 
 use arrayvec::ArrayVec;
 use art_key::{SchemaFault, ValueFault};
 use art_model::{Reply, Row, Text, Tuple, Value};
 use art_server::{LineFault, Refusal, print_reply};
 use art_table::{CloseRefusal, Fault, OpenFault, Pool};
+use std::alloc::Global;
+use std::process::Abort;
 use std::test::Fail;
+
+/// The reply is printed so.
+fn check_text(
+    rt: &impl Abort,
+    alloc: Global,
+    reply: Result<Reply, Refusal>,
+    expected: &str,
+) -> Result<(), Fail>
+    requires { IsPrintable reply }
+{
+    let text = print_reply(alloc, &reply)?;
+    assert!(rt; text.as_slice() == expected.as_bytes());
+    Ok(())
+}
 
 #[test]
 fn prints_short_replies(rt: HostRuntime) -> Result<(), Fail> {
     let alloc = rt.alloc();
-    let text = print_reply(alloc, &Ok(Reply::Inserted))?;
-    assert!(rt; text.as_slice() == "[\"inserted\"]\n".as_bytes());
-    let text = print_reply(alloc, &Ok(Reply::Present(7)))?;
-    assert!(rt; text.as_slice() == "[\"present\",7]\n".as_bytes());
-    let text = print_reply(alloc, &Ok(Reply::Removed(0)))?;
-    assert!(rt; text.as_slice() == "[\"removed\",0]\n".as_bytes());
-    let text = print_reply(alloc, &Ok(Reply::Absent))?;
-    assert!(rt; text.as_slice() == "[\"absent\"]\n".as_bytes());
-    let text = print_reply(alloc, &Ok(Reply::Found(u64::MAX)))?;
-    assert!(rt; text.as_slice() == "[\"found\",18446744073709551615]\n".as_bytes());
-    let text = print_reply(alloc, &Err(Refusal::BadCommand))?;
-    assert!(rt; text.as_slice() == "[\"refused\",3,\"BadCommand\"]\n".as_bytes());
-    Ok(())
+    check_text(&rt, alloc, Ok(Reply::Inserted), "[\"inserted\"]\n")?;
+    check_text(&rt, alloc, Ok(Reply::Present(7)), "[\"present\",7]\n")?;
+    check_text(&rt, alloc, Ok(Reply::Removed(0)), "[\"removed\",0]\n")?;
+    check_text(&rt, alloc, Ok(Reply::Absent), "[\"absent\"]\n")?;
+    let most = "[\"found\",18446744073709551615]\n";
+    check_text(&rt, alloc, Ok(Reply::Found(u64::MAX)), most)?;
+    let refused = "[\"refused\",3,\"BadCommand\"]\n";
+    check_text(&rt, alloc, Err(Refusal::BadCommand), refused)
 }
 
 fn row_of(first: bool, second: i8, value: u64) -> Row
@@ -49,18 +60,15 @@ fn prints_rows(rt: HostRuntime) -> Result<(), Fail> {
     let mut rows = ArrayVec::new();
     rows.push(row_of(false, 127, 2));
     rows.push(row_of(true, -128, 1));
-    let text = print_reply(alloc, &Ok(Reply::Rows(rows, false)))?;
-    assert!(rt;
-        text.as_slice() == "[\"rows\",[[[false,127],2],[[true,-128],1]],false]\n".as_bytes()
-    );
+    let pairs = "[\"rows\",[[[false,127],2],[[true,-128],1]],false]\n";
+    check_text(&rt, alloc, Ok(Reply::Rows(rows, false)), pairs)?;
     let mut rows = ArrayVec::new();
     rows.push(numbered(1, 1));
     rows.push(numbered(2, 2));
-    let text = print_reply(alloc, &Ok(Reply::Rows(rows, true)))?;
-    assert!(rt; text.as_slice() == "[\"rows\",[[[1],1],[[2],2]],true]\n".as_bytes());
-    let text = print_reply(alloc, &Ok(Reply::Rows(ArrayVec::new(), false)))?;
-    assert!(rt; text.as_slice() == "[\"rows\",[],false]\n".as_bytes());
-    Ok(())
+    let more = "[\"rows\",[[[1],1],[[2],2]],true]\n";
+    check_text(&rt, alloc, Ok(Reply::Rows(rows, true)), more)?;
+    let none = Ok(Reply::Rows(ArrayVec::new(), false));
+    check_text(&rt, alloc, none, "[\"rows\",[],false]\n")
 }
 
 #[test]
@@ -80,38 +88,47 @@ fn prints_texts(rt: HostRuntime) -> Result<(), Fail> {
 fn names_refusals(rt: HostRuntime) -> Result<(), Fail> {
     assert_eq!(rt; Refusal::PassesMissing.number(), 25);
     assert!(rt; Refusal::PassesMissing.name() == "PassesMissing");
-    let text = format!(in rt.alloc(); "{}", Refusal::BadConfig)?;
-    assert!(rt; text.as_str() == "refused 24 BadConfig");
-    let text = format!(in rt.alloc(); "{}", LineFault::LineTooLong)?;
-    assert!(rt; text.as_str() == "line too long");
-    let text = format!(in rt.alloc(); "{}", LineFault::Value(ValueFault::WrongColumns))?;
-    assert!(rt; text.as_str() == "the tuple has not one value for each column");
+    let alloc = rt.alloc();
+    let wrong = LineFault::Value(ValueFault::WrongColumns);
+    for (text, expected) in [
+        (
+            format!(in alloc; "{}", Refusal::BadConfig)?,
+            "refused 24 BadConfig",
+        ),
+        (
+            format!(in alloc; "{}", LineFault::LineTooLong)?,
+            "line too long",
+        ),
+        (
+            format!(in alloc; "{}", wrong)?,
+            "the tuple has not one value for each column",
+        ),
+    ] {
+        assert!(rt; text.as_str() == expected);
+    }
     Ok(())
 }
 
 #[test]
 fn faults_have_refusals(rt: HostRuntime) {
-    assert_eq!(rt; Refusal::from(LineFault::NoMemory), Refusal::NoMemory);
-    assert_eq!(rt;
-        Refusal::from(LineFault::from(ValueFault::WrongColumns)),
-        Refusal::WrongColumns
-    );
-    assert_eq!(rt;
-        Refusal::from(ValueFault::TextTooLong(3)),
-        Refusal::TextTooLong
-    );
-    assert_eq!(rt;
-        Refusal::from(Fault::Value(ValueFault::OutOfRange(0))),
-        Refusal::OutOfRange
-    );
-    assert_eq!(rt; Refusal::from(Fault::Full(Pool::N4)), Refusal::Full);
-    assert_eq!(rt;
-        Refusal::from(SchemaFault::BadColumn(2)),
-        Refusal::BadColumn
-    );
-    assert_eq!(rt; Refusal::from(OpenFault::BadConfig), Refusal::BadConfig);
-    assert_eq!(rt;
-        Refusal::from(CloseRefusal::PassesMissing),
-        Refusal::PassesMissing
-    );
+    let of_line = LineFault::from(ValueFault::WrongColumns);
+    let of_table = Fault::Value(ValueFault::OutOfRange(0));
+    for (refusal, expected) in [
+        (Refusal::from(LineFault::NoMemory), Refusal::NoMemory),
+        (Refusal::from(of_line), Refusal::WrongColumns),
+        (
+            Refusal::from(ValueFault::TextTooLong(3)),
+            Refusal::TextTooLong,
+        ),
+        (Refusal::from(of_table), Refusal::OutOfRange),
+        (Refusal::from(Fault::Full(Pool::N4)), Refusal::Full),
+        (Refusal::from(SchemaFault::BadColumn(2)), Refusal::BadColumn),
+        (Refusal::from(OpenFault::BadConfig), Refusal::BadConfig),
+        (
+            Refusal::from(CloseRefusal::PassesMissing),
+            Refusal::PassesMissing,
+        ),
+    ] {
+        assert_eq!(rt; refusal, expected);
+    }
 }

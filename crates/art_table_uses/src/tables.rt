@@ -37,65 +37,94 @@ fn opened(rt: &impl Abort, alloc: Global) -> (Table, Pass)
     (table, pass)
 }
 
+/// An insert of the number with this value answers so.
+fn inserts(
+    rt: &impl Abort,
+    table: &mut Table,
+    pass: &mut Pass,
+    number: i128,
+    value: u64,
+    answer: Result<Inserted, Fault>,
+)
+    requires { IsPassOf table.old pass.old }
+    ensures { IsPassOf table.new pass.new }
+{
+    let told = insert(table, pass, &tuple_of(number), value, 9);
+    assert_eq!(rt; told, answer);
+}
+
+/// A removal of the number answers so.
+fn removes(
+    rt: &impl Abort,
+    table: &mut Table,
+    pass: &mut Pass,
+    number: i128,
+    answer: Result<Option<u64>, Fault>,
+)
+    requires { IsPassOf table.old pass.old }
+    ensures { IsPassOf table.new pass.new }
+{
+    let told = remove(table, pass, &tuple_of(number), 9);
+    assert_eq!(rt; told, answer);
+}
+
+/// A get of the number answers so.
+fn gets(
+    rt: &impl Abort,
+    table: &mut Table,
+    pass: &mut Pass,
+    number: i128,
+    answer: Result<Option<u64>, Fault>,
+)
+    requires { IsPassOf table.old pass.old }
+    ensures { IsPassOf table.new pass.new }
+{
+    let told = get(table, pass, &tuple_of(number), 9);
+    assert_eq!(rt; told, answer);
+}
+
 #[test]
 fn an_inserted_row_is_found_and_stays(rt: HostRuntime) {
     let (mut table, mut pass) = opened(&rt, rt.alloc());
-    let five = tuple_of(5);
-    assert_eq!(rt; get(&mut table, &mut pass, &five, 9), Ok(None));
-    assert_eq!(rt;
-        insert(&mut table, &mut pass, &five, 9, 9),
-        Ok(Inserted::New)
-    );
-    let again = insert(&mut table, &mut pass, &five, 10, 9);
-    assert_eq!(rt; again, Ok(Inserted::Present(9)));
-    assert_eq!(rt; get(&mut table, &mut pass, &five, 9), Ok(Some(9)));
+    gets(&rt, &mut table, &mut pass, 5, Ok(None));
+    inserts(&rt, &mut table, &mut pass, 5, 9, Ok(Inserted::New));
+    inserts(&rt, &mut table, &mut pass, 5, 10, Ok(Inserted::Present(9)));
+    gets(&rt, &mut table, &mut pass, 5, Ok(Some(9)));
 }
 
 #[test]
 fn a_third_row_finds_two_leaves_full(rt: HostRuntime) {
     let (mut table, mut pass) = opened(&rt, rt.alloc());
-    assert_eq!(rt;
-        insert(&mut table, &mut pass, &tuple_of(2), 2, 9),
-        Ok(Inserted::New)
-    );
-    assert_eq!(rt;
-        insert(&mut table, &mut pass, &tuple_of(1), 1, 9),
-        Ok(Inserted::New)
-    );
-    let third = insert(&mut table, &mut pass, &tuple_of(3), 3, 9);
-    assert_eq!(rt; third, Err(Fault::Full(Pool::Leaves)));
-    let there = insert(&mut table, &mut pass, &tuple_of(1), 9, 9);
-    assert_eq!(rt; there, Ok(Inserted::Present(1)));
-    assert_eq!(rt; get(&mut table, &mut pass, &tuple_of(2), 9), Ok(Some(2)));
+    inserts(&rt, &mut table, &mut pass, 2, 2, Ok(Inserted::New));
+    inserts(&rt, &mut table, &mut pass, 1, 1, Ok(Inserted::New));
+    let full = Err(Fault::Full(Pool::Leaves));
+    inserts(&rt, &mut table, &mut pass, 3, 3, full);
+    inserts(&rt, &mut table, &mut pass, 1, 9, Ok(Inserted::Present(1)));
+    gets(&rt, &mut table, &mut pass, 2, Ok(Some(2)));
 }
 
 #[test]
 fn a_removed_row_is_absent_and_its_leaf_is_free(rt: HostRuntime) {
     let (mut table, mut pass) = opened(&rt, rt.alloc());
-    let first = insert(&mut table, &mut pass, &tuple_of(20), 7, 9);
-    assert_eq!(rt; first, Ok(Inserted::New));
-    let second = insert(&mut table, &mut pass, &tuple_of(10), 6, 9);
-    assert_eq!(rt; second, Ok(Inserted::New));
-    let third = insert(&mut table, &mut pass, &tuple_of(30), 8, 9);
-    assert_eq!(rt; third, Err(Fault::Full(Pool::Leaves)));
-    let removed = remove(&mut table, &mut pass, &tuple_of(20), 9);
-    assert_eq!(rt; removed, Ok(Some(7)));
-    let again = remove(&mut table, &mut pass, &tuple_of(20), 9);
-    assert_eq!(rt; again, Ok(None));
-    assert_eq!(rt; get(&mut table, &mut pass, &tuple_of(20), 9), Ok(None));
-    let third = insert(&mut table, &mut pass, &tuple_of(30), 8, 9);
-    assert_eq!(rt; third, Ok(Inserted::New));
-    assert_eq!(rt; get(&mut table, &mut pass, &tuple_of(10), 9), Ok(Some(6)));
-    assert_eq!(rt; get(&mut table, &mut pass, &tuple_of(30), 9), Ok(Some(8)));
+    inserts(&rt, &mut table, &mut pass, 20, 7, Ok(Inserted::New));
+    inserts(&rt, &mut table, &mut pass, 10, 6, Ok(Inserted::New));
+    let full = Err(Fault::Full(Pool::Leaves));
+    inserts(&rt, &mut table, &mut pass, 30, 8, full);
+    removes(&rt, &mut table, &mut pass, 20, Ok(Some(7)));
+    removes(&rt, &mut table, &mut pass, 20, Ok(None));
+    gets(&rt, &mut table, &mut pass, 20, Ok(None));
+    inserts(&rt, &mut table, &mut pass, 30, 8, Ok(Inserted::New));
+    gets(&rt, &mut table, &mut pass, 10, Ok(Some(6)));
+    gets(&rt, &mut table, &mut pass, 30, Ok(Some(8)));
 }
 
 #[test]
 fn a_value_out_of_its_column_changes_nothing(rt: HostRuntime) {
     let (mut table, mut pass) = opened(&rt, rt.alloc());
     let refused = Err(Fault::Value(ValueFault::OutOfRange(0)));
-    assert_eq!(rt; insert(&mut table, &mut pass, &tuple_of(-1), 1, 9), refused);
+    inserts(&rt, &mut table, &mut pass, -1, 1, refused);
     let refused = Err(Fault::Value(ValueFault::OutOfRange(0)));
-    assert_eq!(rt; remove(&mut table, &mut pass, &tuple_of(-1), 9), refused);
+    removes(&rt, &mut table, &mut pass, -1, refused);
     let empty = get(&mut table, &mut pass, &Tuple::new(), 9);
     assert_eq!(rt; empty, Err(Fault::Value(ValueFault::WrongColumns)));
 }
@@ -109,16 +138,20 @@ fn closing_gives_the_rows_in_order_and_the_counts(rt: HostRuntime) -> Result<(),
         return Err("not closed".into());
     };
     assert_eq!(rt; closed.rows.len(), 0);
-    let all_free = |size| PoolCount {
-        linked: 0,
-        free: size,
-        in_limbo: 0,
-    };
-    assert_eq!(rt; closed.leaves, all_free(2));
-    assert_eq!(rt; closed.n4, all_free(1));
-    assert_eq!(rt; closed.n16, all_free(2));
-    assert_eq!(rt; closed.n48, all_free(3));
-    assert_eq!(rt; closed.n256, all_free(4));
+    for (counted, free) in [
+        (closed.leaves, 2),
+        (closed.n4, 1),
+        (closed.n16, 2),
+        (closed.n48, 3),
+        (closed.n256, 4),
+    ] {
+        let all_free = PoolCount {
+            linked: 0,
+            free,
+            in_limbo: 0,
+        };
+        assert_eq!(rt; counted, all_free);
+    }
     Ok(())
 }
 

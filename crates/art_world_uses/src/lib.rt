@@ -1,4 +1,4 @@
-//! Worked rows of cells, numbers, gets, looks and paths, most of them over a world of one thread.
+//! Worked rows of cells, numbers and paths, most of them over a world of one thread.
 //!
 //! Each test makes few steps of one pass. Whole changes, in turns with those of other passes, stand in `art_cell_uses`.
 //! Nothing stands above this crate.
@@ -8,10 +8,6 @@
 mod cells;
 #[cfg(test)]
 mod free_numbers;
-#[cfg(test)]
-mod gets;
-#[cfg(test)]
-mod looks;
 #[cfg(test)]
 mod numbers;
 #[cfg(test)]
