@@ -1,15 +1,13 @@
-//! Tests of the four layouts, of nodes whatever their layout, and of leaves.
+//! Tests of the four layouts, and of nodes whatever their layout.
 //!
 //! What the layouts share is tested by functions over any `NodeKind`: `kinds` has them, and `fills` calls them at each
-//! layout. Beside them stand worked words of each layout, of nodes that grow and shrink, and of leaves.
+//! layout. Beside them stand worked words of each layout, and of nodes that grow and shrink.
 #![tactic(auto)]
 
 #[cfg(test)]
 mod fills;
 #[cfg(test)]
 mod kinds;
-#[cfg(test)]
-mod leaves;
 #[cfg(test)]
 mod node16;
 #[cfg(test)]
@@ -22,7 +20,5 @@ mod node48;
 mod nodes;
 #[cfg(test)]
 mod plans;
-#[cfg(test)]
-mod reads;
 #[cfg(test)]
 mod searches;

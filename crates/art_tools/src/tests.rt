@@ -10,6 +10,7 @@ use crate::settings::{Settings, SettingsFault};
 use art_server::Counted;
 use std::alloc::Global;
 use std::io::{self, ErrorKind, Read, Write};
+use std::process::Abort;
 use std::test::Fail;
 
 static CHOSEN: [&str; 3] = ["art_index", "run", "--schema=u16"];
@@ -91,18 +92,32 @@ fn help_ends_with_the_lines_and_the_statuses(rt: HostRuntime) {
         assert_eq!(rt; ran.status, 0, "at {words:?}");
         assert!(rt; ran.output.as_slice().starts_with(first.as_bytes()));
         let end = ran.output.as_slice().strip_suffix(b"\n".as_slice());
-        assert!(rt; end.is_some_and(|text| text.ends_with(AFTER_HELP.as_bytes())));
+        let text = end.expect(&rt, "a last line feed");
+        assert!(rt; text.ends_with(AFTER_HELP.as_bytes()));
         assert!(rt; ran.faults.is_empty());
     }
+}
+
+/// The words end with this status, and this is written and said of faults.
+fn check_told(
+    rt: &impl Abort,
+    alloc: Global,
+    words: &[&str],
+    status: u8,
+    output: &str,
+    faults: &str,
+) {
+    let ran = run_on_nothing(alloc, words);
+    assert_eq!(rt; ran.status, status);
+    assert_eq!(rt; ran.output.as_slice(), output.as_bytes());
+    assert_eq!(rt; ran.faults.as_slice(), faults.as_bytes());
 }
 
 #[test]
 fn the_version_is_the_programs(rt: HostRuntime) {
     for word in ["--version", "-V"] {
-        let ran = run_on_nothing(rt.alloc(), &["art_index", word]);
-        assert_eq!(rt; ran.status, 0);
-        assert_eq!(rt; ran.output.as_slice(), b"art_index 0.1.0\n".as_slice());
-        assert!(rt; ran.faults.is_empty());
+        let words = ["art_index", word];
+        check_told(&rt, rt.alloc(), &words, 0, "art_index 0.1.0\n", "");
     }
 }
 
@@ -120,9 +135,8 @@ fn a_schema_that_is_none_ends_with_three(rt: HostRuntime) {
             "art_index: refused 22 KeyTooWide\n",
         ),
     ] {
-        let ran = run_on_nothing(rt.alloc(), &["art_index", "run", option]);
-        assert_eq!(rt; ran.status, 3);
-        assert_eq!(rt; ran.faults.as_slice(), expected.as_bytes());
+        let words = ["art_index", "run", option];
+        check_told(&rt, rt.alloc(), &words, 3, "", expected);
     }
 }
 
