@@ -3,8 +3,10 @@ use Rattle.std.proofs.Common.{◌≡◌, ℕ, ◌+◌, ◌*◌, ◌%◌, ◌<◌
 use Rattle.std.proofs.lemmas.Bool.{eq-eqb, ne_eqb}
 use Rattle.std.specs.Prelude.{Result, Ok, Err}
 use Rattle.art_cell.specs.declared.cells.Cell.{Cell}
+use Rattle.art_cell.specs.declared.cells.Link.{Link}
+use Rattle.art_cell.specs.declared.cells.Link.TheVariants.{Leaf as leaf, Node as node}
 use Rattle.art_find.specs.Asking.{Answers, goes_on}
-use Rattle.art_find.specs.Descents.{StageFits, ended_at, most_steps, staged}
+use Rattle.art_find.specs.Descents.{StageFits, ended_at, most_steps, stage_below, staged}
 use Rattle.art_find.specs.Driven.{Counts, restarts_after}
 use Rattle.art_find.specs.declared.asked.Answer.{Answer}
 use Rattle.art_find.specs.declared.asked.Answer.TheVariants.{Begun, Word, Checked}
@@ -83,6 +85,26 @@ pub staged_later : (depth number : ℕ) (r : Sought) (seen : NodeSeen) → numbe
 staged_later depth number (sought.Keys i) seen few later = omega arith
 staged_later depth number (sought.Child p) seen few later = omega arith
 staged_later depth number sought.Nothing seen few later = omega arith
+
+pub staged_first : (depth : ℕ) (r : Sought) (seen : NodeSeen) → 64 * depth + 5 < most_steps depth (staged r seen)
+staged_first depth (sought.Keys i) seen = omega arith
+staged_first depth (sought.Child p) seen = omega arith
+staged_first depth sought.Nothing seen = omega arith
+
+-- and has not ended
+pub staged_going : (r : Sought) (seen : NodeSeen) → ended_at (staged r seen) ≡ None
+staged_going (sought.Keys i) seen = refl
+staged_going (sought.Child p) seen = refl
+staged_going sought.Nothing seen = refl
+
+-- after the check of the cell that names a link
+pub below_later : (depth : ℕ) (x : Stamp) (d : Link) → 64 * depth + 2 < most_steps depth (stage_below x d)
+below_later depth x (leaf l) = omega arith
+below_later depth x (node n) = omega arith
+
+pub below_going : (x : Stamp) (d : Link) → ended_at (stage_below x d) ≡ None
+below_going x (leaf l) = refl
+below_going x (node n) = refl
 
 -- a step that goes on, and one that does not
 pub counts_on : (u v w : View) (before after n : ℕ) (on : Bool) → (on ≡ true → before < after) → before < 30000 → Counted v w on → Counts u v before n → Counts u w after (restarts_after n on)

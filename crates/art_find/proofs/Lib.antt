@@ -5,3 +5,4 @@ pub mod ComparedWords
 pub mod Stages
 pub mod Counting
 pub mod Driven
+pub mod Going

@@ -2,4 +2,5 @@ pub mod Asking
 pub mod Compares
 pub mod Descents
 pub mod Driven
+pub mod Straight
 pub mod Ways

@@ -222,7 +222,7 @@ impl Descent {
 
 /// The cell that names the link was checked.
 #[inline(always)]
-fn below(stamp: Stamp, link: Link) -> Stage
+pub(crate) fn below(stamp: Stamp, link: Link) -> Stage
     ensures { result ≡ stage_below stamp link }
 {
     match link {

@@ -6,7 +6,8 @@ ghost use Rattle.art_find.specs.Driven.{GetEnds, GetFits, get_done, restarts_aft
 ghost use Rattle.art_step.specs.Shows.{HasValue};
 ghost use Rattle.art_step.specs.declared.views.View.{View};
 
-use crate::{Answer, Asked, Descent, Stage};
+use crate::straight::{Tally, go_down};
+use crate::{Answer, Asked, Descent};
 use art_key::Key;
 use art_model::Answer as Reply;
 use art_step::{Act, Deed, Steps};
@@ -94,37 +95,6 @@ pub fn step<S: Steps>(steps: &mut S, descent: &mut Descent, key: &[u8]) -> bool
     ensures fits { (u : View) (n : ℕ) → GetFits (S.sizes steps.old) key.now u (S.view steps.old) descent.old n →
         GetFits (S.sizes steps.old) key.now u (S.view steps.new) descent.new (restarts_after n result) }
 {
-    // a call for each stage, so that at its place the compiled code knows the stage, and what may come of the answer
-    match descent.stage {
-        Stage::Start => go(steps, descent, key),
-        Stage::Anchor(_) => go(steps, descent, key),
-        Stage::Child(_, _) => go(steps, descent, key),
-        Stage::Below(_, _) => go(steps, descent, key),
-        Stage::Both(_, _, _) => go(steps, descent, key),
-        Stage::Header(_, _) => go(steps, descent, key),
-        Stage::Prefix(_, _, _) => go(steps, descent, key),
-        Stage::Keys(_, _) => go(steps, descent, key),
-        Stage::Slot(_, _, _) => go(steps, descent, key),
-        Stage::Value(_, _) => go(steps, descent, key),
-        Stage::Length(_, _, _) => go(steps, descent, key),
-        Stage::Bytes(_, _, _) => go(steps, descent, key),
-        Stage::Decided(_, _) => go(steps, descent, key),
-        Stage::Ended(_) => unreachable!(),
-    }
-}
-
-/// Makes the step at the stage where the descent stands.
-#[inline(always)]
-fn go<S: Steps>(steps: &mut S, descent: &mut Descent, key: &[u8]) -> bool
-    requires short { length key.now ≤ 64 }
-    requires admitted { S.admits steps.old key.now }
-    requires going { ended_at descent.old.stage ≡ None }
-    requires fits { (u : View) × (n : ℕ) × GetFits (S.sizes steps.old) key.now u (S.view steps.old) descent.old n }
-    ensures only { S.only steps.old steps.new }
-    ensures one { (S.view steps.new).steps ≡ (S.view steps.old).steps + 1 }
-    ensures fits { (u : View) (n : ℕ) → GetFits (S.sizes steps.old) key.now u (S.view steps.old) descent.old n →
-        GetFits (S.sizes steps.old) key.now u (S.view steps.new) descent.new (restarts_after n result) }
-{
     let Some(asked) = descent.next() else {
         unreachable!()
     };
@@ -148,20 +118,25 @@ pub fn get<S: Steps>(steps: &mut S, key: &Key, turns: u32) -> Gotten
 {
     let bytes = key.as_slice();
     let mut descent = Descent::new();
-    let mut restarts = 0;
-    for _ in 0..turns {
+    let mut tally = Tally {
+        left: turns,
+        restarts: 0,
+    };
+    while tally.left > 0 {
+        go_down(steps, &mut tally, &mut descent, bytes);
+        tally.left -= 1;
         if !step(steps, &mut descent, bytes) {
-            restarts += 1;
+            tally.restarts += 1;
         }
         if let Some(value) = descent.ended() {
             return Gotten {
                 got: settled(value),
-                restarts,
+                restarts: tally.restarts,
             };
         }
     }
     Gotten {
         got: Got::Busy,
-        restarts,
+        restarts: tally.restarts,
     }
 }

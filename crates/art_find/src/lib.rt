@@ -12,7 +12,7 @@
 //! `Descent` is the look for one key, as a machine. It is a value that names no carrier and keeps no key: scalars alone, and
 //! the key stands beside it. `next` names the step that it asks for (`Asked`), or none where it has ended, and `told` hands it
 //! the answer (`Answer`). So the same machine makes one step at each turn of an actor, with those of others in between, or runs
-//! to its end in a loop (`get`).
+//! to its end in a loop.
 //!
 //! ```text
 //!          anchor: stamp, child word, check
@@ -51,6 +51,14 @@
 //! none; which deed that is, whoever drives the descent says: the get of the key, or an insert that finds its key there. `get`
 //! makes the get.
 //!
+//! # The straight way
+//!
+//! A machine's stage stands in memory between two steps, in one form or another, and a loop that asks it for each step spends
+//! more instructions on stages than on words. `get` goes straight down instead, as long as nothing stops it: the same steps in
+//! the same order, each a call of its own that hands the next one what it needs. Its contracts say at which stage the descent
+//! would stand (`GetGoes`), so that where something does stop it (a prefix, a version word that is locked or changed, few turns)
+//! the machine goes on from there.
+//!
 //! # How many steps
 //!
 //! Each step comes further (`most_steps`), so that a descent that meets no failure ends within 4,300 steps: a byte of the key
@@ -62,6 +70,7 @@ mod compares;
 mod descents;
 mod driver;
 mod reads;
+mod straight;
 
 pub use asked::{Answer, Asked};
 pub use descents::{Descent, LeafSeen, NodeSeen, Stage};

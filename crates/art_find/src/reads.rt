@@ -13,7 +13,7 @@ impl Descent {
     ghost use Rattle.art_cell.specs.declared.cells.Cell.TheVariants as cells;
     ghost use Rattle.art_find.specs.Asking.{Answers, WantsWord};
     ghost use Rattle.art_find.specs.Compares.{IsWithin};
-    ghost use Rattle.art_find.specs.Descents.{Fits, IsAbove, IsOn, IsReading, WasNoted, answer_at, asks, most_steps};
+    ghost use Rattle.art_find.specs.Descents.{Fits, IsAbove, IsOn, IsReading, WasNoted, answer_at, asks, ended_at, most_steps};
     ghost use Rattle.art_find.specs.Ways.{HasHeader, IsAtKeys, IsAtLeaf, IsAtSlot, IsInKey, IsInPrefix, IsOnNode, IsPassed, count_in};
     ghost use Rattle.art_find.specs.declared.asked.Answer.TheVariants as told;
     ghost use Rattle.art_find.specs.declared.asked.Asked.{Asked as AskedStep};
@@ -30,6 +30,7 @@ impl Descent {
         requires wants { WantsWord (asks self.old.stage) }
         requires fits { (z : Sizes) × (what : Option ℕ → Deed) × (u : View) × (v : View) × Fits z key.now what self.old u v }
         ensures steps { most_steps self.old.depth self.old.stage < most_steps self.new.depth self.new.stage }
+        ensures going { ended_at self.new.stage ≡ None }
         ensures fits { (z : Sizes) (what : Option ℕ → Deed) (u v w : View) (asked : AskedStep) →
             Fits z key.now what self.old u v → asks self.old.stage ≡ Some asked →
             Answers z (what (answer_at self.old.stage)) asked (told.Word word) v w → Fits z key.now what self.new u w }
@@ -58,6 +59,7 @@ impl Descent {
     #[inline(always)]
     fn see_root(&mut self, key: &[u8], stamp: Stamp, word: u64)
         ensures steps { 1 < most_steps self.new.depth self.new.stage }
+        ensures going { ended_at self.new.stage ≡ None }
         ensures fits { (z : Sizes) (what : Option ℕ → Deed) (u w : View) → IsReading u w → HasStamp z w stamp →
             stamp.cell ≡ cells.Anchor → Shows z w stamp (λ s. s cells.Anchor 1 ≡ word) → WasNoted w stamp word → Fits z key.now what self.new u w }
     {
@@ -75,6 +77,7 @@ impl Descent {
         requires few { length key.now ≤ 64 }
         requires deep { self.old.depth ≤ length key.now }
         ensures steps { 64 * self.old.depth + 5 < most_steps self.new.depth self.new.stage }
+        ensures going { ended_at self.new.stage ≡ None }
         ensures fits { (z : Sizes) (what : Option ℕ → Deed) (u w : View) → IsOn z u w seen.stamp seen.node →
             Shows z w seen.stamp (λ s. HasHeader s seen.node key.now self.old.depth seen.header) → Fits z key.now what self.new u w }
     {
@@ -97,6 +100,7 @@ impl Descent {
         requires short { self.old.depth + count_in seen.header < 64 }
         requires within { IsWithin key.now self.old.depth (8 * number) before }
         ensures steps { 64 * self.old.depth + 6 + number < most_steps self.new.depth self.new.stage }
+        ensures going { ended_at self.new.stage ≡ None }
         ensures fits { (z : Sizes) (what : Option ℕ → Deed) (u w : View) → IsOn z u w seen.stamp seen.node →
             Shows z w seen.stamp (λ s. IsInPrefix s seen.node key.now self.old.depth seen.header number before) →
             Shows z w seen.stamp (λ s. s (cells.Node seen.node) (2 + number) ≡ word) → Fits z key.now what self.new u w }
@@ -119,6 +123,7 @@ impl Descent {
         requires deep { self.old.depth ≤ length key.now }
         requires short { self.old.depth + count_in seen.header < 64 }
         ensures steps { 64 * self.old.depth + 13 < most_steps self.new.depth self.new.stage }
+        ensures going { ended_at self.new.stage ≡ None }
         ensures fits { (z : Sizes) (what : Option ℕ → Deed) (u w : View) → IsOn z u w seen.stamp seen.node →
             Shows z w seen.stamp (λ s. IsPassed s seen.node key.now self.old.depth seen.header) → Fits z key.now what self.new u w }
     {
@@ -137,6 +142,7 @@ impl Descent {
         requires deep { self.old.depth < length key.now }
         requires number { number < 32 }
         ensures steps { 64 * self.old.depth + 14 + number < most_steps self.new.depth self.new.stage }
+        ensures going { ended_at self.new.stage ≡ None }
         ensures fits { (z : Sizes) (what : Option ℕ → Deed) (u w : View) → IsOn z u w seen.stamp seen.node →
             Shows z w seen.stamp (λ s. IsAtKeys s seen.node key.now self.old.depth seen.header number) →
             Shows z w seen.stamp (λ s. s (cells.Node seen.node) (10 + number) ≡ word) → Fits z key.now what self.new u w }
@@ -153,6 +159,7 @@ impl Descent {
     fn see_slot(&mut self, key: &[u8], stamp: Stamp, node: Node, place: usize, word: u64)
         requires deep { self.old.depth < length key.now }
         ensures steps { 64 * self.old.depth + 46 < most_steps self.new.depth self.new.stage }
+        ensures going { ended_at self.new.stage ≡ None }
         ensures fits { (z : Sizes) (what : Option ℕ → Deed) (u w : View) → IsOn z u w stamp node →
             Shows z w stamp (λ s. IsAtSlot s node key.now self.old.depth place) →
             Shows z w stamp (λ s. s (cells.Node node) place ≡ word) → WasNoted w stamp word → Fits z key.now what self.new u w }
@@ -174,6 +181,7 @@ impl Descent {
     fn see_length(&mut self, key: &[u8], stamp: Stamp, leaf: u32, value: u64, bytes: u64)
         requires deep { self.old.depth ≤ length key.now }
         ensures steps { 64 * self.old.depth + 4 < most_steps self.new.depth self.new.stage }
+        ensures going { ended_at self.new.stage ≡ None }
         ensures fits { (z : Sizes) (what : Option ℕ → Deed) (u w : View) → IsAbove z u w stamp leaf →
             Shows z w stamp (λ s. IsAtLeaf s stamp.cell leaf (take self.old.depth key.now) value) →
             Shows z w stamp (λ s. s (cells.Leaf leaf) 1 ≡ bytes) → Fits z key.now what self.new u w }
@@ -207,6 +215,7 @@ impl Descent {
         requires few { seen.count ≤ 64 }
         requires within { IsWithin key.now 0 (8 * number) before }
         ensures steps { 64 * self.old.depth + 5 + number < most_steps self.new.depth self.new.stage }
+        ensures going { ended_at self.new.stage ≡ None }
         ensures fits { (z : Sizes) (what : Option ℕ → Deed) (u w : View) → IsAbove z u w seen.stamp seen.leaf →
             Shows z w seen.stamp (λ s. IsInKey s seen.stamp.cell seen.leaf key.now (take self.old.depth key.now) seen.value seen.count number before) →
             Shows z w seen.stamp (λ s. s (cells.Leaf seen.leaf) (2 + number) ≡ word) → Fits z key.now what self.new u w }

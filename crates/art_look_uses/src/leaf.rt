@@ -41,8 +41,10 @@ fn a_get_finds_the_leaf_that_stands(rt: HostRuntime) -> Result<(), Fail> {
     pin(&mut second);
     assert_eq!(rt; get(&mut second, &key, 6).got, Got::Busy);
     assert_eq!(rt; get(&mut second, &key, 7).got, Got::Found(VALUE));
+    assert_eq!(rt; get(&mut second, &key, 1_000).got, Got::Found(VALUE));
     key.push(0);
     assert_eq!(rt; get(&mut second, &key, 7).got, Got::Absent);
+    assert_eq!(rt; get(&mut second, &key, 1_000).got, Got::Absent);
     assert_eq!(rt; turns_of(visitors), 20);
     Ok(())
 }

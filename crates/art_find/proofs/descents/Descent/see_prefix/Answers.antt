@@ -1,4 +1,4 @@
-use Rattle.std.proofs.Common.{ℕ, subst, arith}
+use Rattle.std.proofs.Common.{refl, ℕ, subst, arith}
 use Rattle.art_find.specs.Compares.{ComparesWord}
 use Rattle.art_find.proofs.Stages.{prefix_differs, prefix_next, prefix_passed}
 use Rattle.art_find.proofs.descents.Descent.see_prefix.Goals as goal
@@ -25,6 +25,7 @@ returns-in-Same-clause-fits c = λ z what u w on shows is.
 pub returns-in_default : goal.returns-in_default
 returns-in_default c = record {
   steps = omega (arith, c.requires.more, c.requires.short);
+  going = refl;
   fits = λ z what u w on shows is.
       let m = c.args.self.now in
       let k = c.args.key.now in

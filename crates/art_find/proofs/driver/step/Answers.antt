@@ -6,7 +6,7 @@ use Rattle.art_step.specs.Shows.{HasValue}
 use Rattle.art_find.specs.Descents.{answer_at, most_steps}
 use Rattle.art_find.specs.Driven.{get_done}
 use Rattle.art_find.proofs.Counting.{Counted, answers_count, counts_on, few_steps}
-use Rattle.art_find.proofs.driver.go.Goals as goal
+use Rattle.art_find.proofs.driver.step.Goals as goal
 
 pub returns-clause-fits : goal.returns-clause-fits
 returns-clause-fits g c = λ u n before.
