@@ -8,15 +8,20 @@
 //! another way: `first_word` names the first word to read for the child of a byte, by the header alone, and `next_word`
 //! the one after it, by the last word that was read. `first_word_from` and `next_word_from` do so for the least child at
 //! a byte or above.
+//!
+//! Where two keys part below a prefix, `fork` makes the node that comes between: a part of the prefix, and two children.
+//! `plan_prefix` gives a node another prefix, shorter where such a node comes above it, longer where one goes.
 #![tactic(auto)]
 
 mod leaves;
 mod nodes;
+mod prefixes;
 mod relaid;
 mod searches;
 mod words;
 
 pub use leaves::{pack, unpack};
 pub use nodes::{at_least, grow, list, plan_add, plan_drop, plan_set, probe, shrink};
+pub use prefixes::{fork, plan_prefix};
 pub use searches::{Sought, SoughtFrom, first_word, first_word_from, next_word, next_word_from};
 pub use words::{Header, child_word, link_in, prefix, read_header};

@@ -147,14 +147,17 @@ fn first_key(sorted: Sorted, byte: u8, header: u64, number: u8, word: u64) -> Ke
 {
     let count = ((header % 512) as usize).min(sorted.positions());
     let first = 8 * usize::from(number);
-    let end = count.min(first + 8);
-    for index in first..end {
-        let found = byte_at(word, index % 8);
+    let left = count.saturating_sub(first);
+    for at in 0..8 {
+        if at >= left {
+            return KeySearch::Nothing;
+        }
+        let found = byte_at(word, at);
         if found >= byte {
-            return KeySearch::At(index, found);
+            return KeySearch::At(first + at, found);
         }
     }
-    if end < count {
+    if left > 8 {
         KeySearch::Later
     } else {
         KeySearch::Nothing

@@ -1,11 +1,11 @@
-//! Plans of a Node256, by the words that they write.
+//! Plans of a Node256, by the words that they write, and nodes with a prefix.
 ghost use Rattle.std.specs.Prelude.{◌<◌};
 ghost use Rattle.art_cell.specs.declared.layouts.Layout.TheVariants as layouts;
 ghost use Rattle.art_cell.specs.Reads.{IsBodyOf};
 
-use crate::kinds::{child, empty, give};
+use crate::kinds::{check_words, child, empty, give};
 use art_cell::{Body, Layout, Write};
-use art_node::{plan_add, plan_drop, plan_set};
+use art_node::{fork, plan_add, plan_drop, plan_prefix, plan_set};
 use art_node256::Node256;
 use std::process::Abort;
 use std::test::*;
@@ -56,4 +56,28 @@ fn plans_write_the_words_that_differ(rt: HostRuntime) {
     check_set(&rt, &body, 3, 8, &[word(13, 8)]);
     check_set(&rt, &body, 3, 9, &[]);
     check_drop(&rt, &body, 3, &[word(1, 512), word(13, 0)]);
+}
+
+#[test]
+fn a_fork_has_its_prefix_and_two_children(rt: HostRuntime) {
+    let forked = fork(b"abcdefghi".as_slice(), 7, 9, 3, 17);
+    check_words(
+        &rt,
+        &forked.words,
+        0,
+        &[0, 4_610, 0x6162_6364_6566_6768, 0x6900_0000_0000_0000, 0],
+    );
+    check_words(
+        &rt,
+        &forked.words,
+        10,
+        &[0x0307_0000_0000_0000, 17, 9, 0, 0],
+    );
+    let shorter = plan_prefix(&forked, b"abcdefgh".as_slice());
+    assert_eq!(rt; shorter.as_slice(), [word(1, 4_098), word(3, 0)].as_slice());
+    let none = plan_prefix(&forked, b"".as_slice());
+    assert_eq!(rt;
+        none.as_slice(),
+        [word(1, 2), word(2, 0), word(3, 0)].as_slice()
+    );
 }

@@ -1,0 +1,19 @@
+use Rattle.std.proofs.Common.{◌≡◌, ap, subst, sym, ◌∙◌, arith}
+use Rattle.art_cell.specs.Reads.{SameOutside, changes, word_of, written}
+use Rattle.art_cell.specs.Words.{Words, child_of}
+use Rattle.art_cell.proofs.ChangedWords.{written-changes}
+use Rattle.art_node.specs.Prefixes.{IsNodeOf}
+use Rattle.art_node.proofs.Prefixed.{past_prefix}
+use Rattle.art_node.proofs.prefixes.plan_prefix.Goals as goal
+
+pub returns : goal.returns
+returns c =
+    let k = c.args.body.now.layout in
+    let w = word_of c.args.body.now in
+    let after = word_of c.with_prefix.result in
+    let same : written w c.changes.result.items ≡ after = ap (written w) c.changes.ensures ∙ (λ i p. written-changes k w after (omega (arith, past_prefix k)) c.with_prefix.ensures.outside p i) in
+    record {
+      node = subst (λ (x : Words). IsNodeOf k x c.args.prefix.now (child_of k w)) (sym same) c.with_prefix.ensures.node;
+      exact = c.changes.ensures ∙ ap (changes k w) (sym same);
+      outside = subst (SameOutside k w) (sym same) c.with_prefix.ensures.outside;
+    }
