@@ -30,14 +30,14 @@ fn words_of(key: &[u8], value: u64) -> Writes
 {
     let mut writes = Writes::new();
     for place in 0..WORDS {
-        let value = word_at(key, value, place);
+        let value = leaf_word(key, value, place);
         writes.push(Write { place, value });
     }
     writes
 }
 
-/// The word at a place of the leaf.
-fn word_at(key: &[u8], value: u64, place: usize) -> u64
+/// The word at a place of the leaf with this key and value.
+pub fn leaf_word(key: &[u8], value: u64, place: usize) -> u64
     requires place { place < 10 }
     requires few { length key.now ≤ 64 }
     ensures { result ≡ leaf_word key.now value place }

@@ -20,7 +20,7 @@ mod relaid;
 mod searches;
 mod words;
 
-pub use leaves::{pack, unpack};
+pub use leaves::{leaf_word, pack, unpack};
 pub use nodes::{at_least, grow, list, plan_add, plan_drop, plan_set, probe, shrink};
 pub use prefixes::{fork, plan_prefix};
 pub use searches::{Sought, SoughtFrom, first_word, first_word_from, next_word, next_word_from};

@@ -7,7 +7,7 @@ use Rattle.art_cell.specs.declared.cells.Node.{Node}
 use Rattle.art_cell.specs.declared.cells.Cell.{Cell}
 use Rattle.art_cell.specs.declared.cells.Cell.TheVariants as cell
 use Rattle.art_cell.specs.declared.cells.Link.{Link}
-use Rattle.art_cell.specs.declared.cells.Link.TheVariants.{Leaf as leaf}
+use Rattle.art_cell.specs.declared.cells.Link.TheVariants.{Leaf as leaf, Node as node}
 use Rattle.art_step.specs.declared.views.Event.{Event}
 use Rattle.art_step.specs.declared.views.Fact.TheVariants.{Word}
 use Rattle.art_step.specs.declared.views.Holding.{Holding}
@@ -28,12 +28,12 @@ use Rattle.art_step.specs.Steps.Write as write
 use Rattle.art_step.specs.Steps.Release as release
 use Rattle.art_step.specs.Steps.Commit as commit
 use Rattle.art_step.specs.Steps.Commit.{coming, AllNew, AreStanding, all_retired, RetiresPinned, UnlocksFirst}
-use Rattle.art_step.specs.Sound.{IsOneHistory, HoldsEach, Holder, Keeps, OneHolder, IsSound}
+use Rattle.art_step.specs.Sound.{IsOneHistory, HoldsEach, Holder, Keeps, OneHolder, IsSound, Whereabouts, InTree, InHandOf, InLimboOf}
 use Rattle.art_step.specs.Steps.{OfAKind, IsUpgrade, IsClaim, IsCommit, IsRelease, IsWrite, IsWriteLeaf}
 use Rattle.art_step.specs.Steps.Write.{with_word, with_leaf_word}
 use Rattle.art_step.specs.Steps.Release.{Drops}
 use Rattle.art_step.specs.Steps.Give.{HandsOver}
-use Rattle.art_step.specs.Views.{Member, Memory, IsLocked, IsOnce, links_in_hand, size_of, Views, words_in, SetsView}
+use Rattle.art_step.specs.Views.{Member, Memory, IsClear, IsInLimbo, IsLocked, IsNotInHand, IsOnce, cell_named, links_in_hand, size_of, Views, words_in, SetsView}
 use Rattle.art_cell.specs.Words.{Words}
 use Rattle.art_step.specs.WordPlaces.{word_count, IsInside, place_of, first_place}
 use Rattle.art_step.specs.WordRows.{memory_of}
@@ -135,6 +135,24 @@ module _ (z : Sizes) (ws : List ℕ) (f : Views) (p : ℕ) (v : View) (r : IsSou
       let clear = ((r.vouch p v at).stamps x stamp).clear in
       no_leaf z m f x.cell r.formed (λ obsolete. omega arith)
 
+  -- a number that is in the tree is in no hand and in no limbo
+  in_tree_apart : (d : Link) → r.at d ≡ InTree → IsNotInHand v d × (IsInLimbo v d → ⊥)
+  in_tree_apart d tree = (
+    λ i member is. let hand : InTree ≡ InHandOf p = sym tree ∙ (ap r.at (sym is) ∙ (r.numbers.accounts p v at).hand i member) in absurd (cc),
+    λ e. let limbo : InTree ≡ InLimboOf p = sym tree ∙ (ap r.at (sym e.2) ∙ (r.numbers.accounts p v at).limbo e.0 e.1) in absurd (cc),
+  )
+
+  -- nor is that of a cell whose word is clear
+  clear_apart : (c : Cell) (d : Link) → IsClear (m.version c) → cell_named d ≡ c → IsNotInHand v d × (IsInLimbo v d → ⊥)
+  clear_apart c d clear is = in_tree_apart d (r.unstamped.clear d (subst (λ (e : Cell). IsClear (m.version e)) (sym is) clear))
+
+  -- and a number in hand is in no limbo
+  hand_apart : (d : Link) → (x : InHand) × Member x v.hand × (x.link ≡ d) → IsInLimbo v d → ⊥
+  hand_apart d x e =
+      let hand : r.at d ≡ InHandOf p = ap r.at (sym x.2) ∙ (r.numbers.accounts p v at).hand x.0 x.1 in
+      let limbo : InHandOf p ≡ InLimboOf p = sym hand ∙ (ap r.at (sym e.2) ∙ (r.numbers.accounts p v at).limbo e.0 e.1) in
+      absurd (cc)
+
   -- a stamped cell is locked
   pub moves_upgrades : (x : Stamp) → IsInside z x.cell → m.version x.cell ≡ x.version → upgrade.May v x → Moves z ws f p v (set ws (place_of z x.cell) (x.version + 2)) (λ v w. upgrade.Locks v w x) (LocksStamped x)
   moves_upgrades x there stays may =
@@ -151,6 +169,7 @@ module _ (z : Sizes) (ws : List ℕ) (f : Views) (p : ℕ) (v : View) (r : IsSou
         long = copy.long;
         version = copy_version z ws x.cell plain;
         agrees = λ i value j. ap (λ (w : Words). w i) (sym copy.words ∙ sym (r.holder.at_rest x.cell (λ locked. omega arith))) ∙ ((r.vouch p v at).notes (note_of x (Word i value)) j).same stays;
+        apart = λ d. clear_apart x.cell d (subst IsClear (sym stays) clear);
         is = refl;
       }
       (λ g t. IsUpgrade record { stamp = x; copy = words; may = may; copied = copy; locks = record { found = sym stays; sets = sets }; view = t })
@@ -172,7 +191,7 @@ module _ (z : Sizes) (ws : List ℕ) (f : Views) (p : ℕ) (v : View) (r : IsSou
       let us : List ℕ = set ws (place_of z c) (m.version c + 1) in
       let sets : SetsVersion m c (m.version c + 1) (memory_of z us) = sets_version z ws c (m.version c + 1) there (λ l e. cc) long in
       moved z ws f p v r at long us (λ v w. claim.Outcome v w n) (LocksClaimed n) (claim.view_after v n words) refl
-      record { words = words; long = copy.long; version = copy_version z ws c (λ l e. cc); is = refl }
+      record { words = words; long = copy.long; version = copy_version z ws c (λ l e. cc); apart = hand_apart (node n) may.hand; is = refl }
       (λ g t. IsClaim record { node = n; copy = words; may = may; copied = copy; locks = sets; view = t })
       (λ g t. sets)
 

@@ -193,6 +193,10 @@ links_in_limbo es = map (λ e. e.link) es
 abbrev pub IsInLimbo : View → Link → Type 0
 IsInLimbo v d = (e : Retired) × Member e v.limbo × (e.link ≡ d)
 
+-- no number in hand is this one
+abbrev pub IsNotInHand : View → Link → Type 0
+IsNotInHand v d = (i : InHand) → Member i v.hand → i.link ≢ d
+
 -- ---- cells that a pass may begin
 
 -- the word that is noted names the link

@@ -6,7 +6,7 @@ use Rattle.art_cell.specs.declared.cells.Node.{Node}
 use Rattle.art_step.specs.Effects.{LocksClaimed}
 use Rattle.art_step.specs.Sound.{KeepsSound, IsSound}
 use Rattle.art_step.specs.Steps.Upgrade.{IsCopy}
-use Rattle.art_step.specs.Views.{Member, IsNotHeld, MayLock, Memory, Views, SetsView, size_of, words_in, IsObsolete}
+use Rattle.art_step.specs.Views.{IsInLimbo, Member, IsNotHeld, MayLock, Memory, Views, SetsView, size_of, words_in, IsObsolete}
 use Rattle.art_step.specs.declared.views.InHand.{InHand}
 use Rattle.art_step.specs.declared.views.Sizes.{Sizes}
 use Rattle.art_step.specs.declared.views.View.{View}
@@ -31,11 +31,12 @@ pub record Step (z : Sizes) (p : ℕ) (v : View) (m : Memory) (f : Views) (m' : 
   pub locks : LocksClaimed node m f m' f'
   pub view : SetsView f p (view_after v node copy) f'
 
--- the words of the cell stand in a list, where the place of the version word has 0
+-- the words of the cell stand in a list, where the place of the version word has 0; a number in hand is in no limbo
 pub record Outcome (v w : View) (n : Node) : Type 0 where
   pub words : List ℕ
   pub long : length words ≡ size_of (cell.Node n)
   pub version : words_in words 0 ≡ 0
+  pub apart : IsInLimbo v (node n) → ⊥
   pub is : w ≡ view_after v n words
 
 abbrev pub Law : Type 0

@@ -2,9 +2,10 @@
 -- stamped counter is at its end, which is looked at first, no step is made.
 use Rattle.std.specs.Prelude.{ℕ, ◌≡◌, Some, List, ◌<◌, ◌*◌, length, ◌+◌, ◌∷◌, false, ◌≢◌, ◌≤◌, Result, Ok, Err}
 use Rattle.art_cell.specs.declared.cells.Cell.{Cell}
+use Rattle.art_cell.specs.declared.cells.Link.{Link}
 use Rattle.art_step.specs.Effects.{LocksStamped}
 use Rattle.art_step.specs.Sound.{KeepsSound}
-use Rattle.art_step.specs.Views.{Member, note_of, last_counter, MayLock, Memory, size_of, words_in, found_version, Views, SetsView}
+use Rattle.art_step.specs.Views.{IsInLimbo, IsNotInHand, Member, cell_named, note_of, last_counter, MayLock, Memory, size_of, words_in, found_version, Views, SetsView}
 use Rattle.art_step.specs.declared.faults.UpgradeFault.{UpgradeFault}
 use Rattle.art_step.specs.declared.held.Held.{Held}
 use Rattle.art_step.specs.declared.views.Fact.TheVariants.{Starts, Word}
@@ -52,13 +53,15 @@ pub record Step (z : Sizes) (p : ℕ) (v : View) (m : Memory) (f : Views) (m' : 
 abbrev pub AgreesWithNotes : View → Stamp → List ℕ → Type 0
 AgreesWithNotes v x ws = (i value : ℕ) → Member (note_of x (Word i value)) v.notes → words_in ws i ≡ value
 
--- the words of the cell stand in a list, where the place of the version word has 0
+-- the words of the cell stand in a list, where the place of the version word has 0; a cell that was clear is that of no number in
+-- the pass's hand or limbo
 pub record Locks (v w : View) (x : Stamp) : Type 0 where
   pub limit : x.version < 4 * last_counter
   pub words : List ℕ
   pub long : length words ≡ size_of x.cell
   pub version : words_in words 0 ≡ 0
   pub agrees : AgreesWithNotes v x words
+  pub apart : (d : Link) → cell_named d ≡ x.cell → IsNotInHand v d × (IsInLimbo v d → ⊥)
   pub is : w ≡ view_after v x words
 
 abbrev pub Refused : View → View → Stamp → UpgradeFault → Type 0

@@ -12,7 +12,7 @@ loop-place-preserved c =
     let place = c.loop-place.place in
     let key = c.args.key.now in
     let write_at : ℕ → Write = λ p. record { place = p; value = leaf_word key c.args.value p } in
-    let word : c.word_at-value.result ≡ leaf_word key c.args.value place = c.word_at-value.ensures in
+    let word : c.leaf_word-value.result ≡ leaf_word key c.args.value place = c.leaf_word-value.ensures in
     record {
       few = omega (arith, c.push.ensures.len, c.loop-place.invariant.few);
       items =
