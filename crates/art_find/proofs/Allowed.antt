@@ -10,6 +10,7 @@ use Rattle.art_cell.specs.Words.{size}
 use Rattle.art_find.specs.Asking.{IsAllowed, WasChecked}
 use Rattle.art_find.specs.Descents.{IsAbove, IsOn, StageFits, answer_at, asks}
 use Rattle.art_find.proofs.Stages.{noted_names}
+use Rattle.art_find.proofs.VerdictValues.{says_value}
 use Rattle.art_find.specs.declared.descents.Stage.{Stage}
 use Rattle.art_find.specs.declared.descents.Stage.TheVariants.{Start, Anchor, Child, Below, Both, Header, Prefix, Keys, Slot, Value, Length, Bytes, Decided, Ended}
 use Rattle.art_step.specs.Shows.{HasChild, HasValue, Shows}
@@ -72,12 +73,12 @@ allowed z k what depth (Prefix seen i r) u v fits =
     let short = fits.1.short in
     reads_node z u v seen.stamp seen.node (2 + i) fits.0 (omega arith) (front_inside seen.node.layout (2 + i) (omega (arith, more, short)))
 allowed z k what depth (Keys seen i) u v fits = reads_node z u v seen.stamp seen.node (10 + i) fits.0 (omega arith) fits.1.inside
-allowed z k what depth (Slot y n place) u v fits = reads_node z u v y n place fits.0 fits.1.after fits.1.inside
+allowed z k what depth (Slot seen place) u v fits = reads_node z u v seen.stamp seen.node place fits.0 fits.1.after fits.1.inside
 allowed z k what depth (Value x l) u v fits = reads_leaf z u v x l 0 (take depth k) fits.0 (omega arith) fits.1.shows
 allowed z k what depth (Length x l value) u v fits = reads_leaf z u v x l 1 (take depth k) fits.0 (omega arith) (λ s shape holds. (fits.2 s shape holds).child)
 allowed z k what depth (Bytes seen i r) u v fits =
     let more = fits.2.more in
     let few = fits.2.few in
     reads_leaf z u v seen.stamp seen.leaf (2 + i) (take depth k) fits.0 (omega (arith, more, few)) (λ s shape holds. (fits.2.shows s shape holds).leaf.child)
-allowed z k what depth (Decided x o) u v fits = (fits.2.inside, record { stamp = fits.2.stamp; shows = fits.3 })
+allowed z k what depth (Decided x found) u v fits = (fits.2.inside, record { stamp = fits.2.stamp; shows = says_value z k depth x found v fits.3 })
 allowed z k what depth (Ended o) u v fits = tt

@@ -73,11 +73,11 @@ few_steps z k what depth (Both x y n) u v short going fits = let deep = fits.1.d
 few_steps z k what depth (Header y n) u v short going fits = let deep = fits.1 in omega (arith, deep, short)
 few_steps z k what depth (Prefix seen i r) u v short going fits = let deep = fits.1.short in let more = fits.1.more in omega (arith, deep, more)
 few_steps z k what depth (Keys seen i) u v short going fits = let deep = fits.1.deep in let few = fits.1.few in omega (arith, deep, few, short)
-few_steps z k what depth (Slot y n place) u v short going fits = let deep = fits.1.deep in omega (arith, deep, short)
+few_steps z k what depth (Slot seen place) u v short going fits = let deep = fits.1.deep in omega (arith, deep, short)
 few_steps z k what depth (Value x l) u v short going fits = let deep = fits.1.deep in omega (arith, deep, short)
 few_steps z k what depth (Length x l value) u v short going fits = let deep = fits.1 in omega (arith, deep, short)
 few_steps z k what depth (Bytes seen i r) u v short going fits = let deep = fits.1 in let more = fits.2.more in let few = fits.2.few in omega (arith, deep, more, few, short)
-few_steps z k what depth (Decided x o) u v short going fits = let deep = fits.1 in omega (arith, deep, short)
+few_steps z k what depth (Decided x found) u v short going fits = let deep = fits.1 in omega (arith, deep, short)
 few_steps z k what depth (Ended o) u v short going fits = cc
 
 -- after a search the descent has come further

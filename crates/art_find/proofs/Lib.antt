@@ -2,6 +2,8 @@ pub mod Allowed
 pub mod NodeWords
 pub mod LeafKeys
 pub mod ComparedWords
+pub mod VerdictValues
+pub mod Judged
 pub mod Stages
 pub mod Counting
 pub mod Driven

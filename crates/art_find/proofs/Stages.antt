@@ -1,6 +1,7 @@
 -- From stage to stage: what a descent knows after a step, from what it knew before it.
-use Rattle.std.proofs.Common.{◌≡◌, ◌≢◌, ℕ, ◌+◌, ◌*◌, ◌<◌, ◌≤◌, min, List, [], length, get_or, take, Option, Some, None, inl, refl, sym, ap, ◌∙◌, subst, arith}
+use Rattle.std.proofs.Common.{◌≡◌, ◌≢◌, ℕ, ◌+◌, ◌*◌, ◌<◌, ◌≤◌, min, List, [], length, get_or, take, Option, Some, None, inl, inr, refl, sym, ap, ◌∙◌, subst, arith}
 use Rattle.std.specs.Prelude.{Result, Ok}
+use Rattle.std.proofs.lemmas.Bool.{cases_lt}
 use Rattle.std.proofs.lemmas.Option.{same_Some}
 use Rattle.art_cell.specs.declared.cells.Cell.{Cell}
 use Rattle.art_cell.specs.declared.cells.Cell.TheVariants as cell
@@ -10,11 +11,13 @@ use Rattle.art_cell.specs.declared.cells.Node.{Node}
 use Rattle.art_cell.specs.Children.{link_of}
 use Rattle.art_cell.specs.Words.{Words, packed}
 use Rattle.art_find.specs.Asking.{Answers, WantsCheck, WantsVersion, WantsWord, WasChecked}
-use Rattle.art_find.specs.Compares.{ComparesWord}
+use Rattle.art_find.specs.Compares.{ComparesWord, HasByte, IsBeside, IsWithin, TellsBeside, at_first}
+use Rattle.art_find.specs.declared.compares.Beside.{Beside}
 use Rattle.art_find.specs.Descents.{IsAbove, IsChild, IsOn, IsReading, StageFits, WasNamed, WasNoted, answer_at, asks, ended_at, stage_below, staged}
 use Rattle.art_find.specs.Driven.{GetEnds, GetFits, get_done, settled}
 use Rattle.art_find.specs.declared.descents.Descent.{Descent}
 use Rattle.art_step.specs.Events.{MakesEvent}
+use Rattle.art_find.specs.Verdicts.{Says, value_of}
 use Rattle.art_find.specs.Ways.{HasHeader, IsAtLeaf, IsAtSlot, IsInKey, IsInPrefix, IsPassed, IsPastPrefix, count_in}
 use Rattle.art_find.specs.declared.asked.Answer.{Answer}
 use Rattle.art_find.specs.declared.asked.Answer.TheVariants.{Begun, Word as word_told, Checked}
@@ -24,18 +27,21 @@ use Rattle.art_find.specs.declared.descents.LeafSeen.{LeafSeen}
 use Rattle.art_find.specs.declared.descents.NodeSeen.{NodeSeen}
 use Rattle.art_find.specs.declared.descents.Stage.{Stage}
 use Rattle.art_find.specs.declared.descents.Stage.TheVariants.{Start, Anchor, Child, Below, Both, Header, Prefix, Keys, Slot, Value, Length, Bytes, Decided, Ended}
-use Rattle.art_find.proofs.ComparedWords.{not_same}
-use Rattle.art_find.proofs.LeafKeys.{leaf_differs, leaf_found, leaf_not_torn, leaf_other}
-use Rattle.art_find.proofs.NodeWords.{body_of, child_there, differs, names_none, no_child}
+use Rattle.art_find.specs.declared.verdicts.Verdict.{Verdict}
+use Rattle.art_find.specs.declared.verdicts.Verdict.TheVariants as verdict
+use Rattle.art_find.proofs.Judged.{KeyRead, PrefixRead, judged_above, judged_begins, judged_below, judged_empty, judged_ended, judged_found, judged_leaf_above, judged_leaf_below, judged_leaf_ended}
+use Rattle.art_find.proofs.LeafKeys.{leaf_not_torn}
+use Rattle.art_find.proofs.NodeWords.{body_of, child_there, names_none, no_child}
+use Rattle.art_find.proofs.VerdictValues.{says_value}
 use Rattle.art_node.specs.Searches.{SoughtTells}
 use Rattle.art_node.specs.declared.searches.Sought.{Sought}
 use Rattle.art_node.specs.declared.searches.Sought.TheVariants as sought
-use Rattle.art_path.specs.Compared.{IsCompared}
+use Rattle.art_path.specs.Compared.{AreSame, IsCompared}
 use Rattle.art_path.specs.declared.compared.Compared.{Compared}
 use Rattle.art_path.specs.declared.compared.Compared.TheVariants.{Same}
+use Rattle.art_path.specs.declared.compared.Compared.TheVariants as compares
 use Rattle.art_path.proofs.Comparing.{same_none}
-use Rattle.art_step.specs.Knowledge.{IsShape}
-use Rattle.art_step.specs.Shows.{HasChild, HasStamp, HasValue, OnlyReads, OnlyTells, Rest, Shows}
+use Rattle.art_step.specs.Shows.{HasChild, HasStamp, OnlyReads, OnlyTells, Rest, Shows}
 use Rattle.art_step.specs.Steps.Begin as begin
 use Rattle.art_step.specs.Steps.Check as check
 use Rattle.art_step.specs.Steps.Read as read
@@ -50,7 +56,7 @@ use Rattle.art_step.specs.declared.views.Stamp.{Stamp}
 use Rattle.art_step.specs.declared.views.View.{View}
 use Rattle.art_step.specs.declared.views.Word.TheVariants.{Version}
 use Rattle.art_step.proofs.SetsView.{member_back}
-use Rattle.art_step.proofs.Shows.{begun_clear, begun_others, begun_rest, begun_shows, begun_stamp, passed_number, passed_path, passed_rest, passed_shows, passed_stamp, read_rest, read_shows, read_stamp, root_child, root_none, shows_then, told_rest}
+use Rattle.art_step.proofs.Shows.{begun_clear, begun_others, begun_rest, begun_shows, begun_stamp, passed_number, passed_path, passed_rest, passed_shows, passed_stamp, read_rest, read_shows, read_stamp, root_child, shows_then, told_rest}
 use Rattle.art_tree.specs.Heaps.{Cells}
 
 -- ---- reading goes on
@@ -135,8 +141,8 @@ module _ (z : Sizes) (k : List ℕ) (what : Option ℕ → Deed) (depth : ℕ) (
     passed_path z v w x y None n (take depth k) p fits.0.stamp.stamp fits.0.cell fits.1.shows,
   )
 
-  pub ended_fits : (x : Stamp) (o : Option ℕ) → StageFits z k what depth (Decided x o) u v → check.Unchanged z v w x (Some (what o)) → StageFits z k what depth (Ended o) u w
-  ended_fits x o fits p = told_rest z u v w x (what o) fits.0.only p
+  pub ended_fits : (x : Stamp) (found : Verdict) → StageFits z k what depth (Decided x found) u v → check.Unchanged z v w x (Some (what (value_of found))) → StageFits z k what depth (Ended (value_of found)) u w
+  ended_fits x found fits p = told_rest z u v w x (what (value_of found)) fits.0.only p
 
   -- ---- a version word was clear
 
@@ -181,18 +187,18 @@ module _ (z : Sizes) (k : List ℕ) (what : Option ℕ → Deed) (u w : View) (x
     },
   )
 
-  pub no_root_fits : link_of word ≡ None → StageFits z k what 0 (Decided x None) u w
-  no_root_fits none = (reads, omega arith, stamp, shows_then z w x _ _ (λ s shape is. root_none s word k is none) shows)
+  pub no_root_fits : x.cell ≡ cell.Anchor → link_of word ≡ None → StageFits z k what 0 (Decided x verdict.Empty) u w
+  no_root_fits at none = (reads, omega arith, stamp, judged_empty z k 0 w x word at none shows)
 
 -- ---- the words of a node
 
 module _ (z : Sizes) (k : List ℕ) (what : Option ℕ → Deed) (depth : ℕ) (u w : View) where
   module _ (y : Stamp) (n : Node) (on : IsOn z u w y n) where
-    pub node_decided : (o : Option ℕ) (so : Cells → Type 0) → depth ≤ length k → ((s : Cells) → IsShape z s → so s → HasValue s k o) → Shows z w y so → StageFits z k what depth (Decided y o) u w
-    node_decided o so deep go shows = (on.reads, deep, on.stamp, shows_then z w y so _ go shows)
+    pub node_decided : (found : Verdict) → depth ≤ length k → Says z k depth y found w → StageFits z k what depth (Decided y found) u w
+    node_decided found deep says = (on.reads, deep, on.stamp, says)
 
     -- its child word
-    module _ (place word : ℕ) (deep : depth < length k) (small : get_or k depth 0 < 256) (shows : Shows z w y (λ s. IsAtSlot s n k depth place)) (is : Shows z w y (λ s. s (cell.Node n) place ≡ word)) where
+    module _ (header place word : ℕ) (deep : depth < length k) (small : get_or k depth 0 < 256) (shows : Shows z w y (λ s. IsAtSlot s n k depth header place)) (is : Shows z w y (λ s. s (cell.Node n) place ≡ word)) where
       pub slot_fits : (d : Link) → WasNoted w y word → link_of word ≡ Some d → StageFits z k what (depth + 1) (Child y d) u w
       slot_fits d noted names = (
         on.reads,
@@ -202,17 +208,19 @@ module _ (z : Sizes) (k : List ℕ) (what : Option ℕ → Deed) (depth : ℕ) (
           noted = note_names w y word d noted names;
           shows = λ s shape holds.
               let at = shows s shape holds in
-              subst (λ (c : Cell). HasChild s c d (take (depth + 1) k)) (sym on.cell) (child_there z s n k depth at.header shape at.past deep small place word d at.tells (is s shape holds) names);
+              subst (λ (c : Cell). HasChild s c d (take (depth + 1) k)) (sym on.cell) (child_there z s n k depth header shape at.past deep small place word d at.tells (is s shape holds) names);
         },
       )
 
-      pub empty_slot_fits : link_of word ≡ None → StageFits z k what depth (Decided y None) u w
-      empty_slot_fits none = (
-        on.reads,
-        omega arith,
-        on.stamp,
-        λ s shape holds. let at = shows s shape holds in names_none z s n k depth at.header shape at.past deep small place word at.tells (is s shape holds) none,
-      )
+      free_slot : link_of word ≡ None → Says z k depth y (verdict.Free n header) w
+      free_slot none = (on.cell, deep, λ s shape holds. let at = shows s shape holds in names_none z s n k depth header shape at.past deep small place word at.tells (is s shape holds) none)
+
+      pub free_slot_fits : link_of word ≡ None → StageFits z k what depth (Decided y (verdict.Free n header)) u w
+      free_slot_fits none = node_decided (verdict.Free n header) (omega arith) (free_slot none)
+
+      -- the same, where it is not said which place is free
+      pub empty_slot_fits : link_of word ≡ None → StageFits z k what depth (Decided y verdict.Absent) u w
+      empty_slot_fits none = node_decided verdict.Absent (omega arith) (says_value z k depth y (verdict.Free n header) w (free_slot none))
 
   module _ (seen : NodeSeen) (on : IsOn z u w seen.stamp seen.node) where
     abbrev y : Stamp
@@ -229,7 +237,7 @@ module _ (z : Sizes) (k : List ℕ) (what : Option ℕ → Deed) (depth : ℕ) (
         deep = deep;
         more = omega (arith, some);
         short = short;
-        within = λ e. omega (arith, deep);
+        within = omega (arith, deep);
         shows = shows_then z w y _ _ (λ s shape h. record { on = h; compared = same_none (packed (s (cell.Node n)) 2) k depth deep }) shows;
       },
     )
@@ -252,14 +260,18 @@ module _ (z : Sizes) (k : List ℕ) (what : Option ℕ → Deed) (depth : ℕ) (
         deep = deep;
         after = tells.0;
         inside = tells.1;
-        shows = λ s shape holds. let p = past s shape holds in record { header = seen.header; past = p; tells = tells.2 (s (cell.Node n)) (body_of z s n k depth seen.header shape p) (is s shape holds) };
+        shows = λ s shape holds. let p = past s shape holds in record { past = p; tells = tells.2 (s (cell.Node n)) (body_of z s n k depth seen.header shape p) (is s shape holds) };
       },
     )
     staged_fits so sought.Nothing deep small tells past is = (
       on.reads,
       omega arith,
       on.stamp,
-      λ s shape holds. let p = past s shape holds in no_child z s n k depth seen.header shape p deep small (tells (s (cell.Node n)) (body_of z s n k depth seen.header shape p) (is s shape holds)),
+      (
+        on.cell,
+        deep,
+        λ s shape holds. let p = past s shape holds in no_child z s n k depth seen.header shape p deep small (tells (s (cell.Node n)) (body_of z s n k depth seen.header shape p) (is s shape holds)),
+      ),
     )
 
     -- one word more of its prefix
@@ -275,67 +287,86 @@ module _ (z : Sizes) (k : List ℕ) (what : Option ℕ → Deed) (depth : ℕ) (
           deep = deep;
           more = omega (arith, later);
           short = short;
-          within = λ same. omega (arith, tells.within same, later);
+          within = subst (λ (i : ℕ). IsWithin k depth i r) (omega (arith, later)) tells.within;
           shows = λ s shape holds. record { on = (shows s shape holds).on; compared = compared (8 * (number + 1)) (omega (arith, later)) s shape holds };
         },
       )
 
-      pub prefix_passed : count_in seen.header ≤ 8 * number + 8 → r ≡ Same → Shows z w y (λ s. IsPassed s n k depth seen.header)
-      prefix_passed last same s shape holds = record {
-        on = (shows s shape holds).on;
-        same = subst (λ (c : Compared). IsCompared (packed (s (cell.Node n)) 2) (count_in seen.header) k depth c) same (compared (count_in seen.header) (omega (arith, last, more)) s shape holds);
-      }
+      -- its last word
+      module _ (last : count_in seen.header ≤ 8 * number + 8) where
+        pub prefix_passed : r ≡ Same → Shows z w y (λ s. IsPassed s n k depth seen.header)
+        prefix_passed same s shape holds = record {
+          on = (shows s shape holds).on;
+          same = subst (IsCompared (packed (s (cell.Node n)) 2) (count_in seen.header) k depth) same (compared (count_in seen.header) (omega (arith, last, more)) s shape holds);
+        }
 
-      pub prefix_differs : count_in seen.header ≤ 8 * number + 8 → r ≢ Same → StageFits z k what depth (Decided y None) u w
-      prefix_differs last apart = (
-        on.reads,
-        deep,
-        on.stamp,
-        λ s shape holds. differs z s n k depth seen.header shape (shows s shape holds).on deep
-            (not_same (packed (s (cell.Node n)) 2) (count_in seen.header) (count_in seen.header) k depth r apart (omega arith) (compared (count_in seen.header) (omega (arith, last, more)) s shape holds)),
-      )
+        prefix_read : (t : Compared) → r ≡ t → Shows z w y (λ s. PrefixRead s n k depth seen.header t)
+        prefix_read t e s shape holds = record {
+          on = (shows s shape holds).on;
+          compared = subst (IsCompared (packed (s (cell.Node n)) 2) (count_in seen.header) k depth) e (compared (count_in seen.header) (omega (arith, last, more)) s shape holds);
+        }
+
+        prefix_within : (t : Compared) → r ≡ t → IsWithin k depth (count_in seen.header) t
+        prefix_within t e = subst (IsWithin k depth (count_in seen.header)) e (subst (λ (i : ℕ). IsWithin k depth i r) (omega (arith, last, more)) tells.within)
+
+        pub prefix_below : (at : ℕ) → r ≡ compares.Below at → StageFits z k what depth (Decided y (verdict.OtherPrefix n seen.header at)) u w
+        prefix_below at e = (on.reads, deep, on.stamp, judged_below z k depth w y n seen.header deep at on.cell (prefix_within (compares.Below at) e) (prefix_read (compares.Below at) e))
+
+        pub prefix_above : (at : ℕ) (found : Verdict) → r ≡ compares.Above at → (depth + at < length k → found ≡ verdict.OtherPrefix n seen.header at) → (length k ≤ depth + at → found ≡ verdict.Overlaps)
+            → StageFits z k what depth (Decided y found) u w
+        prefix_above at found e has ends =
+            let t = compares.Above at in
+            let within = prefix_within t e in
+            let read = prefix_read t e in
+            let says : Says z k depth y found w = elim (cases_lt (depth + at) (length k)) [
+              | inl low ↦ subst (λ (f : Verdict). Says z k depth y f w) (sym (has low)) (judged_above z k depth w y n seen.header deep at within read on.cell low)
+              | inr high ↦ subst (λ (f : Verdict). Says z k depth y f w) (sym (ends high)) (judged_ended z k depth w y n seen.header deep at within read high)
+            ] in
+            (on.reads, deep, on.stamp, says)
 
 -- ---- the words of a leaf
 
 module _ (z : Sizes) (k : List ℕ) (what : Option ℕ → Deed) (depth : ℕ) (u w : View) (deep : depth ≤ length k) where
   module _ (x : Stamp) (l : ℕ) (on : IsAbove z u w x l) (value count : ℕ) (shows : Shows z w x (λ s. IsAtLeaf s x.cell l (take depth k) value)) (is : Shows z w x (λ s. s (cell.Leaf l) 1 ≡ count)) where
-    pub length_torn : 64 < count → StageFits z k what depth (Decided x None) u w
+    pub length_torn : 64 < count → StageFits z k what depth (Decided x verdict.Torn) u w
     length_torn high = (on.reads, deep, on.stamp, λ s shape holds. absurd (omega (arith, high, leaf_not_torn z s x.cell l k depth value count shape (shows s shape holds) (is s shape holds))))
 
-    pub bytes_first : 0 < count → count ≤ 64 → (seen : LeafSeen) → seen ≡ record { stamp = x; leaf = l; value = value; count = count } → StageFits z k what depth (Bytes seen 0 Same) u w
-    bytes_first some few seen e = subst (λ (t : LeafSeen). StageFits z k what depth (Bytes t 0 Same) u w) (sym e) (
+    pub bytes_first : 0 < count → count ≤ 64 → (seen : LeafSeen) → seen ≡ record { stamp = x; leaf = l; value = value; count = count } → StageFits z k what depth (Bytes seen 0 at_first) u w
+    bytes_first some few seen e = subst (λ (t : LeafSeen). StageFits z k what depth (Bytes t 0 at_first) u w) (sym e) (
       on,
       deep,
       record {
         more = omega (arith, some);
         few = few;
-        within = λ same. omega arith;
-        shows = λ s shape holds. record { leaf = shows s shape holds; is_count = is s shape holds; compared = same_none (packed (s (cell.Leaf l)) 2) k 0 (omega arith) };
+        within = omega arith;
+        shows = λ s shape holds. record { leaf = shows s shape holds; is_count = is s shape holds; beside = record { compared = same_none (packed (s (cell.Leaf l)) 2) k 0 (omega arith); byte = tt } };
       },
     )
 
-    pub empty_found : count ≡ 0 → length k ≡ 0 → StageFits z k what depth (Decided x (Some value)) u w
-    empty_found none empty = (
-      on.reads,
-      deep,
-      on.stamp,
-      λ s shape holds. leaf_found z s x.cell l k depth value count shape (shows s shape holds) (is s shape holds) (none ∙ sym empty)
-          (subst (λ (i : ℕ). IsCompared (packed (s (cell.Leaf l)) 2) i k 0 Same) (sym none) (same_none (packed (s (cell.Leaf l)) 2) k 0 (omega arith))),
-    )
+    empty_read : count ≡ 0 → Shows z w x (λ s. KeyRead s x.cell l k depth value count Same 0)
+    empty_read none s shape holds = record {
+      leaf = shows s shape holds;
+      is_count = is s shape holds;
+      compared = subst (λ (i : ℕ). AreSame (packed (s (cell.Leaf l)) 2) i k 0) (sym none) (same_none (packed (s (cell.Leaf l)) 2) k 0 (omega arith));
+      is_byte = tt;
+    }
 
-    pub empty_other : count ≢ length k → StageFits z k what depth (Decided x None) u w
-    empty_other apart = (on.reads, deep, on.stamp, λ s shape holds. leaf_other z s x.cell l k depth value count shape (shows s shape holds) (is s shape holds) apart)
+    pub empty_found : count ≡ 0 → length k ≡ 0 → StageFits z k what depth (Decided x (verdict.Found l value)) u w
+    empty_found none empty = (on.reads, deep, on.stamp, judged_found z k depth w x l value count 0 on.inside (empty_read none) (none ∙ sym empty))
 
-  module _ (seen : LeafSeen) (on : IsAbove z u w seen.stamp seen.leaf) (number word : ℕ) (before r : Compared) (more : 8 * number < seen.count) (few : seen.count ≤ 64) (tells : ComparesWord k 0 seen.count number word before r)
-      (shows : Shows z w seen.stamp (λ s. IsInKey s seen.stamp.cell seen.leaf k (take depth k) seen.value seen.count number before)) (is : Shows z w seen.stamp (λ s. s (cell.Leaf seen.leaf) (2 + number) ≡ word)) where
+    pub empty_begins : count ≡ 0 → count ≢ length k → StageFits z k what depth (Decided x verdict.Overlaps) u w
+    empty_begins none apart = (on.reads, deep, on.stamp, judged_begins z k depth w x l value count 0 on.inside (empty_read none) apart)
+
+  module _ (seen : LeafSeen) (on : IsAbove z u w seen.stamp seen.leaf) (number word : ℕ) (before r : Beside) (more : 8 * number < seen.count) (few : seen.count ≤ 64) (tells : TellsBeside k seen.count number word before r)
+      (shows : Shows z w seen.stamp (λ s. IsInKey s seen k (take depth k) number before)) (is : Shows z w seen.stamp (λ s. s (cell.Leaf seen.leaf) (2 + number) ≡ word)) where
     abbrev x : Stamp
     x = seen.stamp
 
     abbrev l : ℕ
     l = seen.leaf
 
-    key_compared : (to : ℕ) → to ≡ min seen.count (8 * number + 8) → Shows z w x (λ s. IsCompared (packed (s (cell.Leaf l)) 2) to k 0 r)
-    key_compared to at s shape holds = subst (λ (i : ℕ). IsCompared (packed (s (cell.Leaf l)) 2) i k 0 r) (sym at) (tells.tells (s (cell.Leaf l)) (is s shape holds) (shows s shape holds).compared)
+    key_beside : (to : ℕ) → to ≡ min seen.count (8 * number + 8) → Shows z w x (λ s. IsBeside (packed (s (cell.Leaf l)) 2) to k r)
+    key_beside to at s shape holds = subst (λ (i : ℕ). IsBeside (packed (s (cell.Leaf l)) 2) i k r) (sym at) (tells.tells (s (cell.Leaf l)) (is s shape holds) (shows s shape holds).beside)
 
     pub bytes_next : 8 * number + 8 < seen.count → StageFits z k what depth (Bytes seen (number + 1) r) u w
     bytes_next later = (
@@ -344,42 +375,49 @@ module _ (z : Sizes) (k : List ℕ) (what : Option ℕ → Deed) (depth : ℕ) (
       record {
         more = omega (arith, later);
         few = few;
-        within = λ same. omega (arith, tells.within same, later);
+        within = subst (λ (i : ℕ). IsWithin k 0 i r.compared) (omega (arith, later)) tells.within;
         shows = λ s shape holds.
             let at = shows s shape holds in
-            record { leaf = at.leaf; is_count = at.is_count; compared = key_compared (8 * (number + 1)) (omega (arith, later)) s shape holds };
+            record { leaf = at.leaf; is_count = at.is_count; beside = key_beside (8 * (number + 1)) (omega (arith, later)) s shape holds };
       },
     )
 
-    pub bytes_differ : seen.count ≤ 8 * number + 8 → r ≢ Same → StageFits z k what depth (Decided x None) u w
-    bytes_differ last apart = (
-      on.reads,
-      deep,
-      on.stamp,
-      λ s shape holds.
+    -- the last word
+    module _ (last : seen.count ≤ 8 * number + 8) where
+      key_read : (t : Compared) → r.compared ≡ t → Shows z w x (λ s. KeyRead s x.cell l k depth seen.value seen.count t r.byte)
+      key_read t e s shape holds =
           let at = shows s shape holds in
-          leaf_differs z s x.cell l k depth seen.value seen.count shape at.leaf at.is_count
-          (not_same (packed (s (cell.Leaf l)) 2) seen.count seen.count k 0 r apart (omega arith) (key_compared seen.count (omega (arith, last, more)) s shape holds)),
-    )
+          let to = key_beside seen.count (omega (arith, last, more)) s shape holds in
+          record {
+            leaf = at.leaf;
+            is_count = at.is_count;
+            compared = subst (IsCompared (packed (s (cell.Leaf l)) 2) seen.count k 0) e to.compared;
+            is_byte = subst (λ (c : Compared). HasByte (packed (s (cell.Leaf l)) 2) c r.byte) e to.byte;
+          }
 
-    pub bytes_other : seen.count ≢ length k → StageFits z k what depth (Decided x None) u w
-    bytes_other apart = (
-      on.reads,
-      deep,
-      on.stamp,
-      λ s shape holds. let at = shows s shape holds in leaf_other z s x.cell l k depth seen.value seen.count shape at.leaf at.is_count apart,
-    )
+      key_within : (t : Compared) → r.compared ≡ t → IsWithin k 0 seen.count t
+      key_within t e = subst (IsWithin k 0 seen.count) e (subst (λ (i : ℕ). IsWithin k 0 i r.compared) (omega (arith, last, more)) tells.within)
 
-    pub bytes_found : seen.count ≤ 8 * number + 8 → r ≡ Same → seen.count ≡ length k → StageFits z k what depth (Decided x (Some seen.value)) u w
-    bytes_found last same whole = (
-      on.reads,
-      deep,
-      on.stamp,
-      λ s shape holds.
-          let at = shows s shape holds in
-          leaf_found z s x.cell l k depth seen.value seen.count shape at.leaf at.is_count whole
-          (subst (λ (c : Compared). IsCompared (packed (s (cell.Leaf l)) 2) seen.count k 0 c) same (key_compared seen.count (omega (arith, last, more)) s shape holds)),
-    )
+      pub bytes_found : r.compared ≡ Same → seen.count ≡ length k → StageFits z k what depth (Decided x (verdict.Found l seen.value)) u w
+      bytes_found same whole = (on.reads, deep, on.stamp, judged_found z k depth w x l seen.value seen.count r.byte on.inside (key_read Same same) whole)
+
+      pub bytes_begin : r.compared ≡ Same → seen.count ≢ length k → StageFits z k what depth (Decided x verdict.Overlaps) u w
+      bytes_begin same apart = (on.reads, deep, on.stamp, judged_begins z k depth w x l seen.value seen.count r.byte on.inside (key_read Same same) apart)
+
+      pub bytes_below : (at : ℕ) → r.compared ≡ compares.Below at → StageFits z k what depth (Decided x (verdict.OtherLeaf l at r.byte)) u w
+      bytes_below at e =
+          (on.reads, deep, on.stamp, judged_leaf_below z k depth w x l seen.value seen.count r.byte on.inside at deep (key_within (compares.Below at) e) (key_read (compares.Below at) e))
+
+      pub bytes_above : (at : ℕ) (found : Verdict) → r.compared ≡ compares.Above at → (at < length k → found ≡ verdict.OtherLeaf l at r.byte) → (length k ≤ at → found ≡ verdict.Overlaps) → StageFits z k what depth (Decided x found) u w
+      bytes_above at found e has ends =
+          let t = compares.Above at in
+          let within = key_within t e in
+          let read = key_read t e in
+          let says : Says z k depth x found w = elim (cases_lt at (length k)) [
+            | inl low ↦ subst (λ (f : Verdict). Says z k depth x f w) (sym (has low)) (judged_leaf_above z k depth w x l seen.value seen.count r.byte on.inside at within read deep low)
+            | inr high ↦ subst (λ (f : Verdict). Says z k depth x f w) (sym (ends high)) (judged_leaf_ended z k depth w x l seen.value seen.count r.byte on.inside at within read high)
+          ] in
+          (on.reads, deep, on.stamp, says)
 
 -- ---- a word was read
 
@@ -441,24 +479,24 @@ begun_again z k what depth (Both x y n) u v wants fits = absurd wants
 begun_again z k what depth (Header y n) u v wants fits = absurd wants
 begun_again z k what depth (Prefix seen i r) u v wants fits = absurd wants
 begun_again z k what depth (Keys seen i) u v wants fits = absurd wants
-begun_again z k what depth (Slot y n place) u v wants fits = absurd wants
+begun_again z k what depth (Slot seen place) u v wants fits = absurd wants
 begun_again z k what depth (Value x l) u v wants fits = absurd wants
 begun_again z k what depth (Length x l value) u v wants fits = absurd wants
 begun_again z k what depth (Bytes seen i r) u v wants fits = absurd wants
-begun_again z k what depth (Decided x o) u v wants fits = absurd wants
+begun_again z k what depth (Decided x found) u v wants fits = absurd wants
 begun_again z k what depth (Ended o) u v wants fits = absurd wants
 
 pub checked_again : (z : Sizes) (k : List ℕ) (what : Option ℕ → Deed) (depth : ℕ) (stage : Stage) (u v : View) → WantsCheck (asks stage) → StageFits z k what depth stage u v → IsReading u v
 checked_again z k what depth (Child x d) u v wants fits = fits.0
 checked_again z k what depth (Both x y n) u v wants fits = fits.0.reads
-checked_again z k what depth (Decided x o) u v wants fits = fits.0
+checked_again z k what depth (Decided x found) u v wants fits = fits.0
 checked_again z k what depth Start u v wants fits = absurd wants
 checked_again z k what depth (Anchor x) u v wants fits = absurd wants
 checked_again z k what depth (Below x n) u v wants fits = absurd wants
 checked_again z k what depth (Header y n) u v wants fits = absurd wants
 checked_again z k what depth (Prefix seen i r) u v wants fits = absurd wants
 checked_again z k what depth (Keys seen i) u v wants fits = absurd wants
-checked_again z k what depth (Slot y n place) u v wants fits = absurd wants
+checked_again z k what depth (Slot seen place) u v wants fits = absurd wants
 checked_again z k what depth (Value x l) u v wants fits = absurd wants
 checked_again z k what depth (Length x l value) u v wants fits = absurd wants
 checked_again z k what depth (Bytes seen i r) u v wants fits = absurd wants
@@ -497,11 +535,11 @@ still_reading z k what depth (Both x y n) u v going fits = fits.0.reads
 still_reading z k what depth (Header y n) u v going fits = fits.0.reads
 still_reading z k what depth (Prefix seen i r) u v going fits = fits.0.reads
 still_reading z k what depth (Keys seen i) u v going fits = fits.0.reads
-still_reading z k what depth (Slot y n place) u v going fits = fits.0.reads
+still_reading z k what depth (Slot seen place) u v going fits = fits.0.reads
 still_reading z k what depth (Value x l) u v going fits = fits.0.reads
 still_reading z k what depth (Length x l value) u v going fits = fits.0.reads
 still_reading z k what depth (Bytes seen i r) u v going fits = fits.0.reads
-still_reading z k what depth (Decided x o) u v going fits = fits.0
+still_reading z k what depth (Decided x found) u v going fits = fits.0
 still_reading z k what depth (Ended o) u v going fits = cc
 
 -- what the pass holds and its pin are as before, where it told something
@@ -521,11 +559,11 @@ has_ended z k what depth (Both x y n) o u v is fits = cc
 has_ended z k what depth (Header y n) o u v is fits = cc
 has_ended z k what depth (Prefix seen i r) o u v is fits = cc
 has_ended z k what depth (Keys seen i) o u v is fits = cc
-has_ended z k what depth (Slot y n place) o u v is fits = cc
+has_ended z k what depth (Slot seen place) o u v is fits = cc
 has_ended z k what depth (Value x l) o u v is fits = cc
 has_ended z k what depth (Length x l value) o u v is fits = cc
 has_ended z k what depth (Bytes seen i r) o u v is fits = cc
-has_ended z k what depth (Decided x p) o u v is fits = cc
+has_ended z k what depth (Decided x found) o u v is fits = cc
 
 pub get_ends : (z : Sizes) (k : List ℕ) (m : Descent) (o : Option ℕ) (u v : View) (n : ℕ) → ended_at m.stage ≡ Some o → GetFits z k u v m n → GetEnds k u v (settled o)
 get_ends z k m (Some value) u v n is fits = has_ended z k (get_done k) m.depth m.stage (Some value) u v is fits.fits

@@ -1,5 +1,5 @@
 -- What a descent by a key knows between two of its steps.
-use Rattle.std.specs.Prelude.{◌≡◌, ◌≢◌, ℕ, ◌+◌, ◌*◌, ◌<◌, ◌≤◌, List, [], length, take, Option, Some, None}
+use Rattle.std.specs.Prelude.{◌≡◌, ◌≢◌, ℕ, ◌+◌, ◌*◌, ◌<◌, ◌≤◌, List, [], length, take, Option, Some, None, Ok, Err, ⊤}
 use Rattle.art_cell.specs.declared.cells.Cell.TheVariants as cell
 use Rattle.art_cell.specs.declared.cells.Link.{Link}
 use Rattle.art_cell.specs.declared.cells.Link.TheVariants.{Leaf as leaf, Node as node}
@@ -7,7 +7,12 @@ use Rattle.art_cell.specs.declared.cells.Node.{Node}
 use Rattle.art_cell.specs.Words.{size}
 use Rattle.art_find.specs.Asking.{WasChecked}
 use Rattle.art_find.specs.Compares.{IsWithin}
+use Rattle.art_find.specs.Verdicts.{Says, value_of}
 use Rattle.art_find.specs.Ways.{IsAtKeys, IsAtLeaf, IsAtSlot, IsInKey, IsInPrefix, IsOnNode, count_in}
+use Rattle.art_find.specs.declared.asked.Answer.{Answer}
+use Rattle.art_find.specs.declared.compares.Beside.{Beside}
+use Rattle.art_find.specs.declared.asked.Answer.TheVariants.{Begun, Checked}
+use Rattle.art_find.specs.declared.asked.Answer.TheVariants as told
 use Rattle.art_find.specs.declared.asked.Asked.{Asked}
 use Rattle.art_find.specs.declared.asked.Asked.TheVariants.{Begin, Read, ReadLeaf, Check, Settle}
 use Rattle.art_find.specs.declared.descents.Descent.{Descent}
@@ -15,11 +20,13 @@ use Rattle.art_find.specs.declared.descents.LeafSeen.{LeafSeen}
 use Rattle.art_find.specs.declared.descents.NodeSeen.{NodeSeen}
 use Rattle.art_find.specs.declared.descents.Stage.{Stage}
 use Rattle.art_find.specs.declared.descents.Stage.TheVariants.{Start, Anchor, Child, Below, Both, Header, Prefix, Keys, Slot, Value, Length, Bytes, Decided, Ended}
+use Rattle.art_find.specs.declared.verdicts.Verdict.{Verdict}
+use Rattle.art_find.specs.declared.verdicts.Verdict.TheVariants as verdict
 use Rattle.art_node.specs.declared.searches.Sought.{Sought}
 use Rattle.art_node.specs.declared.searches.Sought.TheVariants as sought
 use Rattle.art_path.specs.declared.compared.Compared.{Compared}
 use Rattle.art_step.specs.Events.{MakesEvent}
-use Rattle.art_step.specs.Shows.{HasChild, HasStamp, HasValue, OnlyReads, OnlyTells, Shows}
+use Rattle.art_step.specs.Shows.{HasChild, HasStamp, OnlyReads, OnlyTells, Shows}
 use Rattle.art_step.specs.Views.{Member, NamesLink, note_of}
 use Rattle.art_step.specs.WordPlaces.{HasVersion}
 use Rattle.art_step.specs.declared.deeds.Deed.{Deed}
@@ -41,16 +48,16 @@ asks (Both x y n) = Some (Check x)
 asks (Header y n) = Some (Read y 1)
 asks (Prefix seen i r) = Some (Read seen.stamp (2 + i))
 asks (Keys seen i) = Some (Read seen.stamp (10 + i))
-asks (Slot y n place) = Some (Read y place)
+asks (Slot seen place) = Some (Read seen.stamp place)
 asks (Value x l) = Some (ReadLeaf x l 0)
 asks (Length x l value) = Some (ReadLeaf x l 1)
 asks (Bytes seen i r) = Some (ReadLeaf seen.stamp seen.leaf (2 + i))
-asks (Decided x o) = Some (Settle x)
+asks (Decided x found) = Some (Settle x)
 asks (Ended o) = None
 
 -- what it answers, where it has come to that
 abbrev pub answer_at : Stage → Option ℕ
-answer_at (Decided x o) = o
+answer_at (Decided x found) = value_of found
 answer_at (Ended o) = o
 answer_at stage = None
 
@@ -58,16 +65,58 @@ abbrev pub ended_at : Stage → Option (Option ℕ)
 ended_at (Ended o) = Some o
 ended_at stage = None
 
+-- what it has found, and the stamp under which that was read, where the check of the stamp settles it
+abbrev pub decided_at : Stage → Option (Stamp × Verdict)
+decided_at (Decided x found) = Some (x, found)
+decided_at stage = None
+
+-- where it has come to a verdict, that says more than that the key has no value
+abbrev pub IsExact : Stage → Type 0
+IsExact (Decided x found) = found ≢ verdict.Absent
+IsExact stage = ⊤
+
+-- ---- where it goes
+
+-- the stamp on whose cell it stands
+abbrev pub stands_on : Stage → Option Stamp
+stands_on Start = None
+stands_on (Anchor x) = Some x
+stands_on (Child x d) = Some x
+stands_on (Below x n) = Some x
+stands_on (Both x y n) = Some x
+stands_on (Header y n) = Some y
+stands_on (Prefix seen i r) = Some seen.stamp
+stands_on (Keys seen i) = Some seen.stamp
+stands_on (Slot seen place) = Some seen.stamp
+stands_on (Value x l) = Some x
+stands_on (Length x l value) = Some x
+stands_on (Bytes seen i r) = Some seen.stamp
+stands_on (Decided x found) = Some x
+stands_on (Ended o) = None
+
+-- the stage after a version word was clear, and gave this stamp
+abbrev pub stage_begun : Stamp → Stage → Stage
+stage_begun y Start = Anchor y
+stage_begun y (Below x n) = Both x y n
+stage_begun y stage = stage
+
 -- the stage after the cell that names a link was checked
 abbrev pub stage_below : Stamp → Link → Stage
 stage_below x (leaf l) = Value x l
 stage_below x (node n) = Below x n
 
+-- the stage after a check
+abbrev pub stage_checked : Stage → Stage
+stage_checked (Child x d) = stage_below x d
+stage_checked (Both x y n) = Header y n
+stage_checked (Decided x found) = Ended (value_of found)
+stage_checked stage = stage
+
 -- the stage after a search in a node
 abbrev pub staged : Sought → NodeSeen → Stage
 staged (sought.Keys i) seen = Keys seen i
-staged (sought.Child place) seen = Slot seen.stamp seen.node place
-staged sought.Nothing seen = Decided seen.stamp None
+staged (sought.Child place) seen = Slot seen place
+staged sought.Nothing seen = Decided seen.stamp (verdict.Free seen.node seen.header)
 
 -- ---- how far it has come
 
@@ -81,11 +130,11 @@ most_steps depth (Both x y n) = 64 * depth + 4
 most_steps depth (Header y n) = 64 * depth + 5
 most_steps depth (Prefix seen i r) = 64 * depth + 6 + i
 most_steps depth (Keys seen i) = 64 * depth + 14 + i
-most_steps depth (Slot y n place) = 64 * depth + 46
+most_steps depth (Slot seen place) = 64 * depth + 46
 most_steps depth (Value x l) = 64 * depth + 3
 most_steps depth (Length x l value) = 64 * depth + 4
 most_steps depth (Bytes seen i r) = 64 * depth + 5 + i
-most_steps depth (Decided x o) = 64 * depth + 47
+most_steps depth (Decided x found) = 64 * depth + 47
 most_steps depth (Ended o) = 64 * depth + 48
 
 -- ---- what it knows
@@ -123,17 +172,17 @@ pub record IsSearch (z : Sizes) (k : List ℕ) (depth : ℕ) (seen : NodeSeen) (
   pub inside : 10 + i < size seen.node.layout
   pub shows : Shows z v seen.stamp (λ s. IsAtKeys s seen.node k depth seen.header i)
 
-pub record IsSlot (z : Sizes) (k : List ℕ) (depth : ℕ) (y : Stamp) (n : Node) (place : ℕ) (v : View) : Type 0 where
+pub record IsSlot (z : Sizes) (k : List ℕ) (depth : ℕ) (seen : NodeSeen) (place : ℕ) (v : View) : Type 0 where
   pub deep : depth < length k
   pub after : 0 < place
-  pub inside : place < size n.layout
-  pub shows : Shows z v y (λ s. IsAtSlot s n k depth place)
+  pub inside : place < size seen.node.layout
+  pub shows : Shows z v seen.stamp (λ s. IsAtSlot s seen.node k depth seen.header place)
 
-pub record IsKey (z : Sizes) (k : List ℕ) (depth : ℕ) (seen : LeafSeen) (i : ℕ) (r : Compared) (v : View) : Type 0 where
+pub record IsKey (z : Sizes) (k : List ℕ) (depth : ℕ) (seen : LeafSeen) (i : ℕ) (r : Beside) (v : View) : Type 0 where
   pub more : 8 * i < seen.count
   pub few : seen.count ≤ 64
-  pub within : IsWithin k 0 (8 * i) r
-  pub shows : Shows z v seen.stamp (λ s. IsInKey s seen.stamp.cell seen.leaf k (take depth k) seen.value seen.count i r)
+  pub within : IsWithin k 0 (8 * i) r.compared
+  pub shows : Shows z v seen.stamp (λ s. IsInKey s seen k (take depth k) i r)
 
 -- the word was noted under the stamp
 pub record WasNoted (v : View) (x : Stamp) (word : ℕ) : Type 0 where
@@ -163,13 +212,24 @@ StageFits z k what depth (Both x y n) u v = IsOn z u v y n × IsChild z k depth 
 StageFits z k what depth (Header y n) u v = IsOn z u v y n × (depth ≤ length k) × Shows z v y (λ s. IsOnNode s n k depth)
 StageFits z k what depth (Prefix seen i r) u v = IsOn z u v seen.stamp seen.node × IsPrefix z k depth seen i r v
 StageFits z k what depth (Keys seen i) u v = IsOn z u v seen.stamp seen.node × IsSearch z k depth seen i v
-StageFits z k what depth (Slot y n place) u v = IsOn z u v y n × IsSlot z k depth y n place v
+StageFits z k what depth (Slot seen place) u v = IsOn z u v seen.stamp seen.node × IsSlot z k depth seen place v
 StageFits z k what depth (Value x l) u v = IsAbove z u v x l × IsChild z k depth x (leaf l) v
 StageFits z k what depth (Length x l value) u v = IsAbove z u v x l × (depth ≤ length k) × Shows z v x (λ s. IsAtLeaf s x.cell l (take depth k) value)
 StageFits z k what depth (Bytes seen i r) u v = IsAbove z u v seen.stamp seen.leaf × (depth ≤ length k) × IsKey z k depth seen i r v
-StageFits z k what depth (Decided x o) u v = IsReading u v × (depth ≤ length k) × HasStamp z v x × Shows z v x (λ s. HasValue s k o)
+StageFits z k what depth (Decided x found) u v = IsReading u v × (depth ≤ length k) × HasStamp z v x × Says z k depth x found v
 StageFits z k what depth (Ended o) u v = MakesEvent u v (what o) × OnlyTells u v
 
 -- the descent by the key k
 abbrev pub Fits : Sizes → List ℕ → (Option ℕ → Deed) → Descent → View → View → Type 0
 Fits z k what m u v = StageFits z k what m.depth m.stage u v
+
+-- ---- after an answer
+
+-- it comes from the first to the second: a word leaves it on its cell, and a version word that was clear or unchanged leads to
+-- one stage
+abbrev pub Stays : Answer → Descent → Descent → Type 0
+Stays (Begun (Ok x)) m m' = m' ≡ record m { stage = stage_begun x m.stage }
+Stays (Begun (Err e)) m m' = ⊤
+Stays (told.Word a) m m' = stands_on m'.stage ≡ stands_on m.stage
+Stays (Checked (Ok x)) m m' = m' ≡ record m { stage = stage_checked m.stage }
+Stays (Checked (Err e)) m m' = ⊤

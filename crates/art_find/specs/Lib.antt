@@ -3,4 +3,5 @@ pub mod Compares
 pub mod Descents
 pub mod Driven
 pub mod Straight
+pub mod Verdicts
 pub mod Ways

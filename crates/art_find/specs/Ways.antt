@@ -5,6 +5,9 @@ use Rattle.art_cell.specs.declared.cells.Cell.TheVariants as cell
 use Rattle.art_cell.specs.declared.cells.Link.TheVariants.{Leaf as leaf, Node as node}
 use Rattle.art_cell.specs.declared.cells.Node.{Node}
 use Rattle.art_cell.specs.Words.{child_of, nonzero, packed}
+use Rattle.art_find.specs.Compares.{IsBeside}
+use Rattle.art_find.specs.declared.compares.Beside.{Beside}
+use Rattle.art_find.specs.declared.descents.LeafSeen.{LeafSeen}
 use Rattle.art_node.specs.Searches.{KeysKnown}
 use Rattle.art_path.specs.declared.compared.Compared.{Compared}
 use Rattle.art_path.specs.Compared.{AreSame, IsCompared}
@@ -48,8 +51,7 @@ pub record IsAtKeys (s : Cells) (n : Node) (k : List ℕ) (depth header number :
   pub known : KeysKnown n.layout (get_or k depth 0) (s (cell.Node n)) number
 
 -- and the child word at a place is that of the key's next byte
-pub record IsAtSlot (s : Cells) (n : Node) (k : List ℕ) (depth place : ℕ) : Type 0 where
-  pub header : ℕ
+pub record IsAtSlot (s : Cells) (n : Node) (k : List ℕ) (depth header place : ℕ) : Type 0 where
   pub past : IsPastPrefix s n k depth header
   pub tells : child_of n.layout (s (cell.Node n)) (get_or k depth 0) ≡ nonzero (s (cell.Node n) place)
 
@@ -59,7 +61,7 @@ pub record IsAtLeaf (s : Cells) (c : Cell) (l : ℕ) (p : List ℕ) (value : ℕ
   pub is_value : s (cell.Leaf l) 0 ≡ value
 
 -- and its key, of this length, was compared with another as far as the word with a number
-pub record IsInKey (s : Cells) (c : Cell) (l : ℕ) (k p : List ℕ) (value count number : ℕ) (r : Compared) : Type 0 where
-  pub leaf : IsAtLeaf s c l p value
-  pub is_count : s (cell.Leaf l) 1 ≡ count
-  pub compared : IsCompared (packed (s (cell.Leaf l)) 2) (8 * number) k 0 r
+pub record IsInKey (s : Cells) (seen : LeafSeen) (k p : List ℕ) (number : ℕ) (r : Beside) : Type 0 where
+  pub leaf : IsAtLeaf s seen.stamp.cell seen.leaf p seen.value
+  pub is_count : s (cell.Leaf seen.leaf) 1 ≡ seen.count
+  pub beside : IsBeside (packed (s (cell.Leaf seen.leaf)) 2) (8 * number) k r

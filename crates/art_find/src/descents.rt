@@ -2,8 +2,8 @@
 ghost use Rattle.std.specs.Prelude.{◌≡◌, ℕ, List, Option, length, ◌≤◌, ◌<◌, ◌+◌, ◌*◌, None, Ok, take};
 ghost use Rattle.art_find.specs.Descents.{stage_below};
 
-use crate::compares::compare_word;
-use crate::{Answer, Asked};
+use crate::compares::{Beside, compare_word};
+use crate::{Answer, Asked, Verdict};
 use art_cell::{Cell, Link, Node};
 use art_node::{Sought, first_word, next_word, read_header};
 use art_path::Compared;
@@ -46,16 +46,16 @@ pub enum Stage {
     /// The word of key bytes, or of the index, with this number comes next.
     Keys(NodeSeen, u8),
     /// The child word at this place comes next.
-    Slot(Stamp, Node, usize),
+    Slot(NodeSeen, usize),
     /// The stamp's cell names this leaf; its value comes next.
     Value(Stamp, u32),
     /// Its value is this; its length comes next.
     Length(Stamp, u32, u64),
     /// The word of the leaf's key with this number comes next; how the bytes before it stand to the key's.
-    Bytes(LeafSeen, u8, Compared),
-    /// What was read under the stamp shows the key's value, or that it has none.
-    Decided(Stamp, Option<u64>),
-    /// That is settled.
+    Bytes(LeafSeen, u8, Beside),
+    /// What was read under the stamp shows where the key stands, or would stand.
+    Decided(Stamp, Verdict),
+    /// That is settled: the key has this value, or none.
     Ended(Option<u64>),
 }
 
@@ -70,7 +70,8 @@ pub struct Descent {
 
 impl Descent {
     ghost use Rattle.art_find.specs.Asking.{Answers, IsAllowed, WantsCheck, WantsVersion, goes_on};
-    ghost use Rattle.art_find.specs.Descents.{Fits, IsReading, answer_at, asks, ended_at, most_steps};
+    ghost use Rattle.art_find.specs.Descents.{Fits, IsExact, IsReading, Stays};
+    ghost use Rattle.art_find.specs.Descents.{answer_at, asks, decided_at, ended_at, most_steps, stage_begun, stage_checked};
     ghost use Rattle.art_find.specs.declared.asked.Answer.{Answer as AnswerTold};
     ghost use Rattle.art_find.specs.declared.asked.Answer.TheVariants as told;
     ghost use Rattle.art_find.specs.declared.asked.Asked.{Asked as AskedStep};
@@ -84,6 +85,7 @@ impl Descent {
     pub fn new() -> Descent
         ensures steps { most_steps result.depth result.stage ≡ 0 }
         ensures going { ended_at result.stage ≡ None }
+        ensures exact { IsExact result.stage }
         ensures fits { (z : Sizes) (k : List ℕ) (what : Option ℕ → Deed) (u v : View) → IsReading u v → Fits z k what result u v }
     {
         Descent {
@@ -111,7 +113,7 @@ impl Descent {
                 2 + usize::from(number),
             )),
             Stage::Keys(seen, number) => Some(Asked::Read(seen.stamp, 10 + usize::from(number))),
-            Stage::Slot(stamp, _, place) => Some(Asked::Read(stamp, place)),
+            Stage::Slot(seen, place) => Some(Asked::Read(seen.stamp, place)),
             Stage::Value(stamp, leaf) => Some(Asked::ReadLeaf(stamp, leaf, 0)),
             Stage::Length(stamp, leaf, _) => Some(Asked::ReadLeaf(stamp, leaf, 1)),
             Stage::Bytes(seen, number, _) => {
@@ -122,14 +124,33 @@ impl Descent {
         }
     }
 
+    /// How many bytes of the key lead to where it stands.
+    #[inline(always)]
+    pub fn depth(&self) -> usize
+        ensures { result ≡ self.now.depth }
+    {
+        self.depth
+    }
+
     /// The key's value, or that it has none: at the step that settles it, and once that is settled.
     #[inline(always)]
     pub fn answer(&self) -> Option<u64>
         ensures { result ≡ answer_at self.now.stage }
     {
         match self.stage {
-            Stage::Decided(_, value) => value,
+            Stage::Decided(_, verdict) => verdict.value(),
             Stage::Ended(value) => value,
+            _ => None,
+        }
+    }
+
+    /// The stamp whose check comes next and settles the answer, and what was read under it.
+    #[inline(always)]
+    pub fn decided(&self) -> Option<(Stamp, Verdict)>
+        ensures { result ≡ decided_at self.now.stage }
+    {
+        match self.stage {
+            Stage::Decided(stamp, verdict) => Some((stamp, verdict)),
             _ => None,
         }
     }
@@ -155,6 +176,8 @@ impl Descent {
         ensures on { result ≡ goes_on answer }
         ensures steps { result ≡ true → most_steps self.old.depth self.old.stage < most_steps self.new.depth self.new.stage }
         ensures anew { result ≡ false → most_steps self.new.depth self.new.stage ≡ 0 }
+        ensures stays { Stays answer self.old self.new }
+        ensures exact { IsExact self.new.stage }
         ensures fits { (z : Sizes) (what : Option ℕ → Deed) (u v w : View) (asked : AskedStep) →
             Fits z key.now what self.old u v → asks self.old.stage ≡ Some asked →
             Answers z (what (answer_at self.old.stage)) asked answer v w → Fits z key.now what self.new u w }
@@ -182,6 +205,8 @@ impl Descent {
     pub fn began(&mut self, stamp: Stamp)
         requires { WantsVersion (asks self.old.stage) }
         ensures steps { most_steps self.old.depth self.old.stage < most_steps self.new.depth self.new.stage }
+        ensures stays { self.new ≡ record self.old { stage = stage_begun stamp self.old.stage } }
+        ensures exact { IsExact self.new.stage }
         ensures fits { (z : Sizes) (k : List ℕ) (what : Option ℕ → Deed) (u v w : View) (asked : AskedStep) →
             Fits z k what self.old u v → asks self.old.stage ≡ Some asked →
             Answers z (what (answer_at self.old.stage)) asked (told.Begun (Ok stamp)) v w → Fits z k what self.new u w }
@@ -198,6 +223,8 @@ impl Descent {
     pub fn checked(&mut self)
         requires { WantsCheck (asks self.old.stage) }
         ensures steps { most_steps self.old.depth self.old.stage < most_steps self.new.depth self.new.stage }
+        ensures stays { self.new ≡ record self.old { stage = stage_checked self.old.stage } }
+        ensures exact { IsExact self.new.stage }
         ensures fits { (z : Sizes) (k : List ℕ) (what : Option ℕ → Deed) (u v w : View) (asked : AskedStep) →
             Fits z k what self.old u v → asks self.old.stage ≡ Some asked →
             Answers z (what (answer_at self.old.stage)) asked (told.Checked (Ok tt)) v w → Fits z k what self.new u w }
@@ -205,7 +232,7 @@ impl Descent {
         self.stage = match self.stage {
             Stage::Child(stamp, link) => below(stamp, link),
             Stage::Both(_, stamp, node) => Stage::Header(stamp, node),
-            Stage::Decided(_, value) => Stage::Ended(value),
+            Stage::Decided(_, verdict) => Stage::Ended(verdict.value()),
             _ => unreachable!(),
         };
     }
@@ -214,6 +241,7 @@ impl Descent {
     #[inline(always)]
     pub fn failed(&mut self)
         ensures steps { most_steps self.new.depth self.new.stage ≡ 0 }
+        ensures exact { IsExact self.new.stage }
         ensures fits { (z : Sizes) (k : List ℕ) (what : Option ℕ → Deed) (u v : View) → IsReading u v → Fits z k what self.new u v }
     {
         self.stage = Stage::Start;

@@ -19,7 +19,7 @@
 //!            │
 //!            ▼
 //!       ┌── what the child word names
-//!       │    ├─ nothing: absent, at that check
+//!       │    ├─ nothing: the key has no value; the check decides
 //!       │    ├─ a leaf: value, length, its key, word by word; then the check of the cell that names it decides
 //!       │    └─ a node: stamp it, and check the cell that names it; then read, under the new stamp,
 //!       │         header, prefix, key bytes or index, and the child word of the key's next byte
@@ -41,8 +41,8 @@
 //! # What it knows
 //!
 //! `Fits` says at each stage what the notes under the stamps show, in every tree in which they hold: that the cell has this
-//! child on the key's way (`HasChild`), that the prefix was the key's so far (`IsInPrefix`), that the key has this value, or
-//! none (`HasValue`). Two lemmas carry all of it: what is shown stays shown as more is noted, and a word that is read is shown
+//! child on the key's way (`HasChild`), that the prefix was the key's so far (`IsInPrefix`), and at last where the key stands or
+//! would stand (`Says`). Two lemmas carry all of it: what is shown stays shown as more is noted, and a word that is read is shown
 //! too. `next` is allowed wherever `Fits` holds, and `told` keeps it by the answer's row.
 //!
 //! # What settles
@@ -50,6 +50,11 @@
 //! The check that decides is asked for as `Settle`. What was read under the stamp then shows the key's value, or that it has
 //! none; which deed that is, whoever drives the descent says: the get of the key, or an insert that finds its key there. `get`
 //! makes the get.
+//!
+//! `decided` says more, for an insert or a removal that goes on from there. A `Verdict` names the leaf that has the key, or says
+//! why none has it: the anchor is empty, another leaf stands on the way, a node's prefix is another, a node has no child at the
+//! next byte, or the key and another overlap. `Says` has what each shows of the tree. The stamp is that of the anchor, of the
+//! node, or of the cell that names the leaf: the one on which the descent stands (`stands_on`, and `stays` from step to step).
 //!
 //! # The straight way
 //!
@@ -71,7 +76,10 @@ mod descents;
 mod driver;
 mod reads;
 mod straight;
+mod verdicts;
 
 pub use asked::{Answer, Asked};
+pub use compares::Beside;
 pub use descents::{Descent, LeafSeen, NodeSeen, Stage};
 pub use driver::{Got, Gotten, get, step};
+pub use verdicts::Verdict;

@@ -2,9 +2,9 @@
 ghost use Rattle.std.specs.Prelude.{◌≡◌, ℕ, List, Option, length, ◌≤◌, ◌<◌, ◌+◌, ◌*◌, None, take};
 ghost use Rattle.art_find.specs.Descents.{staged};
 
-use crate::compares::compare_word;
-use crate::{Descent, LeafSeen, NodeSeen, Stage};
-use art_cell::{Link, Node};
+use crate::compares::{Beside, beside_word, compare_word};
+use crate::{Descent, LeafSeen, NodeSeen, Stage, Verdict};
+use art_cell::Link;
 use art_node::{Sought, first_word, next_word, read_header};
 use art_path::Compared;
 use art_step::Stamp;
@@ -13,7 +13,8 @@ impl Descent {
     ghost use Rattle.art_cell.specs.declared.cells.Cell.TheVariants as cells;
     ghost use Rattle.art_find.specs.Asking.{Answers, WantsWord};
     ghost use Rattle.art_find.specs.Compares.{IsWithin};
-    ghost use Rattle.art_find.specs.Descents.{Fits, IsAbove, IsOn, IsReading, WasNoted, answer_at, asks, ended_at, most_steps};
+    ghost use Rattle.art_find.specs.Descents.{Fits, IsAbove, IsExact, IsOn, IsReading, WasNoted};
+    ghost use Rattle.art_find.specs.Descents.{answer_at, asks, ended_at, most_steps, stands_on};
     ghost use Rattle.art_find.specs.Ways.{HasHeader, IsAtKeys, IsAtLeaf, IsAtSlot, IsInKey, IsInPrefix, IsOnNode, IsPassed, count_in};
     ghost use Rattle.art_find.specs.declared.asked.Answer.TheVariants as told;
     ghost use Rattle.art_find.specs.declared.asked.Asked.{Asked as AskedStep};
@@ -31,6 +32,8 @@ impl Descent {
         requires fits { (z : Sizes) × (what : Option ℕ → Deed) × (u : View) × (v : View) × Fits z key.now what self.old u v }
         ensures steps { most_steps self.old.depth self.old.stage < most_steps self.new.depth self.new.stage }
         ensures going { ended_at self.new.stage ≡ None }
+        ensures stays { stands_on self.new.stage ≡ stands_on self.old.stage }
+        ensures exact { IsExact self.new.stage }
         ensures fits { (z : Sizes) (what : Option ℕ → Deed) (u v w : View) (asked : AskedStep) →
             Fits z key.now what self.old u v → asks self.old.stage ≡ Some asked →
             Answers z (what (answer_at self.old.stage)) asked (told.Word word) v w → Fits z key.now what self.new u w }
@@ -47,7 +50,7 @@ impl Descent {
             ),
             Stage::Prefix(seen, number, before) => self.see_prefix(key, seen, number, before, word),
             Stage::Keys(seen, number) => self.see_keys(key, seen, number, word),
-            Stage::Slot(stamp, node, place) => self.see_slot(key, stamp, node, place, word),
+            Stage::Slot(seen, place) => self.see_slot(key, seen, place, word),
             Stage::Value(stamp, leaf) => self.stage = Stage::Length(stamp, leaf, word),
             Stage::Length(stamp, leaf, value) => self.see_length(key, stamp, leaf, value, word),
             Stage::Bytes(seen, number, before) => self.see_bytes(key, seen, number, before, word),
@@ -60,14 +63,17 @@ impl Descent {
     fn see_root(&mut self, key: &[u8], stamp: Stamp, word: u64)
         ensures steps { 1 < most_steps self.new.depth self.new.stage }
         ensures going { ended_at self.new.stage ≡ None }
+        ensures stays { stands_on self.new.stage ≡ Some stamp }
+        ensures exact { IsExact self.new.stage }
         ensures fits { (z : Sizes) (what : Option ℕ → Deed) (u w : View) → IsReading u w → HasStamp z w stamp →
-            stamp.cell ≡ cells.Anchor → Shows z w stamp (λ s. s cells.Anchor 1 ≡ word) → WasNoted w stamp word → Fits z key.now what self.new u w }
+            stamp.cell ≡ cells.Anchor → Shows z w stamp (λ s. s cells.Anchor 1 ≡ word) → WasNoted w stamp word →
+            Fits z key.now what self.new u w }
     {
         let _ = key;
         self.depth = 0;
         self.stage = match Link::named_by(word) {
             Some(link) => Stage::Child(stamp, link),
-            None => Stage::Decided(stamp, None),
+            None => Stage::Decided(stamp, Verdict::Empty),
         };
     }
 
@@ -78,12 +84,14 @@ impl Descent {
         requires deep { self.old.depth ≤ length key.now }
         ensures steps { 64 * self.old.depth + 5 < most_steps self.new.depth self.new.stage }
         ensures going { ended_at self.new.stage ≡ None }
+        ensures stays { stands_on self.new.stage ≡ Some seen.stamp }
+        ensures exact { IsExact self.new.stage }
         ensures fits { (z : Sizes) (what : Option ℕ → Deed) (u w : View) → IsOn z u w seen.stamp seen.node →
             Shows z w seen.stamp (λ s. HasHeader s seen.node key.now self.old.depth seen.header) → Fits z key.now what self.new u w }
     {
         let count = read_header(seen.header).prefix_length;
         if self.depth + count > 63 {
-            self.stage = Stage::Decided(seen.stamp, None);
+            self.stage = Stage::Decided(seen.stamp, Verdict::Torn);
         } else if count > 0 {
             self.stage = Stage::Prefix(seen, 0, Compared::Same);
         } else {
@@ -101,6 +109,8 @@ impl Descent {
         requires within { IsWithin key.now self.old.depth (8 * number) before }
         ensures steps { 64 * self.old.depth + 6 + number < most_steps self.new.depth self.new.stage }
         ensures going { ended_at self.new.stage ≡ None }
+        ensures stays { stands_on self.new.stage ≡ Some seen.stamp }
+        ensures exact { IsExact self.new.stage }
         ensures fits { (z : Sizes) (what : Option ℕ → Deed) (u w : View) → IsOn z u w seen.stamp seen.node →
             Shows z w seen.stamp (λ s. IsInPrefix s seen.node key.now self.old.depth seen.header number before) →
             Shows z w seen.stamp (λ s. s (cells.Node seen.node) (2 + number) ≡ word) → Fits z key.now what self.new u w }
@@ -113,7 +123,14 @@ impl Descent {
         }
         match compared {
             Compared::Same => self.pass(key, seen),
-            _ => self.stage = Stage::Decided(seen.stamp, None),
+            Compared::Below(at) => {
+                let verdict = Verdict::OtherPrefix(seen.node, seen.header, at);
+                self.stage = Stage::Decided(seen.stamp, verdict);
+            }
+            Compared::Above(at) => {
+                let verdict = Verdict::OtherPrefix(seen.node, seen.header, at);
+                self.stage = Stage::Decided(seen.stamp, verdict.within(key, self.depth + at));
+            }
         }
     }
 
@@ -124,12 +141,14 @@ impl Descent {
         requires short { self.old.depth + count_in seen.header < 64 }
         ensures steps { 64 * self.old.depth + 13 < most_steps self.new.depth self.new.stage }
         ensures going { ended_at self.new.stage ≡ None }
+        ensures stays { stands_on self.new.stage ≡ Some seen.stamp }
+        ensures exact { IsExact self.new.stage }
         ensures fits { (z : Sizes) (what : Option ℕ → Deed) (u w : View) → IsOn z u w seen.stamp seen.node →
             Shows z w seen.stamp (λ s. IsPassed s seen.node key.now self.old.depth seen.header) → Fits z key.now what self.new u w }
     {
         let depth = self.depth + read_header(seen.header).prefix_length;
         if depth >= key.len() {
-            self.stage = Stage::Decided(seen.stamp, None);
+            self.stage = Stage::Decided(seen.stamp, Verdict::Overlaps);
             return;
         }
         self.depth = depth;
@@ -143,6 +162,8 @@ impl Descent {
         requires number { number < 32 }
         ensures steps { 64 * self.old.depth + 14 + number < most_steps self.new.depth self.new.stage }
         ensures going { ended_at self.new.stage ≡ None }
+        ensures stays { stands_on self.new.stage ≡ Some seen.stamp }
+        ensures exact { IsExact self.new.stage }
         ensures fits { (z : Sizes) (what : Option ℕ → Deed) (u w : View) → IsOn z u w seen.stamp seen.node →
             Shows z w seen.stamp (λ s. IsAtKeys s seen.node key.now self.old.depth seen.header number) →
             Shows z w seen.stamp (λ s. s (cells.Node seen.node) (10 + number) ≡ word) → Fits z key.now what self.new u w }
@@ -156,23 +177,27 @@ impl Descent {
 
     /// The child word was read.
     #[inline(always)]
-    fn see_slot(&mut self, key: &[u8], stamp: Stamp, node: Node, place: usize, word: u64)
+    fn see_slot(&mut self, key: &[u8], seen: NodeSeen, place: usize, word: u64)
         requires deep { self.old.depth < length key.now }
         ensures steps { 64 * self.old.depth + 46 < most_steps self.new.depth self.new.stage }
         ensures going { ended_at self.new.stage ≡ None }
-        ensures fits { (z : Sizes) (what : Option ℕ → Deed) (u w : View) → IsOn z u w stamp node →
-            Shows z w stamp (λ s. IsAtSlot s node key.now self.old.depth place) →
-            Shows z w stamp (λ s. s (cells.Node node) place ≡ word) → WasNoted w stamp word → Fits z key.now what self.new u w }
+        ensures stays { stands_on self.new.stage ≡ Some seen.stamp }
+        ensures exact { IsExact self.new.stage }
+        ensures fits { (z : Sizes) (what : Option ℕ → Deed) (u w : View) → IsOn z u w seen.stamp seen.node →
+            Shows z w seen.stamp (λ s. IsAtSlot s seen.node key.now self.old.depth seen.header place) →
+            Shows z w seen.stamp (λ s. s (cells.Node seen.node) place ≡ word) → WasNoted w seen.stamp word →
+            Fits z key.now what self.new u w }
     {
         let _ = key;
         let _ = place;
-        let _ = node.number;
         match Link::named_by(word) {
             Some(link) => {
                 self.depth += 1;
-                self.stage = Stage::Child(stamp, link);
+                self.stage = Stage::Child(seen.stamp, link);
             }
-            None => self.stage = Stage::Decided(stamp, None),
+            None => {
+                self.stage = Stage::Decided(seen.stamp, Verdict::Free(seen.node, seen.header));
+            }
         }
     }
 
@@ -182,12 +207,14 @@ impl Descent {
         requires deep { self.old.depth ≤ length key.now }
         ensures steps { 64 * self.old.depth + 4 < most_steps self.new.depth self.new.stage }
         ensures going { ended_at self.new.stage ≡ None }
+        ensures stays { stands_on self.new.stage ≡ Some stamp }
+        ensures exact { IsExact self.new.stage }
         ensures fits { (z : Sizes) (what : Option ℕ → Deed) (u w : View) → IsAbove z u w stamp leaf →
             Shows z w stamp (λ s. IsAtLeaf s stamp.cell leaf (take self.old.depth key.now) value) →
             Shows z w stamp (λ s. s (cells.Leaf leaf) 1 ≡ bytes) → Fits z key.now what self.new u w }
     {
         if bytes > 64 {
-            self.stage = Stage::Decided(stamp, None);
+            self.stage = Stage::Decided(stamp, Verdict::Torn);
         } else if bytes > 0 {
             let count = bytes as usize;
             self.stage = Stage::Bytes(
@@ -198,40 +225,54 @@ impl Descent {
                     count,
                 },
                 0,
-                Compared::Same,
+                Beside {
+                    compared: Compared::Same,
+                    byte: 0,
+                },
             );
         } else if key.is_empty() {
-            self.stage = Stage::Decided(stamp, Some(value));
+            self.stage = Stage::Decided(stamp, Verdict::Found(leaf, value));
         } else {
-            self.stage = Stage::Decided(stamp, None);
+            self.stage = Stage::Decided(stamp, Verdict::Overlaps);
         }
     }
 
     /// A word of a leaf's key was read.
     #[inline(always)]
-    fn see_bytes(&mut self, key: &[u8], seen: LeafSeen, number: u8, before: Compared, word: u64)
+    fn see_bytes(&mut self, key: &[u8], seen: LeafSeen, number: u8, before: Beside, word: u64)
         requires deep { self.old.depth ≤ length key.now }
         requires more { 8 * number < seen.count }
         requires few { seen.count ≤ 64 }
-        requires within { IsWithin key.now 0 (8 * number) before }
+        requires within { IsWithin key.now 0 (8 * number) before.compared }
         ensures steps { 64 * self.old.depth + 5 + number < most_steps self.new.depth self.new.stage }
         ensures going { ended_at self.new.stage ≡ None }
+        ensures stays { stands_on self.new.stage ≡ Some seen.stamp }
+        ensures exact { IsExact self.new.stage }
         ensures fits { (z : Sizes) (what : Option ℕ → Deed) (u w : View) → IsAbove z u w seen.stamp seen.leaf →
-            Shows z w seen.stamp (λ s. IsInKey s seen.stamp.cell seen.leaf key.now (take self.old.depth key.now) seen.value seen.count number before) →
+            Shows z w seen.stamp (λ s. IsInKey s seen key.now (take self.old.depth key.now) number before) →
             Shows z w seen.stamp (λ s. s (cells.Leaf seen.leaf) (2 + number) ≡ word) → Fits z key.now what self.new u w }
     {
-        let compared = compare_word(key, 0, seen.count, number, word, before);
+        let beside = beside_word(key, seen.count, number, word, before);
         if 8 * usize::from(number) + 8 < seen.count {
-            self.stage = Stage::Bytes(seen, number + 1, compared);
+            self.stage = Stage::Bytes(seen, number + 1, beside);
             return;
         }
-        if seen.count != key.len() {
-            self.stage = Stage::Decided(seen.stamp, None);
-            return;
-        }
-        match compared {
-            Compared::Same => self.stage = Stage::Decided(seen.stamp, Some(seen.value)),
-            _ => self.stage = Stage::Decided(seen.stamp, None),
+        let byte = beside.byte;
+        match beside.compared {
+            Compared::Same => {
+                if seen.count == key.len() {
+                    self.stage = Stage::Decided(seen.stamp, Verdict::Found(seen.leaf, seen.value));
+                } else {
+                    self.stage = Stage::Decided(seen.stamp, Verdict::Overlaps);
+                }
+            }
+            Compared::Below(at) => {
+                self.stage = Stage::Decided(seen.stamp, Verdict::OtherLeaf(seen.leaf, at, byte));
+            }
+            Compared::Above(at) => {
+                let verdict = Verdict::OtherLeaf(seen.leaf, at, byte);
+                self.stage = Stage::Decided(seen.stamp, verdict.within(key, at));
+            }
         }
     }
 }
@@ -243,7 +284,7 @@ fn staged(sought: Sought, seen: NodeSeen) -> Stage
 {
     match sought {
         Sought::Keys(number) => Stage::Keys(seen, number),
-        Sought::Child(place) => Stage::Slot(seen.stamp, seen.node, place),
-        Sought::Nothing => Stage::Decided(seen.stamp, None),
+        Sought::Child(place) => Stage::Slot(seen, place),
+        Sought::Nothing => Stage::Decided(seen.stamp, Verdict::Free(seen.node, seen.header)),
     }
 }

@@ -2,16 +2,17 @@
 //!
 //! It makes the steps of a descent in their order, and keeps in hand only what the next one needs: the stage at which a
 //! descent would stand is named in the contracts alone. Whatever stops it (a version word that is locked or changed, a prefix,
-//! an end of the key, a child that is none) is left to the descent, and so is the check that decides.
+//! an end of the key, a child that is none) is left to the descent, and so is the check that decides. Where a child word names
+//! none, it does not say where the key would stand (`Verdict::Absent`): the node's header is no longer in hand.
 ghost use Rattle.std.specs.Prelude.{◌≡◌, ℕ, List, Option, ◌+◌, ◌*◌, ◌<◌, ◌≤◌, None, IfSome, length};
 ghost use Rattle.art_find.specs.Descents.{staged};
+ghost use Rattle.art_find.specs.Compares.{at_first};
 ghost use Rattle.art_find.specs.Straight.{GoesOn, IsGoing, at_below, at_child, at_node, at_stage, come_to};
 ghost use Rattle.art_find.specs.declared.descents.Stage.TheVariants as stages;
-ghost use Rattle.art_path.specs.declared.compared.Compared.TheVariants as compares;
 
-use crate::compares::compare_word;
+use crate::compares::{Beside, beside_word};
 use crate::descents::below as below_stage;
-use crate::{Descent, LeafSeen, NodeSeen, Stage};
+use crate::{Descent, LeafSeen, NodeSeen, Stage, Verdict};
 use art_cell::{Cell, Link, Node};
 use art_node::{Sought, first_word, next_word, read_header};
 use art_path::Compared;
@@ -198,7 +199,7 @@ fn root_child<S: Steps>(
     let Some(link) = Link::named_by(steps.read(stamp, 1)) else {
         *descent = Descent {
             depth: 0,
-            stage: Stage::Decided(stamp, None),
+            stage: Stage::Decided(stamp, Verdict::Empty),
         };
         return None;
     };
@@ -345,7 +346,7 @@ fn search_on<S: Steps>(
     ensures less { tally.new.left ≤ tally.old.left }
     ensures goes { GoesOn key.now (S.sizes steps.old) (S.view steps.old) (at_stage depth (staged sought seen)) tally.old
         (S.sizes steps.new) (S.view steps.new)
-        (come_to (λ place. at_stage depth (stages.Slot seen.stamp seen.node place)) result descent.new) tally.new }
+        (come_to (λ place. at_stage depth (stages.Slot seen place)) result descent.new) tally.new }
 {
     let mut sought = sought;
     loop {
@@ -355,7 +356,7 @@ fn search_on<S: Steps>(
             Sought::Nothing => {
                 *descent = Descent {
                     depth,
-                    stage: Stage::Decided(seen.stamp, None),
+                    stage: Stage::Decided(seen.stamp, Verdict::Free(seen.node, seen.header)),
                 };
                 return None;
             }
@@ -386,11 +387,11 @@ fn child_at<S: Steps>(
 ) -> Option<Child>
     requires left { 0 < tally.old.left }
     requires goes { IsGoing key.now (S.sizes steps.old) (S.view steps.old)
-        (at_stage depth (stages.Slot seen.stamp seen.node place)) tally.old }
+        (at_stage depth (stages.Slot seen place)) tally.old }
     ensures only { S.only steps.old steps.new }
     ensures left { tally.new.left + 1 ≡ tally.old.left }
     ensures goes { GoesOn key.now (S.sizes steps.old) (S.view steps.old)
-        (at_stage depth (stages.Slot seen.stamp seen.node place)) tally.old
+        (at_stage depth (stages.Slot seen place)) tally.old
         (S.sizes steps.new) (S.view steps.new) (come_to at_child result descent.new) tally.new }
 {
     let _ = key;
@@ -398,7 +399,7 @@ fn child_at<S: Steps>(
     let Some(link) = Link::named_by(steps.read(seen.stamp, place)) else {
         *descent = Descent {
             depth,
-            stage: Stage::Decided(seen.stamp, None),
+            stage: Stage::Decided(seen.stamp, Verdict::Absent),
         };
         return None;
     };
@@ -469,7 +470,7 @@ fn leaf_count<S: Steps>(
     ensures goes { GoesOn key.now (S.sizes steps.old) (S.view steps.old)
         (at_stage below.depth (stages.Length below.above leaf value)) tally.old
         (S.sizes steps.new) (S.view steps.new)
-        (come_to (λ x. at_stage below.depth (stages.Bytes x 0 compares.Same)) result descent.new) tally.new }
+        (come_to (λ x. at_stage below.depth (stages.Bytes x 0 at_first)) result descent.new) tally.new }
 {
     tally.left -= 1;
     let bytes = steps.read_leaf(below.above, leaf, 1);
@@ -501,24 +502,27 @@ fn compare_key<S: Steps>(
 )
     requires left { 1 < tally.old.left }
     requires goes { IsGoing key.now (S.sizes steps.old) (S.view steps.old)
-        (at_stage depth (stages.Bytes seen 0 compares.Same)) tally.old }
+        (at_stage depth (stages.Bytes seen 0 at_first)) tally.old }
     ensures only { S.only steps.old steps.new }
     ensures left { 0 < tally.new.left }
     ensures less { tally.new.left ≤ tally.old.left }
-    ensures goes { GoesOn key.now (S.sizes steps.old) (S.view steps.old) (at_stage depth (stages.Bytes seen 0 compares.Same)) tally.old
+    ensures goes { GoesOn key.now (S.sizes steps.old) (S.view steps.old) (at_stage depth (stages.Bytes seen 0 at_first)) tally.old
         (S.sizes steps.new) (S.view steps.new) descent.new tally.new }
 {
     let mut number = 0;
-    let mut compared = Compared::Same;
+    let mut beside = Beside {
+        compared: Compared::Same,
+        byte: 0,
+    };
     while tally.left > 2 && 8 * usize::from(number) + 8 < seen.count {
         tally.left -= 1;
         let word = steps.read_leaf(seen.stamp, seen.leaf, 2 + usize::from(number));
-        compared = compare_word(key, 0, seen.count, number, word, compared);
+        beside = beside_word(key, seen.count, number, word, beside);
         number += 1;
     }
     *descent = Descent {
         depth,
-        stage: Stage::Bytes(seen, number, compared),
+        stage: Stage::Bytes(seen, number, beside),
     };
     tally.left -= 1;
     let word = steps.read_leaf(seen.stamp, seen.leaf, 2 + usize::from(number));

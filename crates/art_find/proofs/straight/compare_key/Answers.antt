@@ -25,12 +25,12 @@ loop-tally-preserved g c =
     let word = c.read_leaf-word.result in
     let row = subst (λ (i : ℕ). read.LeafOutcome v w x seen.leaf (2 + i) word) c.from-in-loop-tally.ensures c.read_leaf-word.ensures.row in
     let after : Tally = record { left = l.tally.left - 1; restarts = l.tally.restarts } in
-    let next : GoesOn k z v (at_stage c.args.depth (Bytes seen number l.compared)) l.tally z' w (at_stage c.args.depth (Bytes seen (number + 1) c.compare_word-compared.result)) after = λ turns u before.
+    let next : GoesOn k z v (at_stage c.args.depth (Bytes seen number l.beside)) l.tally z' w (at_stage c.args.depth (Bytes seen (number + 1) c.beside_word-beside.result)) after = λ turns u before.
     let fits = before.get.fits in
     went_on z z' (g.met.S.Steps.only_sizes l.steps c.read_leaf-word.new.self c.read_leaf-word.ensures.only) k turns u v w
-    (at_stage c.args.depth (Bytes seen number l.compared)) (at_stage c.args.depth (Bytes seen (number + 1) c.compare_word-compared.result)) l.tally after
+    (at_stage c.args.depth (Bytes seen number l.beside)) (at_stage c.args.depth (Bytes seen (number + 1) c.beside_word-beside.result)) l.tally after
     (ReadLeaf x seen.leaf (2 + number)) (word_told word) before refl row (omega (arith, l.invariant.left)) refl refl (omega arith) refl
-    (bytes_next z k (get_done k) c.args.depth u w fits.1 seen (leaf_on z u v w x (2 + number) word seen.leaf fits.0 row) number word l.compared c.compare_word-compared.result fits.2.more fits.2.few c.compare_word-compared.ensures
+    (bytes_next z k (get_done k) c.args.depth u w fits.1 seen (leaf_on z u v w x (2 + number) word seen.leaf fits.0 row) number word l.beside c.beside_word-beside.result fits.2.more fits.2.few c.beside_word-beside.ensures
     (leaf_still z u v w x (2 + number) word seen.leaf _ row fits.2.shows) (leaf_word z u v w x (2 + number) word seen.leaf row) (omega (arith, c.if-from-seen.true, c.from.ensures))) in
     let b = l.invariant.going in
     record {
@@ -49,7 +49,7 @@ read_leaf-word-requires-clause-may g c =
     let seen = c.args.seen in
     let z = g.S.Steps.sizes l.steps in
     let v = g.S.Steps.view l.steps in
-    subst (λ (i : ℕ). read.MayLeaf z v seen.stamp seen.leaf (2 + i)) (sym c.from-in-loop-tally.ensures) ((allowed z k (get_done k) c.args.depth (Bytes seen l.number l.compared) b.1 v b.2.get.fits).1)
+    subst (λ (i : ℕ). read.MayLeaf z v seen.stamp seen.leaf (2 + i)) (sym c.from-in-loop-tally.ensures) ((allowed z k (get_done k) c.args.depth (Bytes seen l.number l.beside) b.1 v b.2.get.fits).1)
 
 pub read_leaf-word-requires-2-clause-may : goal.read_leaf-word-requires-2-clause-may
 read_leaf-word-requires-2-clause-may g c =
@@ -59,7 +59,7 @@ read_leaf-word-requires-2-clause-may g c =
     let seen = c.args.seen in
     let z = g.S.Steps.sizes l.steps in
     let v = g.S.Steps.view l.steps in
-    subst (λ (i : ℕ). read.MayLeaf z v seen.stamp seen.leaf (2 + i)) (sym c.from-2.ensures) ((allowed z k (get_done k) c.args.depth (Bytes seen l.number l.compared) b.1 v b.2.get.fits).1)
+    subst (λ (i : ℕ). read.MayLeaf z v seen.stamp seen.leaf (2 + i)) (sym c.from-2.ensures) ((allowed z k (get_done k) c.args.depth (Bytes seen l.number l.beside) b.1 v b.2.get.fits).1)
 
 pub read-requires-clause-fits : goal.read-requires-clause-fits
 read-requires-clause-fits g c =
@@ -79,5 +79,5 @@ returns-clause-goes g c = λ turns u start.
     let word = c.read_leaf-word-2.result in
     let row = subst (λ (i : ℕ). read.LeafOutcome v w seen.stamp seen.leaf (2 + i) word) c.from-2.ensures c.read_leaf-word-2.ensures.row in
     went_on z z' (g.met.S.Steps.only_sizes l.steps c.read_leaf-word-2.new.self c.read_leaf-word-2.ensures.only) k turns u v w
-    (at_stage c.args.depth (Bytes seen l.number l.compared)) c.read.new.self l.tally _ (ReadLeaf seen.stamp seen.leaf (2 + l.number)) (word_told word) before refl row (omega (arith, l.invariant.left)) refl refl
+    (at_stage c.args.depth (Bytes seen l.number l.beside)) c.read.new.self l.tally _ (ReadLeaf seen.stamp seen.leaf (2 + l.number)) (word_told word) before refl row (omega (arith, l.invariant.left)) refl refl
     c.read.ensures.steps c.read.ensures.going (c.read.ensures.fits z (get_done k) u v w (ReadLeaf seen.stamp seen.leaf (2 + l.number)) before.get.fits refl row)

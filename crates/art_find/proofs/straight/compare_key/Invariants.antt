@@ -9,9 +9,9 @@ invariant-loop-tally g l = record {
   only : g.S.Steps.only l.initial.steps l.steps;
   left : 1 < l.tally.left;
   less : l.tally.left ≤ l.initial.tally.left;
-  going : IsGoing l.key (g.S.Steps.sizes l.steps) (g.S.Steps.view l.steps) (at_stage l.depth (Bytes l.seen l.number l.compared)) l.tally;
-  goes : GoesOn l.key (g.S.Steps.sizes l.initial.steps) (g.S.Steps.view l.initial.steps) (at_stage l.depth (Bytes l.seen l.initial.number l.initial.compared)) l.initial.tally
-      (g.S.Steps.sizes l.steps) (g.S.Steps.view l.steps) (at_stage l.depth (Bytes l.seen l.number l.compared)) l.tally;
+  going : IsGoing l.key (g.S.Steps.sizes l.steps) (g.S.Steps.view l.steps) (at_stage l.depth (Bytes l.seen l.number l.beside)) l.tally;
+  goes : GoesOn l.key (g.S.Steps.sizes l.initial.steps) (g.S.Steps.view l.initial.steps) (at_stage l.depth (Bytes l.seen l.initial.number l.initial.beside)) l.initial.tally
+      (g.S.Steps.sizes l.steps) (g.S.Steps.view l.steps) (at_stage l.depth (Bytes l.seen l.number l.beside)) l.tally;
 }
 
 abbrev pub decreases-loop-tally : goal.decreases-loop-tally

@@ -1,4 +1,5 @@
 use Rattle.std.proofs.Common.{refl, arith}
+use Rattle.art_find.specs.Compares.{at_first}
 use Rattle.art_find.specs.Driven.{get_done}
 use Rattle.art_find.specs.Straight.{at_stage}
 use Rattle.art_find.specs.declared.asked.Answer.TheVariants.{Word as word_told}
@@ -51,6 +52,6 @@ returns-clause-goes g c = λ turns u before.
     let fits = before.get.fits in
     let seen : LeafSeen = record { stamp = x; leaf = l; value = c.args.value; count = count } in
     went_on z (g.S.Steps.sizes c.read_leaf-bytes.new.self) (g.met.S.Steps.only_sizes c.args.steps.now c.read_leaf-bytes.new.self c.read_leaf-bytes.ensures.only) k turns u v w
-    (at_stage b.depth (Length x l c.args.value)) (at_stage b.depth (Bytes seen 0 Same)) c.args.tally.now _ (ReadLeaf x l 1) (word_told count) before refl row (omega (arith, c.requires.left)) refl refl (omega arith) refl
+    (at_stage b.depth (Length x l c.args.value)) (at_stage b.depth (Bytes seen 0 at_first)) c.args.tally.now _ (ReadLeaf x l 1) (word_told count) before refl row (omega (arith, c.requires.left)) refl refl (omega arith) refl
     (bytes_first z k (get_done k) b.depth u w fits.1 x l (leaf_on z u v w x 1 count l fits.0 row) c.args.value count (leaf_still z u v w x 1 count l _ row fits.2) (leaf_word z u v w x 1 count l row) (omega (arith, c.if-bytes-eq0.false))
     (omega (arith, c.if-bytes-gt64.false)) seen refl)

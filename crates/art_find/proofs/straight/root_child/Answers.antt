@@ -1,10 +1,11 @@
-use Rattle.std.proofs.Common.{None, refl, sym, ◌∙◌, arith}
+use Rattle.std.proofs.Common.{refl, sym, ◌∙◌, arith}
 use Rattle.art_cell.specs.declared.cells.Cell.TheVariants as cell
 use Rattle.art_find.specs.Driven.{get_done}
 use Rattle.art_find.specs.Straight.{at_stage}
 use Rattle.art_find.specs.declared.asked.Answer.TheVariants.{Word as word_told}
 use Rattle.art_find.specs.declared.asked.Asked.TheVariants.{Read}
 use Rattle.art_find.specs.declared.descents.Stage.TheVariants.{Anchor, Child, Decided}
+use Rattle.art_find.specs.declared.verdicts.Verdict.TheVariants.{Empty}
 use Rattle.art_find.proofs.Going.{went_on}
 use Rattle.art_find.proofs.Stages.{no_root_fits, node_noted, node_word, reads_on, root_fits}
 use Rattle.art_step.specs.declared.views.Fact.TheVariants.{Word}
@@ -21,9 +22,9 @@ returns-in_default-clause-goes g c = λ k turns u before.
     let row = c.read.ensures.row in
     let fits = before.get.fits in
     went_on z (g.S.Steps.sizes c.read.new.self) (g.met.S.Steps.only_sizes c.args.steps.now c.read.new.self c.read.ensures.only) k turns u v w
-    (at_stage 0 (Anchor x)) (at_stage 0 (Decided x None)) c.args.tally.now _ (Read x 1) (word_told word) before refl row (omega (arith, c.requires.left)) refl refl (omega arith) refl
+    (at_stage 0 (Anchor x)) (at_stage 0 (Decided x Empty)) c.args.tally.now _ (Read x 1) (word_told word) before refl row (omega (arith, c.requires.left)) refl refl (omega arith) refl
     (no_root_fits z k (get_done k) u w x (reads_on u v w (read_rest v w x (Word 1 word) row.is) fits.0) (read_stamp z v w x (Word 1 word) x row.is fits.1) word
-    (node_word z u v w x 1 word cell.Anchor fits.2 row) (sym c.named_by.ensures ∙ c.in_default.is))
+    (node_word z u v w x 1 word cell.Anchor fits.2 row) fits.2 (sym c.named_by.ensures ∙ c.in_default.is))
 
 pub returns-clause-goes : goal.returns-clause-goes
 returns-clause-goes g c = λ k turns u before.

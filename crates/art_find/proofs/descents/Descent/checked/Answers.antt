@@ -1,10 +1,10 @@
-use Rattle.std.proofs.Common.{refl, sym, ◌∙◌, subst}
+use Rattle.std.proofs.Common.{refl, sym, ap, ◌∙◌, subst}
 use Rattle.std.specs.Prelude.{Ok}
 use Rattle.art_find.specs.Descents.{StageFits}
 use Rattle.art_find.specs.declared.asked.Answer.TheVariants.{Checked}
 use Rattle.art_find.specs.declared.asked.Asked.TheVariants.{Check, Settle}
 use Rattle.art_find.specs.declared.descents.Stage.{Stage}
-use Rattle.art_find.specs.declared.descents.Stage.TheVariants.{Child, Both, Decided}
+use Rattle.art_find.specs.declared.descents.Stage.TheVariants.{Child, Both, Decided, Ended}
 use Rattle.art_find.proofs.Stages.{at_stage, ended_fits, header_fits, link_fits}
 use Rattle.art_find.proofs.descents.Descent.checked.Goals as goal
 use Rattle.art_find.proofs.descents.Descent.checked.Goals.{in-Child, in-Both, in-Decided}
@@ -25,7 +25,7 @@ returns-clause-fits c = λ z k what u v w asked fits is row.
           (header_fits z k what m.depth u v w x b.in-Both.stamp b.in-Both.node both.0 (both.1 (Check x) refl))
       | in-Decided b ↦
           let x = b.in-Decided.field-0 in
-          let both = at_stage z k what m.depth m.stage (Decided x b.in-Decided.value) asked (Checked (Ok tt)) u v w b.in-Decided.is is fits row in
-          subst (λ (t : Stage). StageFits z k what m.depth t u w) (sym b.self-is)
-          (ended_fits z k what m.depth u v w x b.in-Decided.value both.0 (both.1 (Settle x) refl))
+          let both = at_stage z k what m.depth m.stage (Decided x b.in-Decided.verdict) asked (Checked (Ok tt)) u v w b.in-Decided.is is fits row in
+          subst (λ (t : Stage). StageFits z k what m.depth t u w) (sym (b.self-is ∙ ap Ended b.value.ensures))
+          (ended_fits z k what m.depth u v w x b.in-Decided.verdict both.0 (both.1 (Settle x) refl))
     ]

@@ -1,8 +1,10 @@
-use Rattle.std.proofs.Common.{◌+◌, ◌<◌, ℕ, length, get_or, None, sym, subst, arith}
+use Rattle.std.proofs.Common.{◌+◌, ◌<◌, ℕ, length, get_or, sym, subst, arith}
 use Rattle.art_find.specs.Descents.{StageFits}
 use Rattle.art_find.specs.Ways.{IsPastPrefix}
 use Rattle.art_find.specs.declared.descents.Stage.{Stage}
-use Rattle.art_find.proofs.NodeWords.{ends_within, past_prefix}
+use Rattle.art_find.specs.declared.verdicts.Verdict.TheVariants.{Overlaps}
+use Rattle.art_find.proofs.Judged.{judged_passed}
+use Rattle.art_find.proofs.NodeWords.{past_prefix}
 use Rattle.art_find.proofs.Stages.{node_decided, staged_fits}
 use Rattle.art_node.specs.Searches.{IsHeader}
 use Rattle.art_find.proofs.descents.Descent.pass.Goals as goal
@@ -12,9 +14,8 @@ returns-then-depth-key-clause-fits c = λ z what u w on shows.
     let m = c.args.self.now in
     let k = c.args.key.now in
     let seen = c.args.seen in
-    node_decided z k what m.depth u w seen.stamp seen.node on None _ c.requires.deep
-    (λ s shape is. ends_within z s seen.node k m.depth seen.header shape is.on c.requires.deep (omega (arith, c.if-depth-key.true, c.read_header.ensures.prefix)) is.same)
-    shows
+    node_decided z k what m.depth u w seen.stamp seen.node on Overlaps c.requires.deep
+    (judged_passed z k m.depth w seen.stamp seen.node seen.header c.requires.deep (omega (arith, c.if-depth-key.true, c.read_header.ensures.prefix)) shows)
 
 pub returns-clause-fits : goal.returns-clause-fits
 returns-clause-fits c = λ z what u w on shows.

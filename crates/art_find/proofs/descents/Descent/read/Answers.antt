@@ -55,14 +55,13 @@ returns-in-Keys-clause-fits c = λ z what u v w asked fits is row.
 pub returns-in-Slot-clause-fits : goal.returns-in-Slot-clause-fits
 returns-in-Slot-clause-fits c = λ z what u v w asked fits is row.
     let m = c.args.self.now in
-    let y = c.in-Slot.stamp in
-    let n = c.in-Slot.node in
+    let seen = c.in-Slot.seen in
     let place = c.in-Slot.place in
     let word = c.args.word in
-    let both = at_stage z c.args.key.now what m.depth m.stage (Slot y n place) asked (word_told word) u v w c.in-Slot.is is fits row in
-    let read = both.1 (Read y place) refl in
-    c.see_slot.ensures.fits z what u w (node_on z u v w y place word n both.0.0 read) (node_still z u v w y place word _ read both.0.1.shows)
-    (node_word z u v w y place word (cell.Node n) both.0.0.cell read) (node_noted z u v w y place word read)
+    let both = at_stage z c.args.key.now what m.depth m.stage (Slot seen place) asked (word_told word) u v w c.in-Slot.is is fits row in
+    let read = both.1 (Read seen.stamp place) refl in
+    c.see_slot.ensures.fits z what u w (node_on z u v w seen.stamp place word seen.node both.0.0 read) (node_still z u v w seen.stamp place word _ read both.0.1.shows)
+    (node_word z u v w seen.stamp place word (cell.Node seen.node) both.0.0.cell read) (node_noted z u v w seen.stamp place word read)
 
 pub returns-in-Value-clause-fits : goal.returns-in-Value-clause-fits
 returns-in-Value-clause-fits c = λ z what u v w asked fits is row.

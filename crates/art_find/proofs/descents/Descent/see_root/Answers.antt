@@ -12,5 +12,5 @@ returns-clause-fits c = λ z what u w reads stamp at shows noted.
       | in-Some b ↦ subst (λ (t : Stage). StageFits z k what 0 t u w) (sym b.self-is)
           (root_fits z k what u w c.args.stamp reads stamp c.args.word shows b.in-Some.link at noted (sym b.in-Some.ensures))
       | in-None b ↦ subst (λ (t : Stage). StageFits z k what 0 t u w) (sym b.self-is)
-          (no_root_fits z k what u w c.args.stamp reads stamp c.args.word shows (sym b.in-None.ensures))
+          (no_root_fits z k what u w c.args.stamp reads stamp c.args.word shows at (sym b.in-None.ensures))
     ]
