@@ -1,0 +1,27 @@
+use Rattle.std.proofs.Common.{◌≡◌, false, [], ◌∷◌, List, None, ap, ap₂, subst, sym, ◌∙◌}
+use Rattle.art_cell.specs.declared.writes.Write.{Write}
+use Rattle.art_insert.specs.Puts.{IsSitePlan, change_of, puts_of}
+use Rattle.art_insert.proofs.MadeChanges.{free_meaning, put_deed, with_more_puts, with_target}
+use Rattle.art_insert.proofs.PlannedAdds.{add_planned}
+use Rattle.art_plan.specs.Changes.{IsPlanned}
+use Rattle.art_plan.specs.Seen.{kept, site_stamp}
+use Rattle.art_plan.specs.declared.changes.Change.{Change}
+use Rattle.art_step.specs.declared.views.Stamp.{Stamp}
+use Rattle.art_insert.proofs.adds.add.Goals as goal
+
+pub returns-clause-planned : goal.returns-clause-planned
+returns-clause-planned c = λ done z u depth knows.
+    let site = c.args.site.now in
+    let new = c.args.new.now in
+    let body = c.args.change.now.body in
+    let writes = c.added-writes.result.items in
+    let is : c.put.new.change ≡ change_of (kept (site_stamp site) ∷ []) (puts_of 0 writes) None body new [] =
+    c.put.ensures.put done
+    ∙ ap (with_more_puts 0 c.as_slice.result.now) (c.lock.ensures ∙ ap (with_target c.stamp.result false) c.begin.ensures)
+    ∙ ap₂ (λ (x : Stamp) (ws : List Write). change_of (kept x ∷ []) (puts_of 0 ws) None body new []) c.stamp.ensures c.as_slice.ensures.value in
+    subst (IsPlanned z u) (sym is) (add_planned z u site new depth body writes knows (subst (λ w. IsSitePlan site w writes) c.child_word.ensures c.added-writes.ensures) (free_meaning site c.requires))
+
+pub returns-clause-deed : goal.returns-clause-deed
+returns-clause-deed c =
+    put_deed c.lock.new.change c.put.new.change 0 c.as_slice.result.now c.put.result (record { put = c.put.ensures.put; same = c.put.ensures.kept })
+    ∙ ap (λ (ch : Change). ch.deed) (c.lock.ensures ∙ ap (with_target c.stamp.result false) c.begin.ensures)

@@ -1,0 +1,32 @@
+//! A leaf comes to a free place.
+ghost use Rattle.std.specs.Prelude.{◌≡◌, ◌<◌, ℕ, true, false};
+ghost use Rattle.art_cell.specs.Children.{child_word as word_of_link};
+ghost use Rattle.art_cell.specs.declared.cells.Link.TheVariants.{Leaf as leaf};
+ghost use Rattle.art_insert.specs.Cases.{IsAdd};
+ghost use Rattle.art_insert.specs.Puts.{IsFree, TakesMany, inserted};
+ghost use Rattle.art_plan.specs.Changes.{IsPlanned, targets};
+ghost use Rattle.art_step.specs.declared.views.Sizes.{Sizes};
+ghost use Rattle.art_step.specs.declared.views.View.{View};
+
+use crate::NewLeaf;
+use crate::changes::{begin, lock, put};
+use crate::sites::added;
+use art_cell::Link;
+use art_node::child_word;
+use art_plan::{Change, Site};
+
+/// The leaf comes to the site, which is free: the anchor that names nothing, or a byte of a node that is not full. False where
+/// the words are more than a change takes.
+pub fn add(change: &mut Change, site: &Site, new: &NewLeaf) -> bool
+    requires { IsFree site.now }
+    ensures planned { result ≡ true → (z : Sizes) (u : View) (depth : ℕ) → IsAdd z u site.now new.now depth
+        → IsPlanned z u change.new }
+    ensures targets { result ≡ true → targets change.new ≡ 1 }
+    ensures deed { change.new.deed ≡ inserted new.now }
+    ensures refused { result ≡ false → TakesMany site.now (word_of_link (leaf new.now.number)) }
+{
+    let writes = added(site, child_word(Link::Leaf(new.number)));
+    begin(change, new);
+    lock(change, site.stamp(), false);
+    put(change, 0, writes.as_slice())
+}

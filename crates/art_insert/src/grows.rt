@@ -1,0 +1,88 @@
+//! A full node gives way to a larger one.
+ghost use Rattle.std.specs.Prelude.{◌≡◌, ◌<◌, ℕ, None, true, false};
+ghost use Rattle.art_cell.specs.Bodies.{Becomes, IsFull};
+ghost use Rattle.art_cell.specs.Children.{child_word as word_of_link};
+ghost use Rattle.art_cell.specs.Reads.{IsBodyOf, with_child, word_of};
+ghost use Rattle.art_cell.specs.Words.{child_of, prefix_of};
+ghost use Rattle.art_cell.specs.declared.cells.Link.TheVariants.{Node as node_link};
+ghost use Rattle.art_insert.specs.Cases.{IsGrow};
+ghost use Rattle.art_insert.specs.Puts.{IsCrowded, IsTaken, TakesMany, inserted, larger_node};
+ghost use Rattle.art_node.specs.Prefixes.{IsNodeOf};
+ghost use Rattle.art_node.specs.Sizes.{larger};
+ghost use Rattle.art_plan.specs.Changes.{IsPlanned, targets};
+ghost use Rattle.art_step.specs.declared.views.Sizes.{Sizes};
+ghost use Rattle.art_step.specs.declared.views.View.{View};
+
+use crate::changes::{begin, lock, make, put, unlink};
+use crate::sites::replaced;
+use crate::{Below, NewLeaf};
+use art_cell::{Body, Layout, Link, Node, NodeKind};
+use art_node::child_word;
+use art_node16::Node16;
+use art_node48::Node48;
+use art_node256::Node256;
+use art_plan::{Change, Site};
+
+/// The node below the site has no place for the leaf at the byte: the next larger one has its children and the leaf, and takes
+/// its place. False where the words are more than a change takes.
+pub fn grow(
+    change: &mut Change,
+    site: &Site,
+    below: &Below,
+    byte: u8,
+    new: &NewLeaf,
+    made: u32,
+) -> bool
+    requires taken { IsTaken site.now }
+    requires crowded { IsCrowded below.now.body.now byte }
+    ensures planned { result ≡ true → (z : Sizes) (u : View) (depth : ℕ)
+        → IsGrow z u site.now new.now depth below.now byte (larger_node below.now.body.now made) → IsPlanned z u change.new }
+    ensures targets { result ≡ true → targets change.new ≡ 2 }
+    ensures deed { change.new.deed ≡ inserted new.now }
+    ensures refused { result ≡ false → TakesMany site.now (word_of_link (node_link (larger_node below.now.body.now made))) }
+{
+    let new_leaf = child_word(Link::Leaf(new.number));
+    let body = grown(below.body, byte, new_leaf);
+    let new_node = child_word(Link::Node(Node {
+        layout: body.layout,
+        number: made,
+    }));
+    let writes = replaced(site, new_node);
+    let old_node = child_word(Link::Node(below.node));
+    begin(change, new);
+    lock(change, site.stamp(), false);
+    lock(change, below.stamp, true);
+    unlink(change, old_node);
+    make(change, made, body);
+    put(change, 0, writes.as_slice())
+}
+
+/// The next larger node, with this child too.
+fn grown(body: &Body, byte: u8, child: u64) -> Body
+    requires crowded { IsCrowded body.now byte }
+    requires child { 0 < child }
+    ensures layout { result.layout ≡ larger body.now.layout }
+    ensures node { IsNodeOf (larger body.now.layout) (word_of result) (prefix_of (word_of body.now))
+        (with_child (child_of body.now.layout (word_of body.now)) byte child) }
+{
+    let larger = art_node::grow(body);
+    match body.layout {
+        Layout::Node4 => with_more::<Node16>(larger, byte, child),
+        Layout::Node16 => with_more::<Node48>(larger, byte, child),
+        Layout::Node48 => with_more::<Node256>(larger, byte, child),
+        Layout::Node256 => unreachable!(),
+    }
+}
+
+/// The node with this child too.
+fn with_more<K: NodeKind>(mut body: Body, byte: u8, child: u64) -> Body
+    requires body { IsBodyOf K.layout body }
+    requires free { child_of K.layout (word_of body) byte ≡ None }
+    requires room { IsFull K.layout (word_of body) → ⊥ }
+    requires child { 0 < child }
+    ensures layout { result.layout ≡ body.layout }
+    ensures more { Becomes K.layout (word_of body) (word_of result) (with_child (child_of K.layout (word_of body)) byte child) }
+{
+    K::add(&mut body, byte, child);
+    body
+}

@@ -1,0 +1,252 @@
+-- What is asked may be done, and each answer keeps what is known.
+use Rattle.std.proofs.Common.{◌≡◌, ℕ, ◌+◌, ◌<◌, ◌≤◌, false, [], length, take, get_or, sym, refl, ap, ◌∙◌, subst, arith}
+use Rattle.std.proofs.lemmas.Option.{same_Some, slice_get-get_or, slice_get_within}
+use Rattle.std.specs.Prelude.{Option, Some, None, Result, Ok, Err, ⊤}
+use Rattle.std.specs.Option.{option_map, option_and_then}
+use Rattle.art_cell.specs.Reads.{word_of}
+use Rattle.art_cell.specs.Words.{size}
+use Rattle.art_cell.specs.declared.layouts.Layout.{Layout}
+use Rattle.art_cell.specs.declared.layouts.Layout.TheVariants.{Node4, Node16, Node48, Node256}
+use Rattle.art_cell.specs.declared.cells.Cell.TheVariants as cell
+use Rattle.art_cell.specs.declared.cells.Node.{Node}
+use Rattle.art_make.specs.Asking.{Answers, IsAllowed}
+use Rattle.art_make.specs.Making.{Fits, GivesUp, IsLocking, IsOver, IsReleasing, StageFits, asks, ended_at, most_steps, put_into, releases}
+use Rattle.art_make.specs.declared.asked.Answer.{Answer}
+use Rattle.art_make.specs.declared.asked.Answer.TheVariants.{Upgraded, Done}
+use Rattle.art_make.specs.declared.asked.Asked.{Asked}
+use Rattle.art_make.specs.declared.asked.Asked.TheVariants.{Upgrade, Claim, Write, Commit, Release}
+use Rattle.art_make.specs.declared.making.Making.{Making}
+use Rattle.art_make.specs.declared.making.Making.TheVariants.{Upgrading, Claiming, Filling, Writing, Committing, Releasing, ReleasingNode, GivingUp, Ended}
+use Rattle.art_make.proofs.Allowed.{may_claim, may_commit, may_fill, may_give_up, may_release, may_release_new, may_upgrade, may_write}
+use Rattle.art_make.proofs.Committing.{commit_on, give_on, release_new, release_on, some_words}
+use Rattle.art_make.proofs.Locking.{claim_on, fill_on, write_on}
+use Rattle.art_plan.specs.Changes.{IsPlanned, filled_at, filled_end, node_made, put_at, target_at, targets}
+use Rattle.art_plan.specs.declared.changes.Change.{Change}
+use Rattle.art_plan.specs.declared.changes.Put.{Put}
+use Rattle.art_plan.specs.declared.changes.Target.{Target}
+use Rattle.art_step.specs.Steps.Upgrade as upgrade
+use Rattle.art_step.specs.declared.faults.UpgradeFault.{UpgradeFault}
+use Rattle.art_step.specs.declared.faults.UpgradeFault.TheVariants as fault
+use Rattle.art_step.specs.declared.views.Sizes.{Sizes}
+use Rattle.art_step.specs.declared.views.Stamp.{Stamp}
+use Rattle.art_step.specs.declared.views.View.{View}
+
+-- ---- parts that there are
+
+-- where something is made of a part, there is the part
+pub map_some : {A B : Type 0} (f : A → B) (o : Option A) (y : B) → option_map f o ≡ Some y → (x : A) × (o ≡ Some x) × (f x ≡ y)
+map_some f None y e = absurd (cc)
+map_some f (Some x) y e = (x, refl, same_Some (f x) y e)
+
+then_some : {A B : Type 0} (f : A → Option B) (o : Option A) (y : B) → option_and_then f o ≡ Some y → (x : A) × (o ≡ Some x) × (f x ≡ Some y)
+then_some f None y e = absurd (cc)
+then_some f (Some x) y e = (x, refl, e)
+
+-- a target below their number
+there : (c : Change) (i : ℕ) → i < targets c → (x : Target) × (target_at c i ≡ Some x)
+there c i low =
+    let none : Target = record { stamp = record { cell = cell.Anchor; version = 0; first = 0 }; obsolete = false } in
+    (get_or c.targets.items i none, slice_get-get_or c.targets.items i none low)
+
+-- the node that is made has words
+filled_some : (c : Change) (n : Node) → node_made c ≡ Some n → 0 < filled_end c
+filled_some c n made = subst (λ (o : Option Node). 0 < filled_at c o) (sym made) (some_words n.layout)
+
+some_filled : (c : Change) (o : Option Node) → 0 < filled_at c o → (n : Node) × (o ≡ Some n)
+some_filled c None low = absurd (omega arith)
+some_filled c (Some n) low = (n, refl)
+
+-- the word that it puts has a target
+put_target : (z : Sizes) (u : View) (c : Change) → IsPlanned z u c → (j : ℕ) (p : Put) → put_at c j ≡ Some p → (x : Target) × (target_at c p.target ≡ Some x)
+put_target z u c planned j p at = let may = planned.puts j p at in (may.target, may.is)
+
+-- ---- it goes on
+
+-- at each stage but the last there is something to do
+pub going : (z : Sizes) (u v : View) (c : Change) (m : Making) → Fits z c m u v → ended_at m ≡ None → (a : Asked) × (asks c m ≡ Some a)
+going z u v c (Upgrading i) fits on = let x = there c i fits.stage.0 in (Upgrade x.0.stamp, ap (option_map (λ (y : Target). Upgrade y.stamp)) x.1)
+going z u v c Claiming fits on = let n = fits.stage.0 in (Claim n.0, ap (option_map Claim) n.1)
+going z u v c (Filling place) fits on =
+    let n = some_filled c (node_made c) (let a = fits.stage.1 in omega arith) in
+    (Write (cell.Node n.0) place (word_of c.body place), ap (option_map (λ (m : Node). Write (cell.Node m) place (word_of c.body place))) n.1)
+going z u v c (Writing j) fits on =
+    let p = fits.stage.0 in
+    let x = put_target z u c fits.planned j p.0 p.1 in
+    (put_into p.0 x.0, ap (option_and_then (λ (q : Put). option_map (put_into q) (target_at c q.target))) p.1 ∙ ap (option_map (put_into p.0)) x.1)
+going z u v c Committing fits on = let x = there c 0 fits.planned.some in (Commit x.0.stamp.cell x.0.obsolete, ap (option_map (λ (y : Target). Commit y.stamp.cell y.obsolete)) x.1)
+going z u v c (Releasing i) fits on = let x = there c i fits.stage.0 in (releases x.0, ap (option_map releases) x.1)
+going z u v c ReleasingNode fits on = let n = fits.stage.0 in (Release (cell.Node n.0) false, ap (option_map (λ (m : Node). Release (cell.Node m) false)) n.1)
+going z u v c (GivingUp locked released e) fits on =
+    let low = fits.stage.0 in
+    let few = fits.stage.1 in
+    let x = there c released (omega arith) in
+    (Release x.0.stamp.cell false, ap (option_map (λ (y : Target). Release y.stamp.cell false)) x.1)
+going z u v c (Ended r) fits on = absurd (cc)
+
+-- what is asked may be done
+pub allowed : (z : Sizes) (u v : View) (c : Change) (m : Making) (a : Asked) → Fits z c m u v → asks c m ≡ Some a → IsAllowed z c v a
+allowed z u v c (Upgrading i) a fits is =
+    let k = map_some (λ (y : Target). Upgrade y.stamp) (target_at c i) a is in
+    subst (IsAllowed z c v) k.2 (may_upgrade z u c fits.planned i k.0 v k.1 fits.stage.1)
+allowed z u v c Claiming a fits is = let k = map_some Claim (node_made c) a is in subst (IsAllowed z c v) k.2 (may_claim z u c fits.planned k.0 v k.1 fits.stage.1)
+allowed z u v c (Filling place) a fits is =
+    let k = map_some (λ (m : Node). Write (cell.Node m) place (word_of c.body place)) (node_made c) a is in
+    let low : place < filled_at c (Some k.0) = subst (λ (o : Option Node). place < filled_at c o) k.1 fits.stage.1 in
+    subst (IsAllowed z c v) k.2 (may_fill z u c fits.planned place k.0 v k.1 fits.stage.0 low fits.stage.2)
+allowed z u v c (Writing j) a fits is =
+    let p = then_some (λ (q : Put). option_map (put_into q) (target_at c q.target)) (put_at c j) a is in
+    let x = map_some (put_into p.0) (target_at c p.0.target) a p.2 in
+    subst (IsAllowed z c v) x.2 (may_write z u c fits.planned j (filled_end c) p.0 x.0 v p.1 x.1 fits.stage.1)
+allowed z u v c Committing a fits is =
+    let k = map_some (λ (y : Target). Commit y.stamp.cell y.obsolete) (target_at c 0) a is in
+    subst (IsAllowed z c v) k.2 (may_commit z u c fits.planned k.0 v k.1 fits.stage)
+allowed z u v c (Releasing i) a fits is =
+    let k = map_some releases (target_at c i) a is in
+    subst (IsAllowed z c v) k.2 (may_release z u c fits.planned i k.0 v k.1 fits.stage.1)
+allowed z u v c ReleasingNode a fits is =
+    let k = map_some (λ (m : Node). Release (cell.Node m) false) (node_made c) a is in
+    subst (IsAllowed z c v) k.2 (may_release_new z u c fits.planned k.0 v k.1 (filled_some c k.0 k.1) fits.stage.1)
+allowed z u v c (GivingUp locked released e) a fits is =
+    let k = map_some (λ (y : Target). Release y.stamp.cell false) (target_at c released) a is in
+    subst (IsAllowed z c v) k.2 (may_give_up z u c fits.planned released locked e k.0 v fits.stage.0 fits.stage.2 k.1)
+allowed z u v c (Ended r) a fits is = absurd (cc)
+
+-- ---- few steps
+
+few_words : (k : Layout) → size k ≤ 266
+few_words Node4 = omega arith
+few_words Node16 = omega arith
+few_words Node48 = omega arith
+few_words Node256 = omega arith
+
+few_filled : (c : Change) (o : Option Node) → filled_at c o ≤ 266
+few_filled c None = omega arith
+few_filled c (Some n) = few_words n.layout
+
+-- until the end there are fewer than 306
+pub few_steps : (z : Sizes) (u v : View) (c : Change) (m : Making) → Fits z c m u v → ended_at m ≡ None → most_steps m < 306
+few_steps z u v c (Upgrading i) fits on = let low = fits.stage.0 in let few = fits.small.targets in omega arith
+few_steps z u v c Claiming fits on = omega arith
+few_steps z u v c (Filling place) fits on = let low = fits.stage.1 in let few = few_filled c (node_made c) in omega arith
+few_steps z u v c (Writing j) fits on =
+    let p = fits.stage.0 in
+    let low : j < length c.puts.items = slice_get_within c.puts.items j p.0 p.1 in
+    let few = fits.small.puts in
+    omega arith
+few_steps z u v c Committing fits on = omega arith
+few_steps z u v c (Releasing i) fits on = let low = fits.stage.0 in let few = fits.small.targets in omega arith
+few_steps z u v c ReleasingNode fits on = omega arith
+few_steps z u v c (GivingUp locked released e) fits on = let low = fits.stage.0 in let more = fits.stage.1 in let few = fits.small.targets in omega arith
+few_steps z u v c (Ended r) fits on = absurd (cc)
+
+-- how it ended
+pub ends_as : (z : Sizes) (u v : View) (c : Change) (m : Making) (r : Result ⊤ UpgradeFault) → Fits z c m u v → ended_at m ≡ Some r → IsOver u c r v × (v.steps ≤ u.steps + 306)
+ends_as z u v c (Ended e) r fits is = (subst (λ (a : Result ⊤ UpgradeFault). IsOver u c a v) (same_Some e r is) fits.stage, fits.steps)
+ends_as z u v c (Upgrading i) r fits is = absurd (cc)
+ends_as z u v c Claiming r fits is = absurd (cc)
+ends_as z u v c (Filling place) r fits is = absurd (cc)
+ends_as z u v c (Writing j) r fits is = absurd (cc)
+ends_as z u v c Committing r fits is = absurd (cc)
+ends_as z u v c (Releasing i) r fits is = absurd (cc)
+ends_as z u v c ReleasingNode r fits is = absurd (cc)
+ends_as z u v c (GivingUp locked released e) r fits is = absurd (cc)
+
+-- ---- a step is one step, or none
+
+refused_counts : (v w : View) (x : Stamp) (e : UpgradeFault) → upgrade.Refused v w x e → w.steps ≤ v.steps + 1
+refused_counts v w x (fault.Changed e) k = let is = ap (λ (t : View). t.steps) k.3.is in omega arith
+refused_counts v w x (fault.Exhausted e) k = let is = ap (λ (t : View). t.steps) k.2 in omega arith
+
+counts : (z : Sizes) (v w : View) (c : Change) (a : Asked) (answer : Answer) → IsAllowed z c v a → Answers c a answer v w → w.steps ≤ v.steps + 1
+counts z v w c (Upgrade x) (Upgraded (Ok done)) may row = let is = ap (λ (t : View). t.steps) row.is in omega arith
+counts z v w c (Upgrade x) (Upgraded (Err e)) may row = refused_counts v w x e row
+counts z v w c (Upgrade x) Done may row = absurd row
+counts z v w c (Claim n) (Upgraded r) may row = absurd row
+counts z v w c (Claim n) Done may row = let is = ap (λ (t : View). t.steps) row.is in omega arith
+counts z v w c (Write d i x) (Upgraded r) may row = absurd row
+counts z v w c (Write d i x) Done may row = let o = row may.holding (may.may.held, may.cell) in let is = ap (λ (t : View). t.steps) o.is in omega arith
+counts z v w c (Commit d b) (Upgraded r) may row = absurd row
+counts z v w c (Commit d b) Done may row = let o = row may.holding (may.first.held, may.cell) in let is = ap (λ (t : View). t.steps) o.is in omega arith
+counts z v w c (Release d b) (Upgraded r) may row = absurd row
+counts z v w c (Release d b) Done may row = let o = row may.holding (may.may.0, may.cell) in let is = ap (λ (t : View). t.steps) o.is in omega arith
+
+-- ---- from stage to stage
+
+module _ (z : Sizes) (u v w : View) (c : Change) (a : Asked) (answer : Answer) where
+  -- where the next stage fits, and comes further, so does all that is known
+  pub fits_on : (m n : Making) → Fits z c m u v → asks c m ≡ Some a → Answers c a answer v w → most_steps m < most_steps n → StageFits c n u w → Fits z c n u w
+  fits_on m n fits is row more stage = record {
+    planned = fits.planned;
+    small = fits.small;
+    stage = stage;
+    steps =
+        let one = counts z v w c a answer (allowed z u v c m a fits is) row in
+        let before = fits.steps in
+        omega arith;
+  }
+
+  pub told_claim : Fits z c Claiming u v → asks c Claiming ≡ Some a → Answers c a answer v w → IsLocking u c (targets c) [] 1 w
+  told_claim fits is row =
+      let k = map_some Claim (node_made c) a is in
+      by_answer k.0 k.1 answer (subst (λ (b : Asked). Answers c b answer v w) (sym k.2) row)
+    where
+      by_answer : (n : Node) → node_made c ≡ Some n → (r : Answer) → Answers c (Claim n) r v w → IsLocking u c (targets c) [] 1 w
+      by_answer n made (Upgraded r) row = absurd row
+      by_answer n made Done row = claim_on z u c fits.planned n v w made fits.stage.1 row
+
+  pub told_fill : (place : ℕ) → Fits z c (Filling place) u v → asks c (Filling place) ≡ Some a → Answers c a answer v w → IsLocking u c (targets c) [] (place + 1) w
+  told_fill place fits is row =
+      let k = map_some (λ (m : Node). Write (cell.Node m) place (word_of c.body place)) (node_made c) a is in
+      by_answer k.0 k.1 answer (subst (λ (b : Asked). Answers c b answer v w) (sym k.2) row)
+    where
+      by_answer : (n : Node) → node_made c ≡ Some n → (r : Answer) → Answers c (Write (cell.Node n) place (word_of c.body place)) r v w → IsLocking u c (targets c) [] (place + 1) w
+      by_answer n made (Upgraded r) row = absurd row
+      by_answer n made Done row =
+          let low : place < filled_at c (Some n) = subst (λ (o : Option Node). place < filled_at c o) made fits.stage.1 in
+          fill_on z u c fits.planned place n v w made fits.stage.0 low fits.stage.2 row
+
+  pub told_write : (j : ℕ) → Fits z c (Writing j) u v → asks c (Writing j) ≡ Some a → Answers c a answer v w → IsLocking u c (targets c) (take (j + 1) c.puts.items) (filled_end c) w
+  told_write j fits is row =
+      let p = then_some (λ (q : Put). option_map (put_into q) (target_at c q.target)) (put_at c j) a is in
+      let x = map_some (put_into p.0) (target_at c p.0.target) a p.2 in
+      by_answer p.0 x.0 p.1 x.1 answer (subst (λ (b : Asked). Answers c b answer v w) (sym x.2) row)
+    where
+      by_answer : (p : Put) (x : Target) → put_at c j ≡ Some p → target_at c p.target ≡ Some x → (r : Answer) → Answers c (put_into p x) r v w → IsLocking u c (targets c) (take (j + 1) c.puts.items) (filled_end c) w
+      by_answer p x at is (Upgraded r) row = absurd row
+      by_answer p x at is Done row = write_on z u c fits.planned j (filled_end c) p x v w at is fits.stage.1 row
+
+  pub told_commit : Fits z c Committing u v → asks c Committing ≡ Some a → Answers c a answer v w → IsReleasing u c 1 w
+  told_commit fits is row =
+      let k = map_some (λ (y : Target). Commit y.stamp.cell y.obsolete) (target_at c 0) a is in
+      by_answer k.0 k.1 answer (subst (λ (b : Asked). Answers c b answer v w) (sym k.2) row)
+    where
+      by_answer : (x : Target) → target_at c 0 ≡ Some x → (r : Answer) → Answers c (Commit x.stamp.cell x.obsolete) r v w → IsReleasing u c 1 w
+      by_answer x at (Upgraded r) row = absurd row
+      by_answer x at Done row = commit_on z u c fits.planned v w x fits.stage at row
+
+  pub told_release : (i : ℕ) → Fits z c (Releasing i) u v → asks c (Releasing i) ≡ Some a → Answers c a answer v w → IsReleasing u c (i + 1) w
+  told_release i fits is row =
+      let k = map_some releases (target_at c i) a is in
+      by_answer k.0 k.1 answer (subst (λ (b : Asked). Answers c b answer v w) (sym k.2) row)
+    where
+      by_answer : (x : Target) → target_at c i ≡ Some x → (r : Answer) → Answers c (releases x) r v w → IsReleasing u c (i + 1) w
+      by_answer x at (Upgraded r) row = absurd row
+      by_answer x at Done row = release_on z u c fits.planned i x v w fits.stage.1 at row
+
+  pub told_release_new : Fits z c ReleasingNode u v → asks c ReleasingNode ≡ Some a → Answers c a answer v w → IsOver u c (Ok tt) w
+  told_release_new fits is row =
+      let k = map_some (λ (m : Node). Release (cell.Node m) false) (node_made c) a is in
+      by_answer k.0 k.1 answer (subst (λ (b : Asked). Answers c b answer v w) (sym k.2) row)
+    where
+      by_answer : (n : Node) → node_made c ≡ Some n → (r : Answer) → Answers c (Release (cell.Node n) false) r v w → IsOver u c (Ok tt) w
+      by_answer n made (Upgraded r) row = absurd row
+      by_answer n made Done row = release_new z u c fits.planned n v w fits.stage.1 made row
+
+  pub told_give : (locked i : ℕ) (e : UpgradeFault) → Fits z c (GivingUp locked i e) u v → asks c (GivingUp locked i e) ≡ Some a → Answers c a answer v w → GivesUp u c (i + 1) locked e w
+  told_give locked i e fits is row =
+      let k = map_some (λ (y : Target). Release y.stamp.cell false) (target_at c i) a is in
+      by_answer k.0 k.1 answer (subst (λ (b : Asked). Answers c b answer v w) (sym k.2) row)
+    where
+      by_answer : (x : Target) → target_at c i ≡ Some x → (r : Answer) → Answers c (Release x.stamp.cell false) r v w → GivesUp u c (i + 1) locked e w
+      by_answer x at (Upgraded r) row = absurd row
+      by_answer x at Done row = give_on z u c fits.planned i locked e x v w fits.stage.0 fits.stage.2 at row

@@ -1,0 +1,21 @@
+-- The leaf that it links is the one that comes.
+use Rattle.std.proofs.Common.{ap, sym, subst₂, ◌≡◌, ◌∙◌, Some, List, ℕ}
+use Rattle.std.specs.Prelude.{Option}
+use Rattle.std.specs.Option.{option_map}
+use Rattle.art_cell.specs.declared.cells.Link.{Link}
+use Rattle.art_cell.specs.declared.cells.Link.TheVariants.{Leaf as leaf}
+use Rattle.art_plan.specs.Changes.{leaf_linked}
+use Rattle.art_step.specs.Steps.Commit as commit
+use Rattle.art_step.specs.Tokens.{link_of_number, links_of}
+use Rattle.art_make.proofs.asked.commit.Goals as goal
+use Rattle.art_make.proofs.asked.commit.Goals.{in-Some, in-None}
+
+pub returns-clause-row : goal.returns-clause-row
+returns-clause-row g c h is =
+    let same : option_map link_of_number c.match-change.leaf ≡ leaf_linked c.args.change.now = elim c.match-change.branch [
+      | in-Some w ↦ ap (option_map link_of_number) w.leaf-is ∙ (ap Some w.of.ensures ∙ sym (ap (option_map leaf) w.in-Some.is))
+      | in-None w ↦ ap (option_map link_of_number) w.leaf-is ∙ sym (ap (option_map leaf) w.in-None.is)
+    ] in
+    let view = g.S.Steps.view c.args.steps.now in
+    subst₂ (λ (o : Option Link) (us : List ℕ). commit.Outcome view (g.S.Steps.view c.commit.new.self) c.args.change.now.deed (links_of us) (commit.coming view o) h) same c.as_slice-unlinked.ensures.value
+    (c.commit.ensures.row h (is.0, is.1 ∙ sym c.of-2.ensures))

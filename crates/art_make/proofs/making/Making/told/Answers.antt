@@ -1,0 +1,85 @@
+-- Stage by stage.
+use Rattle.std.proofs.Common.{ap, sym, subst, ◌≡◌, ◌∙◌, Some, arith}
+use Rattle.std.specs.Prelude.{Ok}
+use Rattle.art_make.specs.Asking.{Answers}
+use Rattle.art_make.specs.declared.asked.Asked.{Asked}
+use Rattle.art_make.specs.declared.asked.Asked.TheVariants.{Upgrade}
+use Rattle.art_plan.specs.Changes.{target_at}
+use Rattle.art_plan.specs.declared.changes.Target.{Target}
+use Rattle.art_make.specs.Making.{Fits, asks}
+use Rattle.art_make.specs.declared.making.Making.{Making}
+use Rattle.art_make.specs.declared.making.Making.TheVariants.{Upgrading, Claiming, Filling, Writing, Committing, Releasing, ReleasingNode, GivingUp, Ended}
+use Rattle.art_make.proofs.Told.{fits_on, map_some, told_claim, told_commit, told_fill, told_give, told_release, told_release_new, told_write}
+use Rattle.art_make.proofs.making.Making.told.Goals as goal
+
+pub returns-in-Upgrading-clause-fits : goal.returns-in-Upgrading-clause-fits
+returns-in-Upgrading-clause-fits c z u v w a fits is row =
+    let ch = c.args.change.now in
+    let b = c.in-Upgrading in
+    let now : Fits z ch (Upgrading b.index) u v = subst (λ (m : Making). Fits z ch m u v) b.is fits in
+    let asked : asks ch (Upgrading b.index) ≡ Some a = sym (ap (asks ch) b.is) ∙ is in
+    let k = map_some (λ (y : Target). Upgrade y.stamp) (target_at ch b.index) a asked in
+    fits_on z u v w ch a c.args.answer (Upgrading b.index) c.upgraded.result now asked row c.upgraded.ensures.steps
+    (c.upgraded.ensures.fits z u v w k.0 fits.planned k.1 now.stage.1 (subst (λ (d : Asked). Answers ch d c.args.answer v w) (sym k.2) row))
+
+pub returns-in-Claiming-clause-fits : goal.returns-in-Claiming-clause-fits
+returns-in-Claiming-clause-fits c z u v w a fits is row =
+    let ch = c.args.change.now in
+    let b = c.in-Claiming in
+    let now : Fits z ch Claiming u v = subst (λ (m : Making). Fits z ch m u v) b.is fits in
+    let asked : asks ch Claiming ≡ Some a = sym (ap (asks ch) b.is) ∙ is in
+    fits_on z u v w ch a c.args.answer Claiming c.filled.result now asked row (let more = c.filled.ensures.steps in omega arith)
+    (c.filled.ensures.fits u w (told_claim z u v w ch a c.args.answer now asked row))
+
+pub returns-in-Filling-clause-fits : goal.returns-in-Filling-clause-fits
+returns-in-Filling-clause-fits c z u v w a fits is row =
+    let ch = c.args.change.now in
+    let b = c.in-Filling in
+    let now : Fits z ch (Filling b.place) u v = subst (λ (m : Making). Fits z ch m u v) b.is fits in
+    let asked : asks ch (Filling b.place) ≡ Some a = sym (ap (asks ch) b.is) ∙ is in
+    fits_on z u v w ch a c.args.answer (Filling b.place) c.filled-in-Filling.result now asked row (let more = c.filled-in-Filling.ensures.steps in omega arith)
+    (c.filled-in-Filling.ensures.fits u w (told_fill z u v w ch a c.args.answer b.place now asked row))
+
+pub returns-in-Writing-clause-fits : goal.returns-in-Writing-clause-fits
+returns-in-Writing-clause-fits c z u v w a fits is row =
+    let ch = c.args.change.now in
+    let b = c.in-Writing in
+    let now : Fits z ch (Writing b.index) u v = subst (λ (m : Making). Fits z ch m u v) b.is fits in
+    let asked : asks ch (Writing b.index) ≡ Some a = sym (ap (asks ch) b.is) ∙ is in
+    fits_on z u v w ch a c.args.answer (Writing b.index) c.written.result now asked row (let more = c.written.ensures.steps in omega arith)
+    (c.written.ensures.fits u w (told_write z u v w ch a c.args.answer b.index now asked row))
+
+pub returns-in-Committing-clause-fits : goal.returns-in-Committing-clause-fits
+returns-in-Committing-clause-fits c z u v w a fits is row =
+    let ch = c.args.change.now in
+    let b = c.in-Committing in
+    let now : Fits z ch Committing u v = subst (λ (m : Making). Fits z ch m u v) b.is fits in
+    let asked : asks ch Committing ≡ Some a = sym (ap (asks ch) b.is) ∙ is in
+    fits_on z u v w ch a c.args.answer Committing c.released.result now asked row (let more = c.released.ensures.steps in omega arith)
+    (c.released.ensures.fits u w (told_commit z u v w ch a c.args.answer now asked row))
+
+pub returns-in-Releasing-clause-fits : goal.returns-in-Releasing-clause-fits
+returns-in-Releasing-clause-fits c z u v w a fits is row =
+    let ch = c.args.change.now in
+    let b = c.in-Releasing in
+    let now : Fits z ch (Releasing b.index) u v = subst (λ (m : Making). Fits z ch m u v) b.is fits in
+    let asked : asks ch (Releasing b.index) ≡ Some a = sym (ap (asks ch) b.is) ∙ is in
+    fits_on z u v w ch a c.args.answer (Releasing b.index) c.released-in-Releasing.result now asked row (let more = c.released-in-Releasing.ensures.steps in omega arith)
+    (c.released-in-Releasing.ensures.fits u w (told_release z u v w ch a c.args.answer b.index now asked row))
+
+pub returns-in-ReleasingNode-clause-fits : goal.returns-in-ReleasingNode-clause-fits
+returns-in-ReleasingNode-clause-fits c z u v w a fits is row =
+    let ch = c.args.change.now in
+    let b = c.in-ReleasingNode in
+    let now : Fits z ch ReleasingNode u v = subst (λ (m : Making). Fits z ch m u v) b.is fits in
+    let asked : asks ch ReleasingNode ≡ Some a = sym (ap (asks ch) b.is) ∙ is in
+    fits_on z u v w ch a c.args.answer ReleasingNode (Ended (Ok tt)) now asked row (omega arith) (told_release_new z u v w ch a c.args.answer now asked row)
+
+pub returns-in-GivingUp-clause-fits : goal.returns-in-GivingUp-clause-fits
+returns-in-GivingUp-clause-fits c z u v w a fits is row =
+    let ch = c.args.change.now in
+    let b = c.in-GivingUp in
+    let now : Fits z ch (GivingUp b.locked b.count b.fault) u v = subst (λ (m : Making). Fits z ch m u v) b.is fits in
+    let asked : asks ch (GivingUp b.locked b.count b.fault) ≡ Some a = sym (ap (asks ch) b.is) ∙ is in
+    fits_on z u v w ch a c.args.answer (GivingUp b.locked b.count b.fault) c.given_up.result now asked row (let more = c.given_up.ensures.steps in omega arith)
+    (c.given_up.ensures.fits ch u w now.stage.1 (told_give z u v w ch a c.args.answer b.locked b.count b.fault now asked row))

@@ -1,0 +1,147 @@
+-- What the making of a change knows between two of its steps.
+use Rattle.std.specs.Prelude.{◌≡◌, ◌≢◌, ℕ, ◌+◌, ◌*◌, ◌<◌, ◌≤◌, ◌++◌, List, [], length, take, true, false, Option, Some, None, Result, Ok, Err, ⊤}
+use Rattle.std.specs.Option.{option_map, option_and_then}
+use Rattle.std.specs.List.{cons_option}
+use Rattle.art_cell.specs.Reads.{word_of}
+use Rattle.art_cell.specs.declared.cells.Cell.TheVariants as cell
+use Rattle.art_cell.specs.declared.cells.Link.{Link}
+use Rattle.art_cell.specs.declared.cells.Link.TheVariants.{Node as node}
+use Rattle.art_cell.specs.declared.cells.Node.{Node}
+use Rattle.art_plan.specs.Changes.{Holds, IsPlanned, OnlyLocks, filled_end, leaf_linked, node_made, put_at, target_at, targets, unlinked}
+use Rattle.art_make.specs.declared.asked.Asked.{Asked}
+use Rattle.art_make.specs.declared.asked.Asked.TheVariants.{Upgrade, Claim, Write, Commit, Release}
+use Rattle.art_plan.specs.declared.changes.Change.{Change}
+use Rattle.art_plan.specs.declared.changes.Put.{Put}
+use Rattle.art_plan.specs.declared.changes.Target.{Target}
+use Rattle.art_make.specs.declared.making.Making.{Making}
+use Rattle.art_make.specs.declared.making.Making.TheVariants.{Upgrading, Claiming, Filling, Writing, Committing, Releasing, ReleasingNode, GivingUp, Ended}
+use Rattle.art_step.specs.Events.{MakesEvent}
+use Rattle.art_step.specs.Shows.{rest_of}
+use Rattle.art_step.specs.Steps.Commit.{all_retired}
+use Rattle.art_step.specs.Steps.Give.{HandsOver}
+use Rattle.art_step.specs.Views.{Member, last_counter}
+use Rattle.art_step.specs.declared.faults.UpgradeFault.{UpgradeFault}
+use Rattle.art_step.specs.declared.faults.UpgradeFault.TheVariants as fault
+use Rattle.art_step.specs.declared.views.Pin.{Pin}
+use Rattle.art_step.specs.declared.views.Sizes.{Sizes}
+use Rattle.art_step.specs.declared.views.View.{View}
+
+-- ---- what it asks
+
+-- the cell of a target is released, as the change says
+abbrev pub releases : Target → Asked
+releases x = Release x.stamp.cell x.obsolete
+
+-- a word of the target is put
+abbrev pub put_into : Put → Target → Asked
+put_into p x = Write x.stamp.cell p.place p.value
+
+-- the next step
+abbrev pub asks : Change → Making → Option Asked
+asks c (Upgrading i) = option_map (λ (x : Target). Upgrade x.stamp) (target_at c i)
+asks c Claiming = option_map Claim (node_made c)
+asks c (Filling place) = option_map (λ (n : Node). Write (cell.Node n) place (word_of c.body place)) (node_made c)
+asks c (Writing j) = option_and_then (λ (p : Put). option_map (put_into p) (target_at c p.target)) (put_at c j)
+asks c Committing = option_map (λ (x : Target). Commit x.stamp.cell x.obsolete) (target_at c 0)
+asks c (Releasing i) = option_map releases (target_at c i)
+asks c ReleasingNode = option_map (λ (n : Node). Release (cell.Node n) false) (node_made c)
+asks c (GivingUp locked released e) = option_map (λ (x : Target). Release x.stamp.cell false) (target_at c released)
+asks c (Ended r) = None
+
+-- how it ended, if it has
+abbrev pub ended_at : Making → Option (Result ⊤ UpgradeFault)
+ended_at (Ended r) = Some r
+ended_at stage = None
+
+-- ---- how far it has come
+
+-- at most so many steps were made
+abbrev pub most_steps : Making → ℕ
+most_steps (Upgrading i) = i
+most_steps Claiming = 3
+most_steps (Filling place) = 3 + place
+most_steps (Writing j) = 270 + j
+most_steps Committing = 302
+most_steps (Releasing i) = 302 + i
+most_steps ReleasingNode = 305
+most_steps (GivingUp locked released e) = 4 + released
+most_steps (Ended r) = 306
+
+-- ---- what it knows, of a pass that had the view u when the change was planned
+
+-- the cells that it needs so far are locked, and nothing is told
+pub record IsLocking (u : View) (c : Change) (to : ℕ) (ps : List Put) (filled : ℕ) (v : View) : Type 0 where
+  pub same : OnlyLocks u v
+  pub holds : Holds u c 0 to ps filled v.held
+  pub early : 0 < to → v.committed ≡ false
+
+-- an upgrade failed: the word of a target was another, or its counter was at its end
+abbrev pub Fails : View → Target → UpgradeFault → View → Type 0
+Fails u x (fault.Changed e) v = (e.cell ≡ x.stamp.cell) × (e.seen ≡ x.stamp.version) × (e.found ≢ e.seen) × (v.failures ≡ u.failures + 1)
+Fails u x (fault.Exhausted e) v = (e ≡ x.stamp.cell) × (4 * last_counter ≤ x.stamp.version) × (v.failures ≡ u.failures)
+
+pub record HasFailed (u : View) (c : Change) (e : UpgradeFault) (v : View) : Type 0 where
+  pub index : ℕ
+  pub target : Target
+  pub is : target_at c index ≡ Some target
+  pub fails : Fails u target e v
+  pub rest : rest_of (record v { held = u.held; committed = u.committed }) ≡ rest_of u
+
+-- those above it are still held, from one on, unchanged
+pub record GivesUp (u : View) (c : Change) (from to : ℕ) (e : UpgradeFault) (v : View) : Type 0 where
+  pub failed : HasFailed u c e v
+  pub holds : Holds u c from to [] 0 v.held
+  pub early : from < to → v.committed ≡ false
+
+-- what comes into the tree
+abbrev pub linked : Change → List Link
+linked c = cons_option (leaf_linked c) (cons_option (option_map node (node_made c)) [])
+
+-- the event was made: what comes left the hand, what goes is in limbo, and nothing else changed but what is held
+pub record IsCommitted (u : View) (c : Change) (v : View) : Type 0 where
+  pub event : MakesEvent u v c.deed
+  pub hand : HandsOver u.hand (linked c) v.hand
+  pub pins : List Pin
+  pub limbo : v.limbo ≡ all_retired pins (unlinked c) ++ u.limbo
+  pub rest :
+      rest_of (record v { seen = u.seen; own = u.own; held = u.held; committed = u.committed; hand = u.hand; limbo = u.limbo }) ≡ rest_of u
+  pub stamps : v.stamps ≡ u.stamps
+  pub notes : v.notes ≡ u.notes
+  pub failures : v.failures ≡ u.failures
+
+-- the targets from an index on are still held, and the new node, if it makes one, which is none of those that it unlinks
+pub record IsReleasing (u : View) (c : Change) (from : ℕ) (v : View) : Type 0 where
+  pub done : IsCommitted u c v
+  pub stays : (n : Node) → node_made c ≡ Some n → Member (node n) (unlinked c) → ⊥
+  pub holds : Holds u c from (targets c) c.puts.items (filled_end c) v.held
+  pub late : v.committed ≡ true
+
+-- the change is made, or was given up with nothing told; nothing is held
+pub record IsOver (u : View) (c : Change) (r : Result ⊤ UpgradeFault) (v : View) : Type 0 where
+  pub free : v.held ≡ []
+  pub done : (x : ⊤) → r ≡ Ok x → IsCommitted u c v
+  pub failed : (e : UpgradeFault) → r ≡ Err e → HasFailed u c e v
+
+-- at each stage
+abbrev pub StageFits : Change → Making → View → View → Type 0
+StageFits c (Upgrading i) u v = (i < targets c) × IsLocking u c i [] 0 v
+StageFits c Claiming u v = ((n : Node) × (node_made c ≡ Some n)) × IsLocking u c (targets c) [] 0 v
+StageFits c (Filling place) u v = (0 < place) × (place < filled_end c) × IsLocking u c (targets c) [] place v
+StageFits c (Writing j) u v = ((p : Put) × (put_at c j ≡ Some p)) × IsLocking u c (targets c) (take j c.puts.items) (filled_end c) v
+StageFits c Committing u v = IsLocking u c (targets c) c.puts.items (filled_end c) v
+StageFits c (Releasing i) u v = (i < targets c) × IsReleasing u c i v
+StageFits c ReleasingNode u v = ((n : Node) × (node_made c ≡ Some n)) × IsReleasing u c (targets c) v
+StageFits c (GivingUp locked released e) u v = (released < locked) × (locked ≤ targets c) × GivesUp u c released locked e v
+StageFits c (Ended r) u v = IsOver u c r v
+
+-- the change has few targets and few words
+pub record IsSmall (c : Change) : Type 0 where
+  pub targets : length c.targets.items ≤ 3
+  pub puts : length c.puts.items ≤ 32
+
+-- it was planned for the view u, and made so many steps at most
+pub record Fits (z : Sizes) (c : Change) (m : Making) (u v : View) : Type 0 where
+  pub planned : IsPlanned z u c
+  pub small : IsSmall c
+  pub stage : StageFits c m u v
+  pub steps : v.steps ≤ u.steps + most_steps m

@@ -1,0 +1,226 @@
+//! The making of a change, step by step.
+ghost use Rattle.std.specs.Prelude.{◌≡◌, ℕ, ◌+◌, ◌<◌, ◌≤◌, [], take, length, Some};
+ghost use Rattle.art_make.specs.Asking.{Answers};
+ghost use Rattle.art_plan.specs.Changes.{IsPlanned, filled_end, target_at, targets};
+ghost use Rattle.art_make.specs.Making.{GivesUp, IsLocking, IsReleasing, StageFits, most_steps};
+ghost use Rattle.art_make.specs.declared.asked.Asked.TheVariants.{Upgrade as upgrade};
+ghost use Rattle.art_plan.specs.declared.changes.Change.{Change as ChangeOf};
+ghost use Rattle.art_plan.specs.declared.changes.Target.{Target as TargetOf};
+ghost use Rattle.art_step.specs.declared.views.Sizes.{Sizes};
+ghost use Rattle.art_step.specs.declared.views.Stamp.{Stamp as StampOf};
+ghost use Rattle.art_step.specs.declared.views.View.{View};
+
+use crate::{Answer, Asked};
+use art_cell::Cell;
+use art_plan::Change;
+use art_step::UpgradeFault;
+
+/// Where the making of a change stands between two of its steps.
+#[derive(Clone, Copy)]
+pub enum Making {
+    /// So many targets are locked.
+    Upgrading(usize),
+    /// All targets are; the new node is to be claimed.
+    Claiming,
+    /// The words of the new node before this place are written.
+    Filling(usize),
+    /// So many words of the targets are written.
+    Writing(usize),
+    /// All words are written.
+    Committing,
+    /// The change is committed, and so many targets are released.
+    Releasing(usize),
+    /// All targets are; the new node is still held.
+    ReleasingNode,
+    /// After so many upgrades one failed, and so many of them are released again.
+    GivingUp(usize, usize, UpgradeFault),
+    /// The change is made, or was given up.
+    Ended(Result<(), UpgradeFault>),
+}
+
+impl Making {
+    ghost use Rattle.std.specs.Prelude.{ℕ, ◌+◌, ◌<◌, ◌≤◌, [], Some, None, IfSome};
+    ghost use Rattle.art_make.specs.Asking.{Answers, IsAllowed};
+    ghost use Rattle.art_plan.specs.Changes.{IsPlanned};
+    ghost use Rattle.art_make.specs.Making.{Fits, IsOver, asks, ended_at, most_steps};
+    ghost use Rattle.art_make.specs.declared.asked.Asked.{Asked as AskedStep};
+    ghost use Rattle.art_plan.specs.declared.changes.Change.{Change as ChangeOf};
+    ghost use Rattle.art_step.specs.declared.views.Sizes.{Sizes};
+    ghost use Rattle.art_step.specs.declared.views.View.{View};
+
+    /// At its beginning: nothing is locked. A change without a target and without a word is over.
+    pub fn new(change: &Change) -> Making
+        ensures going { 0 < targets change.now → ended_at result ≡ None }
+        ensures fits { (z : Sizes) (u : View) → IsPlanned z u change.now → u.held ≡ [] → Fits z change.now result u u }
+    {
+        if change.targets.len() + change.puts.len() > 0 {
+            Making::Upgrading(0)
+        } else {
+            Making::Ended(Ok(()))
+        }
+    }
+
+    /// The next step, or none where it has ended.
+    pub fn next(&self, change: &Change) -> Option<Asked>
+        ensures asks { result ≡ asks change.now self.now }
+        ensures allowed { (z : Sizes) (u v : View) → Fits z change.now self.now u v → IfSome result (IsAllowed z change.now v) }
+        ensures going { (z : Sizes) (u v : View) → Fits z change.now self.now u v → ended_at self.now ≡ None →
+            (a : AskedStep) × (result ≡ Some a) }
+    {
+        self.asked(change)
+    }
+
+    /// The step that it asked for was made, with this answer.
+    pub fn told(&mut self, change: &Change, answer: Answer)
+        requires fits { (z : Sizes) × (u : View) × (v : View) × (w : View) × (asked : AskedStep) × Fits z change.now self.old u v ×
+            (asks change.now self.old ≡ Some asked) × Answers change.now asked answer v w }
+        ensures steps { most_steps self.old < most_steps self.new }
+        ensures fits { (z : Sizes) (u v w : View) (asked : AskedStep) → Fits z change.now self.old u v →
+            asks change.now self.old ≡ Some asked → Answers change.now asked answer v w → Fits z change.now self.new u w }
+    {
+        *self = match *self {
+            Making::Upgrading(index) => upgraded(change, index, answer),
+            Making::Claiming => filled(change, 1),
+            Making::Filling(place) => filled(change, place + 1),
+            Making::Writing(index) => written(change, index + 1),
+            Making::Committing => released(change, 1),
+            Making::Releasing(index) => released(change, index + 1),
+            Making::ReleasingNode => Making::Ended(Ok(())),
+            Making::GivingUp(locked, count, fault) => given_up(locked, count + 1, fault),
+            Making::Ended(_) => unreachable!(),
+        };
+    }
+
+    /// The next step, by the stage alone.
+    fn asked(&self, change: &Change) -> Option<Asked>
+        ensures { result ≡ asks change.now self.now }
+    {
+        match *self {
+            Making::Upgrading(index) => Some(Asked::Upgrade(change.target(index)?.stamp)),
+            Making::Claiming => Some(Asked::Claim(change.made()?)),
+            Making::Filling(place) => Some(Asked::Write(
+                Cell::Node(change.made()?),
+                place,
+                change.word(place),
+            )),
+            Making::Writing(index) => {
+                let put = change.put(index)?;
+                let target = change.target(put.target)?;
+                Some(Asked::Write(target.stamp.cell, put.place, put.value))
+            }
+            Making::Committing => {
+                let top = change.target(0)?;
+                Some(Asked::Commit(top.stamp.cell, top.obsolete))
+            }
+            Making::Releasing(index) => {
+                let target = change.target(index)?;
+                Some(Asked::Release(target.stamp.cell, target.obsolete))
+            }
+            Making::ReleasingNode => Some(Asked::Release(Cell::Node(change.made()?), false)),
+            Making::GivingUp(_, released, _) => {
+                Some(Asked::Release(change.target(released)?.stamp.cell, false))
+            }
+            Making::Ended(_) => None,
+        }
+    }
+
+    /// Whether the change was made, or why not, once it has ended.
+    pub fn ended(&self) -> Option<Result<(), UpgradeFault>>
+        ensures { result ≡ ended_at self.now }
+    {
+        match self {
+            Making::Ended(result) => Some(*result),
+            _ => None,
+        }
+    }
+}
+
+/// The upgrade of the target with this index was answered.
+fn upgraded(change: &Change, index: usize, answer: Answer) -> Making
+    requires few { index < targets change.now }
+    requires three { index < 3 }
+    requires answer { (x : StampOf) × (v : View) × (w : View) × Answers change.now (upgrade x) answer v w }
+    ensures steps { index < most_steps result }
+    ensures fits { (z : Sizes) (u v w : View) (x : TargetOf) → IsPlanned z u change.now → target_at change.now index ≡ Some x →
+        IsLocking u change.now index [] 0 v → Answers change.now (upgrade x.stamp) answer v w → StageFits change.now result u w }
+{
+    let Answer::Upgraded(result) = answer else {
+        unreachable!();
+    };
+    match result {
+        Ok(()) => locked(change, index + 1),
+        Err(fault) => given_up(index, 0, fault),
+    }
+}
+
+/// So many targets are locked.
+fn locked(change: &Change, count: usize) -> Making
+    requires few { count ≤ targets change.now }
+    ensures steps { count ≤ most_steps result }
+    ensures fits { (u v : View) → IsLocking u change.now count [] 0 v → StageFits change.now result u v }
+{
+    if count < change.targets.len() {
+        return Making::Upgrading(count);
+    }
+    match change.node {
+        Some(_) => Making::Claiming,
+        None => written(change, 0),
+    }
+}
+
+/// The words of the new node before this place are written.
+fn filled(change: &Change, place: usize) -> Making
+    requires some { 0 < place }
+    requires few { place ≤ filled_end change.now }
+    ensures steps { 3 + place ≤ most_steps result }
+    ensures fits { (u v : View) → IsLocking u change.now (targets change.now) [] place v → StageFits change.now result u v }
+{
+    if place < change.body.layout.size() {
+        Making::Filling(place)
+    } else {
+        written(change, 0)
+    }
+}
+
+/// So many words of the targets are written, and all of the new node.
+fn written(change: &Change, count: usize) -> Making
+    requires few { count ≤ length change.now.puts.items }
+    ensures steps { 270 + count ≤ most_steps result }
+    ensures fits { (u v : View) → IsLocking u change.now (targets change.now) (take count change.now.puts.items) (filled_end change.now) v →
+        StageFits change.now result u v }
+{
+    if count < change.puts.len() {
+        Making::Writing(count)
+    } else {
+        Making::Committing
+    }
+}
+
+/// The change is committed, and so many targets are released.
+fn released(change: &Change, count: usize) -> Making
+    requires few { count ≤ targets change.now }
+    ensures steps { 302 + count ≤ most_steps result }
+    ensures fits { (u v : View) → IsReleasing u change.now count v → StageFits change.now result u v }
+{
+    if count < change.targets.len() {
+        return Making::Releasing(count);
+    }
+    match change.node {
+        Some(_) => Making::ReleasingNode,
+        None => Making::Ended(Ok(())),
+    }
+}
+
+/// After so many upgrades one failed, and so many of them are released again.
+fn given_up(locked: usize, count: usize, fault: UpgradeFault) -> Making
+    requires few { count ≤ locked }
+    requires three { locked ≤ 3 }
+    ensures steps { 4 + count ≤ most_steps result }
+    ensures fits { (c : ChangeOf) (u v : View) → locked ≤ targets c → GivesUp u c count locked fault v → StageFits c result u v }
+{
+    if count < locked {
+        Making::GivingUp(locked, count, fault)
+    } else {
+        Making::Ended(Err(fault))
+    }
+}

@@ -1,0 +1,71 @@
+-- What a pass has read of the cells that a change writes, and where a child word stands in them.
+use Rattle.std.specs.Prelude.{◌≡◌, ℕ, ◌<◌, ◌≤◌, List, take, false, Option}
+use Rattle.art_cell.specs.Reads.{word_of}
+use Rattle.art_cell.specs.Words.{size}
+use Rattle.art_cell.specs.declared.bodies.Body.{Body}
+use Rattle.art_cell.specs.declared.cells.Cell.TheVariants as cells
+use Rattle.art_cell.specs.declared.cells.Link.{Link}
+use Rattle.art_cell.specs.declared.cells.Node.{Node}
+use Rattle.art_plan.specs.Changes.{MayTarget}
+use Rattle.art_plan.specs.declared.changes.Target.{Target}
+use Rattle.art_plan.specs.declared.sites.Site.{Site}
+use Rattle.art_plan.specs.declared.sites.Site.TheVariants.{Root, Slot}
+use Rattle.art_step.specs.Shows.{Shows}
+use Rattle.art_step.specs.Views.{IsChildPlace, IsChildWord, Member, note_of}
+use Rattle.art_step.specs.declared.views.Fact.TheVariants.{Word}
+use Rattle.art_step.specs.declared.views.Sizes.{Sizes}
+use Rattle.art_step.specs.declared.views.Stamp.{Stamp}
+use Rattle.art_step.specs.declared.views.View.{View}
+use Rattle.art_tree.specs.Heaps.{Cells, heap_of}
+use Rattle.art_tree.specs.Tree.{PlaceAt, child_at_place}
+use Rattle.art_tree.specs.Tree as tree
+
+-- ---- cells that were read
+
+-- the stamp's cell as a target, which stays in the tree
+abbrev pub kept : Stamp → Target
+kept x = record { stamp = x; obsolete = false }
+
+-- the node may be locked under the stamp, and each of its words was noted: the body has them, and 0 elsewhere. A child word names
+-- what there is
+pub record IsReadWhole (z : Sizes) (u : View) (x : Stamp) (n : Node) (body : Body) : Type 0 where
+  pub may : MayTarget z u (kept x)
+  pub cell : x.cell ≡ cells.Node n
+  pub layout : body.layout ≡ n.layout
+  pub noted : (i : ℕ) → 0 < i → i < size n.layout → Member (note_of x (Word i (word_of body i))) u.notes
+  pub child : (i : ℕ) → IsChildPlace (cells.Node n) i → IsChildWord z (word_of body i)
+  pub version : word_of body 0 ≡ 0
+  pub past : (i : ℕ) → size n.layout ≤ i → word_of body i ≡ 0
+
+-- the anchor may be locked under the stamp, and its child word was noted
+pub record IsReadRoot (z : Sizes) (u : View) (x : Stamp) (word : ℕ) : Type 0 where
+  pub may : MayTarget z u (kept x)
+  pub cell : x.cell ≡ cells.Anchor
+  pub noted : Member (note_of x (Word 1 word)) u.notes
+
+-- ---- where a child word stands
+
+-- the stamp of the cell
+abbrev pub site_stamp : Site → Stamp
+site_stamp (Root x) = x
+site_stamp (Slot x body byte) = x
+
+-- the path r leads to the place, which has this child, or none
+abbrev pub HasAt : tree.Place → List ℕ → Option Link → Cells → Type 0
+HasAt p r o s = PlaceAt (heap_of s) p r × (child_at_place (heap_of s) p ≡ o)
+
+pub record IsAtRoot (z : Sizes) (u : View) (x : Stamp) (r : List ℕ) (o : Option Link) : Type 0 where
+  pub word : ℕ
+  pub read : IsReadRoot z u x word
+  pub shows : Shows z u x (HasAt tree.Top r o)
+
+pub record IsAtSlot (z : Sizes) (u : View) (x : Stamp) (body : Body) (byte : ℕ) (r : List ℕ) (o : Option Link) : Type 0 where
+  pub node : Node
+  pub read : IsReadWhole z u x node body
+  pub low : byte < 256
+  pub shows : Shows z u x (HasAt (tree.Slot node byte) r o)
+
+-- so many bytes of the key lead to the site, which has this child, or none
+abbrev pub SiteFits : Sizes → View → Site → List ℕ → ℕ → Option Link → Type 0
+SiteFits z u (Root x) k depth o = IsAtRoot z u x (take depth k) o
+SiteFits z u (Slot x body byte) k depth o = IsAtSlot z u x body.now byte (take depth k) o

@@ -1,0 +1,86 @@
+//! What a change does, as values.
+ghost use Rattle.std.specs.Prelude.{◌≡◌};
+ghost use Rattle.art_cell.specs.Reads.{word_of};
+ghost use Rattle.art_plan.specs.Changes.{node_made, put_at, target_at};
+
+use arrayvec::ArrayVec;
+use art_cell::{Body, Cell, Node};
+use art_step::{Deed, Stamp};
+
+/// A cell that a change locks under its stamp, and whether it becomes obsolete when it is released.
+#[derive(Clone, Copy, Debug, PartialEq, Eq)]
+pub struct Target {
+    pub stamp: Stamp,
+    pub obsolete: bool,
+}
+
+impl Default for Target {
+    fn default() -> Target {
+        Target {
+            stamp: Stamp {
+                cell: Cell::Anchor,
+                version: 0,
+                first: 0,
+            },
+            obsolete: false,
+        }
+    }
+}
+
+/// A word that the target with this index gets at a place.
+#[derive(Clone, Copy, Debug, Default, PartialEq, Eq)]
+pub struct Put {
+    pub target: usize,
+    pub place: usize,
+    pub value: u64,
+}
+
+/// What is done at one commit.
+pub struct Change {
+    /// The cells that it locks, from the top down.
+    pub targets: ArrayVec<Target, 3>,
+    /// The words that they get, in the order in which they are written.
+    pub puts: ArrayVec<Put, 32>,
+    /// The number of the node that it makes, if it makes one; its layout and its words are those of the body.
+    pub node: Option<u32>,
+    pub body: Body,
+    /// The number of the leaf that it links, if it links one.
+    pub leaf: Option<u32>,
+    /// The child words of what it unlinks.
+    pub unlinked: ArrayVec<u64, 3>,
+    /// What it does.
+    pub deed: Deed,
+}
+
+impl Change {
+    /// The target with an index, if there is one.
+    pub fn target(&self, index: usize) -> Option<Target>
+        ensures { result ≡ target_at self.now index }
+    {
+        self.targets.get(index).copied()
+    }
+
+    /// The word with an index, if there is one.
+    pub fn put(&self, index: usize) -> Option<Put>
+        ensures { result ≡ put_at self.now index }
+    {
+        self.puts.get(index).copied()
+    }
+
+    /// The word at a place of the node that it makes.
+    pub fn word(&self, place: usize) -> u64
+        ensures { result ≡ word_of self.now.body place }
+    {
+        self.body.words.get(place).copied().unwrap_or(0)
+    }
+
+    /// The node that it makes, if it makes one.
+    pub fn made(&self) -> Option<Node>
+        ensures { result ≡ node_made self.now }
+    {
+        Some(Node {
+            layout: self.body.layout,
+            number: self.node?,
+        })
+    }
+}

@@ -1,0 +1,35 @@
+//! What a change of the tree does at one commit, as values.
+//!
+//! # A change
+//!
+//! A pass that changes the tree (DaMoN 2016) locks the cells that it writes, writes them, and releases them; the first
+//! release is the commit. A `Change` says all of it before the first cell is locked:
+//!
+//! | part | what it is |
+//! |---|---|
+//! | `targets` | the cells that it locks, from the top down, each by its stamp, and whether it is obsolete afterwards |
+//! | `puts` | the words that they get, one after another |
+//! | `node`, `body` | the node that it makes, if it makes one, with all its words |
+//! | `leaf` | the leaf that it links, if it links one |
+//! | `unlinked` | what goes: a leaf, a node |
+//! | `deed` | the command, with its answer |
+//!
+//! # A plan
+//!
+//! `IsPlanned` (`specs/Changes.antt`) is what has to be shown of a change before it may be made, of a pass that has read
+//! and checked its targets: each may be upgraded, and no two are one cell; each word that is put stands at a place of its
+//! target, and a child word names what there is; the number of the new node is in hand; just the nodes that go become
+//! obsolete. And once all cells are held with their new words (`IsReady`), the commit may be made: in every tree that is as
+//! the pass knows it, what is written is a commit of the deed.
+//!
+//! That the words of a target are those that were noted under its stamp is known only once it is locked, so `IsReady` speaks
+//! of the words that were found then, which agree with the notes (`IsLocked`).
+//!
+//! The cases of an insert are planned in `art_insert`. `art_make` makes a change that was planned.
+#![tactic(auto)]
+
+mod changes;
+mod sites;
+
+pub use changes::{Change, Put, Target};
+pub use sites::Site;
