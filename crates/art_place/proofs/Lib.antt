@@ -1,0 +1,3 @@
+pub mod FoundPlaces
+pub mod Keeping
+pub mod Placing

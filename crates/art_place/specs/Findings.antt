@@ -1,0 +1,98 @@
+-- What a finding knows between two of its steps: what its descent does, and of the words that it keeps.
+use Rattle.std.specs.Prelude.{◌≡◌, ◌<◌, ◌≤◌, ℕ, List, Option, Some, None, length, replicate, set, take, ⊤}
+use Rattle.art_cell.specs.declared.cells.Cell.{Cell}
+use Rattle.art_cell.specs.declared.cells.Cell.TheVariants as cell
+use Rattle.art_cell.specs.declared.cells.Link.TheVariants.{Node as node}
+use Rattle.art_cell.specs.declared.cells.Node.{Node}
+use Rattle.art_find.specs.Descents.{Fits, IsReading, stands_on}
+use Rattle.art_find.specs.Verdicts.{Says}
+use Rattle.art_find.specs.declared.asked.Answer.{Answer}
+use Rattle.art_find.specs.declared.asked.Answer.TheVariants.{Begun, Checked}
+use Rattle.art_find.specs.declared.asked.Answer.TheVariants as told
+use Rattle.art_find.specs.declared.asked.Asked.{Asked}
+use Rattle.art_find.specs.declared.asked.Asked.TheVariants.{Read, Check}
+use Rattle.art_find.specs.declared.verdicts.Verdict.{Verdict}
+use Rattle.art_place.specs.Desks.{above_of, node_of}
+use Rattle.art_place.specs.Kept.{HasPath, IsKept}
+use Rattle.art_place.specs.declared.desks.Desk.{Desk}
+use Rattle.art_place.specs.declared.findings.Above.{Above}
+use Rattle.art_place.specs.declared.findings.Finding.{Finding}
+use Rattle.art_step.specs.Shows.{HasChild, HasStamp, Shows}
+use Rattle.art_step.specs.declared.deeds.Deed.{Deed}
+use Rattle.art_step.specs.declared.views.Sizes.{Sizes}
+use Rattle.art_step.specs.declared.views.Stamp.{Stamp}
+use Rattle.art_step.specs.declared.views.View.{View}
+
+-- ---- what it knows
+
+-- the cell above has the node as its child, to which the first bytes of the key lead, so many
+pub record IsAboveOf (z : Sizes) (k : List ℕ) (v : View) (a : Above) (n : Node) : Type 0 where
+  pub on : HasStamp z v a.stamp
+  pub path : HasPath v a.stamp
+  pub deep : a.depth ≤ length k
+  pub shows : Shows z v a.stamp (λ s. HasChild s a.stamp.cell (node n) (take a.depth k))
+
+-- nothing is above the anchor; above a node is a cell that has it as a child, and what is kept of that cell was read of it
+abbrev pub IsUnder : Sizes → List ℕ → Option Above → List (Option ℕ) → View → Cell → Type 0
+IsUnder z k above reads v cell.Anchor = above ≡ None
+IsUnder z k above reads v (cell.Leaf l) = ⊥
+IsUnder z k above reads v (cell.Node n) = (a : Above) × (above ≡ Some a) × IsAboveOf z k v a n × IsKept z v a.stamp reads
+
+-- what is kept was read: of the cell where it stands, to which a path was noted, and of the one above it
+pub record IsPlaced (z : Sizes) (k : List ℕ) (above : Option Above) (desk : Desk) (v : View) (y : Stamp) : Type 0 where
+  pub kept : IsKept z v y (node_of desk)
+  pub path : HasPath v y
+  pub under : IsUnder z k above (above_of desk) v y.cell
+
+-- where it stands on a cell
+abbrev pub PlaceFits : Sizes → List ℕ → Option Above → Desk → View → Option Stamp → Type 0
+PlaceFits z k above desk v None = ⊤
+PlaceFits z k above desk v (Some y) = IsPlaced z k above desk v y
+
+-- at each stage
+pub record FindingFits (z : Sizes) (k : List ℕ) (what : Option ℕ → Deed) (m : Finding) (desk : Desk) (u v : View) : Type 0 where
+  pub descent : Fits z k what m.descent u v
+  pub place : PlaceFits z k m.above desk v (stands_on m.descent.stage)
+
+-- ---- what it has found
+
+-- the cell where it stands is stamped, what was read there shows where the key stands, and all that was read is kept
+pub record IsFoundAt (z : Sizes) (k : List ℕ) (m : Finding) (desk : Desk) (u v : View) (x : Stamp) (found : Verdict) : Type 0 where
+  pub reads : IsReading u v
+  pub stamp : HasStamp z v x
+  pub deep : m.descent.depth ≤ length k
+  pub says : Says z k m.descent.depth x found v
+  pub place : IsPlaced z k m.above desk v x
+
+-- ---- what it keeps
+
+-- the place that is asked for is one of a cell
+abbrev pub AsksPlace : Option Asked → Type 0
+AsksPlace (Some (Read x i)) = i < 266
+AsksPlace asked = ⊤
+
+-- a word that was asked for is kept
+abbrev pub reads_heard : Option Asked → ℕ → List (Option ℕ) → List (Option ℕ)
+reads_heard (Some (Read x i)) word reads = set reads i (Some word)
+reads_heard asked word reads = reads
+
+pub record IsHeard (asked : Option Asked) (word : ℕ) (old new : Desk) : Type 0 where
+  pub node : node_of new ≡ reads_heard asked word (node_of old)
+  pub above : above_of new ≡ above_of old
+
+-- nothing is kept yet of the cell where it stands
+pub record IsCleared (reads : List (Option ℕ)) (new : Desk) : Type 0 where
+  pub node : node_of new ≡ replicate 266 None
+  pub above : above_of new ≡ reads
+
+-- a version word was asked for, and this is asked next: a read of a cell where it was entered
+abbrev pub Enters : Option Asked → Option Asked → ℕ → Option Above → Desk → Option Above → Desk → Type 0
+Enters (Some (Check x)) (Some (Read y i)) depth above desk above' desk' = (above' ≡ Some (record { stamp = x; depth = depth })) × IsCleared (node_of desk) desk'
+Enters asked (Some (Read y i)) depth above desk above' desk' = (above' ≡ None) × IsCleared (above_of desk) desk'
+Enters asked next depth above desk above' desk' = (above' ≡ above) × (desk' ≡ desk)
+
+-- by what was asked and answered, and what is asked next
+abbrev pub Keeps : Answer → Option Asked → Option Asked → ℕ → Option Above → Desk → Option Above → Desk → Type 0
+Keeps (told.Word word) asked next depth above desk above' desk' = (above' ≡ above) × IsHeard asked word desk desk'
+Keeps (Begun r) asked next depth above desk above' desk' = Enters asked next depth above desk above' desk'
+Keeps (Checked r) asked next depth above desk above' desk' = Enters asked next depth above desk above' desk'

@@ -1,0 +1,24 @@
+-- What is known of words that are kept: each was noted under the stamp of its cell.
+use Rattle.std.specs.Prelude.{◌≡◌, ◌<◌, ℕ, List, Option, Some, length}
+use Rattle.art_cell.specs.Reads.{word_read}
+use Rattle.art_step.specs.Views.{IsChildPlace, IsChildWord, Member, note_of, size_of}
+use Rattle.art_step.specs.declared.views.Fact.TheVariants.{Starts, Word}
+use Rattle.art_step.specs.declared.views.Sizes.{Sizes}
+use Rattle.art_step.specs.declared.views.Stamp.{Stamp}
+use Rattle.art_step.specs.declared.views.View.{View}
+
+-- the word at the place of the stamp's cell was read; a child word names what there is
+pub record WasReadAt (z : Sizes) (v : View) (x : Stamp) (place word : ℕ) : Type 0 where
+  pub after : 0 < place
+  pub inside : place < size_of x.cell
+  pub noted : Member (note_of x (Word place word)) v.notes
+  pub child : IsChildPlace x.cell place → IsChildWord z word
+
+-- so was each of these words; there is room for those of any cell
+pub record IsKept (z : Sizes) (v : View) (x : Stamp) (reads : List (Option ℕ)) : Type 0 where
+  pub room : length reads ≡ 266
+  pub each : (place word : ℕ) → word_read reads place ≡ Some word → WasReadAt z v x place word
+
+-- a path to the stamp's cell was noted
+abbrev pub HasPath : View → Stamp → Type 0
+HasPath v x = (q : List ℕ) × Member (note_of x (Starts q)) v.notes

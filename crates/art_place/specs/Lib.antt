@@ -1,0 +1,4 @@
+pub mod Desks
+pub mod Findings
+pub mod Kept
+pub mod Rereadings

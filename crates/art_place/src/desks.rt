@@ -1,0 +1,128 @@
+//! The words that a finding keeps.
+ghost use Rattle.std.specs.Prelude.{◌≡◌, ◌<◌, ◌≤◌, ℕ, None, Some, replicate, set};
+ghost use Rattle.art_place.specs.Desks.{above_of, node_of};
+
+use crate::Rereading;
+use art_cell::Reads;
+
+/// All words that were read of the cell where a finding stands, and of the one above it.
+///
+/// It is large, so it stands beside the machine and is never copied: one step down, and the two cells change roles.
+#[derive(Drop)]
+pub struct Desk {
+    first: Reads,
+    second: Reads,
+    /// The second one is of the cell where the finding stands, and the first one of that above it; else it is the other way round.
+    turned: bool,
+}
+
+impl Desk {
+    ghost use Rattle.art_place.specs.Rereadings.{RereadingFits};
+    ghost use Rattle.art_step.specs.Steps.Read.{Outcome as ReadOutcome};
+    ghost use Rattle.art_step.specs.Views.{size_of};
+    ghost use Rattle.art_step.specs.declared.views.Sizes.{Sizes};
+    ghost use Rattle.art_step.specs.declared.views.Stamp.{Stamp};
+    ghost use Rattle.art_step.specs.declared.views.View.{View};
+
+    /// Nothing is read.
+    pub fn new() -> Desk
+        ensures node { node_of result ≡ replicate 266 None }
+        ensures above { above_of result ≡ replicate 266 None }
+    {
+        Desk {
+            first: Reads::new(),
+            second: Reads::new(),
+            turned: false,
+        }
+    }
+
+    /// What was read of the cell where the finding stands.
+    pub fn node(&self) -> &Reads
+        ensures { result.now ≡ node_of self.now }
+    {
+        if self.turned {
+            &self.second
+        } else {
+            &self.first
+        }
+    }
+
+    /// What was read of the cell above it.
+    pub fn above(&self) -> &Reads
+        ensures { result.now ≡ above_of self.now }
+    {
+        if self.turned {
+            &self.first
+        } else {
+            &self.second
+        }
+    }
+
+    /// The word that a rereading of the cell where the finding stands asked for is this.
+    pub fn reread_node(&mut self, rereading: &mut Rereading, word: u64)
+        requires { rereading.old.place < 266 }
+        ensures steps { rereading.old.place < rereading.new.place }
+        ensures few { rereading.new.place ≤ 266 }
+        ensures above { above_of self.new ≡ above_of self.old }
+        ensures fits { (z : Sizes) (v w : View) (x : Stamp) → RereadingFits z v x rereading.old (node_of self.old) →
+            rereading.old.place < size_of x.cell → ReadOutcome z v w x rereading.old.place word →
+            RereadingFits z w x rereading.new (node_of self.new) }
+    {
+        if self.turned {
+            rereading.told(&mut self.second, word);
+        } else {
+            rereading.told(&mut self.first, word);
+        }
+    }
+
+    /// The word that a rereading of the cell above asked for is this.
+    pub fn reread_above(&mut self, rereading: &mut Rereading, word: u64)
+        requires { rereading.old.place < 266 }
+        ensures steps { rereading.old.place < rereading.new.place }
+        ensures few { rereading.new.place ≤ 266 }
+        ensures node { node_of self.new ≡ node_of self.old }
+        ensures fits { (z : Sizes) (v w : View) (x : Stamp) → RereadingFits z v x rereading.old (above_of self.old) →
+            rereading.old.place < size_of x.cell → ReadOutcome z v w x rereading.old.place word →
+            RereadingFits z w x rereading.new (above_of self.new) }
+    {
+        if self.turned {
+            rereading.told(&mut self.first, word);
+        } else {
+            rereading.told(&mut self.second, word);
+        }
+    }
+
+    /// A word of the cell where the finding stands was read.
+    pub(crate) fn note(&mut self, place: usize, word: u64)
+        requires { place < 266 }
+        ensures node { node_of self.new ≡ set (node_of self.old) place (Some word) }
+        ensures above { above_of self.new ≡ above_of self.old }
+    {
+        if self.turned {
+            self.second.note(place, word);
+        } else {
+            self.first.note(place, word);
+        }
+    }
+
+    /// Forgets what was read of the cell where the finding stands.
+    pub(crate) fn clear(&mut self)
+        ensures node { node_of self.new ≡ replicate 266 None }
+        ensures above { above_of self.new ≡ above_of self.old }
+    {
+        if self.turned {
+            self.second.clear();
+        } else {
+            self.first.clear();
+        }
+    }
+
+    /// The finding goes one cell down: where it stood is now above.
+    pub(crate) fn go_down(&mut self)
+        ensures node { node_of self.new ≡ replicate 266 None }
+        ensures above { above_of self.new ≡ node_of self.old }
+    {
+        self.turned = !self.turned;
+        self.clear();
+    }
+}

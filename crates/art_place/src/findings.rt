@@ -1,0 +1,167 @@
+//! A descent by a key that keeps what it read.
+ghost use Rattle.std.specs.Prelude.{◌≡◌, ◌≤◌, ◌<◌, ℕ, List, Option, length, None};
+ghost use Rattle.art_place.specs.Findings.{AsksPlace, IsHeard};
+
+use crate::Desk;
+use art_find::{Answer, Asked, Descent, Verdict};
+use art_step::Stamp;
+
+/// The cell that has the node as its child where a finding stands.
+#[derive(Clone, Copy)]
+pub struct Above {
+    pub stamp: Stamp,
+    /// How many bytes of the key lead to the node.
+    pub depth: usize,
+}
+
+/// A look for where a key stands, or would stand, that keeps the cell above. The key and what was read stand
+/// beside it.
+#[derive(Clone, Copy)]
+pub struct Finding {
+    descent: Descent,
+    /// Where it stands on a node, the cell that has the node as its child.
+    above: Option<Above>,
+}
+
+impl Finding {
+    ghost use Rattle.art_find.specs.Asking.{Answers, IsAllowed, goes_on};
+    ghost use Rattle.art_find.specs.Descents.{IsExact, IsReading, Stays};
+    ghost use Rattle.art_find.specs.Descents.{answer_at, asks, decided_at, ended_at, most_steps};
+    ghost use Rattle.art_find.specs.declared.asked.Asked.{Asked as AskedStep};
+    ghost use Rattle.art_place.specs.Findings.{Enters, FindingFits, IsFoundAt, Keeps};
+    ghost use Rattle.art_place.specs.declared.desks.Desk.{Desk as DeskOf};
+    ghost use Rattle.art_step.specs.Shows.{HasValue};
+    ghost use Rattle.art_step.specs.declared.deeds.Deed.{Deed};
+    ghost use Rattle.art_step.specs.declared.views.Sizes.{Sizes};
+    ghost use Rattle.art_step.specs.declared.views.View.{View};
+    ghost use Rattle.std.specs.Prelude.{Some, IfSome, true, false};
+
+    /// At its beginning.
+    pub fn new() -> Finding
+        ensures steps { most_steps result.descent.depth result.descent.stage ≡ 0 }
+        ensures going { ended_at result.descent.stage ≡ None }
+        ensures exact { IsExact result.descent.stage }
+        ensures fits { (z : Sizes) (k : List ℕ) (what : Option ℕ → Deed) (desk : DeskOf) (u v : View) → IsReading u v →
+            FindingFits z k what result desk u v }
+    {
+        Finding {
+            descent: Descent::new(),
+            above: None,
+        }
+    }
+
+    /// The next step, or none where it has ended.
+    pub fn next(&self) -> Option<Asked>
+        ensures asks { result ≡ asks self.now.descent.stage }
+        ensures allowed { (z : Sizes) (k : List ℕ) (what : Option ℕ → Deed) (desk : DeskOf) (u v : View) →
+            FindingFits z k what self.now desk u v →
+            IfSome result (IsAllowed z (λ s. HasValue s k (answer_at self.now.descent.stage)) v) }
+    {
+        self.descent.next()
+    }
+
+    /// The stamp whose check comes next, and what was read under it.
+    pub fn decided(&self) -> Option<(Stamp, Verdict)>
+        ensures at { result ≡ decided_at self.now.descent.stage }
+        ensures found { IfSome result (λ found. (z : Sizes) (k : List ℕ) (what : Option ℕ → Deed) (desk : DeskOf) (u v : View) →
+            FindingFits z k what self.now desk u v → IsFoundAt z k self.now desk u v found.0 found.1) }
+    {
+        self.descent.decided()
+    }
+
+    /// How many bytes of the key lead to where it stands.
+    pub fn depth(&self) -> usize
+        ensures { result ≡ self.now.descent.depth }
+    {
+        self.descent.depth()
+    }
+
+    /// The cell that has the node where it stands as its child, or none where it stands on the anchor.
+    pub fn above(&self) -> Option<Above>
+        ensures { result ≡ self.now.above }
+    {
+        self.above
+    }
+
+    /// The step that it asked for was made, with this answer. Whether it goes on: else it begins anew.
+    pub fn told(&mut self, desk: &mut Desk, key: &[u8], answer: Answer) -> bool
+        requires few { length key.now ≤ 64 }
+        requires fits { (z : Sizes) × (what : Option ℕ → Deed) × (u : View) × (v : View) × (w : View) × (asked : AskedStep) ×
+            FindingFits z key.now what self.old desk.old u v × (asks self.old.descent.stage ≡ Some asked) ×
+            Answers z (what (answer_at self.old.descent.stage)) asked answer v w }
+        ensures on { result ≡ goes_on answer }
+        ensures steps { result ≡ true → most_steps self.old.descent.depth self.old.descent.stage <
+            most_steps self.new.descent.depth self.new.descent.stage }
+        ensures anew { result ≡ false → most_steps self.new.descent.depth self.new.descent.stage ≡ 0 }
+        ensures stays { Stays answer self.old.descent self.new.descent }
+        ensures keeps { Keeps answer (asks self.old.descent.stage) (asks self.new.descent.stage) self.new.descent.depth
+            self.old.above desk.old self.new.above desk.new }
+        ensures exact { IsExact self.new.descent.stage }
+        ensures fits { (z : Sizes) (what : Option ℕ → Deed) (u v w : View) (asked : AskedStep) →
+            FindingFits z key.now what self.old desk.old u v → asks self.old.descent.stage ≡ Some asked →
+            Answers z (what (answer_at self.old.descent.stage)) asked answer v w → FindingFits z key.now what self.new desk.new u w }
+    {
+        let asked = self.descent.next();
+        let on = self.descent.told(key, answer);
+        self.keep(desk, asked, answer);
+        on
+    }
+
+    /// A version word was locked, obsolete or changed: the finding begins anew.
+    pub fn failed(&mut self)
+        ensures steps { most_steps self.new.descent.depth self.new.descent.stage ≡ 0 }
+        ensures exact { IsExact self.new.descent.stage }
+        ensures fits { (z : Sizes) (k : List ℕ) (what : Option ℕ → Deed) (desk : DeskOf) (u v : View) → IsReading u v →
+            FindingFits z k what self.new desk u v }
+    {
+        self.descent.failed();
+        self.above = None;
+    }
+
+    /// Keeps what was read by the step that was asked for.
+    fn keep(&mut self, desk: &mut Desk, asked: Option<Asked>, answer: Answer)
+        requires { AsksPlace asked }
+        ensures descent { self.new.descent ≡ self.old.descent }
+        ensures keeps { Keeps answer asked (asks self.old.descent.stage) self.old.descent.depth self.old.above desk.old
+            self.new.above desk.new }
+    {
+        match answer {
+            Answer::Word(word) => hear(desk, asked, word),
+            Answer::Begun(_) => self.enter(desk, asked),
+            Answer::Checked(_) => self.enter(desk, asked),
+        }
+    }
+
+    /// A version word was asked for. Where a read of a cell comes next, the finding stands on that cell from now on.
+    fn enter(&mut self, desk: &mut Desk, asked: Option<Asked>)
+        ensures descent { self.new.descent ≡ self.old.descent }
+        ensures enters { Enters asked (asks self.old.descent.stage) self.old.descent.depth self.old.above desk.old
+            self.new.above desk.new }
+    {
+        match self.descent.next() {
+            Some(Asked::Read(_, _)) => match asked {
+                Some(Asked::Check(stamp)) => {
+                    let depth = self.descent.depth();
+                    self.above = Some(Above { stamp, depth });
+                    desk.go_down();
+                }
+                _ => {
+                    self.above = None;
+                    desk.clear();
+                }
+            },
+            _ => {}
+        }
+    }
+}
+
+/// Keeps a word that was read.
+fn hear(desk: &mut Desk, asked: Option<Asked>, word: u64)
+    requires { AsksPlace asked }
+    ensures { IsHeard asked word desk.old desk.new }
+{
+    match asked {
+        Some(Asked::Read(_, place)) => desk.note(place, word),
+        _ => {}
+    }
+}

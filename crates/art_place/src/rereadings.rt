@@ -1,0 +1,99 @@
+//! The words of a cell that were not read yet.
+ghost use Rattle.std.specs.Prelude.{◌≡◌, ◌≤◌, ◌<◌, ℕ, List, Option, None};
+ghost use Rattle.art_cell.specs.Reads.{word_read};
+ghost use Rattle.art_place.specs.Rereadings.{AreKnown};
+ghost use Rattle.art_step.specs.Views.{size_of};
+
+use art_cell::{Cell, Reads};
+use art_find::Asked;
+use art_step::Stamp;
+
+/// How many words a cell has at most.
+const WORDS: usize = 266;
+
+/// A read of all words of one stamped cell that were not read yet, in ascending place. The words stand beside it.
+#[derive(Clone, Copy)]
+pub struct Rereading {
+    /// The first place whose word is not known, or one past the last.
+    place: usize,
+}
+
+impl Rereading {
+    ghost use Rattle.art_find.specs.Asking.{IsAllowed};
+    ghost use Rattle.art_place.specs.Kept.{IsKept};
+    ghost use Rattle.art_place.specs.Rereadings.{RereadingFits, reads_next};
+    ghost use Rattle.art_step.specs.Steps.Read.{Outcome as ReadOutcome};
+    ghost use Rattle.art_step.specs.Views.{IsNotHeld};
+    ghost use Rattle.art_step.specs.Shows.{HasStamp};
+    ghost use Rattle.art_step.specs.declared.views.Sizes.{Sizes};
+    ghost use Rattle.art_step.specs.declared.views.Stamp.{Stamp as StampOf};
+    ghost use Rattle.art_step.specs.declared.views.View.{View};
+    ghost use Rattle.std.specs.Prelude.{IfSome, ⊤};
+
+    /// Of a cell of which these words were read.
+    pub fn new(reads: &Reads) -> Rereading
+        ensures begins { 0 < result.place }
+        ensures few { result.place ≤ 266 }
+        ensures fits { (z : Sizes) (v : View) (x : StampOf) → IsNotHeld v.held x.cell → HasStamp z v x →
+            IsKept z v x reads.now → RereadingFits z v x result reads.now }
+    {
+        Rereading {
+            place: unknown_from(reads, 1),
+        }
+    }
+
+    /// The read of the first word that is not known, or none where all are.
+    pub fn next(&self, stamp: Stamp) -> Option<Asked>
+        ensures asks { result ≡ reads_next stamp self.now }
+        ensures allowed { (z : Sizes) (v : View) (reads : List (Option ℕ)) →
+            RereadingFits z v stamp self.now reads → IfSome result (IsAllowed z (λ s. ⊤) v) }
+        ensures all { result ≡ None → (z : Sizes) (v : View) (reads : List (Option ℕ)) →
+            RereadingFits z v stamp self.now reads → AreKnown reads 1 (size_of stamp.cell) }
+    {
+        if self.place < words_of(stamp.cell) {
+            Some(Asked::Read(stamp, self.place))
+        } else {
+            None
+        }
+    }
+
+    /// The word that it asked for is this.
+    pub fn told(&mut self, reads: &mut Reads, word: u64)
+        requires { self.old.place < 266 }
+        ensures steps { self.old.place < self.new.place }
+        ensures few { self.new.place ≤ 266 }
+        ensures fits { (z : Sizes) (v w : View) (x : StampOf) → RereadingFits z v x self.old reads.old →
+            self.old.place < size_of x.cell → ReadOutcome z v w x self.old.place word → RereadingFits z w x self.new reads.new }
+    {
+        reads.note(self.place, word);
+        self.place = unknown_from(reads, self.place + 1);
+    }
+}
+
+/// How many words a cell has.
+fn words_of(cell: Cell) -> usize
+    ensures { result ≡ size_of cell }
+{
+    match cell {
+        Cell::Anchor => 2,
+        Cell::Leaf(_) => 10,
+        Cell::Node(node) => node.layout.size(),
+    }
+}
+
+/// The first place from this one on whose word is not known, or one past the last.
+fn unknown_from(reads: &Reads, from: usize) -> usize
+    requires { from ≤ 266 }
+    ensures from { from ≤ result }
+    ensures end { result ≤ 266 }
+    ensures known { AreKnown reads.now from result }
+    ensures unknown { result < 266 → word_read reads.now result ≡ None }
+{
+    for place in from..WORDS {
+        match reads.get(place) {
+            Some(_) => {}
+            None => return place,
+        }
+    }
+    WORDS
+}
