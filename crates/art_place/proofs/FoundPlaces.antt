@@ -4,23 +4,20 @@ use Rattle.std.proofs.lemmas.Option.{same_Some}
 use Rattle.art_find.specs.Verdicts.{Says}
 use Rattle.art_find.specs.declared.verdicts.Verdict.{Verdict}
 use Rattle.art_find.specs.declared.verdicts.Verdict.TheVariants.{Found, Empty, OtherLeaf, OtherPrefix, Free, Overlaps, Torn, Absent}
-use Rattle.art_find.proofs.Stages.{reads_on}
 use Rattle.art_place.specs.Desks.{above_of, node_of}
-use Rattle.art_place.specs.Findings.{IsFoundAt, IsPlaced, IsUnder}
+use Rattle.art_place.specs.Findings.{IsPlaced, IsStanding, IsUnder}
 use Rattle.art_place.specs.Kept.{IsKept}
 use Rattle.art_place.specs.declared.desks.Desk.{Desk}
 use Rattle.art_place.specs.declared.findings.Above.{Above}
-use Rattle.art_place.specs.declared.findings.Finding.{Finding}
-use Rattle.art_place.proofs.Keeping.{Grows, kept_grows, path_grows, read_grows, stamp_grows}
-use Rattle.art_place.proofs.Placing.{under_grows}
+use Rattle.art_place.specs.declared.findings.Stand.{Stand}
+use Rattle.art_place.proofs.Keeping.{Grows, kept_grows, path_grows, stamp_grows}
+use Rattle.art_place.proofs.Placing.{placed_grows, under_grows}
 use Rattle.art_cell.specs.declared.cells.Cell.TheVariants as cell
 use Rattle.art_cell.specs.declared.cells.Node.{Node}
-use Rattle.art_step.specs.Steps.Read as read
-use Rattle.art_step.specs.declared.views.Fact.TheVariants.{Word}
 use Rattle.art_step.specs.declared.views.Sizes.{Sizes}
 use Rattle.art_step.specs.declared.views.Stamp.{Stamp}
 use Rattle.art_step.specs.declared.views.View.{View}
-use Rattle.art_step.proofs.Shows.{read_rest, shows_more}
+use Rattle.art_step.proofs.Shows.{shows_more}
 
 -- what a verdict says stays so as more is noted
 pub says_grows : (z : Sizes) (k : List ℕ) (depth : ℕ) (x : Stamp) (found : Verdict) (v w : View) → Grows v w → Says z k depth x found v → Says z k depth x found w
@@ -39,6 +36,7 @@ module _ (z : Sizes) (k : List ℕ) (v w : View) (above : Option Above) (desk de
   placed_node rest kept placed = record {
     kept = kept;
     path = path_grows v w y grows placed.path;
+    led = λ a is. grows.notes _ (placed.led a is);
     under = subst (λ (r : List (Option ℕ)). IsUnder z k above r w y.cell) (sym rest) (under_grows z k v w grows above (above_of desk) y.cell placed.under);
   }
 
@@ -51,18 +49,25 @@ module _ (z : Sizes) (k : List ℕ) (v w : View) (above : Option Above) (desk de
       record {
         kept = subst (IsKept z w y) (sym rest) (kept_grows z v w y (node_of desk) grows placed.kept);
         path = path_grows v w y grows placed.path;
+        led = λ a here. grows.notes _ (placed.led a here);
         under = subst (IsUnder z k above (above_of desk') w) (sym at) (under.0, under.1, under.2, subst (λ (a : Above). IsKept z w a.stamp (above_of desk')) (sym one) kept);
       }
 
--- a word was read under the stamp of either cell, and what is kept was placed anew
-pub found_stays : (z : Sizes) (k : List ℕ) (m : Finding) (desk desk' : Desk) (u v w : View) (x : Stamp) (found : Verdict) (a : Stamp) (i word : ℕ) → read.Outcome z v w a i word
-    → IsFoundAt z k m desk u v x found → IsPlaced z k m.above desk' w x → IsFoundAt z k m desk' u w x found
-found_stays z k m desk desk' u v w x found a i word row at placed =
-    let grows : Grows v w = read_grows v w a (Word i word) row.is in
-    record {
-      reads = reads_on u v w (read_rest v w a (Word i word) row.is) at.reads;
-      stamp = stamp_grows z v w x grows at.stamp;
-      deep = at.deep;
-      says = says_grows z k m.descent.depth x found v w grows at.says;
-      place = placed;
-    }
+-- where the key stands stays known as stamps and notes are added
+pub standing_grows : (z : Sizes) (k : List ℕ) (t : Stand) (desk : Desk) (v w : View) → Grows v w → IsStanding z k t desk v → IsStanding z k t desk w
+standing_grows z k t desk v w grows at = record {
+  stamp = stamp_grows z v w t.stamp grows at.stamp;
+  deep = at.deep;
+  says = says_grows z k t.depth t.stamp t.verdict v w grows at.says;
+  place = placed_grows z k v w grows t.above desk t.stamp at.place;
+}
+
+-- and as more of the two cells is kept
+pub standing_stays : (z : Sizes) (k : List ℕ) (t : Stand) (desk desk' : Desk) (v w : View) → Grows v w → IsPlaced z k t.above desk' w t.stamp → IsStanding z k t desk v
+    → IsStanding z k t desk' w
+standing_stays z k t desk desk' v w grows placed at = record {
+  stamp = stamp_grows z v w t.stamp grows at.stamp;
+  deep = at.deep;
+  says = says_grows z k t.depth t.stamp t.verdict v w grows at.says;
+  place = placed;
+}

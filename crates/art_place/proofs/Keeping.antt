@@ -79,10 +79,10 @@ anchor_path z v w y x at clear is =
 
 -- a node that is stamped gets one at the check of the cell that names it
 pub path_passed : (z : Sizes) (v w : View) (x y : Stamp) (o : Option Deed) (n : Node) (q : List ℕ) → check.Unchanged z v w x o → Member y v.stamps → y.cell ≡ cell.Node n
-    → Shows z v x (λ s. HasChild s x.cell (node n) q) → HasPath w y
+    → Shows z v x (λ s. HasChild s x.cell (node n) q) → Member (note_of y (Starts q)) w.notes
 path_passed z v w x y o n q p stamped is shows =
     let led = p.led y q stamped (λ t shape holds. subst (λ (c : Cell). CellAt t c q) (sym is) ((shows t shape holds).at)) in
-    (q, subst (λ (t : View). Member (note_of y (Starts q)) t.notes) (sym p.is) (member_front (note_of y (Starts q)) p.paths v.notes led))
+    subst (λ (t : View). Member (note_of y (Starts q)) t.notes) (sym p.is) (member_front (note_of y (Starts q)) p.paths v.notes led)
 
 -- ---- how many words there are
 

@@ -1,8 +1,6 @@
 -- Where a finding stands, from stage to stage: what it knows of the words that it keeps.
-use Rattle.std.proofs.Common.{◌≡◌, ◌+◌, ◌==◌, ℕ, Bool, true, false, if◌then◌else◌, List, Option, Some, None, inl, inr, get_or, replicate, take, refl, sym, ap, ◌∙◌, subst, arith}
+use Rattle.std.proofs.Common.{◌≡◌, ℕ, false, List, Option, Some, None, take, refl, sym, ap, ◌∙◌, subst, arith}
 use Rattle.std.specs.Prelude.{Ok, Err}
-use Rattle.std.proofs.lemmas.Bool.{cases_lt}
-use Rattle.std.proofs.lemmas.List.{get_or-replicate, get_or_past, length-replicate}
 use Rattle.std.proofs.lemmas.Option.{same_Some}
 use Rattle.art_cell.specs.declared.cells.Cell.{Cell}
 use Rattle.art_cell.specs.declared.cells.Cell.TheVariants as cell
@@ -30,7 +28,7 @@ use Rattle.art_step.specs.Steps.Check as check
 use Rattle.art_step.specs.Steps.Read as read
 use Rattle.art_step.specs.Views.{Member, note_of}
 use Rattle.art_step.specs.declared.deeds.Deed.{Deed}
-use Rattle.art_step.specs.declared.views.Fact.TheVariants.{Word, LeafWord}
+use Rattle.art_step.specs.declared.views.Fact.TheVariants.{Starts, Word, LeafWord}
 use Rattle.art_step.specs.declared.views.Sizes.{Sizes}
 use Rattle.art_step.specs.declared.views.Stamp.{Stamp}
 use Rattle.art_step.specs.declared.views.View.{View}
@@ -57,6 +55,7 @@ module _ (z : Sizes) (k : List ℕ) (v w : View) (grows : Grows v w) where
   placed_grows above desk y placed = record {
     kept = kept_grows z v w y (node_of desk) grows placed.kept;
     path = path_grows v w y grows placed.path;
+    led = λ a is. grows.notes _ (placed.led a is);
     under = under_grows above (above_of desk) y.cell placed.under;
   }
 
@@ -108,6 +107,7 @@ module _ (z : Sizes) (k : List ℕ) (v w : View) (above : Option Above) (desk de
       record {
         kept = subst (IsKept z w x) (sym heard.node) (kept_noted (node_of desk) placed.kept.room i word (omega (arith, inside, fits)) z v w x may.place.0 inside row placed.kept);
         path = path_grows v w x grows placed.path;
+        led = λ a at. grows.notes _ (placed.led a at);
         under = subst (λ (r : List (Option ℕ)). IsUnder z k above r w x.cell) (sym heard.above) (under_grows z k v w grows above (above_of desk) x.cell placed.under);
       }
 
@@ -117,6 +117,7 @@ module _ (z : Sizes) (k : List ℕ) (v w : View) (above : Option Above) (desk de
       record {
         kept = subst (IsKept z w x) (sym heard.node) (kept_grows z v w x (node_of desk) grows placed.kept);
         path = path_grows v w x grows placed.path;
+        led = λ a at. grows.notes _ (placed.led a at);
         under = subst (λ (r : List (Option ℕ)). IsUnder z k above r w x.cell) (sym heard.above) (under_grows z k v w grows above (above_of desk) x.cell placed.under);
       }
 
@@ -146,6 +147,7 @@ module _ (z : Sizes) (k : List ℕ) (u v w : View) (above above' : Option Above)
   anchor_entered y at path none cleared = record {
     kept = nothing_kept z w y (node_of desk') cleared.node;
     path = path;
+    led = λ a is. let no : None ≡ Some a = sym none ∙ is in cc;
     under = subst (IsUnder z k above' (above_of desk') w) (sym at) none;
   }
 
@@ -154,9 +156,13 @@ module _ (z : Sizes) (k : List ℕ) (u v w : View) (above above' : Option Above)
       → IsCleared (node_of desk) desk' → IsPlaced z k above desk v x → IsPlaced z k above' desk' w y
   node_entered depth x y n row has at child is cleared placed =
       let grows : Grows v w = passed_grows z v w x None row in
+      let led = path_passed z v w x y None n (take depth k) row has.stamp at child.shows in
       record {
         kept = nothing_kept z w y (node_of desk') cleared.node;
-        path = path_passed z v w x y None n (take depth k) row has.stamp at child.shows;
+        path = (take depth k, led);
+        led = λ a here.
+            let one : record { stamp = x; depth = depth } ≡ a = same_Some {A = Above} (record { stamp = x; depth = depth }) a (sym is ∙ here) in
+            subst (λ (b : Above). Member (note_of y (Starts (take b.depth k))) w.notes) one led;
         under = subst (IsUnder z k above' (above_of desk') w) (sym at) (
           record { stamp = x; depth = depth },
           is,

@@ -1,10 +1,11 @@
 -- What a finding knows between two of its steps: what its descent does, and of the words that it keeps.
 use Rattle.std.specs.Prelude.{◌≡◌, ◌<◌, ◌≤◌, ℕ, List, Option, Some, None, length, replicate, set, take, ⊤}
+use Rattle.std.specs.Option.{option_map}
 use Rattle.art_cell.specs.declared.cells.Cell.{Cell}
 use Rattle.art_cell.specs.declared.cells.Cell.TheVariants as cell
 use Rattle.art_cell.specs.declared.cells.Link.TheVariants.{Node as node}
 use Rattle.art_cell.specs.declared.cells.Node.{Node}
-use Rattle.art_find.specs.Descents.{Fits, IsReading, stands_on}
+use Rattle.art_find.specs.Descents.{Fits, decided_at, stands_on}
 use Rattle.art_find.specs.Verdicts.{Says}
 use Rattle.art_find.specs.declared.asked.Answer.{Answer}
 use Rattle.art_find.specs.declared.asked.Answer.TheVariants.{Begun, Checked}
@@ -17,8 +18,11 @@ use Rattle.art_place.specs.Kept.{HasPath, IsKept}
 use Rattle.art_place.specs.declared.desks.Desk.{Desk}
 use Rattle.art_place.specs.declared.findings.Above.{Above}
 use Rattle.art_place.specs.declared.findings.Finding.{Finding}
+use Rattle.art_place.specs.declared.findings.Stand.{Stand}
 use Rattle.art_step.specs.Shows.{HasChild, HasStamp, Shows}
+use Rattle.art_step.specs.Views.{Member, note_of}
 use Rattle.art_step.specs.declared.deeds.Deed.{Deed}
+use Rattle.art_step.specs.declared.views.Fact.TheVariants.{Starts}
 use Rattle.art_step.specs.declared.views.Sizes.{Sizes}
 use Rattle.art_step.specs.declared.views.Stamp.{Stamp}
 use Rattle.art_step.specs.declared.views.View.{View}
@@ -38,10 +42,12 @@ IsUnder z k above reads v cell.Anchor = above ≡ None
 IsUnder z k above reads v (cell.Leaf l) = ⊥
 IsUnder z k above reads v (cell.Node n) = (a : Above) × (above ≡ Some a) × IsAboveOf z k v a n × IsKept z v a.stamp reads
 
--- what is kept was read: of the cell where it stands, to which a path was noted, and of the one above it
+-- what is kept was read: of the cell where it stands, to which a path was noted (of a node, the one by which the cell above has it),
+-- and of the cell above
 pub record IsPlaced (z : Sizes) (k : List ℕ) (above : Option Above) (desk : Desk) (v : View) (y : Stamp) : Type 0 where
   pub kept : IsKept z v y (node_of desk)
   pub path : HasPath v y
+  pub led : (a : Above) → above ≡ Some a → Member (note_of y (Starts (take a.depth k))) v.notes
   pub under : IsUnder z k above (above_of desk) v y.cell
 
 -- where it stands on a cell
@@ -56,13 +62,18 @@ pub record FindingFits (z : Sizes) (k : List ℕ) (what : Option ℕ → Deed) (
 
 -- ---- what it has found
 
--- the cell where it stands is stamped, what was read there shows where the key stands, and all that was read is kept
-pub record IsFoundAt (z : Sizes) (k : List ℕ) (m : Finding) (desk : Desk) (u v : View) (x : Stamp) (found : Verdict) : Type 0 where
-  pub reads : IsReading u v
-  pub stamp : HasStamp z v x
-  pub deep : m.descent.depth ≤ length k
-  pub says : Says z k m.descent.depth x found v
-  pub place : IsPlaced z k m.above desk v x
+abbrev pub stand_of : Finding → Stamp × Verdict → Stand
+stand_of m found = record { stamp = found.0; depth = m.descent.depth; above = m.above; verdict = found.1 }
+
+abbrev pub stand_at : Finding → Option Stand
+stand_at m = option_map (stand_of m) (decided_at m.descent.stage)
+
+-- the cell is stamped, what was read there shows where the key stands, and all that was read is kept
+pub record IsStanding (z : Sizes) (k : List ℕ) (t : Stand) (desk : Desk) (v : View) : Type 0 where
+  pub stamp : HasStamp z v t.stamp
+  pub deep : t.depth ≤ length k
+  pub says : Says z k t.depth t.stamp t.verdict v
+  pub place : IsPlaced z k t.above desk v t.stamp
 
 -- ---- what it keeps
 

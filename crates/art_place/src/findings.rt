@@ -14,6 +14,18 @@ pub struct Above {
     pub depth: usize,
 }
 
+/// Where a key stands, or would stand.
+#[derive(Clone, Copy)]
+pub struct Stand {
+    /// The cell under whose stamp that was read.
+    pub stamp: Stamp,
+    /// How many bytes of the key were read as a path on the way there.
+    pub depth: usize,
+    /// Where the stamp's cell is a node, the cell that has it as its child.
+    pub above: Option<Above>,
+    pub verdict: Verdict,
+}
+
 /// A look for where a key stands, or would stand, that keeps the cell above. The key and what was read stand
 /// beside it.
 #[derive(Clone, Copy)]
@@ -26,9 +38,9 @@ pub struct Finding {
 impl Finding {
     ghost use Rattle.art_find.specs.Asking.{Answers, IsAllowed, goes_on};
     ghost use Rattle.art_find.specs.Descents.{IsExact, IsReading, Stays};
-    ghost use Rattle.art_find.specs.Descents.{answer_at, asks, decided_at, ended_at, most_steps};
+    ghost use Rattle.art_find.specs.Descents.{answer_at, asks, ended_at, most_steps};
     ghost use Rattle.art_find.specs.declared.asked.Asked.{Asked as AskedStep};
-    ghost use Rattle.art_place.specs.Findings.{Enters, FindingFits, IsFoundAt, Keeps};
+    ghost use Rattle.art_place.specs.Findings.{Enters, FindingFits, IsStanding, Keeps, stand_at};
     ghost use Rattle.art_place.specs.declared.desks.Desk.{Desk as DeskOf};
     ghost use Rattle.art_step.specs.Shows.{HasValue};
     ghost use Rattle.art_step.specs.declared.deeds.Deed.{Deed};
@@ -60,27 +72,19 @@ impl Finding {
         self.descent.next()
     }
 
-    /// The stamp whose check comes next, and what was read under it.
-    pub fn decided(&self) -> Option<(Stamp, Verdict)>
-        ensures at { result ≡ decided_at self.now.descent.stage }
-        ensures found { IfSome result (λ found. (z : Sizes) (k : List ℕ) (what : Option ℕ → Deed) (desk : DeskOf) (u v : View) →
-            FindingFits z k what self.now desk u v → IsFoundAt z k self.now desk u v found.0 found.1) }
+    /// Where the key stands or would stand, once that was read: a check of the stamp comes next.
+    pub fn stand(&self) -> Option<Stand>
+        ensures at { result ≡ stand_at self.now }
+        ensures stands { IfSome result (λ t. (z : Sizes) (k : List ℕ) (what : Option ℕ → Deed) (desk : DeskOf) (u v : View) →
+            FindingFits z k what self.now desk u v → IsReading u v × IsStanding z k t desk v) }
     {
-        self.descent.decided()
-    }
-
-    /// How many bytes of the key lead to where it stands.
-    pub fn depth(&self) -> usize
-        ensures { result ≡ self.now.descent.depth }
-    {
-        self.descent.depth()
-    }
-
-    /// The cell that has the node where it stands as its child, or none where it stands on the anchor.
-    pub fn above(&self) -> Option<Above>
-        ensures { result ≡ self.now.above }
-    {
-        self.above
+        let (stamp, verdict) = self.descent.decided()?;
+        Some(Stand {
+            stamp,
+            depth: self.descent.depth(),
+            above: self.above,
+            verdict,
+        })
     }
 
     /// The step that it asked for was made, with this answer. Whether it goes on: else it begins anew.

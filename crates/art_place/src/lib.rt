@@ -36,12 +36,13 @@
 //! (`IsAboveOf`). All of it stays so while the pass only reads: stamps and notes are added, and none goes (`Grows`). Where one goes, at a version
 //! word that is not clear or was changed, the finding begins anew, stands nowhere and claims nothing.
 //!
-//! At a verdict `decided` hands out the stamp and the verdict, and all of that is known at once (`IsFoundAt`).
+//! At a verdict `stand` hands out a `Stand`: the stamp, the cell above, and the verdict; and all of that is known at once
+//! (`IsStanding`). It stays known whatever else the pass does with its numbers (`standing_grows`).
 //!
 //! # The words that are missing
 //!
 //! A descent reads the words of a node that it needs, and no more. A `Rereading` reads the others of one stamped cell, in
-//! ascending place, so that a plan sees all of them. What was found stays found meanwhile (`found_stays`).
+//! ascending place, so that a plan sees all of them. What was found stays found meanwhile (`standing_stays`).
 #![tactic(auto)]
 
 mod desks;
@@ -49,5 +50,5 @@ mod findings;
 mod rereadings;
 
 pub use desks::Desk;
-pub use findings::{Above, Finding};
+pub use findings::{Above, Finding, Stand};
 pub use rereadings::Rereading;
