@@ -5,7 +5,7 @@ use Rattle.std.specs.Prelude.{Option, Some, None}
 use Rattle.art_cell.specs.declared.layouts.Pool.{Pool}
 use Rattle.art_epoch.specs.Asking.{Answers}
 use Rattle.art_epoch.specs.declared.asked.Asked.{Asked}
-use Rattle.art_epoch.specs.declared.asked.Asked.TheVariants.{Clear, Free, Note, Store, Raise, Watch}
+use Rattle.art_epoch.specs.declared.asked.Asked.TheVariants.{Clear, Give, Free, Note, Store, Raise, Watch}
 use Rattle.art_step.specs.declared.views.Sizes.{Sizes}
 use Rattle.art_step.specs.declared.views.View.{View}
 use Rattle.art_step.specs.Steps.Pin as pin
@@ -24,6 +24,7 @@ pinning_counts v x = ⊎_elim (λ (e : (x == 0) ≡ true). rw e refl) (λ (e : (
 
 pub answers_count : (z : Sizes) (a : Asked) (x : ℕ) (v w : View) → Answers z a x v w → w.steps ≡ v.steps + 1
 answers_count z (Clear pool i bit) x v w row = ap (λ (u : View). u.steps) row.is ∙ taking_counts v pool i bit x row.words
+answers_count z (Give d) x v w row = ap (λ (u : View). u.steps) row.is
 answers_count z (Free d) x v w row = ap (λ (u : View). u.steps) row.is
 answers_count z Note x v w row = ap (λ (u : View). u.steps) row.is
 answers_count z (Store y) x v w row = ap (λ (u : View). u.steps) row ∙ pinning_counts v y

@@ -170,7 +170,7 @@ lower_least o ls q x k = ⊎_elim
         (cases_lt w x)
 
 -- what may go is below all words that are not 0, and no other is
-goes_below : (o : Option ℕ) (ls : List Look) (label : ℕ) → IsLeast o ls → lets_go o label ≡ true → IsBelowAll label ls
+pub goes_below : (o : Option ℕ) (ls : List Look) (label : ℕ) → IsLeast o ls → lets_go o label ≡ true → IsBelowAll label ls
 goes_below None ls label k is l i some = absurd (some (k l i))
 goes_below (Some w) ls label k is l i some = let low = ltb-true label w is in let up = k.2 l i some in omega arith
 

@@ -7,7 +7,7 @@ use Rattle.std.specs.Int.{trailing_zeros}
 use Rattle.std.specs.Prelude.{Option, Some, None, IfSome}
 use Rattle.art_cell.specs.declared.layouts.Pool.{Pool}
 use Rattle.art_epoch.specs.Asking.{Answers}
-use Rattle.art_epoch.specs.Taking.{Fits, GaveNone, IsLowest, IsSearch, IsSeen, NoneBefore, OnlyTakes, SearchFits, TookLowest, TookNone, WasFound, WasLost, after_clear, after_look, asks, asks_at, search_after, steps_left}
+use Rattle.art_epoch.specs.Taking.{Fits, GaveNone, IsLowest, IsSearch, IsSeen, MadeFew, NoneBefore, OnlyTakes, SearchFits, TookLowest, TookNone, WasFound, WasLost, after_clear, after_look, asks, asks_at, looks_made, search_after, steps_left}
 use Rattle.art_epoch.specs.declared.asked.Asked.{Asked}
 use Rattle.art_epoch.specs.declared.asked.Asked.TheVariants.{Clear}
 use Rattle.art_epoch.specs.declared.taking.Search.{Search}
@@ -20,7 +20,7 @@ use Rattle.art_step.specs.declared.views.View.{View}
 use Rattle.art_step.proofs.FreeBits.{number_again}
 use Rattle.art_step.specs.declared.views.Word.TheVariants.{Free as free_word}
 use Rattle.art_step.specs.Steps.Take as take_free
-use Rattle.art_step.specs.Views.{IsNumber, Member, bit_of, number_at}
+use Rattle.art_step.specs.Views.{IsNumber, Member, bit_of, number_at, pool_rank}
 
 -- ---- the view after a word was found
 
@@ -66,6 +66,10 @@ module _ (v w : View) (pool : Pool) (i x : ℕ) (k : FindsWord v w pool i x) whe
   found_now : (since : ℕ) → since ≤ v.steps → WasFound w since pool i x (v.steps + 1)
   found_now since low = record { later = omega arith; found = subst (λ (xs : List Found). Member (record { word = free_word pool i x; step = v.steps + 1 }) xs) (sym k.found) (inl refl) }
 
+  -- it is the last one that was found there
+  last_now : take_free.last_found pool i w.found ≡ x
+  last_now = ap (take_free.last_found pool i) k.found ∙ rw (eq-eqb (pool_rank pool) (pool_rank pool) refl, eq-eqb i i refl) refl
+
   before_on : (since n : ℕ) → NoneBefore v since pool n → NoneBefore w since pool n
   before_on since n o j low = gave_none_on since pool j (o j low)
 
@@ -90,15 +94,22 @@ module _ (z : Sizes) (v0 : View) (m : Taking) (v w : View) (x : ℕ) (fits : Fit
     finds = subst (λ (u : View). FindsWord v u m.pool i x) (sym row.is) (finds_in v m.pool i bit x row.words)
 
     -- the search has come to another stage
-    comes_to : (s : Search) → v.steps + 1 + steps_left m.words s ≤ v0.steps + 2 * m.words → SearchFits z v0 w m.pool m.words s → After s
-    comes_to s few search = let e = finds.steps in let some = fits.some in record {
+    comes_to : (s : Search) → v.steps + 1 + steps_left m.words s ≤ v0.steps + 2 * m.words → v.steps + 1 + v0.failures ≤ v0.steps + looks_made s + w.failures → v.failures ≤ w.failures
+        → SearchFits z v0 w m.pool m.words s → After s
+    comes_to s few counted failed search = let e = finds.steps in let some = fits.some in let before = fits.failed in record {
       words = fits.words;
       few = fits.few;
       only = only_then v0 v w fits.only finds.only;
       steps = omega arith;
       some = omega arith;
+      counted = omega (arith, e, counted);
+      failed = omega (arith, before, failed);
       search = search;
     }
+
+  -- how many steps were made before
+  counted_at : (s : Search) → m.search ≡ s → MadeFew v0 v (looks_made s)
+  counted_at s is = subst (λ (t : Search). MadeFew v0 v (looks_made t)) is fits.counted
 
   -- a word was looked at
   looks : (i : ℕ) → m.search ≡ Looking i → i < m.words → x < 2 ^ 64 → take_free.Outcome z v w m.pool i None x → After (after_look i x)
@@ -107,13 +118,15 @@ module _ (z : Sizes) (v0 : View) (m : Taking) (v w : View) (x : ℕ) (fits : Fit
       let steps : v.steps + 2 * (m.words - i) ≤ v0.steps + 2 * m.words = subst (λ (s : Search). v.steps + steps_left m.words s ≤ v0.steps + 2 * m.words) is fits.steps in
       let k = finds i None row in
       let hand : w.hand ≡ v0.hand = ap (λ (u : View). u.hand) row.is ∙ was.2 in
+      let same : w.failures ≡ v.failures = ap (λ (u : View). u.failures) row.is in
+      let counted = counted_at (Looking i) is in
       let now : WasFound w v0.steps m.pool i x (v.steps + 1) = found_now v w m.pool i x k v0.steps fits.some in
       ⊎_elim
       (λ (none : x ≡ 0).
-      rw (eq-eqb x 0 none) (comes_to i None row (Looking (i + 1)) (omega arith)
+      rw (eq-eqb x 0 none) (comes_to i None row (Looking (i + 1)) (omega arith) (omega (arith, same, counted)) (omega (arith, same))
       (omega arith, before_next v w m.pool i x k v0.steps was.1 (inl (v.steps + 1, subst (λ (y : ℕ). WasFound w v0.steps m.pool i y (v.steps + 1)) none now)), hand)))
       (λ (some : x ≢ 0).
-      rw (ne_eqb x 0 some) (comes_to i None row (Clearing i (trailing_zeros w64 x)) (omega arith) record {
+      rw (ne_eqb x 0 some) (comes_to i None row (Clearing i (trailing_zeros w64 x)) (omega arith) (omega (arith, same, counted)) (omega (arith, same)) record {
         inside = inside;
         before = before_on v w m.pool i x k v0.steps i was.1;
         word = x;
@@ -121,6 +134,7 @@ module _ (z : Sizes) (v0 : View) (m : Taking) (v w : View) (x : ℕ) (fits : Fit
         at = v.steps + 1;
         past = let e = k.steps in omega arith;
         found = now;
+        last = last_now v w m.pool i x k;
         hand = hand;
       }))
       (cases_eq x 0)
@@ -132,48 +146,60 @@ module _ (z : Sizes) (v0 : View) (m : Taking) (v w : View) (x : ℕ) (fits : Fit
       let steps : v.steps + (2 * (m.words - i) - 1) ≤ v0.steps + 2 * m.words = subst (λ (s : Search). v.steps + steps_left m.words s ≤ v0.steps + 2 * m.words) is fits.steps in
       let inside = was.inside in
       let f = finds i (Some k) row in
-      by_bit was f (bit_of x k == 1) refl row.there row.long (ap (λ (u : View). u.hand) row.is)
+      by_bit was f (bit_of x k == 1) refl row.there row.long (ap (λ (u : View). u.hand) row.is) (ap (λ (u : View). u.failures) row.is)
     where
+      cleared_view : Bool → View
+      cleared_view b = if b then record (take_free.view_noted v m.pool i x) { hand = record { link = number_at m.pool i k; words = row.words } ∷ v.hand }
+          else record (take_free.view_noted v m.pool i x) { failures = v.failures + bit_of (take_free.last_found m.pool i v.found) k }
+
+      -- the bit was there when the word was last found: it was lost, which is a failure
+      lost_one : IsSeen v0 v m.pool m.words i k → (bit_of x k == 1) ≡ false → w.failures ≡ (take_free.view_after v m.pool i (Some k) x row.words).failures → w.failures ≡ v.failures + 1
+      lost_one was unset failures =
+          failures ∙ ap (λ (b : Bool). (cleared_view b).failures) unset ∙ ap (λ (n : ℕ). v.failures + n) (ap (λ (y : ℕ). bit_of y k) was.last ∙ was.lowest.is)
+
       by_bit : (was : IsSeen v0 v m.pool m.words i k) → FindsWord v w m.pool i x → (b : Bool) → (bit_of x k == 1) ≡ b
           → IfSome (if b then Some (number_at m.pool i k) else None) (λ d. IsNumber z d) → IfSome (if b then Some (number_at m.pool i k) else None) (λ d. length row.words ≡ take_free.word_count_of d)
-          → w.hand ≡ (take_free.view_after v m.pool i (Some k) x row.words).hand
+          → w.hand ≡ (take_free.view_after v m.pool i (Some k) x row.words).hand → w.failures ≡ (take_free.view_after v m.pool i (Some k) x row.words).failures
           → After (if b then Took i k else Looking (i + 1))
-      by_bit was f true set there long hand = comes_to i (Some k) row (Took i k) (let inside = was.inside in let all = subst (λ (s : Search). v.steps + steps_left m.words s ≤ v0.steps + 2 * m.words) is fits.steps in omega arith) (
-        was.inside,
-        was.lowest.low,
-        record {
-          index = i;
-          bit = k;
-          is = refl;
-          there = there;
-          fits = let again = number_again m.pool (64 * i + k) in let inside = was.inside in let low = was.lowest.low in let few = fits.few in omega arith;
-          before = before_on v w m.pool i x f v0.steps i was.before;
-          word = was.word;
-          lowest = was.lowest;
-          at = was.at;
-          found = found_on v w m.pool i x f v0.steps m.pool i was.word was.at was.found;
-          words = row.words;
-          long = long;
-          hand = hand ∙ (ap (λ (b : Bool). (if b then record (take_free.view_noted v m.pool i x) { hand = record { link = number_at m.pool i k; words = row.words } ∷ v.hand } else record (take_free.view_noted v m.pool i x) { failures = v.failures + bit_of (take_free.last_found m.pool i v.found) k }).hand) set
-              ∙ ap (λ (h : List InHand). record { link = number_at m.pool i k; words = row.words } ∷ h) was.hand);
-        },
-      )
-      by_bit was f false unset there long hand = comes_to i (Some k) row (Looking (i + 1)) (let inside = was.inside in let all = subst (λ (s : Search). v.steps + steps_left m.words s ≤ v0.steps + 2 * m.words) is fits.steps in omega arith) (
-        let inside = was.inside in omega arith,
-        before_next v w m.pool i x f v0.steps was.before (inr record {
-          word = was.word;
-          bit = k;
-          lowest = was.lowest;
-          at = was.at;
-          seen = found_on v w m.pool i x f v0.steps m.pool i was.word was.at was.found;
-          again = x;
-          later = v.steps + 1;
-          after = let past = was.past in omega arith;
-          gone = let not_one = eqb-false (bit_of x k) 1 unset in omega arith;
-          lost = found_now v w m.pool i x f v0.steps fits.some;
-        }),
-        hand ∙ (ap (λ (b : Bool). (if b then record (take_free.view_noted v m.pool i x) { hand = record { link = number_at m.pool i k; words = row.words } ∷ v.hand } else record (take_free.view_noted v m.pool i x) { failures = v.failures + bit_of (take_free.last_found m.pool i v.found) k }).hand) unset ∙ was.hand),
-      )
+      by_bit was f true set there long hand failures = comes_to i (Some k) row (Took i k) (let inside = was.inside in let all = subst (λ (s : Search). v.steps + steps_left m.words s ≤ v0.steps + 2 * m.words) is fits.steps in omega arith)
+          (let same : w.failures ≡ v.failures = failures ∙ ap (λ (b : Bool). (cleared_view b).failures) set in let counted = counted_at (Clearing i k) is in omega (arith, same, counted))
+          (let same : w.failures ≡ v.failures = failures ∙ ap (λ (b : Bool). (cleared_view b).failures) set in omega (arith, same)) (
+            was.inside,
+            was.lowest.low,
+            record {
+              index = i;
+              bit = k;
+              is = refl;
+              there = there;
+              fits = let again = number_again m.pool (64 * i + k) in let inside = was.inside in let low = was.lowest.low in let few = fits.few in omega arith;
+              before = before_on v w m.pool i x f v0.steps i was.before;
+              word = was.word;
+              lowest = was.lowest;
+              at = was.at;
+              found = found_on v w m.pool i x f v0.steps m.pool i was.word was.at was.found;
+              words = row.words;
+              long = long;
+              hand = hand ∙ (ap (λ (b : Bool). (cleared_view b).hand) set
+                  ∙ ap (λ (h : List InHand). record { link = number_at m.pool i k; words = row.words } ∷ h) was.hand);
+            },
+          )
+      by_bit was f false unset there long hand failures = comes_to i (Some k) row (Looking (i + 1)) (let inside = was.inside in let all = subst (λ (s : Search). v.steps + steps_left m.words s ≤ v0.steps + 2 * m.words) is fits.steps in omega arith)
+          (let more = lost_one was unset failures in let counted = counted_at (Clearing i k) is in omega (arith, more, counted)) (let more = lost_one was unset failures in omega (arith, more)) (
+            let inside = was.inside in omega arith,
+            before_next v w m.pool i x f v0.steps was.before (inr record {
+              word = was.word;
+              bit = k;
+              lowest = was.lowest;
+              at = was.at;
+              seen = found_on v w m.pool i x f v0.steps m.pool i was.word was.at was.found;
+              again = x;
+              later = v.steps + 1;
+              after = let past = was.past in omega arith;
+              gone = let not_one = eqb-false (bit_of x k) 1 unset in omega arith;
+              lost = found_now v w m.pool i x f v0.steps fits.some;
+            }),
+            hand ∙ (ap (λ (b : Bool). (cleared_view b).hand) unset ∙ was.hand),
+          )
 
 -- what was asked at a stage
 asked_looking : (pool : Pool) (words i : ℕ) (a : Asked) → asks_at pool words (Looking i) ≡ Some a → (i < words) × (Clear pool i None ≡ a)
@@ -205,6 +231,20 @@ is_search z v0 m v a fits asked = by_search m.search fits.search asked
 -- a number that was taken fits 32 bits
 pub took_low : (z : Sizes) (v0 : View) (m : Taking) (v : View) (i k : ℕ) → Fits z v0 m v → m.search ≡ Took i k → 64 * i + k < 2 ^ 32
 took_low z v0 m v i k fits is = let o = subst (SearchFits z v0 v m.pool m.words) is fits.search in let low = o.0 in let bit = o.1 in let few = fits.few in omega arith
+
+-- ---- how many steps were made
+
+-- at most one for each word, one more, and one for each failure
+pub few_looks : (z : Sizes) (v0 : View) (m : Taking) (v : View) → Fits z v0 m v → MadeFew v0 v (m.words + 1)
+few_looks z v0 m v fits =
+    let few = few_at m.search fits.search in
+    let counted = fits.counted in
+    omega (arith, few, counted)
+  where
+    few_at : (s : Search) → SearchFits z v0 v m.pool m.words s → looks_made s ≤ m.words + 1
+    few_at (Looking i) o = let low = o.0 in omega (arith, low)
+    few_at (Clearing i k) o = let low = o.inside in omega (arith, low)
+    few_at (Took i k) o = let low = o.0 in omega (arith, low)
 
 -- ---- how it ends
 

@@ -120,7 +120,15 @@ abbrev pub asks_at : ReclaimStage → List Place → Option Asked
 asks_at Noting qs = Some Note
 asks_at Raising qs = Some Raise
 asks_at (Watching q least) qs = Some (Watch q)
-asks_at (Freeing least n) qs = if nat_lt (open_index least qs) (length qs) then Some (Free (get_or qs (open_index least qs) no_place).link) else None
+asks_at (Freeing least n) qs =
+    if nat_lt (open_index least qs) (length qs) then Some (Free (get_or qs (open_index least qs) no_place).link) else None
+
+-- the least word that was found so far and is not 0
+abbrev pub least_at : ReclaimStage → Option ℕ
+least_at Noting = None
+least_at Raising = None
+least_at (Watching q least) = least
+least_at (Freeing least n) = least
 
 abbrev pub freed_at : ReclaimStage → ℕ
 freed_at Noting = 0

@@ -13,7 +13,7 @@ use Rattle.art_step.specs.declared.numbers.Number.{Number}
 use Rattle.art_step.specs.declared.views.Sizes.{Sizes}
 use Rattle.art_step.specs.declared.views.View.{View}
 use Rattle.art_step.specs.declared.views.Word.TheVariants.{Free as free_word}
-use Rattle.art_step.specs.Steps.Take.{word_count_of}
+use Rattle.art_step.specs.Steps.Take.{last_found, word_count_of}
 use Rattle.art_step.specs.Tokens.{link_of_number}
 use Rattle.art_step.specs.Views.{IsNumber, Member, bit_of, number_at}
 use Rattle.art_step.specs.WordPlaces.{free_words, pool_size}
@@ -61,6 +61,10 @@ NoneBefore v since pool n = (i : ℕ) → i < n → GaveNone v since pool i
 -- nothing changed but steps, failures, what was found, and the hand
 abbrev pub OnlyTakes : View → View → Type 0
 OnlyTakes v w = w ≡ record v { steps = w.steps; failures = w.failures; found = w.found; hand = w.hand }
+
+-- so many steps were made at most, and one more for each that failed
+abbrev pub MadeFew : View → View → ℕ → Type 0
+MadeFew v w n = w.steps + v.failures ≤ v.steps + n + w.failures
 
 -- the number is the lowest of the word that it was found in, and no word before that gave one; it alone came into the hand, and a
 -- child word can name it
@@ -123,7 +127,13 @@ steps_left words (Looking i) = 2 * (words - i)
 steps_left words (Clearing i k) = 2 * (words - i) - 1
 steps_left words (Took i k) = 0
 
--- the word was found, and this is its lowest bit
+-- how many steps it made at most, but for one for each that failed: it looked at each word once, and a bit of the last one was taken
+abbrev pub looks_made : Search → ℕ
+looks_made (Looking i) = i
+looks_made (Clearing i k) = i + 1
+looks_made (Took i k) = i + 2
+
+-- the word was found, last of all, and this is its lowest bit
 pub record IsSeen (v0 v : View) (pool : Pool) (words i k : ℕ) : Type 0 where
   pub inside : i < words
   pub before : NoneBefore v v0.steps pool i
@@ -132,6 +142,7 @@ pub record IsSeen (v0 v : View) (pool : Pool) (words i k : ℕ) : Type 0 where
   pub at : ℕ
   pub past : at ≤ v.steps
   pub found : WasFound v v0.steps pool i word at
+  pub last : last_found pool i v.found ≡ word
   pub hand : v.hand ≡ v0.hand
 
 -- of a pass whose view was v0 when the machine began, and is v
@@ -146,4 +157,6 @@ pub record Fits (z : Sizes) (v0 : View) (m : Taking) (v : View) : Type 0 where
   pub only : OnlyTakes v0 v
   pub steps : v.steps + steps_left m.words m.search ≤ v0.steps + 2 * m.words
   pub some : v0.steps ≤ v.steps
+  pub counted : MadeFew v0 v (looks_made m.search)
+  pub failed : v0.failures ≤ v.failures
   pub search : SearchFits z v0 v m.pool m.words m.search

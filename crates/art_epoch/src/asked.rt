@@ -9,6 +9,8 @@ use art_step::{EpochSteps, Number};
 pub enum Asked {
     /// The word of free numbers at an index of the pool, which loses the bit, if one is named.
     Clear(Pool, u32, Option<u32>),
+    /// A number in hand is free again.
+    Give(Link),
     /// A number that was in limbo is free again.
     Free(Link),
     /// The epoch.
@@ -29,6 +31,10 @@ pub fn make<S: EpochSteps>(steps: &mut S, asked: Asked) -> u64
 {
     match asked {
         Asked::Clear(pool, index, bit) => steps.bits_clear(pool, index, bit),
+        Asked::Give(given) => {
+            steps.bits_set(Number::of(given));
+            0
+        }
         Asked::Free(link) => {
             steps.bits_set(Number::of(link));
             0

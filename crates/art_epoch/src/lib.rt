@@ -58,7 +58,8 @@
 //! | | `unpin` | 0 is stored |
 //! | | `advance` | the epoch is noted, and raised |
 //!
-//! A call is the loop that runs its machine; the last three are their steps alone.
+//! A call is the loop that runs its machine; the last three are their steps alone. `Asked` has those steps too, so that a machine
+//! of another crate may ask for them: a number in hand goes back by `Asked::Give`, and one that waits by `Asked::Free`.
 //!
 //! # In which order
 //!
@@ -84,7 +85,7 @@ mod reclaiming;
 mod taking;
 
 pub use asked::{Asked, make};
-pub use limbo::{Limbo, Place};
+pub use limbo::{Limbo, Place, lets_go};
 pub use pins::{Pinning, advance, give, pin, unpin};
 pub use reclaiming::{ReclaimStage, Reclaiming, Retiring, reclaim, retire};
 pub use taking::{Search, Taking, take};

@@ -105,7 +105,7 @@ impl Limbo {
 }
 
 /// Nothing is there to wait for, or a word that the label is below.
-pub(crate) fn lets_go(least: Option<u64>, label: u64) -> bool
+pub fn lets_go(least: Option<u64>, label: u64) -> bool
     ensures { result ≡ lets_go least label }
 {
     match least {

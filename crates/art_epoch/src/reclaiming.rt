@@ -3,7 +3,7 @@ ghost use Rattle.std.specs.Prelude.{◌≡◌, ◌+◌, ◌<◌, ◌≤◌, [], 
 ghost use Rattle.std.specs.Option.{option_map};
 ghost use Rattle.art_epoch.specs.Asking.{Answers, IsAllowed};
 ghost use Rattle.art_epoch.specs.Limbo.{IsLimbo, places_of};
-ghost use Rattle.art_epoch.specs.Reclaiming.{Fits, IsStage, MayGo, OnlyReclaims, Reclaims, Retires, asks_at, freed_at, least_after, places_after, stage_after, steps_left, watching};
+ghost use Rattle.art_epoch.specs.Reclaiming.{Fits, IsStage, MayGo, OnlyReclaims, Reclaims, Retires, asks_at, freed_at, least_after, least_at, places_after, stage_after, steps_left, watching};
 ghost use Rattle.art_epoch.specs.declared.reclaiming.ReclaimStage.TheVariants.{Noting as noting};
 ghost use Rattle.art_step.specs.Tokens.{link_of_number};
 
@@ -77,7 +77,10 @@ impl Reclaiming {
     pub fn told(&mut self, limbo: &mut Limbo, word: u64)
         requires { (z : Sizes) × (v0 : View) × (v : View) × (ps : List Place) × (asked : AskedStep) ×
             Fits z v0 ps self.old (places_of limbo.old) v × (asks_at self.old.stage (places_of limbo.old) ≡ Some asked) }
+        ensures own { self.new.own ≡ self.old.own }
         ensures passes { self.new.passes ≡ self.old.passes }
+        ensures stage { self.new.stage ≡ stage_after self.old.own self.old.passes word self.old.stage }
+        ensures places { places_of limbo.new ≡ places_after self.old.stage (places_of limbo.old) }
         ensures left { steps_left self.new.passes self.new.stage (places_of limbo.new) <
             steps_left self.old.passes self.old.stage (places_of limbo.old) }
         ensures fits { (z : Sizes) (v0 v w : View) (ps : List Place) (asked : AskedStep) →
@@ -86,6 +89,18 @@ impl Reclaiming {
     {
         let_go(limbo, self.stage);
         self.stage = after(self.own, self.passes, self.stage, word);
+    }
+
+    /// The least of the words that it found of other passes so far and that are not 0, if there is one: what is labelled with that
+    /// or above it stays.
+    pub fn least(&self) -> Option<u64>
+        ensures { result ≡ least_at self.now.stage }
+    {
+        match self.stage {
+            ReclaimStage::Watching(_, least) => least,
+            ReclaimStage::Freeing(least, _) => least,
+            _ => None,
+        }
     }
 
     /// How many numbers it gave back, once it has ended.
@@ -171,7 +186,8 @@ pub fn reclaim<S: EpochSteps>(steps: &mut S, limbo: &mut Limbo) -> u32
     ensures only { S.only steps.old steps.new }
     ensures steps { (S.view steps.new).steps ≤ (S.view steps.old).steps + 1 + (S.sizes steps.old).passes + result }
     ensures same { OnlyReclaims (S.view steps.old) (S.view steps.new) }
-    ensures reclaims { Reclaims (S.sizes steps.old) (S.view steps.old) (S.view steps.new) (places_of limbo.old) (places_of limbo.new) result }
+    ensures reclaims { Reclaims (S.sizes steps.old) (S.view steps.old) (S.view steps.new) (places_of limbo.old)
+        (places_of limbo.new) result }
 {
     let _ = limbo.room();
     let mut reclaiming = Reclaiming::new(steps.own_pass(), steps.pool_sizes().passes);

@@ -1,7 +1,7 @@
 //! Taking a number.
 ghost use Rattle.std.specs.Prelude.{◌≡◌, ◌+◌, ◌*◌, ◌≤◌, ◌<◌, ◌^◌, IfSome, Some, None};
 ghost use Rattle.art_epoch.specs.Asking.{Answers, IsAllowed};
-ghost use Rattle.art_epoch.specs.Taking.{Fits, IsSearch, OnlyTakes, Takes, after_clear, after_look, asks, search_after};
+ghost use Rattle.art_epoch.specs.Taking.{Fits, IsSearch, MadeFew, OnlyTakes, Takes, after_clear, after_look, asks, search_after};
 ghost use Rattle.art_step.specs.WordPlaces.{free_words, pool_size};
 
 use crate::{Asked, make};
@@ -124,6 +124,8 @@ pub fn take<S: EpochSteps>(steps: &mut S, pool: Pool) -> Option<Number>
     ensures only { S.only steps.old steps.new }
     ensures same { OnlyTakes (S.view steps.old) (S.view steps.new) }
     ensures steps { (S.view steps.new).steps ≤ (S.view steps.old).steps + 2 * free_words (pool_size (S.sizes steps.old) pool) }
+    ensures counted { MadeFew (S.view steps.old) (S.view steps.new) (free_words (pool_size (S.sizes steps.old) pool) + 1) }
+    ensures failed { (S.view steps.old).failures ≤ (S.view steps.new).failures }
     ensures takes { Takes (S.sizes steps.old) (S.view steps.old) (S.view steps.new) pool result }
 {
     let mut taking = Taking::new(pool, steps.pool_sizes());

@@ -8,7 +8,7 @@ use Rattle.art_cell.specs.Words.{Words, child_of, count_of, places, prefix_of}
 use Rattle.art_cell.specs.declared.bodies.Body.{Body}
 use Rattle.art_cell.specs.declared.layouts.Layout.{Layout}
 use Rattle.art_cell.specs.declared.layouts.Layout.TheVariants.{Node256}
-use Rattle.art_insert.specs.Puts.{IsCrowded}
+use Rattle.art_plan.specs.Puts.{IsCrowded}
 use Rattle.art_node.specs.Prefixes.{IsNodeOf}
 use Rattle.art_node.specs.Sizes.{larger}
 

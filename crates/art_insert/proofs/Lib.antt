@@ -1,13 +1,6 @@
-pub mod ChildPlaces
+pub mod ForkNodes
 pub mod GrownNodes
-pub mod MadeChanges
-pub mod MadeNodes
 pub mod PlannedAdds
 pub mod PlannedForks
 pub mod PlannedGrows
 pub mod PlannedPrefixes
-pub mod Planning
-pub mod PutWords
-pub mod ReadyCells
-pub mod SiteWords
-pub mod WordsWithin

@@ -14,9 +14,10 @@ use Rattle.art_commit.proofs.ChangeForks.{fork_commits}
 use Rattle.art_commit.proofs.Members.{same_commits}
 use Rattle.art_commit.specs.CommitLaws.{Before, IsItsNode}
 use Rattle.art_insert.specs.Cases.{IsForkLeaf}
-use Rattle.art_insert.specs.Puts.{IsSitePlan, change_of, inserted, node4, puts_of}
-use Rattle.art_insert.specs.declared.changes.NewLeaf.{NewLeaf}
-use Rattle.art_insert.specs.declared.changes.Parting.{Parting}
+use Rattle.art_insert.specs.Puts.{inserted, node4}
+use Rattle.art_plan.specs.Puts.{IsSitePlan, change_of, puts_of}
+use Rattle.art_insert.specs.declared.leaves.NewLeaf.{NewLeaf}
+use Rattle.art_insert.specs.declared.leaves.Parting.{Parting}
 use Rattle.art_node.specs.Prefixes.{IsNodeOf, two_of}
 use Rattle.art_plan.specs.Changes.{IsPlanned, IsReady, leaf_linked, node_made}
 use Rattle.art_plan.specs.Seen.{kept, site_stamp}
@@ -29,11 +30,12 @@ use Rattle.art_step.specs.declared.views.View.{View}
 use Rattle.art_tree.specs.Heaps.{heap_of}
 use Rattle.art_tree.specs.Tree.{Begins}
 use Rattle.art_tree.specs.WordChanges.{FitsWord, cell_of}
-use Rattle.art_insert.proofs.ChildPlaces.{NameThere, same_there}
-use Rattle.art_insert.proofs.MadeNodes.{claims_one, key_small, made_written}
-use Rattle.art_insert.proofs.Planning.{begins_at, both_come, may_make, one_of_one, one_planned, two_there}
-use Rattle.art_insert.proofs.ReadyCells.{IsMadeCell, IsTargetCell, holds_just, leaf_kept, node_kept, so_held}
-use Rattle.art_insert.proofs.SiteWords.{HasMeaning, IsWrittenAt, may_put_site, may_target_site, names_there, site_written}
+use Rattle.art_insert.proofs.ForkNodes.{begins_at, two_there}
+use Rattle.art_plan.proofs.ChildPlaces.{NameThere, same_there}
+use Rattle.art_plan.proofs.MadeNodes.{claims_one, key_small, made_written}
+use Rattle.art_plan.proofs.Planning.{both_come, may_make, one_of_one, one_planned}
+use Rattle.art_plan.proofs.ReadyCells.{IsMadeCell, IsTargetCell, holds_just, leaf_kept, node_kept, so_held}
+use Rattle.art_plan.proofs.SiteWords.{HasMeaning, IsWrittenAt, may_put_site, may_target_site, names_there, put_plan, site_written}
 
 module _ (z : Sizes) (u : View) (site : Site) (new : NewLeaf) (parting : Parting) (other a number : ℕ) (body : Body) (writes : List Write) (knows : IsForkLeaf z u site new parting other a number) where
   abbrev k : List ℕ
@@ -46,7 +48,7 @@ module _ (z : Sizes) (u : View) (site : Site) (new : NewLeaf) (parting : Parting
   common = take parting.common (drop parting.depth k)
 
   abbrev c : Change
-  c = change_of (kept (site_stamp site) ∷ []) (puts_of 0 writes) (Some number) body new []
+  c = change_of (kept (site_stamp site) ∷ []) (puts_of 0 writes) (Some number) body (Some new.number) [] (inserted new)
 
   module _ (plan : IsSitePlan site (child_word (node (node4 number))) writes) (inside : at < length k) (other-fits : FitsWord (leaf other)) (a-low : a < 256) (apart : a ≢ get_or k at 0)
       (layout : body.layout ≡ Node4) (forked : IsNodeOf Node4 (word_of body) common (two_of a (child_word (leaf other)) (get_or k at 0) (child_word (leaf new.number)))) where
@@ -57,8 +59,8 @@ module _ (z : Sizes) (u : View) (site : Site) (new : NewLeaf) (parting : Parting
       fork_leaf_may : commit.May z v (inserted new) [] (commit.coming v (leaf_linked c))
       fork_leaf_may s s' shape known turns =
           let b : Before z v s s' = record { shape = shape; knows = known; new = turns } in
-          let w : IsWrittenAt s s' (site_stamp site) (take parting.depth k) (Some (leaf other)) (node (node4 number)) =
-          site_written z u v c ready s s' b k parting.depth (Some (leaf other)) (node (node4 number)) writes site knows.place plan refl (λ ws. refl) in
+          let w : IsWrittenAt s s' (site_stamp site) (take parting.depth k) (Some (leaf other)) (Some (node (node4 number))) =
+          site_written z u v c ready s s' b k parting.depth (Some (leaf other)) (Some (node (node4 number))) writes site knows.place (put_plan site (node (node4 number)) writes plan) refl (λ ws. refl) in
           let just = holds_just z u v c ready (λ d. (d ≡ cell.Node (node4 number)) ⊎ ((d ≡ cell_of w.place) ⊎ IsItsNode (leaf other) d))
           (λ d. ⊎_elim
           (λ (e : d ≡ cell.Node (node4 number)). inr (node4 number, made, e))
@@ -81,8 +83,8 @@ module _ (z : Sizes) (u : View) (site : Site) (new : NewLeaf) (parting : Parting
         (two_there z a (child_word (leaf other)) (get_or k at 0) (child_word (leaf new.number)) (names_there z (leaf other) other-fits knows.there) (names_there z (leaf new.number) knows.new_leaf.fits knows.new_leaf.number))
 
     pub fork_leaf_planned : HasMeaning site → IsPlanned z u c
-    fork_leaf_planned meaning = one_planned z u (site_stamp site) (puts_of 0 writes) (Some number) body new
-        (may_target_site z u k parting.depth (Some (leaf other)) site knows.place)
-        (may_put_site z u c k parting.depth (Some (leaf other)) (child_word (node (node4 number))) writes (names_there z (node (node4 number)) knows.made.fits knows.made.number) site knows.place meaning plan refl)
+    fork_leaf_planned meaning = one_planned z u (site_stamp site) (puts_of 0 writes) (Some number) body (Some new.number) [] (inserted new)
+        (may_target_site z u k parting.depth (Some (leaf other)) site knows.place) refl (λ m i. absurd i)
+        (may_put_site z u c k parting.depth (Some (leaf other)) (Some (node (node4 number))) writes (names_there z (node (node4 number)) knows.made.fits knows.made.number) site knows.place meaning (put_plan site (node (node4 number)) writes plan) refl)
         (may_make z u c (node4 number) made knows.made forked.body children)
         fork_leaf_may

@@ -1,7 +1,5 @@
 -- A leaf that comes with a larger node, which takes the place of a full one, is planned.
-use Rattle.std.proofs.Common.{◌≡◌, ◌⊎◌, ℕ, ◌<◌, ◌≤◌, true, List, [], ◌∷◌, ◌++◌, map, take, Option, Some, None, cond, refl, sym, ap, ap₂, ◌∙◌, subst, inl, inr, ⊎_elim, arith}
-use Rattle.std.proofs.lemmas.Bool.{le-ltb}
-use Rattle.art_cell.specs.Bodies.{IsBody}
+use Rattle.std.proofs.Common.{◌≡◌, ◌⊎◌, ℕ, ◌<◌, ◌≤◌, true, List, [], ◌∷◌, ◌++◌, map, take, Option, Some, None, refl, sym, ap, ap₂, ◌∙◌, subst, inl, inr, ⊎_elim, arith}
 use Rattle.art_cell.specs.Children.{child_word}
 use Rattle.art_cell.specs.Reads.{with_child, word_of}
 use Rattle.art_cell.specs.Words.{Words, child_of, prefix_len, prefix_of}
@@ -17,9 +15,10 @@ use Rattle.art_commit.proofs.ChangeWays.{grow_commits}
 use Rattle.art_commit.proofs.Members.{same_commits}
 use Rattle.art_commit.specs.CommitLaws.{Before}
 use Rattle.art_insert.specs.Cases.{IsGrow}
-use Rattle.art_insert.specs.Puts.{IsCrowded, IsSitePlan, change_of, inserted, larger_node, puts_of}
-use Rattle.art_insert.specs.declared.changes.Below.{Below}
-use Rattle.art_insert.specs.declared.changes.NewLeaf.{NewLeaf}
+use Rattle.art_insert.specs.Puts.{inserted, larger_node}
+use Rattle.art_plan.specs.Puts.{IsCrowded, IsSitePlan, change_of, puts_of}
+use Rattle.art_plan.specs.declared.parts.Below.{Below}
+use Rattle.art_insert.specs.declared.leaves.NewLeaf.{NewLeaf}
 use Rattle.art_node.specs.Prefixes.{IsNodeOf}
 use Rattle.art_node.specs.Sizes.{larger}
 use Rattle.art_plan.specs.Changes.{IsPlanned, IsReady, leaf_linked, node_made}
@@ -38,16 +37,12 @@ use Rattle.art_tree.specs.Heaps.{Cells, heap_of, node_prefix}
 use Rattle.art_tree.specs.Tree.{Begins, child_at_place}
 use Rattle.art_tree.specs.Tree as tree
 use Rattle.art_tree.specs.WordChanges.{WritesNode, cell_of}
-use Rattle.art_insert.proofs.ChildPlaces.{NameThere, same_there, with_child_there}
-use Rattle.art_insert.proofs.MadeNodes.{claims_one, made_written}
-use Rattle.art_insert.proofs.Planning.{both_come, may_make, one_of_two, one_unlinked, two_planned}
-use Rattle.art_insert.proofs.PutWords.{with_puts-other}
-use Rattle.art_insert.proofs.ReadyCells.{IsMadeCell, IsTargetCell, holds_just, leaf_kept, locked, new_words, node_kept, old_words}
-use Rattle.art_insert.proofs.SiteWords.{HasMeaning, IsWrittenAt, children_read, may_put_site, may_target, may_target_site, names_there, site_written, whole_before}
-
--- the prefix of a node's words
-pub node_prefix_is : (k : Layout) (w : Words) → IsBody k w → node_prefix w ≡ prefix_of w
-node_prefix_is k w body = ap (λ t. cond t [] (prefix_of w)) (le-ltb 64 (prefix_len w) body.prefix.short)
+use Rattle.art_plan.proofs.ChildPlaces.{NameThere, same_there, with_child_there}
+use Rattle.art_plan.proofs.MadeNodes.{claims_one, made_written, node_prefix_is}
+use Rattle.art_plan.proofs.Planning.{both_come, may_make, one_of_two, one_unlinked, two_planned}
+use Rattle.art_plan.proofs.PutWords.{with_puts-other}
+use Rattle.art_plan.proofs.ReadyCells.{IsMadeCell, IsTargetCell, holds_just, leaf_kept, locked, new_words, node_kept, old_words}
+use Rattle.art_plan.proofs.SiteWords.{HasMeaning, IsWrittenAt, children_read, may_put_site, may_target, may_target_site, names_there, put_plan, site_written, whole_before}
 
 module _ (z : Sizes) (u : View) (site : Site) (new : NewLeaf) (depth : ℕ) (below : Below) (byte number : ℕ) (body : Body) (writes : List Write) (knows : IsGrow z u site new depth below byte (larger_node below.body.now number)) where
   abbrev k : List ℕ
@@ -66,7 +61,7 @@ module _ (z : Sizes) (u : View) (site : Site) (new : NewLeaf) (depth : ℕ) (bel
   gone = record { stamp = below.stamp; obsolete = true }
 
   abbrev c : Change
-  c = change_of (kept (site_stamp site) ∷ gone ∷ []) (puts_of 0 writes) (Some number) body new (child_word (node n) ∷ [])
+  c = change_of (kept (site_stamp site) ∷ gone ∷ []) (puts_of 0 writes) (Some number) body (Some new.number) (child_word (node n) ∷ []) (inserted new)
 
   module _ (plan : IsSitePlan site (child_word (node m)) writes) (crowded : IsCrowded below.body.now byte) (low : byte < 256) (layout : body.layout ≡ larger below.body.now.layout)
       (grown : IsNodeOf (larger below.body.now.layout) (word_of body) (prefix_of w) (with_child (child_of below.body.now.layout w) byte (child_word (leaf new.number)))) where
@@ -108,8 +103,8 @@ module _ (z : Sizes) (u : View) (site : Site) (new : NewLeaf) (depth : ℕ) (bel
     grow_may : (v : View) → IsReady u c v → commit.May z v (inserted new) (node n ∷ []) (commit.coming v (leaf_linked c))
     grow_may v ready s s' shape known turns =
         let b : Before z v s s' = record { shape = shape; knows = known; new = turns } in
-        let at : IsWrittenAt s s' (site_stamp site) (take depth k) (Some (node n)) (node m) =
-        site_written z u v c ready s s' b k depth (Some (node n)) (node m) writes site knows.there.place plan refl (λ ws. refl) in
+        let at : IsWrittenAt s s' (site_stamp site) (take depth k) (Some (node n)) (Some (node m)) =
+        site_written z u v c ready s s' b k depth (Some (node n)) (Some (node m)) writes site knows.there.place (put_plan site (node m) writes plan) refl (λ ws. refl) in
         let just = holds_just z u v c ready (λ d. (d ≡ cell.Node n) ⊎ ((d ≡ cell.Node m) ⊎ (d ≡ cell_of at.place)))
         (λ d. ⊎_elim
         (λ (e : d ≡ cell.Node n). inl (1, gone, refl, e ∙ sym knows.there.read.cell))
@@ -134,12 +129,12 @@ module _ (z : Sizes) (u : View) (site : Site) (new : NewLeaf) (depth : ℕ) (bel
     unlinks = one_unlinked (node n) knows.there.fits
 
     pub grow_planned : HasMeaning site → IsPlanned z u c
-    grow_planned meaning = two_planned z u (site_stamp site) gone n (puts_of 0 writes) number body new (child_word (node n) ∷ [])
+    grow_planned meaning = two_planned z u (site_stamp site) gone n (puts_of 0 writes) (Some number) body (Some new.number) (child_word (node n) ∷ []) (inserted new)
         (may_target_site z u k depth (Some (node n)) site knows.there.place)
         (may_target z u below.stamp n below.body.now knows.there.read gone refl) knows.there.read.cell knows.there.apart
         (ap (map child_word) unlinks)
         ((λ e. subst (Member (node n)) (sym unlinks) (inl refl)), (λ i. refl))
-        (λ d i. ⊎_elim (λ (e : d ≡ node n). e) (λ (j : ⊥). absurd j) (subst (Member d) unlinks i))
-        (may_put_site z u c k depth (Some (node n)) (child_word (node m)) writes (names_there z (node m) knows.made.fits knows.made.number) site knows.there.place meaning plan refl)
+        (λ o i. ⊎_elim (λ (e : node o ≡ node n). let is : o ≡ n = cc in is) (λ (j : ⊥). absurd j) (subst (Member (node o)) unlinks i))
+        (may_put_site z u c k depth (Some (node n)) (Some (node m)) writes (names_there z (node m) knows.made.fits knows.made.number) site knows.there.place meaning (put_plan site (node m) writes plan) refl)
         (may_make z u c m made knows.made grown.body children)
         (λ v ready. subst (λ (us : List Link). commit.May z v (inserted new) us (commit.coming v (leaf_linked c))) (sym unlinks) (grow_may v ready))

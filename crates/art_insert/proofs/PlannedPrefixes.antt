@@ -16,10 +16,11 @@ use Rattle.art_commit.proofs.ChangeForks.{fork_commits}
 use Rattle.art_commit.proofs.Members.{same_commits}
 use Rattle.art_commit.specs.CommitLaws.{Before, IsItsNode}
 use Rattle.art_insert.specs.Cases.{IsForkPrefix}
-use Rattle.art_insert.specs.Puts.{IsSitePlan, change_of, inserted, node4, puts_of}
-use Rattle.art_insert.specs.declared.changes.Below.{Below}
-use Rattle.art_insert.specs.declared.changes.NewLeaf.{NewLeaf}
-use Rattle.art_insert.specs.declared.changes.Parting.{Parting}
+use Rattle.art_insert.specs.Puts.{inserted, node4}
+use Rattle.art_plan.specs.Puts.{IsSitePlan, change_of, puts_of}
+use Rattle.art_plan.specs.declared.parts.Below.{Below}
+use Rattle.art_insert.specs.declared.leaves.NewLeaf.{NewLeaf}
+use Rattle.art_insert.specs.declared.leaves.Parting.{Parting}
 use Rattle.art_node.specs.Prefixes.{IsNodeOf, IsPrefixPlan, two_of}
 use Rattle.art_plan.specs.Changes.{IsPlanned, IsReady, MayPut, leaf_linked, node_made, with_puts}
 use Rattle.art_plan.specs.Seen.{kept, site_stamp}
@@ -36,13 +37,13 @@ use Rattle.art_step.specs.declared.views.View.{View}
 use Rattle.art_tree.specs.Heaps.{Cells, node_prefix}
 use Rattle.art_tree.specs.Tree.{Begins}
 use Rattle.art_tree.specs.WordChanges.{KeepsChildren, WritesNode, cell_of}
-use Rattle.art_insert.proofs.ChildPlaces.{NameThere, same_there}
-use Rattle.art_insert.proofs.MadeNodes.{claims_one, key_small, made_written, prefix_small}
-use Rattle.art_insert.proofs.PlannedGrows.{node_prefix_is}
-use Rattle.art_insert.proofs.Planning.{begins_at, both_come, may_make, one_of_two, two_planned, two_there}
-use Rattle.art_insert.proofs.PutWords.{with_puts-append, with_puts-other}
-use Rattle.art_insert.proofs.ReadyCells.{IsMadeCell, IsTargetCell, holds_just, leaf_kept, node_kept}
-use Rattle.art_insert.proofs.SiteWords.{HasMeaning, IsWrittenAt, children_read, may_put_site, may_put_whole, may_target, may_target_site, names_there, site_written, whole_after, whole_before}
+use Rattle.art_insert.proofs.ForkNodes.{begins_at, two_there}
+use Rattle.art_plan.proofs.ChildPlaces.{NameThere, same_there}
+use Rattle.art_plan.proofs.MadeNodes.{claims_one, key_small, made_written, node_prefix_is, prefix_small}
+use Rattle.art_plan.proofs.Planning.{both_come, may_make, one_of_two, two_planned}
+use Rattle.art_plan.proofs.PutWords.{with_puts-append, with_puts-other}
+use Rattle.art_plan.proofs.ReadyCells.{IsMadeCell, IsTargetCell, holds_just, leaf_kept, node_kept}
+use Rattle.art_plan.proofs.SiteWords.{HasMeaning, IsWrittenAt, children_read, may_put_site, may_put_whole, may_target, may_target_site, names_there, put_plan, site_written, whole_after, whole_before}
 
 -- ---- a prefix in three parts
 
@@ -84,7 +85,7 @@ module _ (z : Sizes) (u : View) (site : Site) (new : NewLeaf) (parting : Parting
   w = word_of below.body.now
 
   abbrev c : Change
-  c = change_of (kept (site_stamp site) ∷ kept below.stamp ∷ []) (puts_of 0 writes ++ puts_of 1 others) (Some number) body new []
+  c = change_of (kept (site_stamp site) ∷ kept below.stamp ∷ []) (puts_of 0 writes ++ puts_of 1 others) (Some number) body (Some new.number) [] (inserted new)
 
   split : IsSplit q a p prefix parting.common
   split = split_is q a p prefix parting.common whole long
@@ -125,8 +126,8 @@ module _ (z : Sizes) (u : View) (site : Site) (new : NewLeaf) (parting : Parting
     fork_prefix_may : (v : View) → IsReady u c v → commit.May z v (inserted new) [] (commit.coming v (leaf_linked c))
     fork_prefix_may v ready s s' shape known turns =
         let b : Before z v s s' = record { shape = shape; knows = known; new = turns } in
-        let there : IsWrittenAt s s' (site_stamp site) (take parting.depth k) (Some (node n)) (node (node4 number)) =
-        site_written z u v c ready s s' b k parting.depth (Some (node n)) (node (node4 number)) writes site knows.there.place plan refl first_puts in
+        let there : IsWrittenAt s s' (site_stamp site) (take parting.depth k) (Some (node n)) (Some (node (node4 number))) =
+        site_written z u v c ready s s' b k parting.depth (Some (node n)) (Some (node (node4 number))) writes site knows.there.place (put_plan site (node (node4 number)) writes plan) refl first_puts in
         let just = holds_just z u v c ready (λ d. (d ≡ cell.Node (node4 number)) ⊎ ((d ≡ cell_of there.place) ⊎ IsItsNode (node n) d))
         (λ d. ⊎_elim
         (λ (e : d ≡ cell.Node (node4 number)). inr (node4 number, made, e))
@@ -154,17 +155,17 @@ module _ (z : Sizes) (u : View) (site : Site) (new : NewLeaf) (parting : Parting
 
     puts : HasMeaning site → (put : Put) → Member put (puts_of 0 writes ++ puts_of 1 others) → MayPut z c put
     puts site_meaning put m = ⊎_elim
-        (may_put_site z u c k parting.depth (Some (node n)) (child_word (node (node4 number))) writes (names_there z (node (node4 number)) knows.made.fits knows.made.number) site knows.there.place site_meaning plan refl put)
+        (may_put_site z u c k parting.depth (Some (node n)) (Some (node (node4 number))) writes (names_there z (node (node4 number)) knows.made.fits knows.made.number) site knows.there.place site_meaning (put_plan site (node (node4 number)) writes plan) refl put)
         (may_put_whole z u below.stamp n below.body.now knows.there.read c 1 (kept below.stamp) others refl refl cut.exact cut.node.body
         (same_there z (child_of below.body.now.layout w) (child_of below.body.now.layout (written w others)) cut.node.children (children_read z u below.stamp n below.body.now knows.there.read meaning)) put)
         (member_append put (puts_of 0 writes) (puts_of 1 others) m)
 
     pub fork_prefix_planned : HasMeaning site → IsPlanned z u c
-    fork_prefix_planned site_meaning = two_planned z u (site_stamp site) (kept below.stamp) n (puts_of 0 writes ++ puts_of 1 others) number body new []
+    fork_prefix_planned site_meaning = two_planned z u (site_stamp site) (kept below.stamp) n (puts_of 0 writes ++ puts_of 1 others) (Some number) body (Some new.number) [] (inserted new)
         (may_target_site z u k parting.depth (Some (node n)) site knows.there.place)
         (may_target z u below.stamp n below.body.now knows.there.read (kept below.stamp) refl) knows.there.read.cell knows.there.apart refl
         ((λ e. absurd (cc)), (λ i. absurd i))
-        (λ d i. absurd i)
+        (λ m i. absurd i)
         (puts site_meaning)
         (may_make z u c (node4 number) made knows.made forked.body children)
         fork_prefix_may

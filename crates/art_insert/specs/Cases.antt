@@ -1,16 +1,15 @@
 -- What each case of an insert knows of what was read.
-use Rattle.std.specs.Prelude.{◌≡◌, ◌≢◌, ℕ, ◌+◌, List, [], ◌∷◌, ◌++◌, take, drop, Some, None}
+use Rattle.std.specs.Prelude.{◌≡◌, ℕ, ◌+◌, List, [], ◌∷◌, ◌++◌, take, drop, Some, None}
 use Rattle.art_cell.specs.Reads.{word_of}
 use Rattle.art_cell.specs.Words.{prefix_of}
-use Rattle.art_cell.specs.declared.cells.Cell.TheVariants as cells
-use Rattle.art_cell.specs.declared.cells.Link.TheVariants.{Leaf as leaf, Node as node}
+use Rattle.art_cell.specs.declared.cells.Link.TheVariants.{Leaf as leaf}
 use Rattle.art_cell.specs.declared.cells.Node.{Node}
 use Rattle.art_commit.specs.CommitLaws.{HasLeaf, HasNode}
 use Rattle.art_insert.specs.Puts.{node4}
-use Rattle.art_insert.specs.declared.changes.Below.{Below}
-use Rattle.art_insert.specs.declared.changes.NewLeaf.{NewLeaf}
-use Rattle.art_insert.specs.declared.changes.Parting.{Parting}
-use Rattle.art_plan.specs.Seen.{IsReadWhole, SiteFits, site_stamp}
+use Rattle.art_insert.specs.declared.leaves.NewLeaf.{NewLeaf}
+use Rattle.art_insert.specs.declared.leaves.Parting.{Parting}
+use Rattle.art_plan.specs.Seen.{HasBelow, SiteFits, site_stamp}
+use Rattle.art_plan.specs.declared.parts.Below.{Below}
 use Rattle.art_plan.specs.declared.sites.Site.{Site}
 use Rattle.art_step.specs.Shows.{Shows}
 use Rattle.art_step.specs.Views.{IsNumber}
@@ -18,7 +17,6 @@ use Rattle.art_step.specs.declared.views.Sizes.{Sizes}
 use Rattle.art_step.specs.declared.views.View.{View}
 use Rattle.art_tree.specs.Heaps.{heap_of}
 use Rattle.art_tree.specs.Tree.{Begins}
-use Rattle.art_tree.specs.WordChanges.{FitsWord}
 
 -- the leaf is in hand, with its words
 abbrev pub IsInHand : Sizes → View → NewLeaf → Type 0
@@ -38,16 +36,9 @@ pub record IsForkLeaf (z : Sizes) (u : View) (site : Site) (new : NewLeaf) (part
   pub made : HasNode z u (node4 number)
   pub new_leaf : IsInHand z u new
 
--- the site has a node, another cell than its own, that was read whole
-pub record HasBelow (z : Sizes) (u : View) (site : Site) (new : NewLeaf) (depth : ℕ) (below : Below) : Type 0 where
-  pub place : SiteFits z u site new.key.items depth (Some (node below.node))
-  pub read : IsReadWhole z u below.stamp below.node below.body.now
-  pub apart : (site_stamp site).cell ≢ cells.Node below.node
-  pub fits : FitsWord (node below.node)
-
 -- the bytes of the key lead to this byte of the node below; a node m is in hand
 pub record IsGrow (z : Sizes) (u : View) (site : Site) (new : NewLeaf) (depth : ℕ) (below : Below) (byte : ℕ) (m : Node) : Type 0 where
-  pub there : HasBelow z u site new depth below
+  pub there : HasBelow z u site new.key.items depth below
   pub way : Begins (take depth new.key.items ++ prefix_of (word_of below.body.now) ++ byte ∷ []) new.key.items
   pub made : HasNode z u m
   pub new_leaf : IsInHand z u new
@@ -55,7 +46,7 @@ pub record IsGrow (z : Sizes) (u : View) (site : Site) (new : NewLeaf) (depth : 
 -- the node below has this prefix, which is the key's as far as both are common; a Node4 is in hand
 pub record IsForkPrefix (z : Sizes) (u : View) (site : Site) (new : NewLeaf) (parting : Parting) (below : Below) (prefix : List ℕ)
     (number : ℕ) : Type 0 where
-  pub there : HasBelow z u site new parting.depth below
+  pub there : HasBelow z u site new.key.items parting.depth below
   pub prefix_is : prefix_of (word_of below.body.now) ≡ prefix
   pub same : take parting.common prefix ≡ take parting.common (drop parting.depth new.key.items)
   pub made : HasNode z u (node4 number)

@@ -1,69 +1,14 @@
--- What is written where a child word stands, and a change with all its parts.
-use Rattle.std.specs.Prelude.{◌≡◌, ◌<◌, ℕ, ◌+◌, List, [], ◌∷◌, length, map, Option, Some, None, ⊤}
-use Rattle.art_cell.specs.Bodies.{IsBody, IsFull}
-use Rattle.art_cell.specs.Reads.{IsPlan, with_child, word_of}
-use Rattle.art_cell.specs.Words.{child_of}
+-- The node that an insert makes, and what it does.
+use Rattle.std.specs.Prelude.{ℕ}
 use Rattle.art_cell.specs.declared.bodies.Body.{Body}
 use Rattle.art_cell.specs.declared.cells.Node.{Node}
 use Rattle.art_cell.specs.declared.layouts.Layout.TheVariants.{Node4}
-use Rattle.art_cell.specs.declared.writes.Write.{Write}
-use Rattle.art_insert.specs.declared.changes.NewLeaf.{NewLeaf}
+use Rattle.art_insert.specs.declared.leaves.NewLeaf.{NewLeaf}
 use Rattle.art_model.specs.declared.commands.Answer.TheVariants.{Inserted}
-use Rattle.art_node.specs.Prefixes.{IsPrefixPlan}
 use Rattle.art_node.specs.Sizes.{larger}
-use Rattle.art_plan.specs.declared.changes.Change.{Change}
-use Rattle.art_plan.specs.declared.changes.Put.{Put}
-use Rattle.art_plan.specs.declared.changes.Target.{Target}
-use Rattle.art_plan.specs.declared.sites.Site.{Site}
-use Rattle.art_plan.specs.declared.sites.Site.TheVariants.{Root, Slot}
 use Rattle.art_step.specs.declared.deeds.Act.TheVariants.{Insert}
 use Rattle.art_step.specs.declared.deeds.Deed.{Deed}
 use Rattle.art_step.specs.declared.deeds.Deed.TheVariants.{Done}
-
--- ---- the words of a site
-
--- the byte has no child, and the node has a place for one more
-pub record HasRoom (body : Body) (byte : ℕ) : Type 0 where
-  pub meaning : IsBody body.layout (word_of body)
-  pub free : child_of body.layout (word_of body) byte ≡ None
-  pub room : IsFull body.layout (word_of body) → ⊥
-
--- the byte has a child
-pub record HasChild (body : Body) (byte : ℕ) : Type 0 where
-  pub meaning : IsBody body.layout (word_of body)
-  pub child : ℕ
-  pub there : child_of body.layout (word_of body) byte ≡ Some child
-
--- the byte has no child, and the node no place for one
-pub record IsCrowded (body : Body) (byte : ℕ) : Type 0 where
-  pub meaning : IsBody body.layout (word_of body)
-  pub free : child_of body.layout (word_of body) byte ≡ None
-  pub full : IsFull body.layout (word_of body)
-
--- a child may come to the site; the anchor's word may always be written
-abbrev pub IsFree : Site → Type 0
-IsFree (Root x) = ⊤
-IsFree (Slot x body byte) = HasRoom body.now byte
-
--- the site has a child
-abbrev pub IsTaken : Site → Type 0
-IsTaken (Root x) = ⊤
-IsTaken (Slot x body byte) = HasChild body.now byte
-
--- the writes give the site this child word, and no other change
-abbrev pub IsSitePlan : Site → ℕ → List Write → Type 0
-IsSitePlan (Root x) child writes = writes ≡ record { place = 1; value = child } ∷ []
-IsSitePlan (Slot x body byte) child writes =
-    IsPlan body.now.layout (word_of body.now) writes (with_child (child_of body.now.layout (word_of body.now)) byte child)
-
--- the words by which the site gets the child word are more than a change takes
-abbrev pub TakesMany : Site → ℕ → Type 0
-TakesMany site child = (writes : List Write) × IsSitePlan site child writes × (32 < length writes)
-
--- so are these and the words by which the node gets the prefix, together
-abbrev pub BothTakeMany : Site → ℕ → Body → List ℕ → Type 0
-BothTakeMany site child body p = (writes : List Write) × (others : List Write) × IsSitePlan site child writes
-    × IsPrefixPlan body.layout (word_of body) others p × (32 < length writes + length others)
 
 -- the node of four places with this number
 abbrev pub node4 : ℕ → Node
@@ -73,29 +18,6 @@ node4 number = record { layout = Node4; number = number }
 abbrev pub larger_node : Body → ℕ → Node
 larger_node body number = record { layout = larger body.layout; number = number }
 
--- ---- a change
-
--- the word for the target with an index
-abbrev pub put_of : ℕ → Write → Put
-put_of i x = record { target = i; place = x.place; value = x.value }
-
--- the words for it
-abbrev pub puts_of : ℕ → List Write → List Put
-puts_of i writes = map (put_of i) writes
-
 -- the leaf comes
 abbrev pub inserted : NewLeaf → Deed
 inserted new = Done (Insert new.key new.value) Inserted
-
--- the change that locks these targets, puts these words, makes the node with the body where a number is given, links the new leaf and
--- unlinks what has these child words
-abbrev pub change_of : List Target → List Put → Option ℕ → Body → NewLeaf → List ℕ → Change
-change_of ts ps made body new us = record {
-  targets = record { items = ts };
-  puts = record { items = ps };
-  node = made;
-  body = body;
-  leaf = Some new.number;
-  unlinked = record { items = us };
-  deed = inserted new;
-}

@@ -1,19 +1,18 @@
 //! A leaf comes to a free place.
-ghost use Rattle.std.specs.Prelude.{◌≡◌, ◌<◌, ℕ, true, false};
+ghost use Rattle.std.specs.Prelude.{◌≡◌, ◌<◌, ℕ, true, false, Some};
 ghost use Rattle.art_cell.specs.Children.{child_word as word_of_link};
 ghost use Rattle.art_cell.specs.declared.cells.Link.TheVariants.{Leaf as leaf};
 ghost use Rattle.art_insert.specs.Cases.{IsAdd};
-ghost use Rattle.art_insert.specs.Puts.{IsFree, TakesMany, inserted};
+ghost use Rattle.art_insert.specs.Puts.{inserted};
 ghost use Rattle.art_plan.specs.Changes.{IsPlanned, targets};
+ghost use Rattle.art_plan.specs.Puts.{IsFree, TakesMany};
 ghost use Rattle.art_step.specs.declared.views.Sizes.{Sizes};
 ghost use Rattle.art_step.specs.declared.views.View.{View};
 
-use crate::NewLeaf;
-use crate::changes::{begin, lock, put};
-use crate::sites::added;
+use crate::leaves::{NewLeaf, begin};
 use art_cell::Link;
 use art_node::child_word;
-use art_plan::{Change, Site};
+use art_plan::{Change, Site, added, lock, put};
 
 /// The leaf comes to the site, which is free: the anchor that names nothing, or a byte of a node that is not full. False where
 /// the words are more than a change takes.
@@ -23,6 +22,7 @@ pub fn add(change: &mut Change, site: &Site, new: &NewLeaf) -> bool
         → IsPlanned z u change.new }
     ensures targets { result ≡ true → targets change.new ≡ 1 }
     ensures deed { change.new.deed ≡ inserted new.now }
+    ensures leaf { change.new.leaf ≡ Some new.now.number }
     ensures refused { result ≡ false → TakesMany site.now (word_of_link (leaf new.now.number)) }
 {
     let writes = added(site, child_word(Link::Leaf(new.number)));

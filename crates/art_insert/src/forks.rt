@@ -1,22 +1,21 @@
 //! A node comes between a site and what stands there.
-ghost use Rattle.std.specs.Prelude.{◌≡◌, ◌≢◌, ◌+◌, ◌<◌, ◌≤◌, drop, length, slice_index, true, false};
+ghost use Rattle.std.specs.Prelude.{◌≡◌, ◌≢◌, ◌+◌, ◌<◌, ◌≤◌, drop, length, slice_index, true, false, Some};
 ghost use Rattle.art_cell.specs.Bodies.{IsBody};
 ghost use Rattle.art_cell.specs.Children.{child_word as word_of_link};
 ghost use Rattle.art_cell.specs.Reads.{word_of};
 ghost use Rattle.art_cell.specs.declared.cells.Link.TheVariants.{Node as node_link};
 ghost use Rattle.art_insert.specs.Cases.{IsForkLeaf, IsForkPrefix};
-ghost use Rattle.art_insert.specs.Puts.{IsTaken, BothTakeMany, TakesMany, inserted, node4};
+ghost use Rattle.art_insert.specs.Puts.{inserted, node4};
 ghost use Rattle.art_plan.specs.Changes.{IsPlanned, targets};
+ghost use Rattle.art_plan.specs.Puts.{BothTakeMany, IsTaken, TakesMany};
 ghost use Rattle.art_step.specs.declared.views.Sizes.{Sizes};
 ghost use Rattle.art_step.specs.declared.views.View.{View};
 
-use crate::changes::{begin, lock, make, put};
-use crate::sites::replaced;
-use crate::{Below, NewLeaf, Parting};
+use crate::leaves::{NewLeaf, Parting, begin};
 use art_cell::{Layout, Link, Node};
 use art_node::{child_word, fork, plan_prefix};
 use art_path::split;
-use art_plan::{Change, Site};
+use art_plan::{Below, Change, Site, lock, make, put, replaced};
 
 /// Another leaf stands at the site, with this byte where the keys part: a new Node4 has what the keys have in common as its
 /// prefix, and both leaves. False where the words are more than a change takes.
@@ -36,6 +35,7 @@ pub fn fork_leaf(
         → IsPlanned z u change.new }
     ensures targets { result ≡ true → targets change.new ≡ 1 }
     ensures deed { change.new.deed ≡ inserted new.now }
+    ensures leaf { change.new.leaf ≡ Some new.now.number }
     ensures refused { result ≡ false → TakesMany site.now (word_of_link (node_link (node4 made))) }
 {
     let key = new.key.as_slice();
@@ -75,6 +75,7 @@ pub fn fork_prefix(
         → IsPlanned z u change.new }
     ensures targets { result ≡ true → targets change.new ≡ 2 }
     ensures deed { change.new.deed ≡ inserted new.now }
+    ensures leaf { change.new.leaf ≡ Some new.now.number }
     ensures refused { result ≡ false → BothTakeMany site.now (word_of_link (node_link (node4 made))) below.now.body.now
         (drop (parting.common + 1) prefix.now) }
 {

@@ -1,27 +1,26 @@
 //! A full node gives way to a larger one.
-ghost use Rattle.std.specs.Prelude.{◌≡◌, ◌<◌, ℕ, None, true, false};
+ghost use Rattle.std.specs.Prelude.{◌≡◌, ◌<◌, ℕ, None, true, false, Some};
 ghost use Rattle.art_cell.specs.Bodies.{Becomes, IsFull};
 ghost use Rattle.art_cell.specs.Children.{child_word as word_of_link};
 ghost use Rattle.art_cell.specs.Reads.{IsBodyOf, with_child, word_of};
 ghost use Rattle.art_cell.specs.Words.{child_of, prefix_of};
 ghost use Rattle.art_cell.specs.declared.cells.Link.TheVariants.{Node as node_link};
 ghost use Rattle.art_insert.specs.Cases.{IsGrow};
-ghost use Rattle.art_insert.specs.Puts.{IsCrowded, IsTaken, TakesMany, inserted, larger_node};
+ghost use Rattle.art_insert.specs.Puts.{inserted, larger_node};
 ghost use Rattle.art_node.specs.Prefixes.{IsNodeOf};
 ghost use Rattle.art_node.specs.Sizes.{larger};
 ghost use Rattle.art_plan.specs.Changes.{IsPlanned, targets};
+ghost use Rattle.art_plan.specs.Puts.{IsCrowded, IsTaken, TakesMany};
 ghost use Rattle.art_step.specs.declared.views.Sizes.{Sizes};
 ghost use Rattle.art_step.specs.declared.views.View.{View};
 
-use crate::changes::{begin, lock, make, put, unlink};
-use crate::sites::replaced;
-use crate::{Below, NewLeaf};
+use crate::leaves::{NewLeaf, begin};
 use art_cell::{Body, Layout, Link, Node, NodeKind};
 use art_node::child_word;
 use art_node16::Node16;
 use art_node48::Node48;
 use art_node256::Node256;
-use art_plan::{Change, Site};
+use art_plan::{Below, Change, Site, lock, make, put, replaced, unlink};
 
 /// The node below the site has no place for the leaf at the byte: the next larger one has its children and the leaf, and takes
 /// its place. False where the words are more than a change takes.
@@ -39,6 +38,7 @@ pub fn grow(
         → IsGrow z u site.now new.now depth below.now byte (larger_node below.now.body.now made) → IsPlanned z u change.new }
     ensures targets { result ≡ true → targets change.new ≡ 2 }
     ensures deed { change.new.deed ≡ inserted new.now }
+    ensures leaf { change.new.leaf ≡ Some new.now.number }
     ensures refused { result ≡ false → TakesMany site.now (word_of_link (node_link (larger_node below.now.body.now made))) }
 {
     let new_leaf = child_word(Link::Leaf(new.number));

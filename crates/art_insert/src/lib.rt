@@ -32,11 +32,6 @@
 //!
 //! Where the node at the site is not full, the leaf comes to that node: its byte is the site then, and the case is `add`.
 //!
-//! # The parts
-//!
-//! `added` and `replaced` give the words by which a site that is free, or has a child, gets a child word: for a node the plans of
-//! `art_node`, for the anchor its one word. `lock`, `put`, `make` and `unlink` fill in a change, whatever it is for.
-//!
 //! A change takes 32 words at most. The contracts of the nodes do not say how many words they change, though they are few; so
 //! each case answers whether the words fit, and says of what did not fit that it was really more (`TakesMany`).
 //!
@@ -44,19 +39,16 @@
 //!
 //! Of each case (`planned`): where the pass knows what the case says (`specs/Cases.antt`), the change is a plan (`IsPlanned`).
 //! Its targets may be locked and are different cells, its words may be written, and once all of them are, in every tree that is
-//! as the pass knows it, they are a commit of the insert. The lemmas below that are about any change, and serve a removal as
-//! well: what puts make of words (`PutWords`), which words stand at child places (`ChildPlaces`), that words outside a cell do not
-//! matter (`WordsWithin`), what the pass holds and what a tree is then (`ReadyCells`), and the site (`SiteWords`).
+//! as the pass knows it, they are a commit of the insert. What is about any change, and serves a removal as well, stands in
+//! `art_plan`.
 #![tactic(auto)]
 
 mod adds;
-mod changes;
 mod forks;
 mod grows;
-mod sites;
+mod leaves;
 
 pub use adds::add;
-pub use changes::{Below, NewLeaf, Parting, lock, make, put, unlink};
 pub use forks::{fork_leaf, fork_prefix};
 pub use grows::grow;
-pub use sites::{added, replaced};
+pub use leaves::{NewLeaf, Parting};

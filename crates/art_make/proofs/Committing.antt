@@ -28,7 +28,7 @@ use Rattle.art_step.specs.Steps.Commit.{all_retired, coming}
 use Rattle.art_step.specs.Steps.Give.{HandsOver}
 use Rattle.art_step.specs.Steps.Release as release
 use Rattle.art_step.specs.Steps.Release.{IsNodeAmong}
-use Rattle.art_step.specs.Views.{IsHolding, IsInLimbo, IsOnce, Member, links_in_hand}
+use Rattle.art_step.specs.Views.{IsHolding, IsInLimbo, IsOnce, Member, links_in_hand, links_in_limbo}
 use Rattle.art_step.specs.declared.faults.UpgradeFault.{UpgradeFault}
 use Rattle.art_step.specs.declared.faults.UpgradeFault.TheVariants as fault
 use Rattle.art_step.specs.declared.views.Event.{Event}
@@ -124,7 +124,7 @@ module _ (z : Sizes) (u : View) (c : Change) (planned : IsPlanned z u c) where
   -- ---- the commit
 
   module _ (v w : View) (x : Target) (was : IsLocking u c (targets c) c.puts.items (filled_end c) v) (at : target_at c 0 ≡ Some x)
-      (row : (h : Holding) → IsHolding v x.stamp.cell h → commit.Outcome v w c.deed (unlinked c) (coming v (leaf_linked c)) h) where
+      (row : (h : Holding) → IsHolding v x.stamp.cell h → commit.Outcome v w c.deed (unlinked c) (coming v (leaf_linked c)) h) (once : IsOnce (links_in_limbo w.limbo)) where
     top : (h : Holding) × Member h v.held × IsLocked u 0 x c.puts.items h
     top = was.holds.each 0 x (omega arith) planned.some at
 
@@ -154,6 +154,7 @@ module _ (z : Sizes) (u : View) (c : Change) (planned : IsPlanned z u c) where
       };
       pins = o.pins;
       limbo = ap (λ (t : View). t.limbo) o.is ∙ ap (λ (es : List Retired). all_retired o.pins (unlinked c) ++ es) (same_limbo u v was.same);
+      once = once;
       rest = ap (λ (t : View). rest_of (record t { seen = u.seen; own = u.own; held = u.held; committed = u.committed; hand = u.hand; limbo = u.limbo })) o.is ∙ ap (λ (r : Rest). record r { seen = u.seen; own = u.own; hand = u.hand; limbo = u.limbo }) was.same.rest;
       stamps = ap (λ (t : View). t.stamps) o.is ∙ was.same.stamps;
       notes = ap (λ (t : View). t.notes) o.is ∙ was.same.notes;
@@ -178,6 +179,7 @@ module _ (z : Sizes) (u : View) (c : Change) (planned : IsPlanned z u c) where
     hand = subst (λ (t : View). HandsOver u.hand (linked c) t.hand) (sym o.is) was.hand;
     pins = was.pins;
     limbo = ap (λ (t : View). t.limbo) o.is ∙ was.limbo;
+    once = subst (λ (t : View). IsOnce (links_in_limbo t.limbo)) (sym o.is) was.once;
     rest = ap (λ (t : View). rest_of (record t { seen = u.seen; own = u.own; held = u.held; committed = u.committed; hand = u.hand; limbo = u.limbo })) o.is ∙ was.rest;
     stamps = ap (λ (t : View). t.stamps) o.is ∙ was.stamps;
     notes = ap (λ (t : View). t.notes) o.is ∙ was.notes;

@@ -111,6 +111,30 @@ allowed z u v c (GivingUp locked released e) a fits is =
     subst (IsAllowed z c v) k.2 (may_give_up z u c fits.planned released locked e k.0 v fits.stage.0 fits.stage.2 k.1)
 allowed z u v c (Ended r) a fits is = absurd (cc)
 
+-- ---- an upgrade alone is refused
+
+upgrade_asked : (c : Change) (m : Making) (x : Stamp) → asks c m ≡ Some (Upgrade x) → (i : ℕ) × (m ≡ Upgrading i)
+upgrade_asked c (Upgrading i) x is = (i, refl)
+upgrade_asked c Claiming x is = let k = map_some Claim (node_made c) (Upgrade x) is in absurd (cc)
+upgrade_asked c (Filling place) x is = let k = map_some (λ (n : Node). Write (cell.Node n) place (word_of c.body place)) (node_made c) (Upgrade x) is in absurd (cc)
+upgrade_asked c (Writing j) x is =
+    let k = then_some (λ (p : Put). option_map (put_into p) (target_at c p.target)) (put_at c j) (Upgrade x) is in
+    let q = map_some (put_into k.0) (target_at c k.0.target) (Upgrade x) k.2 in
+    absurd (cc)
+upgrade_asked c Committing x is = let k = map_some (λ (y : Target). Commit y.stamp.cell y.obsolete) (target_at c 0) (Upgrade x) is in absurd (cc)
+upgrade_asked c (Releasing i) x is = let k = map_some releases (target_at c i) (Upgrade x) is in absurd (cc)
+upgrade_asked c ReleasingNode x is = let k = map_some (λ (n : Node). Release (cell.Node n) false) (node_made c) (Upgrade x) is in absurd (cc)
+upgrade_asked c (GivingUp locked released e) x is = let k = map_some (λ (y : Target). Release y.stamp.cell false) (target_at c released) (Upgrade x) is in absurd (cc)
+upgrade_asked c (Ended r) x is = absurd (cc)
+
+-- what is refused was an upgrade
+pub refused_upgrade : (c : Change) (m : Making) (a : Asked) (r : Result ⊤ UpgradeFault) (v w : View) → asks c m ≡ Some a → Answers c a (Upgraded r) v w → (i : ℕ) × (m ≡ Upgrading i)
+refused_upgrade c m (Upgrade x) r v w is row = upgrade_asked c m x is
+refused_upgrade c m (Claim n) r v w is row = absurd row
+refused_upgrade c m (Write d i x) r v w is row = absurd row
+refused_upgrade c m (Commit d b) r v w is row = absurd row
+refused_upgrade c m (Release d b) r v w is row = absurd row
+
 -- ---- few steps
 
 few_words : (k : Layout) → size k ≤ 266
@@ -157,7 +181,7 @@ refused_counts : (v w : View) (x : Stamp) (e : UpgradeFault) → upgrade.Refused
 refused_counts v w x (fault.Changed e) k = let is = ap (λ (t : View). t.steps) k.3.is in omega arith
 refused_counts v w x (fault.Exhausted e) k = let is = ap (λ (t : View). t.steps) k.2 in omega arith
 
-counts : (z : Sizes) (v w : View) (c : Change) (a : Asked) (answer : Answer) → IsAllowed z c v a → Answers c a answer v w → w.steps ≤ v.steps + 1
+pub counts : (z : Sizes) (v w : View) (c : Change) (a : Asked) (answer : Answer) → IsAllowed z c v a → Answers c a answer v w → w.steps ≤ v.steps + 1
 counts z v w c (Upgrade x) (Upgraded (Ok done)) may row = let is = ap (λ (t : View). t.steps) row.is in omega arith
 counts z v w c (Upgrade x) (Upgraded (Err e)) may row = refused_counts v w x e row
 counts z v w c (Upgrade x) Done may row = absurd row
@@ -166,7 +190,7 @@ counts z v w c (Claim n) Done may row = let is = ap (λ (t : View). t.steps) row
 counts z v w c (Write d i x) (Upgraded r) may row = absurd row
 counts z v w c (Write d i x) Done may row = let o = row may.holding (may.may.held, may.cell) in let is = ap (λ (t : View). t.steps) o.is in omega arith
 counts z v w c (Commit d b) (Upgraded r) may row = absurd row
-counts z v w c (Commit d b) Done may row = let o = row may.holding (may.first.held, may.cell) in let is = ap (λ (t : View). t.steps) o.is in omega arith
+counts z v w c (Commit d b) Done may row = let o = row.outcome may.holding (may.first.held, may.cell) in let is = ap (λ (t : View). t.steps) o.is in omega arith
 counts z v w c (Release d b) (Upgraded r) may row = absurd row
 counts z v w c (Release d b) Done may row = let o = row may.holding (may.may.0, may.cell) in let is = ap (λ (t : View). t.steps) o.is in omega arith
 
@@ -222,7 +246,7 @@ module _ (z : Sizes) (u v w : View) (c : Change) (a : Asked) (answer : Answer) w
     where
       by_answer : (x : Target) → target_at c 0 ≡ Some x → (r : Answer) → Answers c (Commit x.stamp.cell x.obsolete) r v w → IsReleasing u c 1 w
       by_answer x at (Upgraded r) row = absurd row
-      by_answer x at Done row = commit_on z u c fits.planned v w x fits.stage at row
+      by_answer x at Done row = commit_on z u c fits.planned v w x fits.stage at row.outcome row.once
 
   pub told_release : (i : ℕ) → Fits z c (Releasing i) u v → asks c (Releasing i) ≡ Some a → Answers c a answer v w → IsReleasing u c (i + 1) w
   told_release i fits is row =

@@ -14,7 +14,7 @@ use Rattle.art_step.specs.Steps.Commit as commit
 use Rattle.art_step.specs.Steps.Release as release
 use Rattle.art_step.specs.Steps.Upgrade as upgrade
 use Rattle.art_step.specs.Steps.Write as write
-use Rattle.art_step.specs.Views.{IsChildPlace, IsChildWord, IsHolding, MayLock, Member, note_of}
+use Rattle.art_step.specs.Views.{IsChildPlace, IsChildWord, IsHolding, IsOnce, MayLock, Member, links_in_limbo, note_of}
 use Rattle.art_step.specs.WordPlaces.{HasVersion, IsInside}
 use Rattle.art_step.specs.declared.faults.UpgradeFault.{UpgradeFault}
 use Rattle.art_step.specs.declared.views.Fact.TheVariants.{Starts}
@@ -71,12 +71,16 @@ abbrev pub Upgrades : View → View → Stamp → Result ⊤ UpgradeFault → Ty
 Upgrades v w x (Ok done) = upgrade.Locks v w x
 Upgrades v w x (Err e) = upgrade.Refused v w x e
 
+-- the change was committed, by the release of the cell; each number waits in limbo once
+pub record Commits (v w : View) (ch : Change) (c : Cell) : Type 0 where
+  pub outcome : (h : Holding) → IsHolding v c h → commit.Outcome v w ch.deed (unlinked ch) (commit.coming v (leaf_linked ch)) h
+  pub once : IsOnce (links_in_limbo w.limbo)
+
 -- the step was made, or an upgrade was refused
 abbrev pub Answers : Change → Asked → Answer → View → View → Type 0
 Answers ch (Upgrade x) (Upgraded r) v w = Upgrades v w x r
 Answers ch (Claim n) Done v w = claim.Outcome v w n
 Answers ch (Write c i x) Done v w = (h : Holding) → IsHolding v c h → write.Outcome v w h i x
-Answers ch (Commit c b) Done v w =
-    (h : Holding) → IsHolding v c h → commit.Outcome v w ch.deed (unlinked ch) (commit.coming v (leaf_linked ch)) h
+Answers ch (Commit c b) Done v w = Commits v w ch c
 Answers ch (Release c b) Done v w = (h : Holding) → IsHolding v c h → release.Outcome v w h
 Answers ch asked answer v w = ⊥

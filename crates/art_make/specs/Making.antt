@@ -19,7 +19,7 @@ use Rattle.art_step.specs.Events.{MakesEvent}
 use Rattle.art_step.specs.Shows.{rest_of}
 use Rattle.art_step.specs.Steps.Commit.{all_retired}
 use Rattle.art_step.specs.Steps.Give.{HandsOver}
-use Rattle.art_step.specs.Views.{Member, last_counter}
+use Rattle.art_step.specs.Views.{IsOnce, Member, last_counter, links_in_limbo}
 use Rattle.art_step.specs.declared.faults.UpgradeFault.{UpgradeFault}
 use Rattle.art_step.specs.declared.faults.UpgradeFault.TheVariants as fault
 use Rattle.art_step.specs.declared.views.Pin.{Pin}
@@ -52,6 +52,12 @@ asks c (Ended r) = None
 abbrev pub ended_at : Making → Option (Result ⊤ UpgradeFault)
 ended_at (Ended r) = Some r
 ended_at stage = None
+
+-- the fault for which it is given up, if it is
+abbrev pub fault_of : Making → Option UpgradeFault
+fault_of (GivingUp locked released e) = Some e
+fault_of (Ended (Err e)) = Some e
+fault_of stage = None
 
 -- ---- how far it has come
 
@@ -97,12 +103,13 @@ pub record GivesUp (u : View) (c : Change) (from to : ℕ) (e : UpgradeFault) (v
 abbrev pub linked : Change → List Link
 linked c = cons_option (leaf_linked c) (cons_option (option_map node (node_made c)) [])
 
--- the event was made: what comes left the hand, what goes is in limbo, and nothing else changed but what is held
+-- the event was made: what comes left the hand, what goes is in limbo, each number once, and nothing else changed but what is held
 pub record IsCommitted (u : View) (c : Change) (v : View) : Type 0 where
   pub event : MakesEvent u v c.deed
   pub hand : HandsOver u.hand (linked c) v.hand
   pub pins : List Pin
   pub limbo : v.limbo ≡ all_retired pins (unlinked c) ++ u.limbo
+  pub once : IsOnce (links_in_limbo v.limbo)
   pub rest :
       rest_of (record v { seen = u.seen; own = u.own; held = u.held; committed = u.committed; hand = u.hand; limbo = u.limbo }) ≡ rest_of u
   pub stamps : v.stamps ≡ u.stamps

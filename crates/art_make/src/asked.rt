@@ -4,7 +4,7 @@ ghost use Rattle.art_make.specs.Asking.{Answers, IsAllowed, MayCommit, MayUpgrad
 ghost use Rattle.art_plan.specs.Changes.{leaf_linked, unlinked};
 ghost use Rattle.art_step.specs.Deeds.{IsAdmitted};
 ghost use Rattle.art_step.specs.Steps.Commit as commit;
-ghost use Rattle.art_step.specs.Views.{IsHolding};
+ghost use Rattle.art_step.specs.Views.{IsHolding, IsOnce, links_in_limbo};
 ghost use Rattle.art_step.specs.declared.views.Holding.{Holding as HoldingOf};
 
 use art_cell::{Cell, Link, Node};
@@ -83,6 +83,7 @@ fn commit<S: Steps>(steps: &mut S, cell: Cell, obsolete: bool, change: &Change)
     requires may { MayCommit (S.sizes steps.old) (S.view steps.old) change.now cell obsolete }
     requires admitted { IsAdmitted (S.admits steps.old) change.now.deed }
     ensures only { S.only steps.old steps.new }
+    ensures once { IsOnce (links_in_limbo (S.view steps.new).limbo) }
     ensures row { (h : HoldingOf) → IsHolding (S.view steps.old) cell h →
         commit.Outcome (S.view steps.old) (S.view steps.new) change.now.deed (unlinked change.now)
         (commit.coming (S.view steps.old) (leaf_linked change.now)) h }

@@ -2,10 +2,13 @@
 ghost use Rattle.std.specs.Prelude.{◌≡◌, ℕ, ◌+◌, ◌<◌, ◌≤◌, [], take, length, Some};
 ghost use Rattle.art_make.specs.Asking.{Answers};
 ghost use Rattle.art_plan.specs.Changes.{IsPlanned, filled_end, target_at, targets};
-ghost use Rattle.art_make.specs.Making.{GivesUp, IsLocking, IsReleasing, StageFits, most_steps};
+ghost use Rattle.std.specs.Prelude.{Err};
+ghost use Rattle.art_make.specs.Making.{GivesUp, IsLocking, IsReleasing, StageFits, fault_of, most_steps};
+ghost use Rattle.art_make.specs.declared.asked.Answer.TheVariants.{Upgraded as upgraded};
 ghost use Rattle.art_make.specs.declared.asked.Asked.TheVariants.{Upgrade as upgrade};
 ghost use Rattle.art_plan.specs.declared.changes.Change.{Change as ChangeOf};
 ghost use Rattle.art_plan.specs.declared.changes.Target.{Target as TargetOf};
+ghost use Rattle.art_step.specs.declared.faults.UpgradeFault.{UpgradeFault as FaultOf};
 ghost use Rattle.art_step.specs.declared.views.Sizes.{Sizes};
 ghost use Rattle.art_step.specs.declared.views.Stamp.{Stamp as StampOf};
 ghost use Rattle.art_step.specs.declared.views.View.{View};
@@ -42,14 +45,19 @@ impl Making {
     ghost use Rattle.std.specs.Prelude.{ℕ, ◌+◌, ◌<◌, ◌≤◌, [], Some, None, IfSome};
     ghost use Rattle.art_make.specs.Asking.{Answers, IsAllowed};
     ghost use Rattle.art_plan.specs.Changes.{IsPlanned};
-    ghost use Rattle.art_make.specs.Making.{Fits, IsOver, asks, ended_at, most_steps};
+    ghost use Rattle.std.specs.Prelude.{Err};
+    ghost use Rattle.art_make.specs.Making.{Fits, IsOver, asks, ended_at, fault_of, most_steps};
+    ghost use Rattle.art_make.specs.declared.asked.Answer.TheVariants.{Upgraded as upgraded};
     ghost use Rattle.art_make.specs.declared.asked.Asked.{Asked as AskedStep};
+    ghost use Rattle.art_make.specs.declared.making.Making.TheVariants.{Upgrading as upgrading};
     ghost use Rattle.art_plan.specs.declared.changes.Change.{Change as ChangeOf};
+    ghost use Rattle.art_step.specs.declared.faults.UpgradeFault.{UpgradeFault as FaultOf};
     ghost use Rattle.art_step.specs.declared.views.Sizes.{Sizes};
     ghost use Rattle.art_step.specs.declared.views.View.{View};
 
     /// At its beginning: nothing is locked. A change without a target and without a word is over.
     pub fn new(change: &Change) -> Making
+        ensures begun { 0 < targets change.now → result ≡ upgrading 0 }
         ensures going { 0 < targets change.now → ended_at result ≡ None }
         ensures fits { (z : Sizes) (u : View) → IsPlanned z u change.now → u.held ≡ [] → Fits z change.now result u u }
     {
@@ -75,6 +83,8 @@ impl Making {
         requires fits { (z : Sizes) × (u : View) × (v : View) × (w : View) × (asked : AskedStep) × Fits z change.now self.old u v ×
             (asks change.now self.old ≡ Some asked) × Answers change.now asked answer v w }
         ensures steps { most_steps self.old < most_steps self.new }
+        ensures stays { (e : FaultOf) → fault_of self.old ≡ Some e → fault_of self.new ≡ Some e }
+        ensures refused { (e : FaultOf) → answer ≡ upgraded (Err e) → fault_of self.new ≡ Some e }
         ensures fits { (z : Sizes) (u v w : View) (asked : AskedStep) → Fits z change.now self.old u v →
             asks change.now self.old ≡ Some asked → Answers change.now asked answer v w → Fits z change.now self.new u w }
     {
@@ -141,6 +151,7 @@ fn upgraded(change: &Change, index: usize, answer: Answer) -> Making
     requires three { index < 3 }
     requires answer { (x : StampOf) × (v : View) × (w : View) × Answers change.now (upgrade x) answer v w }
     ensures steps { index < most_steps result }
+    ensures refused { (e : FaultOf) → answer ≡ upgraded (Err e) → fault_of result ≡ Some e }
     ensures fits { (z : Sizes) (u v w : View) (x : TargetOf) → IsPlanned z u change.now → target_at change.now index ≡ Some x →
         IsLocking u change.now index [] 0 v → Answers change.now (upgrade x.stamp) answer v w → StageFits change.now result u w }
 {
@@ -216,6 +227,7 @@ fn given_up(locked: usize, count: usize, fault: UpgradeFault) -> Making
     requires few { count ≤ locked }
     requires three { locked ≤ 3 }
     ensures steps { 4 + count ≤ most_steps result }
+    ensures fault { fault_of result ≡ Some fault }
     ensures fits { (c : ChangeOf) (u v : View) → locked ≤ targets c → GivesUp u c count locked fault v → StageFits c result u v }
 {
     if count < locked {

@@ -24,7 +24,7 @@ pub struct Packing {
 }
 
 impl Packing {
-    ghost use Rattle.std.specs.Prelude.{List, None, Some, IfSome, ◌+◌};
+    ghost use Rattle.std.specs.Prelude.{List, None, Some, IfSome, ◌+◌, ◌==◌};
     ghost use Rattle.art_commit.specs.CommitLaws.{HasLeaf};
     ghost use Rattle.art_make.specs.Packing.{PackingFits, word_asked};
     ghost use Rattle.art_make.specs.declared.packing.LeafWrite.{LeafWrite as Written};
@@ -54,6 +54,13 @@ impl Packing {
         } else {
             None
         }
+    }
+
+    /// Whether all words are written.
+    pub fn is_over(&self) -> bool
+        ensures { result ≡ (self.now.place == 10) }
+    {
+        self.place == 10
     }
 
     /// The word was written.

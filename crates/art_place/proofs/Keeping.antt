@@ -11,7 +11,7 @@ use Rattle.art_cell.specs.declared.layouts.Layout.{Layout}
 use Rattle.art_cell.specs.declared.layouts.Layout.TheVariants.{Node4, Node16, Node48, Node256}
 use Rattle.art_cell.specs.Reads.{word_read}
 use Rattle.art_cell.specs.Words.{size}
-use Rattle.art_place.specs.Kept.{HasPath, IsKept, WasReadAt}
+use Rattle.art_place.specs.Kept.{HasPath, IsKept, StaysRead, WasReadAt}
 use Rattle.art_place.specs.Rereadings.{AreKnown}
 use Rattle.art_step.specs.Knowledge.{CellAt}
 use Rattle.art_step.specs.Shows.{HasChild, HasStamp, Shows}
@@ -148,6 +148,13 @@ module _ (reads : List (Option ℕ)) (room : length reads ≡ 266) (place word :
           | inr there ↦ still.each at other (sym (note_there at there) ∙ is)
         ];
       }
+
+-- where it was not known, the words that were known stay so
+pub note_stays : (reads now : List (Option ℕ)) (place word : ℕ) → now ≡ set reads place (Some word) → word_read reads place ≡ None → StaysRead reads now
+note_stays reads now place word is unknown at known was = elim (cases_eq at place) [
+  | inl here ↦ let no : None ≡ Some known = sym unknown ∙ sym (ap (word_read reads) here) ∙ was in cc
+  | inr other ↦ ap (λ (r : List (Option ℕ)). word_read r at) is ∙ get_or-set_other reads place at (Some word) None other ∙ was
+]
 
 -- words that are known in a row, and in the next one
 pub known_both : (reads : List (Option ℕ)) (from middle end : ℕ) → AreKnown reads from middle → AreKnown reads middle end → AreKnown reads from end

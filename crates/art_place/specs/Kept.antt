@@ -22,3 +22,7 @@ pub record IsKept (z : Sizes) (v : View) (x : Stamp) (reads : List (Option ℕ))
 -- a path to the stamp's cell was noted
 abbrev pub HasPath : View → Stamp → Type 0
 HasPath v x = (q : List ℕ) × Member (note_of x (Starts q)) v.notes
+
+-- each word that was known before is known after, and the same
+abbrev pub StaysRead : List (Option ℕ) → List (Option ℕ) → Type 0
+StaysRead old new = (place word : ℕ) → word_read old place ≡ Some word → word_read new place ≡ Some word

@@ -19,10 +19,11 @@ AreKnown reads from end = (place : ℕ) → from ≤ place → place < end → (
 abbrev pub reads_next : Stamp → Rereading → Option Asked
 reads_next x m = if nat_lt m.place (size_of x.cell) then Some (Read x m.place) else None
 
--- the cell is stamped and not held, and what is kept of it has all words before the place
+-- the cell is stamped and not held, and what is kept of it has all words before the place, and not the one at the place
 pub record RereadingFits (z : Sizes) (v : View) (x : Stamp) (m : Rereading) (reads : List (Option ℕ)) : Type 0 where
   pub free : IsNotHeld v.held x.cell
   pub stamp : HasStamp z v x
   pub kept : IsKept z v x reads
   pub after : 0 < m.place
   pub known : AreKnown reads 1 m.place
+  pub unknown : m.place < 266 → word_read reads m.place ≡ None

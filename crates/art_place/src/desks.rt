@@ -17,6 +17,8 @@ pub struct Desk {
 }
 
 impl Desk {
+    ghost use Rattle.art_cell.specs.Reads.{word_read};
+    ghost use Rattle.art_place.specs.Kept.{StaysRead};
     ghost use Rattle.art_place.specs.Rereadings.{RereadingFits};
     ghost use Rattle.art_step.specs.Steps.Read.{Outcome as ReadOutcome};
     ghost use Rattle.art_step.specs.Views.{size_of};
@@ -64,6 +66,7 @@ impl Desk {
         ensures steps { rereading.old.place < rereading.new.place }
         ensures few { rereading.new.place ≤ 266 }
         ensures above { above_of self.new ≡ above_of self.old }
+        ensures stays { word_read (node_of self.old) rereading.old.place ≡ None → StaysRead (node_of self.old) (node_of self.new) }
         ensures fits { (z : Sizes) (v w : View) (x : Stamp) → RereadingFits z v x rereading.old (node_of self.old) →
             rereading.old.place < size_of x.cell → ReadOutcome z v w x rereading.old.place word →
             RereadingFits z w x rereading.new (node_of self.new) }

@@ -20,7 +20,7 @@ pub struct Rereading {
 
 impl Rereading {
     ghost use Rattle.art_find.specs.Asking.{IsAllowed};
-    ghost use Rattle.art_place.specs.Kept.{IsKept};
+    ghost use Rattle.art_place.specs.Kept.{IsKept, StaysRead};
     ghost use Rattle.art_place.specs.Rereadings.{RereadingFits, reads_next};
     ghost use Rattle.art_step.specs.Steps.Read.{Outcome as ReadOutcome};
     ghost use Rattle.art_step.specs.Views.{IsNotHeld};
@@ -62,6 +62,7 @@ impl Rereading {
         requires { self.old.place < 266 }
         ensures steps { self.old.place < self.new.place }
         ensures few { self.new.place ≤ 266 }
+        ensures stays { word_read reads.old self.old.place ≡ None → StaysRead reads.old reads.new }
         ensures fits { (z : Sizes) (v w : View) (x : StampOf) → RereadingFits z v x self.old reads.old →
             self.old.place < size_of x.cell → ReadOutcome z v w x self.old.place word → RereadingFits z w x self.new reads.new }
     {

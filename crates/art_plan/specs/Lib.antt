@@ -1,2 +1,3 @@
 pub mod Changes
+pub mod Puts
 pub mod Seen

@@ -1,13 +1,15 @@
 -- What a pass has read of the cells that a change writes, and where a child word stands in them.
-use Rattle.std.specs.Prelude.{◌≡◌, ℕ, ◌<◌, ◌≤◌, List, take, false, Option}
+use Rattle.std.specs.Prelude.{◌≡◌, ◌≢◌, ℕ, ◌<◌, ◌≤◌, List, take, false, Option, Some}
 use Rattle.art_cell.specs.Reads.{word_of}
 use Rattle.art_cell.specs.Words.{size}
 use Rattle.art_cell.specs.declared.bodies.Body.{Body}
 use Rattle.art_cell.specs.declared.cells.Cell.TheVariants as cells
 use Rattle.art_cell.specs.declared.cells.Link.{Link}
+use Rattle.art_cell.specs.declared.cells.Link.TheVariants.{Node as node}
 use Rattle.art_cell.specs.declared.cells.Node.{Node}
 use Rattle.art_plan.specs.Changes.{MayTarget}
 use Rattle.art_plan.specs.declared.changes.Target.{Target}
+use Rattle.art_plan.specs.declared.parts.Below.{Below}
 use Rattle.art_plan.specs.declared.sites.Site.{Site}
 use Rattle.art_plan.specs.declared.sites.Site.TheVariants.{Root, Slot}
 use Rattle.art_step.specs.Shows.{Shows}
@@ -19,6 +21,7 @@ use Rattle.art_step.specs.declared.views.View.{View}
 use Rattle.art_tree.specs.Heaps.{Cells, heap_of}
 use Rattle.art_tree.specs.Tree.{PlaceAt, child_at_place}
 use Rattle.art_tree.specs.Tree as tree
+use Rattle.art_tree.specs.WordChanges.{FitsWord}
 
 -- ---- cells that were read
 
@@ -69,3 +72,10 @@ pub record IsAtSlot (z : Sizes) (u : View) (x : Stamp) (body : Body) (byte : ℕ
 abbrev pub SiteFits : Sizes → View → Site → List ℕ → ℕ → Option Link → Type 0
 SiteFits z u (Root x) k depth o = IsAtRoot z u x (take depth k) o
 SiteFits z u (Slot x body byte) k depth o = IsAtSlot z u x body.now byte (take depth k) o
+
+-- the site, to which so many bytes of the key lead, has a node, another cell than its own, that was read whole
+pub record HasBelow (z : Sizes) (u : View) (site : Site) (k : List ℕ) (depth : ℕ) (below : Below) : Type 0 where
+  pub place : SiteFits z u site k depth (Some (node below.node))
+  pub read : IsReadWhole z u below.stamp below.node below.body.now
+  pub apart : (site_stamp site).cell ≢ cells.Node below.node
+  pub fits : FitsWord (node below.node)

@@ -36,6 +36,7 @@ pub struct Put {
 }
 
 /// What is done at one commit.
+#[derive(Drop)]
 pub struct Change {
     /// The cells that it locks, from the top down.
     pub targets: ArrayVec<Target, 3>,

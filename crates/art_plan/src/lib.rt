@@ -25,11 +25,20 @@
 //! That the words of a target are those that were noted under its stamp is known only once it is locked, so `IsReady` speaks
 //! of the words that were found then, which agree with the notes (`IsLocked`).
 //!
-//! The cases of an insert are planned in `art_insert`. `art_make` makes a change that was planned.
+//! # The parts
+//!
+//! A change is filled in place, part by part: `begin` empties it, and `lock`, `put`, `make` and `unlink` give it what it
+//! locks, writes, makes and unlinks. `added`, `replaced` and `dropped` give the words by which a `Site`, where a child word
+//! stands, gets a child, another one, or none: for a node by the plans of `art_node`, for the anchor its one word.
+//!
+//! The cases of an insert are planned in `art_insert`, those of a removal in `art_remove`. `art_make` makes a change that was
+//! planned.
 #![tactic(auto)]
 
 mod changes;
+mod parts;
 mod sites;
 
 pub use changes::{Change, Put, Target};
-pub use sites::Site;
+pub use parts::{Below, begin, lock, make, put, unlink};
+pub use sites::{Site, added, dropped, replaced};

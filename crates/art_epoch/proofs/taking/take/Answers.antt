@@ -1,8 +1,10 @@
 -- The steps are those of the machine.
-use Rattle.std.proofs.Common.{◌∙◌, refl, sym, subst}
+use Rattle.std.proofs.Common.{◌∙◌, ◌+◌, ℕ, ap, refl, sym, subst}
 use Rattle.art_epoch.specs.Asking.{Answers}
 use Rattle.art_cell.specs.declared.layouts.Pool.{Pool}
-use Rattle.art_epoch.specs.Taking.{Fits, Takes}
+use Rattle.art_epoch.proofs.Searching.{few_looks}
+use Rattle.art_epoch.specs.Taking.{Fits, MadeFew, Takes}
+use Rattle.art_step.specs.WordPlaces.{free_words, pool_size}
 use Rattle.art_step.specs.declared.views.Sizes.{Sizes}
 use Rattle.art_epoch.proofs.taking.take.Goals as goal
 
@@ -39,3 +41,13 @@ returns-clause-takes g c =
     let i = c.loop-asked.invariant in
     let z = g.S.Steps.sizes s in
     subst (λ (p : Pool). Takes z (g.S.Steps.view s) (g.S.Steps.view t) p c.number.result) i.pool (c.number.ensures z (g.S.Steps.view s) (g.S.Steps.view t) i.fits)
+
+pub returns-clause-counted : goal.returns-clause-counted
+returns-clause-counted g c =
+    let s = c.args.steps.now in
+    let t = c.loop-asked.steps in
+    let i = c.loop-asked.invariant in
+    let z = g.S.Steps.sizes s in
+    let words = i.fits.words ∙ ap (λ (p : Pool). free_words (pool_size z p)) i.pool in
+    subst (λ (n : ℕ). MadeFew (g.S.Steps.view s) (g.S.Steps.view t) (n + 1)) words
+    (few_looks z (g.S.Steps.view s) c.loop-asked.taking (g.S.Steps.view t) i.fits)

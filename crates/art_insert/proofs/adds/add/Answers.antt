@@ -1,7 +1,8 @@
-use Rattle.std.proofs.Common.{◌≡◌, false, [], ◌∷◌, List, None, ap, ap₂, subst, sym, ◌∙◌}
+use Rattle.std.proofs.Common.{◌≡◌, false, [], ◌∷◌, List, Some, None, ap, ap₂, subst, sym, ◌∙◌}
 use Rattle.art_cell.specs.declared.writes.Write.{Write}
-use Rattle.art_insert.specs.Puts.{IsSitePlan, change_of, puts_of}
-use Rattle.art_insert.proofs.MadeChanges.{free_meaning, put_deed, with_more_puts, with_target}
+use Rattle.art_insert.specs.Puts.{inserted}
+use Rattle.art_plan.specs.Puts.{IsSitePlan, change_of, puts_of}
+use Rattle.art_plan.proofs.MadeChanges.{free_meaning, put_deed, put_leaf, with_more_puts, with_target}
 use Rattle.art_insert.proofs.PlannedAdds.{add_planned}
 use Rattle.art_plan.specs.Changes.{IsPlanned}
 use Rattle.art_plan.specs.Seen.{kept, site_stamp}
@@ -15,13 +16,18 @@ returns-clause-planned c = λ done z u depth knows.
     let new = c.args.new.now in
     let body = c.args.change.now.body in
     let writes = c.added-writes.result.items in
-    let is : c.put.new.change ≡ change_of (kept (site_stamp site) ∷ []) (puts_of 0 writes) None body new [] =
+    let is : c.put.new.change ≡ change_of (kept (site_stamp site) ∷ []) (puts_of 0 writes) None body (Some new.number) [] (inserted new) =
     c.put.ensures.put done
     ∙ ap (with_more_puts 0 c.as_slice.result.now) (c.lock.ensures ∙ ap (with_target c.stamp.result false) c.begin.ensures)
-    ∙ ap₂ (λ (x : Stamp) (ws : List Write). change_of (kept x ∷ []) (puts_of 0 ws) None body new []) c.stamp.ensures c.as_slice.ensures.value in
+    ∙ ap₂ (λ (x : Stamp) (ws : List Write). change_of (kept x ∷ []) (puts_of 0 ws) None body (Some new.number) [] (inserted new)) c.stamp.ensures c.as_slice.ensures.value in
     subst (IsPlanned z u) (sym is) (add_planned z u site new depth body writes knows (subst (λ w. IsSitePlan site w writes) c.child_word.ensures c.added-writes.ensures) (free_meaning site c.requires))
 
 pub returns-clause-deed : goal.returns-clause-deed
 returns-clause-deed c =
     put_deed c.lock.new.change c.put.new.change 0 c.as_slice.result.now c.put.result (record { put = c.put.ensures.put; same = c.put.ensures.kept })
     ∙ ap (λ (ch : Change). ch.deed) (c.lock.ensures ∙ ap (with_target c.stamp.result false) c.begin.ensures)
+
+pub returns-clause-leaf : goal.returns-clause-leaf
+returns-clause-leaf c =
+    put_leaf c.lock.new.change c.put.new.change 0 c.as_slice.result.now c.put.result (record { put = c.put.ensures.put; same = c.put.ensures.kept })
+    ∙ ap (λ (ch : Change). ch.leaf) (c.lock.ensures ∙ ap (with_target c.stamp.result false) c.begin.ensures)

@@ -3,9 +3,10 @@ use Rattle.art_cell.specs.Children.{child_word}
 use Rattle.art_cell.specs.Reads.{word_of}
 use Rattle.art_cell.specs.declared.cells.Link.TheVariants.{Leaf as leaf}
 use Rattle.art_cell.specs.declared.writes.Write.{Write}
-use Rattle.art_insert.specs.Puts.{IsSitePlan, change_of, puts_of}
-use Rattle.art_insert.proofs.MadeChanges.{put_deed, taken_meaning, with_made, with_more_puts, with_target}
-use Rattle.art_insert.proofs.MadeNodes.{between, fork_node}
+use Rattle.art_insert.specs.Puts.{inserted}
+use Rattle.art_plan.specs.Puts.{IsSitePlan, change_of, puts_of}
+use Rattle.art_plan.proofs.MadeChanges.{put_deed, put_leaf, taken_meaning, with_made, with_more_puts, with_target}
+use Rattle.art_insert.proofs.ForkNodes.{between, fork_node}
 use Rattle.art_insert.proofs.PlannedForks.{fork_leaf_planned}
 use Rattle.art_plan.specs.Changes.{IsPlanned}
 use Rattle.art_plan.specs.Seen.{kept, site_stamp}
@@ -24,10 +25,10 @@ returns-clause-planned c = λ done z u knows.
     let forked = fork_node (word_of body) (take (parting.depth + parting.common - parting.depth) (drop parting.depth key)) (take parting.common (drop parting.depth new.key.items)) key new.key.items (parting.depth + parting.common) c.args.byte
     c.child_word-old_leaf.result c.child_word-new_leaf.result (child_word (leaf c.args.other)) (child_word (leaf new.number))
     (between key new.key.items parting.depth parting.common c.as_slice-key.ensures.value) c.as_slice-key.ensures.value c.child_word-old_leaf.ensures c.child_word-new_leaf.ensures c.fork-body.ensures.node in
-    let is : c.put.new.change ≡ change_of (kept (site_stamp site) ∷ []) (puts_of 0 writes) (Some c.args.made) body new [] =
+    let is : c.put.new.change ≡ change_of (kept (site_stamp site) ∷ []) (puts_of 0 writes) (Some c.args.made) body (Some new.number) [] (inserted new) =
     c.put.ensures.put done
     ∙ ap (with_more_puts 0 c.as_slice.result.now) (c.make.ensures ∙ ap (with_made c.args.made body) (c.lock.ensures ∙ ap (with_target c.stamp.result false) c.begin.ensures))
-    ∙ ap₂ (λ (x : Stamp) (ws : List Write). change_of (kept x ∷ []) (puts_of 0 ws) (Some c.args.made) body new []) c.stamp.ensures c.as_slice.ensures.value in
+    ∙ ap₂ (λ (x : Stamp) (ws : List Write). change_of (kept x ∷ []) (puts_of 0 ws) (Some c.args.made) body (Some new.number) [] (inserted new)) c.stamp.ensures c.as_slice.ensures.value in
     subst (IsPlanned z u) (sym is)
     (fork_leaf_planned z u site new parting c.args.other c.args.byte c.args.made body writes knows (subst (λ (w : ℕ). IsSitePlan site w writes) c.child_word-new_node.ensures c.replaced-writes.ensures)
     c.requires.inside (omega (arith, c.ranges.other.fits)) (omega (arith, c.ranges.byte.fits)) c.requires.apart c.fork-body.ensures.layout forked (taken_meaning site c.requires.taken))
@@ -36,3 +37,8 @@ pub returns-clause-deed : goal.returns-clause-deed
 returns-clause-deed c =
     put_deed c.make.new.change c.put.new.change 0 c.as_slice.result.now c.put.result (record { put = c.put.ensures.put; same = c.put.ensures.kept })
     ∙ ap (λ (ch : Change). ch.deed) (c.make.ensures ∙ ap (with_made c.args.made c.fork-body.result) (c.lock.ensures ∙ ap (with_target c.stamp.result false) c.begin.ensures))
+
+pub returns-clause-leaf : goal.returns-clause-leaf
+returns-clause-leaf c =
+    put_leaf c.make.new.change c.put.new.change 0 c.as_slice.result.now c.put.result (record { put = c.put.ensures.put; same = c.put.ensures.kept })
+    ∙ ap (λ (ch : Change). ch.leaf) (c.make.ensures ∙ ap (with_made c.args.made c.fork-body.result) (c.lock.ensures ∙ ap (with_target c.stamp.result false) c.begin.ensures))

@@ -4,9 +4,10 @@ use Rattle.art_cell.specs.Children.{child_word}
 use Rattle.art_cell.specs.Reads.{word_of}
 use Rattle.art_cell.specs.declared.cells.Link.TheVariants.{Leaf as leaf, Node as node}
 use Rattle.art_cell.specs.declared.writes.Write.{Write}
-use Rattle.art_insert.specs.Puts.{IsSitePlan, change_of, node4, put_of, puts_of}
-use Rattle.art_insert.proofs.MadeChanges.{taken_meaning, with_made, with_more_puts, with_target}
-use Rattle.art_insert.proofs.MadeNodes.{fork_node}
+use Rattle.art_insert.specs.Puts.{inserted, node4}
+use Rattle.art_plan.specs.Puts.{IsSitePlan, change_of, put_of, puts_of}
+use Rattle.art_plan.proofs.MadeChanges.{taken_meaning, with_made, with_more_puts, with_target}
+use Rattle.art_insert.proofs.ForkNodes.{fork_node}
 use Rattle.art_insert.proofs.PlannedPrefixes.{IsSplit, fork_prefix_planned, split_is}
 use Rattle.art_node.specs.Prefixes.{IsPrefixPlan}
 use Rattle.art_plan.specs.Changes.{IsPlanned}
@@ -29,16 +30,16 @@ cut : (c : After-put) → IsPrefixPlan c.args.below.now.body.now.layout (word_of
 cut c = subst (IsPrefixPlan c.args.below.now.body.now.layout (word_of c.args.below.now.body.now) c.plan_prefix-shorter.result.items) c.as_slice-2.ensures.value c.plan_prefix-shorter.ensures
 
 -- all but the words are filled in
-filled : (c : After-put) → c.make.new.change ≡ change_of (kept (site_stamp c.args.site.now) ∷ kept c.args.below.now.stamp ∷ []) [] (Some c.args.made) c.fork-body.result c.args.new.now []
+filled : (c : After-put) → c.make.new.change ≡ change_of (kept (site_stamp c.args.site.now) ∷ kept c.args.below.now.stamp ∷ []) [] (Some c.args.made) c.fork-body.result (Some c.args.new.now.number) [] (inserted c.args.new.now)
 filled c =
     let body = c.fork-body.result in
     let upper = c.lock.ensures ∙ ap (with_target c.stamp.result false) c.begin.ensures in
     c.make.ensures
     ∙ ap (with_made c.args.made body) (c.lock-2.ensures ∙ ap (with_target c.args.below.now.stamp false) upper)
-    ∙ ap (λ (x : Stamp). change_of (kept x ∷ kept c.args.below.now.stamp ∷ []) [] (Some c.args.made) body c.args.new.now []) c.stamp.ensures
+    ∙ ap (λ (x : Stamp). change_of (kept x ∷ kept c.args.below.now.stamp ∷ []) [] (Some c.args.made) body (Some c.args.new.now.number) [] (inserted c.args.new.now)) c.stamp.ensures
 
 -- the first words are put
-first_put : (c : goal.After-put-then-put) → c.put.new.change ≡ with_more_puts 0 c.as_slice-3.result.now (change_of (kept (site_stamp c.args.site.now) ∷ kept c.args.below.now.stamp ∷ []) [] (Some c.args.made) c.fork-body.result c.args.new.now [])
+first_put : (c : goal.After-put-then-put) → c.put.new.change ≡ with_more_puts 0 c.as_slice-3.result.now (change_of (kept (site_stamp c.args.site.now) ∷ kept c.args.below.now.stamp ∷ []) [] (Some c.args.made) c.fork-body.result (Some c.args.new.now.number) [] (inserted c.args.new.now))
 first_put c = c.put.ensures.put c.if-put.true ∙ ap (with_more_puts 0 c.as_slice-3.result.now) (filled (goal.at.returns-then-put-clause-planned c).After-put)
 
 pub returns-then-put-clause-planned : goal.returns-then-put-clause-planned
@@ -54,10 +55,10 @@ returns-then-put-clause-planned c = λ done z u knows.
     let key = c.as_slice-key.result.now in
     let split = c.split-parts.result in
     let ts = kept (site_stamp site) ∷ kept below.stamp ∷ [] in
-    let is : c.put-then-put.new.change ≡ change_of ts (puts_of 0 writes ++ puts_of 1 others) (Some c.args.made) body new [] =
+    let is : c.put-then-put.new.change ≡ change_of ts (puts_of 0 writes ++ puts_of 1 others) (Some c.args.made) body (Some new.number) [] (inserted new) =
     c.put-then-put.ensures.put done
     ∙ ap (with_more_puts 1 c.as_slice-then-put.result.now) (first_put c)
-    ∙ ap₂ (λ (xs ys : List Write). change_of ts (puts_of 0 xs ++ puts_of 1 ys) (Some c.args.made) body new []) c.as_slice-3.ensures.value c.as_slice-then-put.ensures.value in
+    ∙ ap₂ (λ (xs ys : List Write). change_of ts (puts_of 0 xs ++ puts_of 1 ys) (Some c.args.made) body (Some new.number) [] (inserted new)) c.as_slice-3.ensures.value c.as_slice-then-put.ensures.value in
     let forked = fork_node (word_of body) c.as_slice.result.now split.front.items key new.key.items (parting.depth + parting.common) split.byte c.child_word-old_node.result c.child_word-new_leaf.result
     (child_word (node below.node)) (child_word (leaf new.number)) c.as_slice.ensures.value c.as_slice-key.ensures.value c.child_word-old_node.ensures c.child_word-new_leaf.ensures c.fork-body.ensures.node in
     let apart : split.byte ≢ get_or new.key.items (parting.depth + parting.common) 0 = (λ e. c.requires.apart (sym (parts after).byte ∙ e)) in

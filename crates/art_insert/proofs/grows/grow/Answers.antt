@@ -5,8 +5,9 @@ use Rattle.art_cell.specs.Words.{child_of, prefix_of}
 use Rattle.art_cell.specs.declared.cells.Link.TheVariants.{Leaf as leaf, Node as node}
 use Rattle.art_cell.specs.declared.layouts.Layout.{Layout}
 use Rattle.art_cell.specs.declared.writes.Write.{Write}
-use Rattle.art_insert.specs.Puts.{IsSitePlan, change_of, larger_node, puts_of}
-use Rattle.art_insert.proofs.MadeChanges.{put_deed, taken_meaning, with_made, with_more_puts, with_target, with_unlinked}
+use Rattle.art_insert.specs.Puts.{inserted, larger_node}
+use Rattle.art_plan.specs.Puts.{IsSitePlan, change_of, puts_of}
+use Rattle.art_plan.proofs.MadeChanges.{put_deed, put_leaf, taken_meaning, with_made, with_more_puts, with_target, with_unlinked}
 use Rattle.art_insert.proofs.PlannedGrows.{grow_planned}
 use Rattle.art_node.specs.Prefixes.{IsNodeOf}
 use Rattle.art_node.specs.Sizes.{larger}
@@ -26,14 +27,14 @@ site_plan c =
     subst (λ (w : ℕ). IsSitePlan c.args.site.now w c.replaced-writes.result.items) is c.replaced-writes.ensures
 
 -- all but the words are filled in
-filled : (c : After-put) → c.make.new.change ≡ change_of (kept (site_stamp c.args.site.now) ∷ record { stamp = c.args.below.now.stamp; obsolete = true } ∷ []) [] (Some c.args.made) c.grown-body.result c.args.new.now (child_word (node c.args.below.now.node) ∷ [])
+filled : (c : After-put) → c.make.new.change ≡ change_of (kept (site_stamp c.args.site.now) ∷ record { stamp = c.args.below.now.stamp; obsolete = true } ∷ []) [] (Some c.args.made) c.grown-body.result (Some c.args.new.now.number) (child_word (node c.args.below.now.node) ∷ []) (inserted c.args.new.now)
 filled c =
     let body = c.grown-body.result in
     let upper = c.lock.ensures ∙ ap (with_target c.stamp.result false) c.begin.ensures in
     let both = c.lock-2.ensures ∙ ap (with_target c.args.below.now.stamp true) upper in
     c.make.ensures
     ∙ ap (with_made c.args.made body) (c.unlink.ensures ∙ ap (with_unlinked c.child_word-old_node.result) both)
-    ∙ ap₂ (λ (x : Stamp) (w : ℕ). change_of (kept x ∷ record { stamp = c.args.below.now.stamp; obsolete = true } ∷ []) [] (Some c.args.made) body c.args.new.now (w ∷ [])) c.stamp.ensures c.child_word-old_node.ensures
+    ∙ ap₂ (λ (x : Stamp) (w : ℕ). change_of (kept x ∷ record { stamp = c.args.below.now.stamp; obsolete = true } ∷ []) [] (Some c.args.made) body (Some c.args.new.now.number) (w ∷ []) (inserted c.args.new.now)) c.stamp.ensures c.child_word-old_node.ensures
 
 pub returns-clause-planned : goal.returns-clause-planned
 returns-clause-planned c = λ done z u depth knows.
@@ -44,10 +45,10 @@ returns-clause-planned c = λ done z u depth knows.
     let writes = c.replaced-writes.result.items in
     let us = child_word (node below.node) ∷ [] in
     let ts = kept (site_stamp site) ∷ record { stamp = below.stamp; obsolete = true } ∷ [] in
-    let is : c.put.new.change ≡ change_of ts (puts_of 0 writes) (Some c.args.made) body new us =
+    let is : c.put.new.change ≡ change_of ts (puts_of 0 writes) (Some c.args.made) body (Some new.number) us (inserted new) =
     c.put.ensures.put done
     ∙ ap (with_more_puts 0 c.as_slice.result.now) (filled c)
-    ∙ ap (λ (ws : List Write). change_of ts (puts_of 0 ws) (Some c.args.made) body new us) c.as_slice.ensures.value in
+    ∙ ap (λ (ws : List Write). change_of ts (puts_of 0 ws) (Some c.args.made) body (Some new.number) us (inserted new)) c.as_slice.ensures.value in
     let grown : IsNodeOf (larger below.body.now.layout) (word_of body) (prefix_of (word_of below.body.now)) (with_child (child_of below.body.now.layout (word_of below.body.now)) c.args.byte (child_word (leaf new.number))) =
     subst (λ (w : ℕ). IsNodeOf (larger below.body.now.layout) (word_of body) (prefix_of (word_of below.body.now)) (with_child (child_of below.body.now.layout (word_of below.body.now)) c.args.byte w))
     c.child_word-new_leaf.ensures c.grown-body.ensures.node in
@@ -64,3 +65,8 @@ returns-clause-refused c = λ refused.
     let empty : c.make.new.change.puts.items ≡ [] = ap (λ (ch : Change). ch.puts.items) (filled c) in
     let many = c.put.ensures.refused refused in
     (c.replaced-writes.result.items, site_plan c, (let e = ap (λ (ps : List Put). length ps) empty in let f = ap (λ (ws : List Write). length ws) c.as_slice.ensures.value in omega (arith, many, e, f)))
+
+pub returns-clause-leaf : goal.returns-clause-leaf
+returns-clause-leaf c =
+    put_leaf c.make.new.change c.put.new.change 0 c.as_slice.result.now c.put.result (record { put = c.put.ensures.put; same = c.put.ensures.kept })
+    ∙ ap (λ (ch : Change). ch.leaf) (filled c)

@@ -1,7 +1,9 @@
 -- Stage by stage.
 use Rattle.std.proofs.Common.{ap, sym, subst, ◌≡◌, ◌∙◌, Some, arith}
-use Rattle.std.specs.Prelude.{Ok}
+use Rattle.std.specs.Prelude.{Ok, Err}
 use Rattle.art_make.specs.Asking.{Answers}
+use Rattle.art_make.specs.declared.asked.Answer.{Answer}
+use Rattle.art_make.specs.declared.asked.Answer.TheVariants.{Upgraded}
 use Rattle.art_make.specs.declared.asked.Asked.{Asked}
 use Rattle.art_make.specs.declared.asked.Asked.TheVariants.{Upgrade}
 use Rattle.art_plan.specs.Changes.{target_at}
@@ -9,7 +11,7 @@ use Rattle.art_plan.specs.declared.changes.Target.{Target}
 use Rattle.art_make.specs.Making.{Fits, asks}
 use Rattle.art_make.specs.declared.making.Making.{Making}
 use Rattle.art_make.specs.declared.making.Making.TheVariants.{Upgrading, Claiming, Filling, Writing, Committing, Releasing, ReleasingNode, GivingUp, Ended}
-use Rattle.art_make.proofs.Told.{fits_on, map_some, told_claim, told_commit, told_fill, told_give, told_release, told_release_new, told_write}
+use Rattle.art_make.proofs.Told.{fits_on, map_some, refused_upgrade, told_claim, told_commit, told_fill, told_give, told_release, told_release_new, told_write}
 use Rattle.art_make.proofs.making.Making.told.Goals as goal
 
 pub returns-in-Upgrading-clause-fits : goal.returns-in-Upgrading-clause-fits
@@ -83,3 +85,52 @@ returns-in-GivingUp-clause-fits c z u v w a fits is row =
     let asked : asks ch (GivingUp b.locked b.count b.fault) ≡ Some a = sym (ap (asks ch) b.is) ∙ is in
     fits_on z u v w ch a c.args.answer (GivingUp b.locked b.count b.fault) c.given_up.result now asked row (let more = c.given_up.ensures.steps in omega arith)
     (c.given_up.ensures.fits ch u w now.stage.1 (told_give z u v w ch a c.args.answer b.locked b.count b.fault now asked row))
+
+pub returns-in-Claiming-clause-refused : goal.returns-in-Claiming-clause-refused
+returns-in-Claiming-clause-refused c e is =
+    let q = c.requires.fits in
+    let at = refused_upgrade c.args.change.now c.args.self.now q.4 (Err e) q.2 q.3 q.6 (subst (λ (r : Answer). Answers c.args.change.now q.4 r q.2 q.3) is q.7) in
+    let now = c.in-Claiming.is in
+    absurd (cc)
+
+pub returns-in-Filling-clause-refused : goal.returns-in-Filling-clause-refused
+returns-in-Filling-clause-refused c e is =
+    let q = c.requires.fits in
+    let at = refused_upgrade c.args.change.now c.args.self.now q.4 (Err e) q.2 q.3 q.6 (subst (λ (r : Answer). Answers c.args.change.now q.4 r q.2 q.3) is q.7) in
+    let now = c.in-Filling.is in
+    absurd (cc)
+
+pub returns-in-Writing-clause-refused : goal.returns-in-Writing-clause-refused
+returns-in-Writing-clause-refused c e is =
+    let q = c.requires.fits in
+    let at = refused_upgrade c.args.change.now c.args.self.now q.4 (Err e) q.2 q.3 q.6 (subst (λ (r : Answer). Answers c.args.change.now q.4 r q.2 q.3) is q.7) in
+    let now = c.in-Writing.is in
+    absurd (cc)
+
+pub returns-in-Committing-clause-refused : goal.returns-in-Committing-clause-refused
+returns-in-Committing-clause-refused c e is =
+    let q = c.requires.fits in
+    let at = refused_upgrade c.args.change.now c.args.self.now q.4 (Err e) q.2 q.3 q.6 (subst (λ (r : Answer). Answers c.args.change.now q.4 r q.2 q.3) is q.7) in
+    let now = c.in-Committing.is in
+    absurd (cc)
+
+pub returns-in-Releasing-clause-refused : goal.returns-in-Releasing-clause-refused
+returns-in-Releasing-clause-refused c e is =
+    let q = c.requires.fits in
+    let at = refused_upgrade c.args.change.now c.args.self.now q.4 (Err e) q.2 q.3 q.6 (subst (λ (r : Answer). Answers c.args.change.now q.4 r q.2 q.3) is q.7) in
+    let now = c.in-Releasing.is in
+    absurd (cc)
+
+pub returns-in-ReleasingNode-clause-refused : goal.returns-in-ReleasingNode-clause-refused
+returns-in-ReleasingNode-clause-refused c e is =
+    let q = c.requires.fits in
+    let at = refused_upgrade c.args.change.now c.args.self.now q.4 (Err e) q.2 q.3 q.6 (subst (λ (r : Answer). Answers c.args.change.now q.4 r q.2 q.3) is q.7) in
+    let now = c.in-ReleasingNode.is in
+    absurd (cc)
+
+pub returns-in-GivingUp-clause-refused : goal.returns-in-GivingUp-clause-refused
+returns-in-GivingUp-clause-refused c e is =
+    let q = c.requires.fits in
+    let at = refused_upgrade c.args.change.now c.args.self.now q.4 (Err e) q.2 q.3 q.6 (subst (λ (r : Answer). Answers c.args.change.now q.4 r q.2 q.3) is q.7) in
+    let now = c.in-GivingUp.is in
+    absurd (cc)

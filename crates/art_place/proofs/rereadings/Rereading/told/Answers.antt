@@ -1,5 +1,5 @@
 use Rattle.std.proofs.Common.{◌+◌, sym, subst, arith}
-use Rattle.art_place.proofs.Keeping.{kept_noted, known_both, known_noted, read_grows, stamp_grows}
+use Rattle.art_place.proofs.Keeping.{kept_noted, known_both, known_noted, note_stays, read_grows, stamp_grows}
 use Rattle.art_place.specs.Kept.{IsKept}
 use Rattle.art_place.specs.Rereadings.{AreKnown}
 use Rattle.art_step.specs.Views.{IsNotHeld}
@@ -22,4 +22,8 @@ returns-clause-fits c = λ z v w x fits inside row.
       kept = subst (IsKept z w x) (sym now) (kept_noted reads fits.kept.room place word low z v w x fits.after inside row fits.kept);
       after = omega (arith, after, on);
       known = known_both c.note.new.self 1 (place + 1) c.unknown_from-self.result (subst (λ (r : _). AreKnown r 1 (place + 1)) (sym now) (known_noted reads fits.kept.room place word low fits.known)) c.unknown_from-self.ensures.known;
+      unknown = c.unknown_from-self.ensures.unknown;
     }
+
+pub returns-clause-stays : goal.returns-clause-stays
+returns-clause-stays c = note_stays c.args.reads.now c.note.new.self c.args.self.now.place c.args.word c.note.ensures

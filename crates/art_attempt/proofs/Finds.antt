@@ -1,0 +1,422 @@
+-- The place of the key is sought, and checked.
+use Rattle.std.proofs.Common.{◌≡◌, ◌≢◌, ℕ, ◌≤◌, true, false, List, Option, Some, None, refl, sym, ap, ◌∙◌, subst, arith}
+use Rattle.std.specs.Prelude.{IfSome, Ok, Err, ⊤}
+use Rattle.std.specs.Option.{option_map, unwrap_or}
+use Rattle.std.proofs.lemmas.Option.{same_Some}
+use Rattle.art_attempt.proofs.Tries.{event_since, rest_told, still_reads, stock_reads}
+use Rattle.art_attempt.specs.Asking.{MayAsk}
+use Rattle.art_attempt.specs.Inserting.{EndFits, EndsSo, IsFinding, IsPresent, asks_place, check_by, check_of, deed_at, entered_by, finding_asks, present, present_of, value_found}
+use Rattle.art_attempt.specs.declared.inserting.Entered.{Entered}
+use Rattle.art_attempt.specs.declared.inserting.Entered.TheVariants.{Present, Overlaps as overlaps}
+use Rattle.art_attempt.specs.declared.inserting.Inserting.{Inserting}
+use Rattle.art_attempt.specs.declared.rooms.Room.{Room}
+use Rattle.art_cell.specs.declared.cells.Link.{Link}
+use Rattle.art_cell.specs.declared.cells.Link.TheVariants.{Leaf as leaf, Node as node}
+use Rattle.art_decide.specs.Plans.{Comes}
+use Rattle.art_find.proofs.Stages.{reads_on, tells_free, wants_word}
+use Rattle.art_find.proofs.Allowed.{allowed}
+use Rattle.art_find.specs.Asking.{Answers, IsAllowed, WantsWord, goes_on}
+use Rattle.art_find.specs.Descents.{IsExact, IsReading, StageFits, Stays, answer_at, asks, decided_at, ended_at, most_steps, stage_begun, stage_below, stage_checked, stands_on}
+use Rattle.art_find.specs.Verdicts.{Says, value_of}
+use Rattle.art_find.specs.declared.asked.Answer.{Answer}
+use Rattle.art_find.specs.declared.asked.Answer.TheVariants.{Begun, Word, Checked}
+use Rattle.art_find.specs.declared.asked.Asked.{Asked}
+use Rattle.art_find.specs.declared.asked.Asked.TheVariants.{Begin, Read, ReadLeaf, Check, Settle}
+use Rattle.art_find.specs.declared.descents.Descent.{Descent}
+use Rattle.art_find.specs.declared.descents.Stage.{Stage}
+use Rattle.art_find.specs.declared.descents.Stage.TheVariants.{Start, Anchor, Child, Below, Both, Header, Prefix, Keys, Slot, Value, Length, Bytes, Decided, Ended}
+use Rattle.art_find.specs.declared.verdicts.Verdict.{Verdict}
+use Rattle.art_find.specs.declared.verdicts.Verdict.TheVariants.{Found, Empty, OtherLeaf, OtherPrefix, Free, Overlaps, Torn, Absent}
+use Rattle.art_frame.proofs.Stocked.{stock_same}
+use Rattle.art_gather.specs.Vouching.{passed}
+use Rattle.art_make.proofs.Told.{map_some}
+use Rattle.art_place.proofs.FoundPlaces.{standing_grows}
+use Rattle.art_place.proofs.Keeping.{passed_grows}
+use Rattle.art_place.specs.Findings.{FindingFits, IsPlaced, IsStanding, PlaceFits, stand_at, stand_of}
+use Rattle.art_place.specs.declared.desks.Desk.{Desk}
+use Rattle.art_place.specs.declared.findings.Finding.{Finding}
+use Rattle.art_place.specs.declared.findings.Stand.{Stand}
+use Rattle.art_step.proofs.Shows.{failed_rest, insert_settles, passed_rest, told_rest}
+use Rattle.art_step.specs.Shows.{HasValue, OnlyReads, Rest, Shows}
+use Rattle.art_step.specs.Steps.Check as check
+use Rattle.art_step.specs.WordPlaces.{HasVersion}
+use Rattle.art_step.specs.declared.deeds.Deed.{Deed}
+use Rattle.art_step.specs.declared.views.Sizes.{Sizes}
+use Rattle.art_step.specs.declared.views.Stamp.{Stamp}
+use Rattle.art_step.specs.declared.views.View.{View}
+use Rattle.art_tree.specs.Heaps.{Cells}
+
+-- ---- what is asked
+
+pub no_place : (m : Finding) (o : Option Asked) (a : Asked) → stand_at m ≡ None → asks_place (stand_at m) o ≡ Some a → o ≡ Some a
+no_place m o a nowhere is = sym (ap (λ (t : Option Stand). asks_place t o) nowhere) ∙ is
+
+map_none : {A B : Type 0} (f : A → B) (o : Option A) → option_map f o ≡ None → o ≡ None
+map_none f (Some x) is = cc
+map_none f None is = refl
+
+pub undecided : (m : Finding) → stand_at m ≡ None → decided_at m.descent.stage ≡ None
+undecided m is = map_none (stand_of m) (decided_at m.descent.stage) is
+
+-- only where a place is settled does an answer speak of a deed
+abbrev pub TellsNothing : Asked → Type 0
+TellsNothing (Settle x) = ⊥
+TellsNothing a = ⊤
+
+other_deed : (z : Sizes) (d e : Deed) (a : Asked) (r : Answer) (v w : View) → TellsNothing a → Answers z d a r v w → Answers z e a r v w
+other_deed z d e (Begin c) (Begun r) v w none row = row
+other_deed z d e (Begin c) (Word x) v w none row = absurd row
+other_deed z d e (Begin c) (Checked r) v w none row = absurd row
+other_deed z d e (Read x i) (Begun r) v w none row = absurd row
+other_deed z d e (Read x i) (Word y) v w none row = row
+other_deed z d e (Read x i) (Checked r) v w none row = absurd row
+other_deed z d e (ReadLeaf x l i) (Begun r) v w none row = absurd row
+other_deed z d e (ReadLeaf x l i) (Word y) v w none row = row
+other_deed z d e (ReadLeaf x l i) (Checked r) v w none row = absurd row
+other_deed z d e (Check x) (Begun r) v w none row = absurd row
+other_deed z d e (Check x) (Word y) v w none row = absurd row
+other_deed z d e (Check x) (Checked r) v w none row = row
+other_deed z d e (Settle x) r v w none row = absurd none
+
+pub tells_nothing : (s : Stage) → decided_at s ≡ None → (a : Asked) → asks s ≡ Some a → TellsNothing a
+tells_nothing Start none a is = subst TellsNothing (same_Some {A = Asked} _ a is) tt
+tells_nothing (Anchor x) none a is = subst TellsNothing (same_Some {A = Asked} _ a is) tt
+tells_nothing (Child x d) none a is = subst TellsNothing (same_Some {A = Asked} _ a is) tt
+tells_nothing (Below x n) none a is = subst TellsNothing (same_Some {A = Asked} _ a is) tt
+tells_nothing (Both x y n) none a is = subst TellsNothing (same_Some {A = Asked} _ a is) tt
+tells_nothing (Header y n) none a is = subst TellsNothing (same_Some {A = Asked} _ a is) tt
+tells_nothing (Prefix seen i r) none a is = subst TellsNothing (same_Some {A = Asked} _ a is) tt
+tells_nothing (Keys seen i) none a is = subst TellsNothing (same_Some {A = Asked} _ a is) tt
+tells_nothing (Slot seen place) none a is = subst TellsNothing (same_Some {A = Asked} _ a is) tt
+tells_nothing (Value x l) none a is = subst TellsNothing (same_Some {A = Asked} _ a is) tt
+tells_nothing (Length x l value) none a is = subst TellsNothing (same_Some {A = Asked} _ a is) tt
+tells_nothing (Bytes seen i r) none a is = subst TellsNothing (same_Some {A = Asked} _ a is) tt
+tells_nothing (Decided x found) none a is = cc
+tells_nothing (Ended o) none a is = cc
+
+pub any_deed : (z : Sizes) (d e : Deed) (s : Stage) (a : Asked) (r : Answer) (v w : View) → decided_at s ≡ None → asks s ≡ Some a → Answers z d a r v w → Answers z e a r v w
+any_deed z d e s a r v w none is row = other_deed z d e a r v w (tells_nothing s none a is) row
+
+-- ---- the descent goes on
+
+pub zero_going : (depth : ℕ) (s : Stage) → most_steps depth s ≡ 0 → ended_at s ≡ None
+zero_going depth Start is = refl
+zero_going depth (Anchor x) is = refl
+zero_going depth (Child x d) is = refl
+zero_going depth (Below x n) is = refl
+zero_going depth (Both x y n) is = refl
+zero_going depth (Header y n) is = refl
+zero_going depth (Prefix seen i r) is = refl
+zero_going depth (Keys seen i) is = refl
+zero_going depth (Slot seen place) is = refl
+zero_going depth (Value x l) is = refl
+zero_going depth (Length x l value) is = refl
+zero_going depth (Bytes seen i r) is = refl
+zero_going depth (Decided x found) is = refl
+zero_going depth (Ended o) is = absurd (omega (arith, is))
+
+begun_going : (y : Stamp) (s : Stage) → ended_at s ≡ None → ended_at (stage_begun y s) ≡ None
+begun_going y Start is = refl
+begun_going y (Anchor x) is = refl
+begun_going y (Child x d) is = refl
+begun_going y (Below x n) is = refl
+begun_going y (Both x z n) is = refl
+begun_going y (Header x n) is = refl
+begun_going y (Prefix seen i r) is = refl
+begun_going y (Keys seen i) is = refl
+begun_going y (Slot seen place) is = refl
+begun_going y (Value x l) is = refl
+begun_going y (Length x l value) is = refl
+begun_going y (Bytes seen i r) is = refl
+begun_going y (Decided x found) is = refl
+begun_going y (Ended o) is = is
+
+below_going : (x : Stamp) (d : Link) → ended_at (stage_below x d) ≡ None
+below_going x (leaf l) = refl
+below_going x (node n) = refl
+
+checked_going : (s : Stage) → decided_at s ≡ None → ended_at s ≡ None → ended_at (stage_checked s) ≡ None
+checked_going Start none is = refl
+checked_going (Anchor x) none is = refl
+checked_going (Child x d) none is = below_going x d
+checked_going (Below x n) none is = refl
+checked_going (Both x y n) none is = refl
+checked_going (Header x n) none is = refl
+checked_going (Prefix seen i r) none is = refl
+checked_going (Keys seen i) none is = refl
+checked_going (Slot seen place) none is = refl
+checked_going (Value x l) none is = refl
+checked_going (Length x l value) none is = refl
+checked_going (Bytes seen i r) none is = refl
+checked_going (Decided x found) none is = cc
+checked_going (Ended o) none is = is
+
+stands_some : (s : Stage) → WantsWord (asks s) → (x : Stamp) × (stands_on s ≡ Some x)
+stands_some Start wants = absurd wants
+stands_some (Anchor x) wants = (x, refl)
+stands_some (Child x d) wants = (x, refl)
+stands_some (Below x n) wants = (x, refl)
+stands_some (Both x y n) wants = (x, refl)
+stands_some (Header x n) wants = (x, refl)
+stands_some (Prefix seen i r) wants = (seen.stamp, refl)
+stands_some (Keys seen i) wants = (seen.stamp, refl)
+stands_some (Slot seen place) wants = (seen.stamp, refl)
+stands_some (Value x l) wants = (x, refl)
+stands_some (Length x l value) wants = (x, refl)
+stands_some (Bytes seen i r) wants = (seen.stamp, refl)
+stands_some (Decided x found) wants = (x, refl)
+stands_some (Ended o) wants = absurd wants
+
+standing_going : (s : Stage) (x : Stamp) → stands_on s ≡ Some x → ended_at s ≡ None
+standing_going Start x is = refl
+standing_going (Anchor y) x is = refl
+standing_going (Child y d) x is = refl
+standing_going (Below y n) x is = refl
+standing_going (Both y z n) x is = refl
+standing_going (Header y n) x is = refl
+standing_going (Prefix seen i r) x is = refl
+standing_going (Keys seen i) x is = refl
+standing_going (Slot seen place) x is = refl
+standing_going (Value y l) x is = refl
+standing_going (Length y l value) x is = refl
+standing_going (Bytes seen i r) x is = refl
+standing_going (Decided y found) x is = refl
+standing_going (Ended o) x is = cc
+
+-- a descent that has not decided does not end at its next answer
+pub still_going : (z : Sizes) (d : Deed) (a : Asked) (r : Answer) (v w : View) (m m' : Descent) → Stays r m m' → asks m.stage ≡ Some a → Answers z d a r v w
+    → decided_at m.stage ≡ None → ended_at m.stage ≡ None → goes_on r ≡ true → ended_at m'.stage ≡ None
+still_going z d a (Begun (Ok x)) v w m m' stays is row none going on = ap (λ (n : Descent). ended_at n.stage) stays ∙ begun_going x m.stage going
+still_going z d a (Begun (Err e)) v w m m' stays is row none going on = cc
+still_going z d a (Word word) v w m m' stays is row none going on =
+    let some = stands_some m.stage (subst WantsWord (sym is) (wants_word z d a word v w row)) in
+    standing_going m'.stage some.0 (stays ∙ some.1)
+still_going z d a (Checked (Ok x)) v w m m' stays is row none going on = ap (λ (n : Descent). ended_at n.stage) stays ∙ checked_going m.stage none going
+still_going z d a (Checked (Err e)) v w m m' stays is row none going on = cc
+
+-- ---- the place is known
+
+decided_stage : (s : Stage) (p : Stamp × Verdict) → decided_at s ≡ Some p → s ≡ Decided p.0 p.1
+decided_stage (Decided x found) p is = let same = same_Some {A = Stamp × Verdict} (x, found) p is in ap (λ (q : Stamp × Verdict). Decided q.0 q.1) same
+decided_stage Start p is = cc
+decided_stage (Anchor x) p is = cc
+decided_stage (Child x d) p is = cc
+decided_stage (Below x n) p is = cc
+decided_stage (Both x y n) p is = cc
+decided_stage (Header x n) p is = cc
+decided_stage (Prefix seen i r) p is = cc
+decided_stage (Keys seen i) p is = cc
+decided_stage (Slot seen place) p is = cc
+decided_stage (Value x l) p is = cc
+decided_stage (Length x l value) p is = cc
+decided_stage (Bytes seen i r) p is = cc
+decided_stage (Ended o) p is = cc
+
+pub record StandsThere (z : Sizes) (k : List ℕ) (m : Finding) (desk : Desk) (early v : View) (t : Stand) : Type 0 where
+  pub reads : IsReading early v
+  pub standing : IsStanding z k t desk v
+  pub exact : t.verdict ≢ Absent
+  pub settles : asks m.descent.stage ≡ Some (Settle t.stamp)
+  pub answers : answer_at m.descent.stage ≡ value_of t.verdict
+
+module _ (z : Sizes) (k : List ℕ) (what : Option ℕ → Deed) (m : Finding) (desk : Desk) (early v : View) (fits : FindingFits z k what m desk early v) (exact : IsExact m.descent.stage) where
+  pub stands_there : (t : Stand) → stand_at m ≡ Some t → StandsThere z k m desk early v t
+  stands_there t is =
+      let p = map_some (stand_of m) (decided_at m.descent.stage) t is in
+      let at = decided_stage m.descent.stage p.0 p.1 in
+      let f : StageFits z k what m.descent.depth (Decided p.0.0 p.0.1) early v = subst (λ (s : Stage). StageFits z k what m.descent.depth s early v) at fits.descent in
+      let place : IsPlaced z k m.above desk v p.0.0 = subst (λ (s : Stage). PlaceFits z k m.above desk v (stands_on s)) at fits.place in
+      let standing : IsStanding z k (stand_of m p.0) desk v = record { stamp = f.2; deep = f.1; says = f.3; place = place } in
+      record {
+        reads = f.0;
+        standing = subst (λ (s : Stand). IsStanding z k s desk v) p.2 standing;
+        exact = subst (λ (s : Stand). s.verdict ≢ Absent) p.2 (subst IsExact at exact);
+        settles = ap asks at ∙ ap (λ (s : Stand). Some (Settle s.stamp)) p.2;
+        answers = ap answer_at at ∙ ap (λ (s : Stand). value_of s.verdict) p.2;
+      }
+
+-- ---- the place is checked
+
+-- a check of a leaf with the key tells the deed
+abbrev told_by : Verdict → Deed → Option Deed
+told_by (Found l value) d = Some d
+told_by found d = None
+
+pub settle_passed : (z : Sizes) (d : Deed) (x : Stamp) (r : Answer) (v w : View) → Answers z d (Settle x) r v w → passed r ≡ true → check.Unchanged z v w x (Some d)
+settle_passed z d x (Begun r) v w row is = absurd row
+settle_passed z d x (Word y) v w row is = absurd row
+settle_passed z d x (Checked (Ok done)) v w row is = row
+settle_passed z d x (Checked (Err e)) v w row is = cc
+
+pub check_passed : (z : Sizes) (d : Deed) (x : Stamp) (r : Answer) (v w : View) → Answers z d (Check x) r v w → passed r ≡ true → check.Unchanged z v w x None
+check_passed z d x (Begun r) v w row is = absurd row
+check_passed z d x (Word y) v w row is = absurd row
+check_passed z d x (Checked (Ok done)) v w row is = row
+check_passed z d x (Checked (Err e)) v w row is = cc
+
+pub place_passed : (z : Sizes) (d : Deed) (found : Verdict) (t : Stand) (r : Answer) (v w : View) → Answers z d (check_by found t) r v w → passed r ≡ true
+    → check.Unchanged z v w t.stamp (told_by found d)
+place_passed z d (Found l value) t r v w row is = settle_passed z d t.stamp r v w row is
+place_passed z d Empty t r v w row is = check_passed z d t.stamp r v w row is
+place_passed z d (OtherLeaf l at byte) t r v w row is = check_passed z d t.stamp r v w row is
+place_passed z d (OtherPrefix n header at) t r v w row is = check_passed z d t.stamp r v w row is
+place_passed z d (Free n header) t r v w row is = check_passed z d t.stamp r v w row is
+place_passed z d Overlaps t r v w row is = check_passed z d t.stamp r v w row is
+place_passed z d Torn t r v w row is = check_passed z d t.stamp r v w row is
+place_passed z d Absent t r v w row is = check_passed z d t.stamp r v w row is
+
+pub settle_failed : (z : Sizes) (d : Deed) (x : Stamp) (r : Answer) (v w : View) → Answers z d (Settle x) r v w → passed r ≡ false → OnlyReads v w
+settle_failed z d x (Begun r) v w row is = absurd row
+settle_failed z d x (Word y) v w row is = absurd row
+settle_failed z d x (Checked (Ok done)) v w row is = cc
+settle_failed z d x (Checked (Err e)) v w row is = failed_rest v w x e.found row.3
+
+pub check_failed : (z : Sizes) (d : Deed) (x : Stamp) (r : Answer) (v w : View) → Answers z d (Check x) r v w → passed r ≡ false → OnlyReads v w
+check_failed z d x (Begun r) v w row is = absurd row
+check_failed z d x (Word y) v w row is = absurd row
+check_failed z d x (Checked (Ok done)) v w row is = cc
+check_failed z d x (Checked (Err e)) v w row is = failed_rest v w x e.found row.3
+
+pub place_failed : (z : Sizes) (d : Deed) (found : Verdict) (t : Stand) (r : Answer) (v w : View) → Answers z d (check_by found t) r v w → passed r ≡ false → OnlyReads v w
+place_failed z d (Found l value) t r v w row is = settle_failed z d t.stamp r v w row is
+place_failed z d Empty t r v w row is = check_failed z d t.stamp r v w row is
+place_failed z d (OtherLeaf l at byte) t r v w row is = check_failed z d t.stamp r v w row is
+place_failed z d (OtherPrefix n header at) t r v w row is = check_failed z d t.stamp r v w row is
+place_failed z d (Free n header) t r v w row is = check_failed z d t.stamp r v w row is
+place_failed z d Overlaps t r v w row is = check_failed z d t.stamp r v w row is
+place_failed z d Torn t r v w row is = check_failed z d t.stamp r v w row is
+place_failed z d Absent t r v w row is = check_failed z d t.stamp r v w row is
+
+-- a leaf may come there, or it is known how the attempt ends
+pub place_comes : (z : Sizes) (k : List ℕ) (depth : ℕ) (x : Stamp) (d : Deed) (found : Verdict) (v w : View) → found ≢ Absent → entered_by found ≡ None → Says z k depth x found v
+    → check.Unchanged z v w x (told_by found d) → Comes found
+place_comes z k depth x d (Found l value) v w exact none says p = cc
+place_comes z k depth x d Empty v w exact none says p = tt
+place_comes z k depth x d (OtherLeaf l at byte) v w exact none says p = tt
+place_comes z k depth x d (OtherPrefix n header at) v w exact none says p = tt
+place_comes z k depth x d (Free n header) v w exact none says p = tt
+place_comes z k depth x d Overlaps v w exact none says p = cc
+place_comes z k depth x d Torn v w exact none says p = absurd (says p.vouched.0 p.vouched.1 p.vouched.2)
+place_comes z k depth x d Absent v w exact none says p = absurd (exact refl)
+
+-- that no other place is told leaves what was only read
+told_nothing : (z : Sizes) (d : Deed) (found : Verdict) (x : Stamp) (v w : View) → Comes found → check.Unchanged z v w x (told_by found d) → OnlyReads v w
+told_nothing z d Empty x v w comes p = passed_rest z v w x p
+told_nothing z d (OtherLeaf l at byte) x v w comes p = passed_rest z v w x p
+told_nothing z d (OtherPrefix n header at) x v w comes p = passed_rest z v w x p
+told_nothing z d (Free n header) x v w comes p = passed_rest z v w x p
+told_nothing z d (Found l value) x v w comes p = absurd comes
+told_nothing z d Overlaps x v w comes p = absurd comes
+told_nothing z d Torn x v w comes p = absurd comes
+told_nothing z d Absent x v w comes p = absurd comes
+
+module _ (z : Sizes) (u : View) (m : Inserting) (r : Room) (v w : View) (f : IsFinding z u m r v) (later : v.steps ≤ w.steps) where
+  past : f.early.steps ≤ w.steps
+  past = let before = f.later in omega arith
+
+  -- the attempt ends, and nothing was told
+  pub ends_reading : OnlyReads f.early w → EndsSo z u r w
+  ends_reading only = record {
+    still = still_reads u f.early f.base w past only;
+    has = stock_reads z r.row.key.items r.row.value f.early w r.stock only f.has;
+  }
+
+  module _ (t : Stand) (s : StandsThere z r.row.key.items m.finding r.desk f.early v t) (d : Deed) where
+    pub only_then : OnlyReads v w → OnlyReads f.early w
+    only_then only = (reads_on f.early v w only s.reads).only
+
+    entered_there : (found : Verdict) (e : Entered) (n : Stand) → d ≡ present r.row (unwrap_or (value_of found) 0) → Says z r.row.key.items t.depth t.stamp found v
+        → check.Unchanged z v w t.stamp (told_by found d) → entered_by found ≡ Some e → EndFits z u n r e w
+    entered_there (Found l value) e n is says p at =
+        let q = subst (λ (b : Deed). check.Unchanged z v w t.stamp (Some b)) is p in
+        let k = told_rest z f.early v w t.stamp (present r.row value) s.reads.only q in
+        let present_there : IsPresent z u r value w = record {
+          event = event_since u f.early f.base w (present r.row value) k.0;
+          rest = rest_told u f.early f.base w k.1;
+          free = tells_free f.early w k.1 f.base.free;
+          later = let before = f.base.later in omega arith;
+          has = stock_same z r.row.key.items r.row.value f.early w r.stock (ap (λ (o : Rest). o.hand) k.1) f.has;
+        } in
+        subst (λ (b : Entered). EndFits z u n r b w) (same_Some {A = Entered} (Present value) e at) present_there
+    entered_there Overlaps e n is says p at =
+        subst (λ (b : Entered). EndFits z u n r b w) (same_Some {A = Entered} overlaps e at)
+        (ends_reading (only_then (passed_rest z v w t.stamp p)), record { tree = p.vouched.0; shape = p.vouched.1; overlap = says p.vouched.0 p.vouched.1 p.vouched.2 })
+    entered_there Empty e n is says p at = cc
+    entered_there (OtherLeaf l i byte) e n is says p at = cc
+    entered_there (OtherPrefix b header i) e n is says p at = cc
+    entered_there (Free b header) e n is says p at = cc
+    entered_there Torn e n is says p at = cc
+    entered_there Absent e n is says p at = cc
+
+    pub ends_there : (a : Answer) (e : Entered) (n : Stand) → d ≡ present r.row (unwrap_or (value_of t.verdict) 0) → Answers z d (check_of t) a v w → passed a ≡ true
+        → entered_by t.verdict ≡ Some e → EndFits z u n r e w
+    ends_there a e n is row on at = entered_there t.verdict e n is s.standing.says (place_passed z d t.verdict t a v w row on) at
+
+    pub fails_there : (a : Answer) → Answers z d (check_of t) a v w → passed a ≡ false → EndsSo z u r w
+    fails_there a row off = ends_reading (only_then (place_failed z d t.verdict t a v w row off))
+
+    -- a leaf may come
+    module _ (a : Answer) (row : Answers z d (check_of t) a v w) (on : passed a ≡ true) (none : entered_by t.verdict ≡ None) where
+      unchanged : check.Unchanged z v w t.stamp (told_by t.verdict d)
+      unchanged = place_passed z d t.verdict t a v w row on
+
+      pub comes_there : Comes t.verdict
+      comes_there = place_comes z r.row.key.items t.depth t.stamp d t.verdict v w s.exact none s.standing.says unchanged
+
+      pub stands_still : IsStanding z r.row.key.items t r.desk w
+      stands_still = standing_grows z r.row.key.items t r.desk v w (passed_grows z v w t.stamp (told_by t.verdict d) unchanged) s.standing
+
+      pub ends_so : EndsSo z u r w
+      ends_so = ends_reading (only_then (told_nothing z d t.verdict t.stamp v w comes_there unchanged))
+
+-- the deed that the check of a place may tell
+pub deed_there : (m : Inserting) (r : Room) (t : Stand) → stand_at m.finding ≡ Some t → deed_at m r ≡ present r.row (unwrap_or (value_of t.verdict) 0)
+deed_there m r t is = ap (λ (o : Option Stand). present r.row (value_found o)) is
+
+-- ---- each step may be made
+
+pub not_settling : (z : Sizes) (d : Deed) (so : Cells → Type 0) (v : View) (a : Asked) → TellsNothing a → IsAllowed z so v a → MayAsk z d v a
+not_settling z d so v (Begin c) none may = may
+not_settling z d so v (Read x i) none may = may
+not_settling z d so v (ReadLeaf x l i) none may = may
+not_settling z d so v (Check x) none may = may
+not_settling z d so v (Settle x) none may = absurd none
+
+module _ (z : Sizes) (u : View) (m : Inserting) (r : Room) (v : View) (f : IsFinding z u m r v) where
+  abbrev k : List ℕ
+  k = r.row.key.items
+
+  abbrev so : Cells → Type 0
+  so s = HasValue s k (answer_at m.finding.descent.stage)
+
+  descent_allowed : (a : Asked) → asks m.finding.descent.stage ≡ Some a → IsAllowed z so v a
+  descent_allowed a is = subst (λ (o : Option Asked). IfSome o (IsAllowed z so v)) is (allowed z k (present_of r.row) m.finding.descent.depth m.finding.descent.stage f.early v f.fits.descent)
+
+  module _ (t : Stand) (s : StandsThere z k m.finding r.desk f.early v t) where
+    plain : HasVersion z t.stamp.cell × check.May z v t.stamp None
+    plain = (s.standing.stamp.inside, record { stamp = s.standing.stamp.stamp; tells = tt })
+
+    check_allowed : (found : Verdict) → t.verdict ≡ found → MayAsk z (present r.row (unwrap_or (value_of found) 0)) v (check_by found t)
+    check_allowed (Found l value) at =
+        let may = descent_allowed (Settle t.stamp) s.settles in
+        let shows : Shows z v t.stamp (λ c. HasValue c k (Some value)) =
+        subst (λ (o : Option ℕ). Shows z v t.stamp (λ c. HasValue c k o)) (s.answers ∙ ap value_of at) may.1.shows in
+        (may.0, record { stamp = may.1.stamp; tells = insert_settles z v t.stamp k r.row.value value shows })
+    check_allowed Empty at = plain
+    check_allowed (OtherLeaf l i byte) at = plain
+    check_allowed (OtherPrefix n header i) at = plain
+    check_allowed (Free n header) at = plain
+    check_allowed Overlaps at = plain
+    check_allowed Torn at = plain
+    check_allowed Absent at = plain
+
+  place_allowed : (o : Option Stand) (a : Asked) → stand_at m.finding ≡ o → asks_place o (asks m.finding.descent.stage) ≡ Some a → MayAsk z (deed_at m r) v a
+  place_allowed (Some t) a at is =
+      let s = stands_there z k (present_of r.row) m.finding r.desk f.early v f.fits f.exact t at in
+      let may : MayAsk z (deed_at m r) v (check_of t) = subst (λ (d : Deed). MayAsk z d v (check_of t)) (sym (deed_there m r t at)) (check_allowed t s t.verdict refl) in
+      subst (MayAsk z (deed_at m r) v) (same_Some {A = Asked} (check_of t) a is) may
+  place_allowed None a at is =
+      not_settling z (deed_at m r) so v a (tells_nothing m.finding.descent.stage (undecided m.finding at) a is) (descent_allowed a is)
+
+  pub finding_allowed : (a : Asked) → finding_asks m.finding ≡ Some a → MayAsk z (deed_at m r) v a
+  finding_allowed a is = place_allowed (stand_at m.finding) a refl is

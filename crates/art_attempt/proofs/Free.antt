@@ -1,0 +1,101 @@
+-- As long as nothing is held, an attempt may be given up with nothing told.
+use Rattle.std.proofs.Common.{◌≡◌, ℕ, true, List, [], ◌∷◌, None, inl, refl, sym, ap, ◌∙◌, subst, arith, ⊎_elim}
+use Rattle.std.proofs.lemmas.Bool.{eqb-true}
+use Rattle.art_attempt.proofs.Enters.{supplies_so}
+use Rattle.art_attempt.proofs.Finds.{ends_reading}
+use Rattle.art_attempt.proofs.Tries.{still_reads, stock_reads}
+use Rattle.art_attempt.specs.Inserting.{EndsSo, HasMade, HasVouched, IsFinding, StageFits, entered_at, free_at, is_begun}
+use Rattle.art_attempt.specs.Rooms.{both_of}
+use Rattle.art_attempt.specs.Trying.{StillTries}
+use Rattle.art_attempt.specs.declared.inserting.Inserting.{Inserting}
+use Rattle.art_attempt.specs.declared.inserting.Stage.{Stage}
+use Rattle.art_attempt.specs.declared.inserting.Stage.TheVariants as stage
+use Rattle.art_attempt.specs.declared.rooms.Room.{Room}
+use Rattle.art_find.proofs.Stages.{still_reading}
+use Rattle.art_frame.proofs.Stocked.{stock_same}
+use Rattle.art_gather.specs.Vouching as vouching
+use Rattle.art_gather.specs.Vouching.{IsVouching}
+use Rattle.art_gather.specs.declared.vouching.Vouching.{Vouching}
+use Rattle.art_gather.specs.declared.vouching.Vouching.TheVariants as vouches
+use Rattle.art_make.specs.Making as making
+use Rattle.art_make.specs.Making.{IsLocking}
+use Rattle.art_make.specs.declared.making.Making.{Making}
+use Rattle.art_make.specs.declared.making.Making.TheVariants.{Upgrading, Claiming, Filling, Writing, Committing, Releasing, ReleasingNode, GivingUp, Ended}
+use Rattle.art_plan.specs.Changes.{IsNew, IsTarget}
+use Rattle.art_plan.specs.declared.changes.Change.{Change}
+use Rattle.art_step.specs.Shows.{Rest, rest_of}
+use Rattle.art_step.specs.Views.{Member}
+use Rattle.art_step.specs.declared.views.Holding.{Holding}
+use Rattle.art_step.specs.declared.views.Sizes.{Sizes}
+use Rattle.art_step.specs.declared.views.View.{View}
+
+-- ---- before a cell is locked
+
+none_held : (hs : List Holding) → ((h : Holding) → Member h hs → ⊥) → hs ≡ []
+none_held [] none = refl
+none_held (h ∷ hs) none = absurd (none h (inl refl))
+
+pub locking_none : (u : View) (c : Change) (v : View) → IsLocking u c 0 [] 0 v → v.held ≡ []
+locking_none u c v p = none_held v.held (λ h m. ⊎_elim
+    (λ (t : IsTarget u c 0 0 [] h). let low = t.below in absurd (omega (arith, low)))
+    (λ (n : IsNew u c 0 h). let some = n.some in absurd (omega (arith, some)))
+    (p.holds.only h m))
+
+pub begun_locking : (c : Change) (m : Making) (u v : View) → is_begun m ≡ true → making.StageFits c m u v → IsLocking u c 0 [] 0 v
+begun_locking c (Upgrading i) u v is fits = subst (λ (j : ℕ). IsLocking u c j [] 0 v) (eqb-true i 0 is) fits.1
+begun_locking c Claiming u v is fits = cc
+begun_locking c (Filling place) u v is fits = cc
+begun_locking c (Writing j) u v is fits = cc
+begun_locking c Committing u v is fits = cc
+begun_locking c (Releasing i) u v is fits = cc
+begun_locking c ReleasingNode u v is fits = cc
+begun_locking c (GivingUp locked released e) u v is fits = cc
+begun_locking c (Ended r) u v is fits = cc
+
+-- ---- at each stage
+
+vouching_goes : (z : Sizes) (r : Room) (m : Inserting) (s : Vouching) (u v : View) → vouching.ended_at s ≡ None
+    → vouching.StageFits z r.row.key.items (both_of m.stand.verdict) m.stand s r.desk u v → IsVouching z r.row.key.items m.stand r.desk u v
+vouching_goes z r m (vouches.Above q) u v is fits = fits.0
+vouching_goes z r m (vouches.Here q) u v is fits = fits.0
+vouching_goes z r m vouches.CheckAbove u v is fits = fits.0
+vouching_goes z r m vouches.CheckHere u v is fits = fits.0
+vouching_goes z r m (vouches.Ended e) u v is fits = cc
+
+module _ (z : Sizes) (u : View) (m : Inserting) (r : Room) (v : View) where
+  finding_so : IsFinding z u m r v → EndsSo z u r v
+  finding_so f =
+      let reads = still_reading z r.row.key.items _ m.finding.descent.depth m.finding.descent.stage f.early v f.going f.fits.descent in
+      ends_reading z u m r v v f (omega arith) reads.only
+
+  vouching_so : HasVouched z u m r v → vouching.ended_at m.vouching ≡ None → EndsSo z u r v
+  vouching_so h going =
+      let reads = (vouching_goes z r m m.vouching h.early v going h.fits.stage).reads in
+      record {
+        still = still_reads u h.early h.base v h.later reads.only;
+        has = stock_reads z r.row.key.items r.row.value h.early v r.stock reads.only h.has;
+      }
+
+  making_so : HasMade z u m r v → is_begun m.making ≡ true → EndsSo z u r v
+  making_so h is =
+      let p = begun_locking r.change m.making h.early v is h.fits.stage in
+      let free = locking_none h.early r.change v p in
+      let base = h.base in
+      let still : StillTries u v = record {
+        rest = ap (λ (hs : List Holding). record (rest_of v) { held = hs; hand = u.hand; committed = u.committed }) (free ∙ sym base.free)
+            ∙ (ap (λ (o : Rest). record o { hand = u.hand; committed = u.committed }) p.same.rest ∙ base.rest);
+        free = free;
+        pinned = λ zero. base.pinned (sym (ap (λ (o : Rest). o.pin) p.same.rest) ∙ zero);
+        later = let a = base.later in let b = h.later in omega (arith, a, b);
+      } in
+      record {
+        still = still;
+        has = stock_same z r.row.key.items r.row.value h.early v r.stock (ap (λ (o : Rest). o.hand) p.same.rest) h.has;
+      }
+
+  pub free_so : (s : Stage) → free_at s m.making ≡ true → entered_at s ≡ None → StageFits z u s m r v → EndsSo z u r v
+  free_so stage.Finding is going fits = finding_so fits
+  free_so stage.Supplying is going fits = supplies_so z u m r v fits.0
+  free_so stage.Vouching is going fits = vouching_so fits.0 fits.1
+  free_so stage.Making is going fits = making_so fits.0 is
+  free_so (stage.Ended e) is going fits = cc

@@ -1,0 +1,7 @@
+pub mod Counts
+pub mod Enters
+pub mod Finds
+pub mod Free
+pub mod Left
+pub mod Steps
+pub mod Tries

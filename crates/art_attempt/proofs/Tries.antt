@@ -1,0 +1,110 @@
+-- What stays as it was while an attempt goes on, and how it ends with an event.
+use Rattle.std.proofs.Common.{◌≡◌, ℕ, ◌≤◌, ◌++◌, List, [], ◌∷◌, length, refl, sym, ap, ◌∙◌, subst, arith}
+use Rattle.art_attempt.specs.Trying.{StillTries}
+use Rattle.art_epoch.specs.Taking.{OnlyTakes}
+use Rattle.art_find.specs.Descents.{IsReading}
+use Rattle.art_frame.proofs.Stocked.{stock_same}
+use Rattle.art_frame.specs.Stocks.{HasStock}
+use Rattle.art_frame.specs.declared.stocks.Stock.{Stock}
+use Rattle.art_make.specs.Making.{HasFailed, IsCommitted}
+use Rattle.art_place.proofs.FoundPlaces.{standing_grows}
+use Rattle.art_place.proofs.Keeping.{Grows}
+use Rattle.art_place.specs.Findings.{IsStanding}
+use Rattle.art_place.specs.declared.desks.Desk.{Desk}
+use Rattle.art_place.specs.declared.findings.Stand.{Stand}
+use Rattle.art_plan.specs.Changes.{unlinked}
+use Rattle.art_plan.specs.declared.changes.Change.{Change}
+use Rattle.art_step.specs.Events.{MakesEvent}
+use Rattle.art_step.specs.Histories.{event, places}
+use Rattle.art_step.specs.Shows.{OnlyReads, OnlyTells, Rest, rest_of}
+use Rattle.art_step.specs.Steps.Commit.{all_retired}
+use Rattle.art_step.specs.Views.{Member}
+use Rattle.art_step.specs.declared.deeds.Deed.{Deed}
+use Rattle.art_step.specs.declared.faults.UpgradeFault.{UpgradeFault}
+use Rattle.art_step.specs.declared.views.Holding.{Holding}
+use Rattle.art_step.specs.declared.views.Note.{Note}
+use Rattle.art_step.specs.declared.views.Sizes.{Sizes}
+use Rattle.art_step.specs.declared.views.Stamp.{Stamp}
+use Rattle.art_step.specs.declared.views.View.{View}
+
+-- ---- the hand
+
+pub stock_reads : (z : Sizes) (k : List ℕ) (value : ℕ) (v w : View) (s : Stock) → OnlyReads v w → HasStock z k value v s → HasStock z k value w s
+stock_reads z k value v w s only has = stock_same z k value v w s (ap (λ (r : Rest). r.hand) only) has
+
+pub stock_fails : (z : Sizes) (k : List ℕ) (value : ℕ) (v w : View) (s : Stock) (c : Change) (e : UpgradeFault) → HasFailed v c e w → HasStock z k value v s → HasStock z k value w s
+stock_fails z k value v w s c e failed has = stock_same z k value v w s (ap (λ (r : Rest). r.hand) failed.rest) has
+
+-- ---- the place
+
+-- stamps and notes stay while numbers come
+pub takes_grow : (v w : View) → OnlyTakes v w → Grows v w
+takes_grow v w only = record {
+  stamps = λ x m. subst (λ (xs : List Stamp). Member x xs) (sym (ap (λ (t : View). t.stamps) only)) m;
+  notes = λ y m. subst (λ (ys : List Note). Member y ys) (sym (ap (λ (t : View). t.notes) only)) m;
+}
+
+pub standing_takes : (z : Sizes) (k : List ℕ) (t : Stand) (desk : Desk) (v w : View) → OnlyTakes v w → IsStanding z k t desk v → IsStanding z k t desk w
+standing_takes z k t desk v w only at = standing_grows z k t desk v w (takes_grow v w only) at
+
+-- ---- nothing is told
+
+module _ (u early : View) (base : StillTries u early) where
+  pub reading_begins : IsReading early early
+  reading_begins = record { only = refl; free = base.free; pinned = base.pinned }
+
+  module _ (v : View) (later : early.steps ≤ v.steps) where
+    still_later : u.steps ≤ v.steps
+    still_later = let before = base.later in omega arith
+
+    pub still_reads : OnlyReads early v → StillTries u v
+    still_reads only = record {
+      rest = ap (λ (r : Rest). record r { hand = u.hand; committed = u.committed }) only ∙ base.rest;
+      free = ap (λ (r : Rest). r.held) only ∙ base.free;
+      pinned = λ zero. base.pinned (sym (ap (λ (r : Rest). r.pin) only) ∙ zero);
+      later = still_later;
+    }
+
+    pub still_takes : OnlyTakes early v → StillTries u v
+    still_takes only = record {
+      rest = ap (λ (t : View). rest_of (record t { hand = u.hand; committed = u.committed })) only ∙ base.rest;
+      free = ap (λ (t : View). t.held) only ∙ base.free;
+      pinned = λ zero. base.pinned (sym (ap (λ (t : View). t.pin) only) ∙ zero);
+      later = still_later;
+    }
+
+    pub still_fails : (c : Change) (e : UpgradeFault) → HasFailed early c e v → v.held ≡ [] → StillTries u v
+    still_fails c e failed free = record {
+      rest = ap (λ (h : List Holding). record (rest_of v) { held = h; hand = u.hand; committed = u.committed }) (free ∙ sym base.free)
+          ∙ (ap (λ (r : Rest). record r { hand = u.hand; committed = u.committed }) failed.rest ∙ base.rest);
+      free = free;
+      pinned = λ zero. base.pinned (sym (ap (λ (r : Rest). r.pin) failed.rest) ∙ zero);
+      later = still_later;
+    }
+
+  -- ---- an event is made
+
+  module _ (w : View) where
+    pub event_since : (what : Deed) → MakesEvent early w what → MakesEvent u w what
+    event_since what m = record {
+      between = m.between;
+      seen = m.seen ∙ ap (λ (r : Rest). (r.seen ++ m.between) ++ event r.pass what ∷ []) base.rest;
+      own = m.own ∙ ap (λ (r : Rest). r.own ++ length (r.seen ++ m.between) ∷ []) base.rest;
+      legal = m.legal;
+      all = subst (λ (i : ℕ). places i w.seen ≡ w.own) (ap (λ (r : Rest). r.pass) base.rest) m.all;
+    }
+
+    pub rest_told : OnlyTells early w → rest_of (record w { seen = u.seen; own = u.own; committed = u.committed; hand = u.hand }) ≡ rest_of u
+    rest_told tells =
+        ap (λ (r : Rest). record r { seen = u.seen; own = u.own; committed = u.committed; hand = u.hand }) tells
+        ∙ ap (λ (r : Rest). record r { seen = u.seen; own = u.own }) base.rest
+
+    module _ (c : Change) (done : IsCommitted early c w) (free : w.held ≡ []) where
+      pub rest_committed : rest_of (record w { seen = u.seen; own = u.own; committed = u.committed; hand = u.hand; limbo = u.limbo }) ≡ rest_of u
+      rest_committed =
+          ap (λ (h : List Holding). record (rest_of w) { held = h; seen = u.seen; own = u.own; committed = u.committed; hand = u.hand; limbo = u.limbo }) (free ∙ sym base.free)
+          ∙ (ap (λ (r : Rest). record r { seen = u.seen; own = u.own; committed = u.committed; hand = u.hand; limbo = u.limbo }) done.rest
+          ∙ ap (λ (r : Rest). record r { seen = u.seen; own = u.own; limbo = u.limbo }) base.rest)
+
+      pub limbo_committed : w.limbo ≡ all_retired done.pins (unlinked c) ++ u.limbo
+      limbo_committed = done.limbo ∙ ap (λ (r : Rest). all_retired done.pins (unlinked c) ++ r.limbo) base.rest

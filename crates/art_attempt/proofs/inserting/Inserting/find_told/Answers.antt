@@ -1,0 +1,16 @@
+use Rattle.std.proofs.Common.{◌≡◌, ◌∙◌, ap, sym, subst, Option}
+use Rattle.std.proofs.lemmas.Option.{same_Some}
+use Rattle.art_attempt.proofs.inserting.Inserting.find_told.Goals as goal
+use Rattle.art_attempt.specs.Inserting.{asks_place, check_of, deed_at}
+use Rattle.art_find.specs.Asking.{Answers}
+use Rattle.art_find.specs.Descents.{asks}
+use Rattle.art_find.specs.declared.asked.Asked.{Asked}
+use Rattle.art_place.specs.declared.findings.Stand.{Stand}
+
+pub returns-in-Some-clause-fits : goal.returns-in-Some-clause-fits
+returns-in-Some-clause-fits c z u v w asked room f is row =
+    let m = c.args.self.now in
+    let t = c.in-Some.stand in
+    let at = sym c.stand.ensures.at ∙ c.in-Some.is in
+    let check : check_of t ≡ asked = same_Some {A = Asked} (check_of t) asked (sym (ap (λ (o : Option Stand). asks_place o (asks m.finding.descent.stage)) at) ∙ is) in
+    c.settled.ensures.fits z u v w room f at (subst (λ (a : Asked). Answers z (deed_at m c.args.room.now) a c.args.answer v w) (sym check) row)

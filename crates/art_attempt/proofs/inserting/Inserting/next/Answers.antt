@@ -1,0 +1,42 @@
+use Rattle.std.proofs.Common.{◌∙◌, ap, sym, subst}
+use Rattle.art_attempt.proofs.inserting.Inserting.next.Goals as goal
+use Rattle.art_attempt.specs.Inserting.{StageFits, asks_at, deed_at}
+use Rattle.art_attempt.specs.declared.inserting.Stage.{Stage as StageOf}
+
+pub returns-in-Finding-clause-asks : goal.returns-in-Finding-clause-asks
+returns-in-Finding-clause-asks c =
+    let m = c.args.self.now in
+    let r = c.args.room.now in
+    c.find_next.ensures.asks r ∙ sym (ap (λ (s : StageOf). asks_at s m r) c.in-Finding.is)
+
+pub returns-in-Vouching-clause-asks : goal.returns-in-Vouching-clause-asks
+returns-in-Vouching-clause-asks c =
+    let m = c.args.self.now in
+    let r = c.args.room.now in
+    c.vouch_next.ensures.asks r ∙ sym (ap (λ (s : StageOf). asks_at s m r) c.in-Vouching.is)
+
+pub returns-in-Vouching-clause-allowed : goal.returns-in-Vouching-clause-allowed
+returns-in-Vouching-clause-allowed c z u v fits =
+    let m = c.args.self.now in
+    let r = c.args.room.now in
+    c.vouch_next.ensures.allowed z u v r (deed_at m r) (subst (λ (s : StageOf). StageFits z u s m r v) c.in-Vouching.is fits.stage).0
+
+pub returns-in-Vouching-clause-going : goal.returns-in-Vouching-clause-going
+returns-in-Vouching-clause-going c z u v fits going =
+    let m = c.args.self.now in
+    let r = c.args.room.now in
+    let stage = subst (λ (s : StageOf). StageFits z u s m r v) c.in-Vouching.is fits.stage in
+    c.vouch_next.ensures.going z u v r stage.0 stage.1
+
+pub returns-in-Making-clause-allowed : goal.returns-in-Making-clause-allowed
+returns-in-Making-clause-allowed c z u v fits =
+    let m = c.args.self.now in
+    let r = c.args.room.now in
+    c.make_next.ensures.allowed z u v (deed_at m r) (subst (λ (s : StageOf). StageFits z u s m r v) c.in-Making.is fits.stage).0
+
+pub returns-in-Making-clause-going : goal.returns-in-Making-clause-going
+returns-in-Making-clause-going c z u v fits going =
+    let m = c.args.self.now in
+    let r = c.args.room.now in
+    let stage = subst (λ (s : StageOf). StageFits z u s m r v) c.in-Making.is fits.stage in
+    c.make_next.ensures.going z u v stage.0 stage.1

@@ -1,0 +1,45 @@
+use Rattle.std.proofs.Common.{◌∙◌, ap, sym, subst, arith}
+use Rattle.art_attempt.proofs.Enters.{leaf_ready, node_ready, vouched_seen, vouched_so, vouched_standing}
+use Rattle.art_attempt.proofs.inserting.Inserting.plan.Goals as goal
+use Rattle.art_attempt.specs.Rooms.{number_for}
+use Rattle.art_decide.specs.Plans.{HasNeeded}
+use Rattle.art_decide.specs.declared.needs.Needs.{Needs}
+
+pub plan_insert-requires-clause-seen : goal.plan_insert-requires-clause-seen
+plan_insert-requires-clause-seen c =
+    let q = c.requires in
+    (q.0, vouched_seen q.0 q.1 c.args.self.now c.args.room.now q.2 q.4 q.5)
+
+pub returns-then-not-plan_insert-clause-fits : goal.returns-then-not-plan_insert-clause-fits
+returns-then-not-plan_insert-clause-fits c z u v room h is =
+    let so = vouched_so z u c.args.self.now c.args.room.now v h is in
+    record {
+      room = record { sizes = room.sizes; key = room.key };
+      stage = (record { still = so.still; has = so.has }, (c.number_for-made.result, c.plan_insert.ensures.refused c.if-not-plan_insert.true));
+    }
+
+pub returns-clause-fits : goal.returns-clause-fits
+returns-clause-fits c z u v room h is =
+    let m = c.args.self.now in
+    let r = c.args.room.now in
+    let so = vouched_so z u m r v h is in
+    let at = sym c.leaf.ensures ∙ c.in-Some.is in
+    let number = c.number_for-made.ensures ∙ ap (λ (n : Needs). number_for r.stock n.node) c.needed.ensures in
+    let needed : HasNeeded z v m.stand.verdict c.number_for-made.result = subst (HasNeeded z v m.stand.verdict) (sym number) (node_ready z u m r v h is) in
+    let planned = c.plan_insert.ensures.planned c.if-not-plan_insert.false z v (vouched_seen z u m r v h is) (vouched_standing z u m r v h is)
+    (leaf_ready z u m r v h is room.key c.in-Some.leaf at) needed in
+    record {
+      room = record { sizes = room.sizes; key = room.key };
+      stage = (
+        record {
+          early = v;
+          base = so.still;
+          later = omega arith;
+          has = so.has;
+          leaf = c.plan_insert.ensures.leaf ∙ sym at;
+          deed = c.plan_insert.ensures.deed;
+          fits = c.new-self.ensures.fits z v planned so.still.free;
+        },
+        c.new-self.ensures.going (c.plan_insert.ensures.targets c.if-not-plan_insert.false),
+      );
+    }

@@ -1,0 +1,45 @@
+use Rattle.std.proofs.Common.{◌∙◌, sym}
+use Rattle.art_attempt.proofs.Finds.{comes_there, deed_there, ends_so, ends_there, fails_there, stands_still, stands_there}
+use Rattle.art_attempt.proofs.Steps.{cell_later}
+use Rattle.art_attempt.proofs.inserting.Inserting.settled.Goals as goal
+use Rattle.art_attempt.specs.Inserting.{check_of, deed_at, present_of}
+
+pub returns-then-not-passed-clause-fits : goal.returns-then-not-passed-clause-fits
+returns-then-not-passed-clause-fits c z u v w room f at row =
+    let m = c.args.self.now in
+    let r = c.args.room.now in
+    let d = deed_at m r in
+    let later = cell_later z d (check_of c.args.stand) c.args.answer v w row in
+    let s = stands_there z r.row.key.items (present_of r.row) m.finding r.desk f.early v f.fits f.exact c.args.stand at in
+    record {
+      room = room;
+      stage = fails_there z u m r v w f later c.args.stand s d c.args.answer row (sym c.passed.ensures ∙ c.if-not-passed.true);
+    }
+
+pub returns-in-Some-clause-fits : goal.returns-in-Some-clause-fits
+returns-in-Some-clause-fits c z u v w room f at row =
+    let m = c.args.self.now in
+    let r = c.args.room.now in
+    let d = deed_at m r in
+    let later = cell_later z d (check_of c.args.stand) c.args.answer v w row in
+    let s = stands_there z r.row.key.items (present_of r.row) m.finding r.desk f.early v f.fits f.exact c.args.stand at in
+    record {
+      room = room;
+      stage = ends_there z u m r v w f later c.args.stand s d c.args.answer c.in-Some.entered _ (deed_there m r c.args.stand at) row (sym c.passed.ensures ∙ c.if-not-passed.false)
+          (sym c.entered_by.ensures ∙ c.in-Some.is);
+    }
+
+pub returns-in-None-clause-fits : goal.returns-in-None-clause-fits
+returns-in-None-clause-fits c z u v w room f at row =
+    let m = c.args.self.now in
+    let r = c.args.room.now in
+    let d = deed_at m r in
+    let t = c.args.stand in
+    let later = cell_later z d (check_of t) c.args.answer v w row in
+    let s = stands_there z r.row.key.items (present_of r.row) m.finding r.desk f.early v f.fits f.exact t at in
+    let on = sym c.passed.ensures ∙ c.if-not-passed.false in
+    let none = sym c.entered_by.ensures ∙ c.in-None.is in
+    let so = ends_so z u m r v w f later t s d c.args.answer row on none in
+    c.supply.ensures.fits z u w room so.still
+    (record { standing = stands_still z u m r v w f later t s d c.args.answer row on none; comes = comes_there z u m r v w f later t s d c.args.answer row on none })
+    so.has

@@ -1,0 +1,27 @@
+use Rattle.std.proofs.Common.{subst, arith}
+use Rattle.art_attempt.proofs.Enters.{supplies_so, vouching_begins}
+use Rattle.art_attempt.proofs.inserting.Inserting.vouch.Goals as goal
+use Rattle.art_decide.specs.declared.needs.Needs.{Needs}
+use Rattle.art_gather.specs.Vouching.{Fits as VouchingFits}
+
+pub returns-clause-fits : goal.returns-clause-fits
+returns-clause-fits c z u v room h all =
+    let m = c.args.self.now in
+    let r = c.args.room.now in
+    let so = supplies_so z u m r v h in
+    let fits = c.new-self.ensures.fits z r.row.key.items v (vouching_begins z u m r v h) in
+    record {
+      room = room;
+      stage = (
+        record {
+          early = v;
+          base = so.still;
+          later = omega arith;
+          has = so.has;
+          all = all;
+          comes = h.place.comes;
+          fits = subst (λ (n : Needs). VouchingFits z r.row.key.items n.above m.stand c.new-self.result r.desk v v) c.needed-both.ensures fits;
+        },
+        c.new-self.ensures.going,
+      );
+    }

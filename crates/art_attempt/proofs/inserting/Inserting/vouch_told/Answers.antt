@@ -1,0 +1,109 @@
+use Rattle.std.proofs.Common.{◌∙◌, ap, sym, subst, Some, arith}
+use Rattle.art_attempt.proofs.Enters.{vouched_changed}
+use Rattle.art_attempt.proofs.Steps.{cell_later}
+use Rattle.art_attempt.proofs.inserting.Inserting.vouch_told.Goals as goal
+use Rattle.art_attempt.specs.Inserting.{HasVouched, StageFits, deed_at}
+use Rattle.art_attempt.specs.declared.inserting.Inserting.{Inserting}
+use Rattle.art_attempt.specs.declared.inserting.Stage.{Stage as StageOf}
+use Rattle.art_attempt.specs.declared.rooms.Room.{Room}
+use Rattle.art_decide.specs.declared.needs.Needs.{Needs}
+use Rattle.art_gather.specs.Vouching.{Fits as VouchFits}
+use Rattle.art_gather.specs.declared.vouching.Vouched.{Vouched}
+
+pub plan-requires : goal.plan-requires
+plan-requires c =
+    let q = c.requires.told in
+    let m = c.args.self.now in
+    let r = c.args.room.now in
+    let h = q.6 in
+    let k = r.row.key.items in
+    let d = deed_at m r in
+    let one = cell_later q.0 d q.4 c.args.answer q.2 q.3 q.8 in
+    let before = h.later in
+    let next : Inserting = record m { vouching = c.told.new.self } in
+    let then : Room = record r { desk = c.told.new.desk } in
+    let fits = c.told.ensures.fits q.0 k d h.early q.2 q.3 q.4 (subst (λ (n : Needs). VouchFits q.0 k n.above m.stand m.vouching r.desk h.early q.2) (sym c.needed-both.ensures) h.fits) q.7 q.8 in
+    let vouched : HasVouched q.0 q.1 next then q.3 = record {
+      early = h.early;
+      base = h.base;
+      later = omega (arith, one, before);
+      has = h.has;
+      all = h.all;
+      comes = h.comes;
+      fits = subst (λ (n : Needs). VouchFits q.0 k n.above m.stand c.told.new.self c.told.new.desk h.early q.3) c.needed-both.ensures fits;
+    } in
+    (q.0, q.1, q.3, record { sizes = q.5.sizes; key = q.5.key }, vouched, sym c.ended.ensures.at ∙ (c.in-Some-Unchanged.is ∙ ap (λ (e : Vouched). Some e) c.in-Some-Unchanged.field-0-is))
+
+pub returns-in-None-clause-fits : goal.returns-in-None-clause-fits
+returns-in-None-clause-fits c z u v w asked room g is row =
+    let m = c.args.self.now in
+    let r = c.args.room.now in
+    let h = g in
+    let k = r.row.key.items in
+    let d = deed_at m r in
+    let one = cell_later z d asked c.args.answer v w row in
+    let before = h.later in
+    let next : Inserting = record m { vouching = c.told.new.self } in
+    let then : Room = record r { desk = c.told.new.desk } in
+    let fits = c.told.ensures.fits z k d h.early v w asked (subst (λ (n : Needs). VouchFits z k n.above m.stand m.vouching r.desk h.early v) (sym c.needed-both.ensures) h.fits) is row in
+    let vouched : HasVouched z u next then w = record {
+      early = h.early;
+      base = h.base;
+      later = omega (arith, one, before);
+      has = h.has;
+      all = h.all;
+      comes = h.comes;
+      fits = subst (λ (n : Needs). VouchFits z k n.above m.stand c.told.new.self c.told.new.desk h.early w) c.needed-both.ensures fits;
+    } in
+    record {
+      room = record { sizes = room.sizes; key = room.key };
+      stage = subst (λ (e : StageOf). StageFits z u e next then w) (sym c.requires.stage) (vouched, sym c.ended.ensures.at ∙ c.in-None.is);
+    }
+
+pub returns-in-Some-Changed-clause-fits : goal.returns-in-Some-Changed-clause-fits
+returns-in-Some-Changed-clause-fits c z u v w asked room g is row =
+    let m = c.args.self.now in
+    let r = c.args.room.now in
+    let h = g in
+    let k = r.row.key.items in
+    let d = deed_at m r in
+    let one = cell_later z d asked c.args.answer v w row in
+    let before = h.later in
+    let next : Inserting = record m { vouching = c.told.new.self } in
+    let then : Room = record r { desk = c.told.new.desk } in
+    let fits = c.told.ensures.fits z k d h.early v w asked (subst (λ (n : Needs). VouchFits z k n.above m.stand m.vouching r.desk h.early v) (sym c.needed-both.ensures) h.fits) is row in
+    let vouched : HasVouched z u next then w = record {
+      early = h.early;
+      base = h.base;
+      later = omega (arith, one, before);
+      has = h.has;
+      all = h.all;
+      comes = h.comes;
+      fits = subst (λ (n : Needs). VouchFits z k n.above m.stand c.told.new.self c.told.new.desk h.early w) c.needed-both.ensures fits;
+    } in
+    let so = vouched_changed z u next then w vouched (sym c.ended.ensures.at ∙ (c.in-Some-Changed.is ∙ ap (λ (e : Vouched). Some e) c.in-Some-Changed.field-0-is)) in
+    record { room = record { sizes = room.sizes; key = room.key }; stage = record { still = so.still; has = so.has } }
+
+pub returns-in-Some-Unchanged-clause-fits : goal.returns-in-Some-Unchanged-clause-fits
+returns-in-Some-Unchanged-clause-fits c z u v w asked room g is row =
+    let m = c.args.self.now in
+    let r = c.args.room.now in
+    let h = g in
+    let k = r.row.key.items in
+    let d = deed_at m r in
+    let one = cell_later z d asked c.args.answer v w row in
+    let before = h.later in
+    let next : Inserting = record m { vouching = c.told.new.self } in
+    let then : Room = record r { desk = c.told.new.desk } in
+    let fits = c.told.ensures.fits z k d h.early v w asked (subst (λ (n : Needs). VouchFits z k n.above m.stand m.vouching r.desk h.early v) (sym c.needed-both.ensures) h.fits) is row in
+    let vouched : HasVouched z u next then w = record {
+      early = h.early;
+      base = h.base;
+      later = omega (arith, one, before);
+      has = h.has;
+      all = h.all;
+      comes = h.comes;
+      fits = subst (λ (n : Needs). VouchFits z k n.above m.stand c.told.new.self c.told.new.desk h.early w) c.needed-both.ensures fits;
+    } in
+    c.plan.ensures.fits z u w (record { sizes = room.sizes; key = room.key }) vouched
+    (sym c.ended.ensures.at ∙ (c.in-Some-Unchanged.is ∙ ap (λ (e : Vouched). Some e) c.in-Some-Unchanged.field-0-is))

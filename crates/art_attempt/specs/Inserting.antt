@@ -1,0 +1,300 @@
+-- What an attempt of an insert asks, and what it knows between two of its steps.
+use Rattle.std.specs.Prelude.{◌≡◌, ℕ, ◌+◌, ◌-◌, ◌≤◌, ◌++◌, List, [], Option, Some, None, Bool, true, false, ◌==◌, if◌then◌else◌}
+use Rattle.std.specs.Option.{option_map, unwrap_or}
+use Rattle.std.specs.Prelude.{Result, Ok, Err, ⊤}
+use Rattle.art_attempt.specs.Rooms.{both_of, wants_of}
+use Rattle.art_attempt.specs.Trying.{IsKey, StillTries}
+use Rattle.art_attempt.specs.declared.asked.Asked.{Asked}
+use Rattle.art_attempt.specs.declared.asked.Asked.TheVariants as asked
+use Rattle.art_attempt.specs.declared.inserting.Entered.{Entered}
+use Rattle.art_attempt.specs.declared.inserting.Entered.TheVariants.{New, Present, Full, Exhausted, Overlaps, TooMany, Anew}
+use Rattle.art_attempt.specs.declared.inserting.Inserting.{Inserting}
+use Rattle.art_attempt.specs.declared.inserting.Stage.{Stage}
+use Rattle.art_attempt.specs.declared.inserting.Stage.TheVariants as stage
+use Rattle.art_attempt.specs.declared.rooms.Room.{Room}
+use Rattle.art_cell.specs.declared.cells.Cell.{Cell as CellOf}
+use Rattle.art_cell.specs.declared.layouts.Pool.{Pool}
+use Rattle.art_decide.specs.Plans.{Comes, IsTooMuch}
+use Rattle.art_find.specs.Descents as descents
+use Rattle.art_find.specs.Verdicts.{HasOverlap, value_of}
+use Rattle.art_find.specs.declared.asked.Asked.{Asked as CellAsked}
+use Rattle.art_find.specs.declared.asked.Asked.TheVariants as cells
+use Rattle.art_find.specs.declared.verdicts.Verdict.{Verdict}
+use Rattle.art_find.specs.declared.verdicts.Verdict.TheVariants as verdict
+use Rattle.art_frame.specs.Stocks.{HasStock}
+use Rattle.art_gather.specs.Supplying as supplying
+use Rattle.art_gather.specs.Supplying.{HasAll, HasNone}
+use Rattle.art_gather.specs.Vouching as vouching
+use Rattle.art_gather.specs.declared.asked.Asked.{Asked as SupplyAsked}
+use Rattle.art_insert.specs.Puts.{inserted}
+use Rattle.art_insert.specs.declared.leaves.NewLeaf.{NewLeaf}
+use Rattle.art_make.specs.Making as making
+use Rattle.art_make.specs.Making.{HasFailed, fault_of, most_steps}
+use Rattle.art_make.specs.declared.asked.Asked.{Asked as ChangeAsked}
+use Rattle.art_make.specs.declared.making.Making.{Making}
+use Rattle.art_make.specs.declared.making.Making.TheVariants.{Upgrading}
+use Rattle.art_model.specs.declared.commands.Answer.TheVariants as reply
+use Rattle.art_place.specs.Findings.{FindingFits, IsStanding, stand_at}
+use Rattle.art_place.specs.declared.findings.Finding.{Finding}
+use Rattle.art_place.specs.declared.findings.Stand.{Stand}
+use Rattle.art_plan.specs.Changes.{unlinked}
+use Rattle.art_step.specs.Events.{MakesEvent}
+use Rattle.art_step.specs.Knowledge.{IsShape}
+use Rattle.art_step.specs.Shows.{rest_of}
+use Rattle.art_step.specs.Steps.Commit.{all_retired}
+use Rattle.art_step.specs.Views.{IsOnce, links_in_limbo}
+use Rattle.art_step.specs.declared.deeds.Act.TheVariants.{Insert}
+use Rattle.art_step.specs.declared.deeds.Deed.{Deed}
+use Rattle.art_step.specs.declared.deeds.Deed.TheVariants.{Done}
+use Rattle.art_step.specs.declared.faults.UpgradeFault.{UpgradeFault}
+use Rattle.art_step.specs.declared.faults.UpgradeFault.TheVariants as fault
+use Rattle.art_step.specs.declared.views.Pin.{Pin}
+use Rattle.art_step.specs.declared.views.Sizes.{Sizes}
+use Rattle.art_step.specs.declared.views.View.{View}
+use Rattle.art_tree.specs.Heaps.{Cells}
+
+-- ---- what it asks
+
+-- a leaf with the key is there: a check tells its value; of any other place a check tells nothing
+abbrev pub check_by : Verdict → Stand → CellAsked
+check_by (verdict.Found l value) t = cells.Settle t.stamp
+check_by found t = cells.Check t.stamp
+
+abbrev pub check_of : Stand → CellAsked
+check_of t = check_by t.verdict t
+
+-- the check of the place, once there is one; until then what the descent asks
+abbrev pub asks_place : Option Stand → Option CellAsked → Option CellAsked
+asks_place (Some t) o = Some (check_of t)
+asks_place None o = o
+
+abbrev pub finding_asks : Finding → Option CellAsked
+finding_asks m = asks_place (stand_at m) (descents.asks m.descent.stage)
+
+abbrev pub supply_asks : Inserting → Room → Option SupplyAsked
+supply_asks m r = supplying.asks r.row.key.items r.row.value r.stock m.supplying
+
+abbrev pub vouching_asks : Inserting → Option CellAsked
+vouching_asks m = vouching.asks m.stand m.vouching
+
+abbrev pub making_asks : Inserting → Room → Option ChangeAsked
+making_asks m r = making.asks r.change m.making
+
+abbrev pub asks_at : Stage → Inserting → Room → Option Asked
+asks_at stage.Finding m r = option_map asked.Cell (finding_asks m.finding)
+asks_at stage.Supplying m r = option_map asked.Supply (supply_asks m r)
+asks_at stage.Vouching m r = option_map asked.Cell (vouching_asks m)
+asks_at stage.Making m r = option_map asked.Change (making_asks m r)
+asks_at (stage.Ended e) m r = None
+
+-- the next step
+abbrev pub asks : Inserting → Room → Option Asked
+asks m r = asks_at m.stage m r
+
+abbrev pub entered_at : Stage → Option Entered
+entered_at (stage.Ended e) = Some e
+entered_at s = None
+
+-- how it ended, if it has
+abbrev pub ended_at : Inserting → Option Entered
+ended_at m = entered_at m.stage
+
+-- ---- what it tells
+
+-- the key is there, with this value, and keeps it
+abbrev pub present : NewLeaf → ℕ → Deed
+present row stands = Done (Insert row.key row.value) (reply.Present stands)
+
+abbrev pub present_of : NewLeaf → Option ℕ → Deed
+present_of row (Some stands) = present row stands
+present_of row None = present row 0
+
+-- the value that was found, where the check of the place settles the answer
+abbrev pub value_found : Option Stand → ℕ
+value_found (Some t) = unwrap_or (value_of t.verdict) 0
+value_found None = 0
+
+abbrev pub found_at : Inserting → ℕ
+found_at m = value_found (stand_at m.finding)
+
+abbrev pub deed_at : Inserting → Room → Deed
+deed_at m r = present r.row (found_at m)
+
+-- how it ends at a place where no leaf may come
+abbrev pub entered_by : Verdict → Option Entered
+entered_by (verdict.Found l value) = Some (Present value)
+entered_by verdict.Overlaps = Some Overlaps
+entered_by found = None
+
+-- how it ends where the change was given up
+abbrev pub given_up : UpgradeFault → Entered
+given_up (fault.Changed e) = Anew
+given_up (fault.Exhausted c) = Exhausted c
+
+-- ---- what it knows, of a pass that had the view u at the beginning
+
+-- where the key stands is known, and a leaf may come there
+pub record HasPlace (z : Sizes) (t : Stand) (r : Room) (v : View) : Type 0 where
+  pub standing : IsStanding z r.row.key.items t r.desk v
+  pub comes : Comes t.verdict
+
+-- the place is sought
+pub record IsFinding (z : Sizes) (u : View) (m : Inserting) (r : Room) (v : View) : Type 0 where
+  pub early : View
+  pub base : StillTries u early
+  pub later : early.steps ≤ v.steps
+  pub has : HasStock z r.row.key.items r.row.value early r.stock
+  pub fits : FindingFits z r.row.key.items (present_of r.row) m.finding r.desk early v
+  pub going : descents.ended_at m.finding.descent.stage ≡ None
+  pub exact : descents.IsExact m.finding.descent.stage
+
+-- numbers come into the hand, or all did, or one was not found
+pub record HasSupplies (z : Sizes) (u : View) (m : Inserting) (r : Room) (v : View) : Type 0 where
+  pub early : View
+  pub base : StillTries u early
+  pub place : HasPlace z m.stand r early
+  pub fits : supplying.Fits z (wants_of z m.stand.verdict) r.row.key.items r.row.value m.supplying r.stock early v
+
+-- what is still to be read is read, and the cells are checked
+pub record HasVouched (z : Sizes) (u : View) (m : Inserting) (r : Room) (v : View) : Type 0 where
+  pub early : View
+  pub base : StillTries u early
+  pub later : early.steps ≤ v.steps
+  pub has : HasStock z r.row.key.items r.row.value early r.stock
+  pub all : HasAll (wants_of z m.stand.verdict) r.stock
+  pub comes : Comes m.stand.verdict
+  pub fits : vouching.Fits z r.row.key.items (both_of m.stand.verdict) m.stand m.vouching r.desk early v
+
+-- the change is made
+pub record HasMade (z : Sizes) (u : View) (m : Inserting) (r : Room) (v : View) : Type 0 where
+  pub early : View
+  pub base : StillTries u early
+  pub later : early.steps ≤ v.steps
+  pub has : HasStock z r.row.key.items r.row.value early r.stock
+  pub leaf : r.change.leaf ≡ r.stock.leaf
+  pub deed : r.change.deed ≡ inserted r.row
+  pub fits : making.Fits z r.change m.making early v
+
+-- no cell was locked yet
+abbrev pub is_begun : Making → Bool
+is_begun (Upgrading i) = i == 0
+is_begun m = false
+
+abbrev pub free_at : Stage → Making → Bool
+free_at stage.Making m = is_begun m
+free_at s m = true
+
+-- nothing is held
+abbrev pub is_free : Inserting → Bool
+is_free m = free_at m.stage m.making
+
+-- ---- how many steps are left
+
+-- of one attempt after another, where so many turns are left: as many, and at most 306 after the last of them, while a cell is held
+abbrev pub tries_left : ℕ → ℕ
+tries_left left = if left == 0 then 0 else left + 307
+
+-- a counter at its end ends all attempts
+abbrev pub is_last : Option UpgradeFault → Bool
+is_last (Some (fault.Exhausted c)) = true
+is_last e = false
+
+-- of a making that holds a cell, after which none comes, or others may
+abbrev pub last_left : Making → ℕ
+last_left m = 307 - most_steps m
+
+abbrev pub held_left : ℕ → Making → ℕ
+held_left left m = if left == 0 then last_left m else if is_last (fault_of m) then last_left m else left + 307
+
+abbrev pub making_left : ℕ → Making → ℕ
+making_left left m = if is_begun m then tries_left left else held_left left m
+
+abbrev pub ended_left : ℕ → Entered → ℕ
+ended_left left Anew = tries_left left
+ended_left left e = 0
+
+abbrev pub left_at : ℕ → Stage → Making → ℕ
+left_at left stage.Making m = making_left left m
+left_at left (stage.Ended e) m = ended_left left e
+left_at left s m = tries_left left
+
+-- at most so many steps come, with those of the attempts that come after this one
+abbrev pub steps_left : ℕ → Inserting → ℕ
+steps_left left m = left_at left m.stage m.making
+
+-- ---- how it ends
+
+-- how an attempt ends by how its change did
+abbrev pub entered_so : Result ⊤ UpgradeFault → Entered
+entered_so (Ok done) = New
+entered_so (Err e) = given_up e
+
+-- but for steps, what is in hand and what reading changes, the pass is as it was
+pub record EndsSo (z : Sizes) (u : View) (r : Room) (v : View) : Type 0 where
+  pub still : StillTries u v
+  pub has : HasStock z r.row.key.items r.row.value v r.stock
+
+-- the leaf is in the tree: one event; what the change unlinked is in limbo, what it linked left the hand
+pub record HasEntered (z : Sizes) (u : View) (r : Room) (v : View) : Type 0 where
+  pub event : MakesEvent u v (inserted r.row)
+  pub pins : List Pin
+  pub limbo : v.limbo ≡ all_retired pins (unlinked r.change) ++ u.limbo
+  pub once : IsOnce (links_in_limbo v.limbo)
+  pub rest :
+      rest_of (record v { seen = u.seen; own = u.own; committed = u.committed; hand = u.hand; limbo = u.limbo }) ≡ rest_of u
+  pub free : v.held ≡ []
+  pub later : u.steps ≤ v.steps
+  pub has : HasStock z r.row.key.items r.row.value v r.stock
+
+-- the key is there, and keeps its value: one event
+pub record IsPresent (z : Sizes) (u : View) (r : Room) (stands : ℕ) (v : View) : Type 0 where
+  pub event : MakesEvent u v (present r.row stands)
+  pub rest : rest_of (record v { seen = u.seen; own = u.own; committed = u.committed; hand = u.hand }) ≡ rest_of u
+  pub free : v.held ≡ []
+  pub later : u.steps ≤ v.steps
+  pub has : HasStock z r.row.key.items r.row.value v r.stock
+
+-- where the key stands a number of the pool is wanted, and no free word gave one in this attempt
+pub record IsFull (z : Sizes) (u : View) (t : Stand) (r : Room) (pool : Pool) (v : View) : Type 0 where
+  pub early : View
+  pub place : HasPlace z t r early
+  pub none : HasNone z (wants_of z t.verdict) pool u v
+
+-- a cell that the change locks has its counter at its end
+pub record IsExhausted (u : View) (r : Room) (c : CellOf) (v : View) : Type 0 where
+  pub early : View
+  pub deed : r.change.deed ≡ inserted r.row
+  pub failed : HasFailed early r.change (fault.Exhausted c) v
+
+-- at a step of this attempt a tree had a key that begins this one, or that this one begins
+pub record IsOverlap (z : Sizes) (r : Room) : Type 0 where
+  pub tree : Cells
+  pub shape : IsShape z tree
+  pub overlap : HasOverlap tree r.row.key.items
+
+abbrev pub EndFits : Sizes → View → Stand → Room → Entered → View → Type 0
+EndFits z u t r New v = HasEntered z u r v
+EndFits z u t r (Present stands) v = IsPresent z u r stands v
+EndFits z u t r (Full pool) v = EndsSo z u r v × IsFull z u t r pool v
+EndFits z u t r (Exhausted c) v = EndsSo z u r v × IsExhausted u r c v
+EndFits z u t r Overlaps v = EndsSo z u r v × IsOverlap z r
+EndFits z u t r TooMany v = EndsSo z u r v × ((made : ℕ) × IsTooMuch t r.desk r.row made)
+EndFits z u t r Anew v = EndsSo z u r v
+
+-- ---- at each stage
+
+abbrev pub StageFits : Sizes → View → Stage → Inserting → Room → View → Type 0
+StageFits z u stage.Finding m r v = IsFinding z u m r v
+StageFits z u stage.Supplying m r v = HasSupplies z u m r v × (supplying.ended_at m.supplying ≡ None)
+StageFits z u stage.Vouching m r v = HasVouched z u m r v × (vouching.ended_at m.vouching ≡ None)
+StageFits z u stage.Making m r v = HasMade z u m r v × (making.ended_at m.making ≡ None)
+StageFits z u (stage.Ended e) m r v = EndFits z u m.stand r e v
+
+-- the room is one of a key
+pub record IsRoom (z : Sizes) (r : Room) : Type 0 where
+  pub sizes : r.sizes ≡ z
+  pub key : IsKey r.row.key.items
+
+pub record Fits (z : Sizes) (u : View) (m : Inserting) (r : Room) (v : View) : Type 0 where
+  pub room : IsRoom z r
+  pub stage : StageFits z u m.stage m r v

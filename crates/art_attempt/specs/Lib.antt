@@ -1,0 +1,4 @@
+pub mod Asking
+pub mod Inserting
+pub mod Rooms
+pub mod Trying

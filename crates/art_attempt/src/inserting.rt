@@ -1,0 +1,501 @@
+//! One attempt of an insert, step by step.
+ghost use Rattle.std.specs.Prelude.{◌≡◌, ℕ, ◌-◌, ◌<◌, ◌≤◌, List, length, Some, None, true};
+ghost use Rattle.art_attempt.specs.Asking.{Answers, steps_in, steps_of};
+ghost use Rattle.art_attempt.specs.Inserting.{Fits, HasMade, HasPlace, HasSupplies, HasVouched, IsFinding, IsRoom};
+ghost use Rattle.art_attempt.specs.Inserting.{asks, check_of, deed_at, entered_by, entered_so, finding_asks, found_at, free_at, given_up, is_begun, is_free};
+ghost use Rattle.art_attempt.specs.Inserting.{making_asks, making_left, steps_left, supply_asks, vouching_asks};
+ghost use Rattle.art_attempt.specs.Rooms.{SameRow, wants_of};
+ghost use Rattle.art_attempt.specs.Trying.{StillTries};
+ghost use Rattle.art_attempt.specs.declared.asked.Asked.{Asked as AskedStep};
+ghost use Rattle.art_attempt.specs.declared.inserting.Stage.TheVariants as stages;
+ghost use Rattle.art_find.specs.Asking.{Answers as CellAnswers};
+ghost use Rattle.art_find.specs.declared.asked.Asked.{Asked as CellAskedStep};
+ghost use Rattle.art_frame.specs.Stocks.{HasStock};
+ghost use Rattle.art_gather.specs.Asking.{Answers as SupplyAnswers};
+ghost use Rattle.art_gather.specs.Supplying.{HasAll};
+ghost use Rattle.art_gather.specs.Vouching.{passed, ended_at as vouched_at};
+ghost use Rattle.art_gather.specs.declared.asked.Asked.{Asked as SupplyAsked};
+ghost use Rattle.art_gather.specs.declared.vouching.Vouched.TheVariants.{Unchanged as unchanged};
+ghost use Rattle.art_make.specs.Asking.{Answers as ChangeAnswers};
+ghost use Rattle.art_make.specs.Making.{ended_at as made_at};
+ghost use Rattle.art_make.specs.declared.asked.Asked.{Asked as ChangeAsked};
+ghost use Rattle.art_place.specs.Findings.{stand_at};
+ghost use Rattle.art_step.specs.declared.views.Sizes.{Sizes};
+ghost use Rattle.art_step.specs.declared.views.View.{View};
+
+use crate::asked::{cell_in, change_in, word_in};
+use crate::rooms::wants_of;
+use crate::{Answer, Asked, Room};
+use art_cell::{Cell, Pool};
+use art_decide::{needed, plan_insert};
+use art_find::{Answer as CellAnswer, Asked as CellAsked, Verdict};
+use art_gather::{Supplied, Supplying, Vouched, Vouching};
+use art_make::{Answer as ChangeAnswer, Making};
+use art_place::{Finding, Stand};
+use art_step::{Stamp, UpgradeFault};
+
+/// How an attempt of an insert ended.
+#[derive(Clone, Copy, Debug, PartialEq, Eq)]
+pub enum Entered {
+    /// The row is in the tree.
+    New,
+    /// The key is there, and keeps this value.
+    Present(u64),
+    /// No number of the pool was found.
+    Full(Pool),
+    /// The counter of a cell that was to be locked is at its end.
+    Exhausted(Cell),
+    /// A key begins the other.
+    Overlaps,
+    /// The change has more words than one takes.
+    TooMany,
+    /// A version word was locked, obsolete or changed: it may be tried anew.
+    Anew,
+}
+
+/// Where an attempt stands between two of its steps.
+#[derive(Clone, Copy)]
+pub enum Stage {
+    /// The place of the key is sought.
+    Finding,
+    /// Numbers come into the hand.
+    Supplying,
+    /// What is still to be read is read, and the cells are checked.
+    Vouching,
+    /// The change is made.
+    Making,
+    Ended(Entered),
+}
+
+/// One attempt of an insert, from the anchor down to its end. What is large stands beside it, in the room.
+#[derive(Clone, Copy)]
+pub struct Inserting {
+    stage: Stage,
+    finding: Finding,
+    /// Where the key stands, once that is known.
+    stand: Stand,
+    supplying: Supplying,
+    vouching: Vouching,
+    making: Making,
+}
+
+impl Inserting {
+    ghost use Rattle.std.specs.Prelude.{IfSome};
+    ghost use Rattle.art_attempt.specs.Asking.{IsAllowed};
+    ghost use Rattle.art_attempt.specs.Inserting.{EndsSo, asks_at, ended_at};
+    ghost use Rattle.art_attempt.specs.declared.rooms.Room.{Room as RoomOf};
+    ghost use Rattle.art_gather.specs.Supplying.{ended_at as supplied_at};
+    ghost use Rattle.art_step.specs.declared.deeds.Deed.{Deed};
+
+    /// At its beginning.
+    pub fn new(room: &Room) -> Inserting
+        ensures going { ended_at result ≡ None }
+        ensures free { is_free result ≡ true }
+        ensures fits { (z : Sizes) (u v : View) → IsRoom z room.now → StillTries u v →
+            HasStock z room.now.row.key.items room.now.row.value v room.now.stock → Fits z u result room.now v }
+    {
+        let _ = room.sizes;
+        Inserting {
+            stage: Stage::Finding,
+            finding: Finding::new(),
+            stand: nowhere(),
+            supplying: Supplying::Ended(Supplied::Ready),
+            vouching: Vouching::Ended(Vouched::Changed),
+            making: Making::Ended(Ok(())),
+        }
+    }
+
+    /// The next step, or none where it has ended.
+    pub fn next(&self, room: &Room) -> Option<Asked>
+        requires short { length room.now.row.key.items ≤ 64 }
+        ensures asks { result ≡ asks self.now room.now }
+        ensures allowed { (z : Sizes) (u v : View) → Fits z u self.now room.now v →
+            IfSome result (IsAllowed z (deed_at self.now room.now) room.now.change v) }
+        ensures going { (z : Sizes) (u v : View) → Fits z u self.now room.now v → ended_at self.now ≡ None →
+            (a : AskedStep) × (result ≡ Some a) }
+    {
+        match self.stage {
+            Stage::Finding => self.find_next(),
+            Stage::Supplying => self.supply_next(room),
+            Stage::Vouching => self.vouch_next(),
+            Stage::Making => self.make_next(room),
+            Stage::Ended(_) => None,
+        }
+    }
+
+    /// The step that it asked for was made, with this answer.
+    pub fn told(&mut self, room: &mut Room, answer: Answer)
+        requires { (z : Sizes) × (u : View) × (v : View) × (w : View) × (asked : AskedStep) × Fits z u self.old room.old v ×
+            (asks self.old room.old ≡ Some asked) × Answers z (deed_at self.old room.old) room.old.change asked answer v w }
+        ensures row { SameRow room.old room.new }
+        ensures fits { (z : Sizes) (u v w : View) (asked : AskedStep) → Fits z u self.old room.old v →
+            asks self.old room.old ≡ Some asked → Answers z (deed_at self.old room.old) room.old.change asked answer v w →
+            Fits z u self.new room.new w }
+        ensures left { (left : ℕ) → (is_free self.old ≡ true → 0 < left) →
+            steps_left (left - steps_in answer) self.new < steps_left left self.old }
+    {
+        match self.stage {
+            Stage::Finding => self.find_told(room, cell_in(answer)),
+            Stage::Supplying => self.supply_told(room, word_in(answer)),
+            Stage::Vouching => self.vouch_told(room, cell_in(answer)),
+            Stage::Making => self.make_told(room, change_in(answer)),
+            Stage::Ended(_) => {}
+        }
+    }
+
+    /// How it ended, if it has.
+    pub fn ended(&self) -> Option<Entered>
+        ensures at { result ≡ ended_at self.now }
+    {
+        match self.stage {
+            Stage::Ended(entered) => Some(entered),
+            _ => None,
+        }
+    }
+
+    /// Whether nothing is held: no cell was locked yet, or none is any more.
+    pub fn is_free(&self) -> bool
+        ensures at { result ≡ is_free self.now }
+        ensures free { result ≡ true → ended_at self.now ≡ None → (z : Sizes) (u v : View) (r : RoomOf) → Fits z u self.now r v →
+            EndsSo z u r v }
+    {
+        free_at(self.stage, &self.making)
+    }
+
+    /// The value that the key has, where the check that comes next settles that it is there.
+    pub fn found(&self) -> u64
+        ensures { result ≡ found_at self.now }
+    {
+        match self.finding.stand() {
+            Some(stand) => stand.verdict.value().unwrap_or(0),
+            None => 0,
+        }
+    }
+
+    /// What comes next on the way to the place of the key, and its check.
+    fn find_next(&self) -> Option<Asked>
+        ensures asks { (r : RoomOf) → result ≡ asks_at stages.Finding self.now r }
+        ensures allowed { (z : Sizes) (u v : View) (r : RoomOf) → IsFinding z u self.now r v →
+            IfSome result (IsAllowed z (deed_at self.now r) r.change v) }
+        ensures going { (z : Sizes) (u v : View) (r : RoomOf) → IsFinding z u self.now r v → (a : AskedStep) × (result ≡ Some a) }
+    {
+        Some(Asked::Cell(finding_asked(&self.finding)?))
+    }
+
+    /// What comes next where numbers are brought into the hand.
+    fn supply_next(&self, room: &Room) -> Option<Asked>
+        requires short { length room.now.row.key.items ≤ 64 }
+        ensures asks { result ≡ asks_at stages.Supplying self.now room.now }
+        ensures allowed { (z : Sizes) (u v : View) (d : Deed) → HasSupplies z u self.now room.now v →
+            IfSome result (IsAllowed z d room.now.change v) }
+        ensures going { (z : Sizes) (u v : View) → HasSupplies z u self.now room.now v → supplied_at self.now.supplying ≡ None →
+            (a : AskedStep) × (result ≡ Some a) }
+    {
+        let key = room.row.key.as_slice();
+        let asked = self.supplying.next(key, room.row.value, &room.stock)?;
+        Some(Asked::Supply(asked))
+    }
+
+    /// What comes next where the cells are vouched for.
+    fn vouch_next(&self) -> Option<Asked>
+        ensures asks { (r : RoomOf) → result ≡ asks_at stages.Vouching self.now r }
+        ensures allowed { (z : Sizes) (u v : View) (r : RoomOf) (d : Deed) → HasVouched z u self.now r v →
+            IfSome result (IsAllowed z d r.change v) }
+        ensures going { (z : Sizes) (u v : View) (r : RoomOf) → HasVouched z u self.now r v → vouched_at self.now.vouching ≡ None →
+            (a : AskedStep) × (result ≡ Some a) }
+    {
+        Some(Asked::Cell(self.vouching.next(&self.stand)?))
+    }
+
+    /// What comes next where the change is made.
+    fn make_next(&self, room: &Room) -> Option<Asked>
+        ensures asks { result ≡ asks_at stages.Making self.now room.now }
+        ensures allowed { (z : Sizes) (u v : View) (d : Deed) → HasMade z u self.now room.now v →
+            IfSome result (IsAllowed z d room.now.change v) }
+        ensures going { (z : Sizes) (u v : View) → HasMade z u self.now room.now v → made_at self.now.making ≡ None →
+            (a : AskedStep) × (result ≡ Some a) }
+    {
+        Some(Asked::Change(self.making.next(&room.change)?))
+    }
+
+    /// A cell was looked at on the way to the place of the key.
+    fn find_told(&mut self, room: &mut Room, answer: CellAnswer)
+        requires stage { self.old.stage ≡ stages.Finding }
+        requires told { (z : Sizes) × (u : View) × (v : View) × (w : View) × (asked : CellAskedStep) × IsRoom z room.old ×
+            IsFinding z u self.old room.old v × (finding_asks self.old.finding ≡ Some asked) ×
+            CellAnswers z (deed_at self.old room.old) asked answer v w }
+        ensures row { SameRow room.old room.new }
+        ensures free { is_free self.new ≡ true }
+        ensures fits { (z : Sizes) (u v w : View) (asked : CellAskedStep) → IsRoom z room.old → IsFinding z u self.old room.old v →
+            finding_asks self.old.finding ≡ Some asked → CellAnswers z (deed_at self.old room.old) asked answer v w →
+            Fits z u self.new room.new w }
+    {
+        match self.finding.stand() {
+            Some(stand) => self.settled(room, stand, answer),
+            None => self.read_on(room, answer),
+        }
+    }
+
+    /// The descent goes on, or its way was changed.
+    fn read_on(&mut self, room: &mut Room, answer: CellAnswer)
+        requires stage { self.old.stage ≡ stages.Finding }
+        requires nowhere { stand_at self.old.finding ≡ None }
+        requires told { (z : Sizes) × (u : View) × (v : View) × (w : View) × (asked : CellAskedStep) × IsRoom z room.old ×
+            IsFinding z u self.old room.old v × (finding_asks self.old.finding ≡ Some asked) ×
+            CellAnswers z (deed_at self.old room.old) asked answer v w }
+        ensures row { SameRow room.old room.new }
+        ensures free { is_free self.new ≡ true }
+        ensures fits { (z : Sizes) (u v w : View) (asked : CellAskedStep) → IsRoom z room.old → IsFinding z u self.old room.old v →
+            finding_asks self.old.finding ≡ Some asked → CellAnswers z (deed_at self.old room.old) asked answer v w →
+            Fits z u self.new room.new w }
+    {
+        let on = self
+            .finding
+            .told(&mut room.desk, room.row.key.as_slice(), answer);
+        if !on {
+            self.stage = Stage::Ended(Entered::Anew);
+        }
+    }
+
+    /// The place of the key was checked.
+    fn settled(&mut self, room: &mut Room, stand: Stand, answer: CellAnswer)
+        requires { (z : Sizes) × (u : View) × (v : View) × IsRoom z room.old × IsFinding z u self.old room.old v }
+        ensures row { SameRow room.old room.new }
+        ensures free { is_free self.new ≡ true }
+        ensures fits { (z : Sizes) (u v w : View) → IsRoom z room.old → IsFinding z u self.old room.old v →
+            stand_at self.old.finding ≡ Some stand → CellAnswers z (deed_at self.old room.old) (check_of stand) answer v w →
+            Fits z u self.new room.new w }
+    {
+        if !passed(answer) {
+            self.stage = Stage::Ended(Entered::Anew);
+            return;
+        }
+        self.stand = stand;
+        match entered_by(&stand.verdict) {
+            Some(entered) => self.stage = Stage::Ended(entered),
+            None => self.supply(room),
+        }
+    }
+
+    /// A leaf may come at the place: what it wants is brought into the hand.
+    fn supply(&mut self, room: &mut Room)
+        requires { (k : List ℕ) × (value : ℕ) × (v : View) × HasStock room.old.sizes k value v room.old.stock }
+        ensures row { SameRow room.old room.new }
+        ensures free { is_free self.new ≡ true }
+        ensures fits { (z : Sizes) (u v : View) → IsRoom z room.old → StillTries u v → HasPlace z self.old.stand room.old v →
+            HasStock z room.old.row.key.items room.old.row.value v room.old.stock → Fits z u self.new room.new v }
+    {
+        let wants = wants_of(room.sizes, &self.stand.verdict);
+        self.supplying = Supplying::new(&wants, &mut room.stock);
+        self.supply_on(room);
+    }
+
+    /// A number was sought, or a word of the leaf written.
+    fn supply_told(&mut self, room: &mut Room, word: u64)
+        requires { (z : Sizes) × (u : View) × (v : View) × (w : View) × (asked : SupplyAsked) × IsRoom z room.old ×
+            HasSupplies z u self.old room.old v × (supply_asks self.old room.old ≡ Some asked) × SupplyAnswers z asked word v w }
+        ensures row { SameRow room.old room.new }
+        ensures free { is_free self.new ≡ true }
+        ensures fits { (z : Sizes) (u v w : View) (asked : SupplyAsked) → IsRoom z room.old → HasSupplies z u self.old room.old v →
+            supply_asks self.old room.old ≡ Some asked → SupplyAnswers z asked word v w → Fits z u self.new room.new w }
+    {
+        let wants = wants_of(room.sizes, &self.stand.verdict);
+        self.supplying.told(&wants, &mut room.stock, word);
+        self.supply_on(room);
+    }
+
+    /// It goes on; or all is in hand, and the cells are vouched for; or a pool gave no number.
+    fn supply_on(&mut self, room: &Room)
+        ensures free { is_free self.new ≡ true }
+        ensures fits { (z : Sizes) (u v : View) → IsRoom z room.now → HasSupplies z u self.old room.now v → Fits z u self.new room.now v }
+    {
+        match self.supplying.ended() {
+            None => self.stage = Stage::Supplying,
+            Some(Supplied::Ready) => self.vouch(room),
+            Some(Supplied::Full(pool)) => self.stage = Stage::Ended(Entered::Full(pool)),
+        }
+    }
+
+    /// All is in hand: the cells are vouched for.
+    fn vouch(&mut self, room: &Room)
+        ensures free { is_free self.new ≡ true }
+        ensures fits { (z : Sizes) (u v : View) → IsRoom z room.now → HasSupplies z u self.old room.now v →
+            HasAll (wants_of z self.old.stand.verdict) room.now.stock → Fits z u self.new room.now v }
+    {
+        let both = needed(&self.stand.verdict).above;
+        self.vouching = Vouching::new(&self.stand, both, &room.desk);
+        self.stage = Stage::Vouching;
+    }
+
+    /// A word was read, or a cell was checked.
+    fn vouch_told(&mut self, room: &mut Room, answer: CellAnswer)
+        requires stage { self.old.stage ≡ stages.Vouching }
+        requires told { (z : Sizes) × (u : View) × (v : View) × (w : View) × (asked : CellAskedStep) × IsRoom z room.old ×
+            HasVouched z u self.old room.old v × (vouching_asks self.old ≡ Some asked) ×
+            CellAnswers z (deed_at self.old room.old) asked answer v w }
+        ensures row { SameRow room.old room.new }
+        ensures free { is_free self.new ≡ true }
+        ensures fits { (z : Sizes) (u v w : View) (asked : CellAskedStep) → IsRoom z room.old → HasVouched z u self.old room.old v →
+            vouching_asks self.old ≡ Some asked → CellAnswers z (deed_at self.old room.old) asked answer v w →
+            Fits z u self.new room.new w }
+    {
+        let both = needed(&self.stand.verdict).above;
+        self.vouching
+            .told(&self.stand, both, &mut room.desk, answer);
+        match self.vouching.ended() {
+            None => {}
+            Some(Vouched::Changed) => self.stage = Stage::Ended(Entered::Anew),
+            Some(Vouched::Unchanged) => self.plan(room),
+        }
+    }
+
+    /// All that is written was seen: the change is planned.
+    fn plan(&mut self, room: &mut Room)
+        requires { (z : Sizes) × (u : View) × (v : View) × IsRoom z room.old × HasVouched z u self.old room.old v ×
+            (vouched_at self.old.vouching ≡ Some unchanged) }
+        ensures row { SameRow room.old room.new }
+        ensures free { is_free self.new ≡ true }
+        ensures fits { (z : Sizes) (u v : View) → IsRoom z room.old → HasVouched z u self.old room.old v →
+            vouched_at self.old.vouching ≡ Some unchanged → Fits z u self.new room.new v }
+    {
+        let Some(leaf) = room.stock.leaf() else {
+            unreachable!();
+        };
+        room.row.number = leaf;
+        let made = room.number_for(needed(&self.stand.verdict).node);
+        let Room {
+            row,
+            desk,
+            bodies,
+            change,
+            ..
+        } = room;
+        if !plan_insert(change, bodies, &self.stand, desk, row, made) {
+            self.stage = Stage::Ended(Entered::TooMany);
+            return;
+        }
+        self.making = Making::new(&room.change);
+        self.stage = Stage::Making;
+    }
+
+    /// A step of the change was made.
+    fn make_told(&mut self, room: &mut Room, answer: ChangeAnswer)
+        requires stage { self.old.stage ≡ stages.Making }
+        requires told { (z : Sizes) × (u : View) × (v : View) × (w : View) × (asked : ChangeAsked) × IsRoom z room.old ×
+            HasMade z u self.old room.old v × (making_asks self.old room.old ≡ Some asked) ×
+            ChangeAnswers room.old.change asked answer v w }
+        ensures row { SameRow room.old room.new }
+        ensures fits { (z : Sizes) (u v w : View) (asked : ChangeAsked) → IsRoom z room.old → HasMade z u self.old room.old v →
+            making_asks self.old room.old ≡ Some asked → ChangeAnswers room.old.change asked answer v w →
+            Fits z u self.new room.new w }
+        ensures left { (left : ℕ) → (is_begun self.old.making ≡ true → 0 < left) →
+            steps_left (left - steps_of answer) self.new < making_left left self.old.making }
+    {
+        self.making.told(&room.change, answer);
+        match self.making.ended() {
+            None => {}
+            Some(made) => self.made(room, made),
+        }
+    }
+
+    /// The change is made, or was given up.
+    fn made(&mut self, room: &mut Room, made: Result<(), UpgradeFault>)
+        ensures row { SameRow room.old room.new }
+        ensures stage { self.new.stage ≡ stages.Ended (entered_so made) }
+        ensures fits { (z : Sizes) (u v : View) → IsRoom z room.old → HasMade z u self.old room.old v →
+            made_at self.old.making ≡ Some made → Fits z u self.new room.new v }
+    {
+        match made {
+            Ok(()) => {
+                room.spend();
+                self.stage = Stage::Ended(Entered::New);
+            }
+            Err(fault) => self.stage = Stage::Ended(given_up(fault)),
+        }
+    }
+}
+
+/// A stand that says nothing.
+pub fn nowhere() -> Stand {
+    Stand {
+        stamp: Stamp {
+            cell: Cell::Anchor,
+            version: 0,
+            first: 0,
+        },
+        depth: 0,
+        above: None,
+        verdict: Verdict::Absent,
+    }
+}
+
+/// The check of the place, once there is one; until then what the descent asks.
+fn finding_asked(finding: &Finding) -> Option<CellAsked>
+    ensures { result ≡ finding_asks finding.now }
+{
+    match finding.stand() {
+        Some(stand) => Some(check_of(&stand)),
+        None => finding.next(),
+    }
+}
+
+/// A leaf with the key is there: a check tells its value; of any other place a check tells nothing.
+fn check_of(stand: &Stand) -> CellAsked
+    ensures { result ≡ check_of stand.now }
+{
+    match stand.verdict {
+        Verdict::Found(_, _) => CellAsked::Settle(stand.stamp),
+        _ => CellAsked::Check(stand.stamp),
+    }
+}
+
+/// Whether nothing is held at this stage.
+fn free_at(stage: Stage, making: &Making) -> bool
+    ensures { result ≡ free_at stage making.now }
+{
+    match stage {
+        Stage::Making => is_begun(making),
+        Stage::Finding | Stage::Supplying | Stage::Vouching | Stage::Ended(_) => true,
+    }
+}
+
+/// Whether no cell was locked yet.
+pub fn is_begun(making: &Making) -> bool
+    ensures { result ≡ is_begun making.now }
+{
+    match *making {
+        Making::Upgrading(index) => index == 0,
+        _ => false,
+    }
+}
+
+/// How an attempt ends at a place where no leaf may come.
+fn entered_by(verdict: &Verdict) -> Option<Entered>
+    ensures { result ≡ entered_by verdict.now }
+{
+    match *verdict {
+        Verdict::Found(_, value) => Some(Entered::Present(value)),
+        Verdict::Overlaps => Some(Entered::Overlaps),
+        _ => None,
+    }
+}
+
+/// How an attempt ends whose change was given up.
+fn given_up(fault: UpgradeFault) -> Entered
+    ensures { result ≡ given_up fault }
+{
+    match fault {
+        UpgradeFault::Changed(_) => Entered::Anew,
+        UpgradeFault::Exhausted(cell) => Entered::Exhausted(cell),
+    }
+}
+
+/// Whether it says that a version word is unchanged.
+pub fn passed(answer: CellAnswer) -> bool
+    ensures { result ≡ passed answer }
+{
+    match answer {
+        CellAnswer::Checked(Ok(_)) => true,
+        _ => false,
+    }
+}

@@ -1,0 +1,159 @@
+//! What stands beside an attempt of an insert or a removal.
+ghost use Rattle.std.specs.Prelude.{◌≡◌, ◌≤◌, Some, length};
+ghost use Rattle.art_attempt.specs.Rooms.{number_for, spent_by, wants_of};
+ghost use Rattle.art_attempt.specs.Trying.{IsKey};
+ghost use Rattle.art_plan.specs.Changes.{leaf_linked, node_made};
+ghost use Rattle.art_frame.specs.Stocks.{AreIn, nothing};
+ghost use Rattle.art_make.specs.Making.{linked};
+
+use arrayvec::ArrayVec;
+use art_cell::{Body, Layout, Reads};
+use art_decide::{Bodies, needed};
+use art_find::Verdict;
+use art_frame::Stock;
+use art_gather::Wants;
+use art_insert::NewLeaf;
+use art_key::{Bound, Key};
+use art_place::Desk;
+use art_plan::Change;
+use art_remove::OldLeaf;
+use art_step::{Deed, Sizes};
+
+/// What stands beside an attempt of an insert or a removal: the row that comes or the leaf that goes, the numbers in hand, the words
+/// that were read, and the change that is planned of them. It is large, and never copied.
+#[derive(Drop)]
+pub struct Room {
+    /// The row that comes; the leaf has its number once a change is planned.
+    pub row: NewLeaf,
+    /// The leaf that goes; it has its number and its value once it is found.
+    pub gone: OldLeaf,
+    pub sizes: Sizes,
+    pub stock: Stock,
+    pub desk: Desk,
+    /// The words that were read of a lower node.
+    pub lower: Reads,
+    pub bodies: Bodies,
+    /// And the body of that node.
+    pub lower_body: Body,
+    pub change: Change,
+}
+
+impl Room {
+    /// Of a table with so many numbers: no row comes yet, and nothing is in hand.
+    pub fn new(sizes: &Sizes) -> Room
+        ensures sizes { result.sizes ≡ sizes.now }
+        ensures stock { result.stock ≡ nothing }
+    {
+        Room {
+            row: no_row(),
+            gone: no_leaf(),
+            sizes: *sizes,
+            stock: Stock::new(),
+            desk: Desk::new(),
+            lower: Reads::new(),
+            bodies: Bodies::new(),
+            lower_body: no_body(),
+            change: no_change(),
+        }
+    }
+
+    /// This row comes.
+    pub fn set(&mut self, key: &Key, value: u64)
+        ensures key { IsKey key.now.items }
+        ensures row { self.new ≡ record self.old { row = record { number = self.old.row.number; key = key.now; value = value } } }
+    {
+        self.row.key = copied(key.as_slice());
+        self.row.value = value;
+    }
+
+    /// The leaf with this key goes; its number and value come once it is found.
+    pub fn set_gone(&mut self, key: &Key)
+        ensures key { IsKey key.now.items }
+        ensures gone { self.new ≡ record self.old { gone = record self.old.gone { key = key.now } } }
+    {
+        self.gone.key = copied(key.as_slice());
+    }
+
+    /// The number of a node of the layout, and 0 where none is in hand or none is needed.
+    pub fn number_for(&self, layout: Option<Layout>) -> u32
+        ensures { result ≡ number_for self.now.stock layout }
+    {
+        let Some(layout) = layout else {
+            return 0;
+        };
+        self.stock.node(layout).unwrap_or(0)
+    }
+
+    /// The numbers that the change linked have left the hand.
+    pub fn spend(&mut self)
+        ensures { self.new ≡ record self.old { stock = spent_by self.old.change self.old.stock } }
+    {
+        match self.change.leaf {
+            Some(_) => self.stock.spend_leaf(),
+            None => {}
+        }
+        match self.change.made() {
+            Some(node) => self.stock.spend_node(node.layout),
+            None => {}
+        }
+    }
+}
+
+/// The bytes as a key.
+fn copied(bytes: &[u8]) -> Key
+    requires { length bytes.now ≤ 64 }
+    ensures key { IsKey bytes.now }
+    ensures same { result.items ≡ bytes.now }
+{
+    Key::try_from(bytes).unwrap()
+}
+
+/// No row.
+fn no_row() -> NewLeaf {
+    NewLeaf {
+        number: 0,
+        key: Key::new(),
+        value: 0,
+    }
+}
+
+/// No leaf.
+fn no_leaf() -> OldLeaf {
+    OldLeaf {
+        number: 0,
+        key: Key::new(),
+        value: 0,
+    }
+}
+
+/// A node of no words.
+fn no_body() -> Body {
+    Body {
+        layout: Layout::Node4,
+        words: [0; 266],
+    }
+}
+
+/// No change.
+fn no_change() -> Change {
+    Change {
+        targets: ArrayVec::new(),
+        puts: ArrayVec::new(),
+        node: None,
+        body: no_body(),
+        leaf: None,
+        unlinked: ArrayVec::new(),
+        deed: Deed::Look(Key::new(), Bound::End, None),
+    }
+}
+
+/// What an insert wants in hand, by where its key stands.
+pub(crate) fn wants_of(sizes: Sizes, verdict: &Verdict) -> Wants
+    ensures { result ≡ wants_of sizes verdict.now }
+{
+    Wants {
+        leaf: true,
+        node: needed(verdict).node,
+        sizes,
+    }
+}

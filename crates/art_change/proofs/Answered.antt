@@ -1,0 +1,84 @@
+-- What a client sees of an insert that has ended.
+use Rattle.std.proofs.Common.{◌≡◌, ℕ, ◌++◌, true, List, [], ◌∷◌, length, None, sym, ap, ap₂, ◌∙◌, subst}
+use Rattle.art_attempt.specs.Inserting.{EndsSo, present}
+use Rattle.art_attempt.specs.declared.rooms.Room.{Room}
+use Rattle.art_change.specs.Inserts.{HasAnswered, HasOutcome, IsClosing, IsDone, gone_by, told_by}
+use Rattle.art_change.specs.declared.inserts.Insert.{Insert}
+use Rattle.art_change.specs.declared.inserts.Outcome.{Outcome}
+use Rattle.art_change.specs.declared.inserts.Outcome.TheVariants.{New, Present, Full, Exhausted, Overlaps, TooMany, Busy, Crowded}
+use Rattle.art_epoch.specs.declared.limbo.Place.{Place}
+use Rattle.art_frame.specs.Closings.{ClosingFits, IsClosed, is_ended}
+use Rattle.art_frame.specs.declared.closings.Closing.{Closing}
+use Rattle.art_frame.specs.declared.closings.Closing.TheVariants as closing
+use Rattle.art_insert.specs.Puts.{inserted}
+use Rattle.art_place.specs.declared.findings.Stand.{Stand}
+use Rattle.art_step.specs.Events.{MakesEvent, SeesEvent}
+use Rattle.art_step.specs.Histories.{IsLegal, event, places}
+use Rattle.art_step.specs.Shows.{Rest}
+use Rattle.art_step.specs.Tokens.{links_of}
+use Rattle.art_step.specs.declared.deeds.Deed.{Deed}
+use Rattle.art_step.specs.declared.views.Event.{Event}
+use Rattle.art_step.specs.declared.views.Sizes.{Sizes}
+use Rattle.art_step.specs.declared.views.View.{View}
+
+-- the close has ended
+closed_at : (z : Sizes) (k : List ℕ) (value : ℕ) (u v : View) (ps qs : List Place) (m : Insert) (r : Room) (c : Closing) → is_ended c ≡ true
+    → ClosingFits z k value u ps (links_of (gone_by m.outcome r.change)) c qs r.stock v → IsClosed z u v ps qs (links_of (gone_by m.outcome r.change))
+closed_at z k value u v ps qs m r closing.Ended is fits = fits.0
+closed_at z k value u v ps qs m r closing.Labelling is fits = cc
+closed_at z k value u v ps qs m r closing.Giving is fits = cc
+
+-- the frame tells nothing
+module _ (u opened ended v : View) (seen : opened.seen ≡ u.seen) (own : opened.own ≡ u.own) (pass : opened.pass ≡ u.pass) (seen' : v.seen ≡ ended.seen) (own' : v.own ≡ ended.own) where
+  event_all : (what : Deed) → MakesEvent opened ended what → MakesEvent u v what
+  event_all what m = record {
+    between = m.between;
+    seen = seen' ∙ (m.seen ∙ ap₂ (λ (l : List Event) (i : ℕ). (l ++ m.between) ++ event i what ∷ []) seen pass);
+    own = own' ∙ (m.own ∙ ap₂ (λ (l : List ℕ) (k : List Event). l ++ length (k ++ m.between) ∷ []) own seen);
+    legal = subst IsLegal (sym seen') m.legal;
+    all = ap₂ (λ (i : ℕ) (l : List Event). places i l) (sym pass) seen' ∙ (m.all ∙ sym own');
+  }
+
+  none_all : ended.seen ≡ opened.seen → ended.own ≡ opened.own → SeesEvent u v None
+  none_all same mine = (seen' ∙ (same ∙ seen), own' ∙ (mine ∙ own))
+
+  module _ (z : Sizes) (r : Room) where
+    so_none : EndsSo z opened r ended → SeesEvent u v None
+    so_none so = none_all (ap (λ (a : Rest). a.seen) so.still.rest) (ap (λ (a : Rest). a.own) so.still.rest)
+
+    tells_as : (t : Stand) (o : Outcome) (left : ℕ) → HasOutcome z opened t r o left ended → SeesEvent u v (told_by o r.row)
+    tells_as t New left h = event_all (inserted r.row) h.event
+    tells_as t (Present stands) left h = event_all (present r.row stands) h.event
+    tells_as t (Full pool) left h = so_none h.0
+    tells_as t (Exhausted c) left h = so_none h.0
+    tells_as t Overlaps left h = so_none h.0
+    tells_as t TooMany left h = so_none h.0
+    tells_as t Busy left h = so_none h.0
+    tells_as t (Crowded b) left h = absurd h
+
+module _ (z : Sizes) (u : View) (ps : List Place) (m : Insert) (r : Room) (qs : List Place) (v : View) where
+  closing_answers : IsClosing z u ps m r qs v → is_ended m.closing ≡ true → HasAnswered z u m.outcome r.row qs v
+  closing_answers k is =
+      let closed = closed_at z r.row.key.items r.row.value k.ended v k.waiting qs m r m.closing is k.fits in
+      record {
+        idle = ap (λ (t : View). t.pin) closed.is;
+        free = closed.free;
+        limbo = closed.limbo;
+        tells = tells_as u k.opened k.ended v (ap (λ (t : View). t.seen) k.frame.is) (ap (λ (t : View). t.own) k.frame.is) (ap (λ (t : View). t.pass) k.frame.is)
+            (ap (λ (t : View). t.seen) closed.is) (ap (λ (t : View). t.own) closed.is) z (record r { stock = k.stock }) m.trying.stand m.outcome m.left k.outcome;
+      }
+
+  pub answered : (o : Outcome) → m.outcome ≡ o → IsDone z u ps o m r qs v → HasAnswered z u o r.row qs v
+  answered (Crowded b) is done = record {
+    idle = done.0.idle;
+    free = ap (λ (t : View). t.held) done.0.only ∙ done.1;
+    limbo = done.0.limbo;
+    tells = (ap (λ (t : View). t.seen) done.0.only, ap (λ (t : View). t.own) done.0.only);
+  }
+  answered New is done = subst (λ (o : Outcome). HasAnswered z u o r.row qs v) is (closing_answers done.0 done.1)
+  answered (Present stands) is done = subst (λ (o : Outcome). HasAnswered z u o r.row qs v) is (closing_answers done.0 done.1)
+  answered (Full pool) is done = subst (λ (o : Outcome). HasAnswered z u o r.row qs v) is (closing_answers done.0 done.1)
+  answered (Exhausted c) is done = subst (λ (o : Outcome). HasAnswered z u o r.row qs v) is (closing_answers done.0 done.1)
+  answered Overlaps is done = subst (λ (o : Outcome). HasAnswered z u o r.row qs v) is (closing_answers done.0 done.1)
+  answered TooMany is done = subst (λ (o : Outcome). HasAnswered z u o r.row qs v) is (closing_answers done.0 done.1)
+  answered Busy is done = subst (λ (o : Outcome). HasAnswered z u o r.row qs v) is (closing_answers done.0 done.1)

@@ -1,0 +1,5 @@
+pub mod Answered
+pub mod Frames
+pub mod Parts
+pub mod Ready
+pub mod Steps

@@ -1,0 +1,9 @@
+pub mod BesideWords
+pub mod FoundLeaves
+pub mod LedChildren
+pub mod LeftChildren
+pub mod ListedPairs
+pub mod LowerNodes
+pub mod NamedChildren
+pub mod OtherChildren
+pub mod SmallerNodes

@@ -1,0 +1,70 @@
+-- The node gives way to a smaller one: what that plan knows.
+use Rattle.std.proofs.Common.{◌≡◌, ℕ, ◌-◌, ◌<◌, get_or, Some, sym, subst}
+use Rattle.std.specs.Borrow.{Bor}
+use Rattle.art_cell.specs.Children.{child_word}
+use Rattle.art_cell.specs.Reads.{word_of}
+use Rattle.art_cell.specs.Words.{child_of}
+use Rattle.art_cell.specs.declared.bodies.Body.{Body}
+use Rattle.art_cell.specs.declared.cells.Cell.TheVariants as cell
+use Rattle.art_cell.specs.declared.cells.Link.TheVariants.{Leaf as leaf, Node as node}
+use Rattle.art_cell.specs.declared.cells.Node.{Node}
+use Rattle.art_cell.specs.declared.layouts.Layout.{Layout}
+use Rattle.art_choose.proofs.FoundLeaves.{found_at, found_below, found_leaf, found_meaning}
+use Rattle.art_choose.proofs.LeftChildren.{gives_sparse, gives_to}
+use Rattle.art_choose.specs.Losses.{loss_at}
+use Rattle.art_choose.specs.Plans.{HasFound, HasSmaller, ShrinksTooMuch}
+use Rattle.art_choose.specs.Seen.{AreSeen, IsSeen}
+use Rattle.art_choose.specs.declared.losses.Loss.TheVariants.{Shrinks}
+use Rattle.art_commit.specs.CommitLaws.{HasNode}
+use Rattle.art_decide.proofs.ChildSites.{site_is_in}
+use Rattle.art_decide.specs.Bodies.{IsFilled, site_in}
+use Rattle.art_decide.specs.Plans.{IsSiteIn}
+use Rattle.art_place.specs.Desks.{above_of, node_of}
+use Rattle.art_place.specs.Findings.{IsStanding}
+use Rattle.art_place.specs.declared.desks.Desk.{Desk}
+use Rattle.art_place.specs.declared.findings.Above.{Above}
+use Rattle.art_place.specs.declared.findings.Stand.{Stand}
+use Rattle.art_plan.specs.Puts.{TakesMany}
+use Rattle.art_plan.specs.declared.sites.Site.{Site}
+use Rattle.art_remove.specs.Cases.{IsShrink}
+use Rattle.art_remove.specs.Removals.{IsSparse, smaller_node}
+use Rattle.art_remove.specs.declared.leaves.OldLeaf.{OldLeaf}
+use Rattle.art_step.specs.declared.views.Sizes.{Sizes}
+use Rattle.art_step.specs.declared.views.View.{View}
+
+module _ (z : Sizes) (t : Stand) (desk : Desk) (old : OldLeaf) (is : HasFound t old) (m : Layout) (goes : loss_at t desk ≡ Shrinks m) (n : Node) (on : t.stamp.cell ≡ cell.Node n) where
+  abbrev last : ℕ
+  last = get_or old.key.items (t.depth - 1) 0
+
+  pub node_sparse : IsSeen z old.key.items t desk → (body : Body) → IsFilled t.stamp.cell (node_of desk) body → IsSparse body last
+  node_sparse seen body filled = gives_sparse t desk m goes n on body filled last (record {
+    meaning = found_meaning z t desk old is seen n on body filled;
+    child = child_word (leaf old.number);
+    there = found_at z t desk old is seen n on body filled;
+  })
+
+  module _ (a : Above) (at : t.above ≡ Some a) (upper lower : Bor Body) (upper-filled : IsFilled a.stamp.cell (above_of desk) upper.now) (lower-filled : IsFilled t.stamp.cell (node_of desk) lower.now)
+      (made : ℕ) (site : Site) (named : site ≡ site_in a.stamp upper (get_or old.key.items (a.depth - 1) 0)) where
+    pub shrink_knows : (u : View) → AreSeen z old.key.items t desk → IsStanding z old.key.items t desk u → HasSmaller z u t desk made → get_or old.key.items (a.depth - 1) 0 < 256
+        → (byte : ℕ) → byte ≡ last → IsShrink z u site old a.depth (record { node = n; stamp = t.stamp; body = lower }) byte (smaller_node lower.now made)
+    shrink_knows u seen standing hand low byte byte-is = record {
+      there = found_below z t desk old is seen.node n on a at (seen.above a at) upper lower upper-filled lower-filled u site named standing low;
+      old_leaf = found_leaf z t desk old is seen.node u standing;
+      at = subst (λ (b : ℕ). child_of lower.now.layout (word_of lower.now) b ≡ Some (child_word (leaf old.number))) (sym byte-is) (found_at z t desk old is seen.node n on lower.now lower-filled);
+      made = subst (λ (k : Layout). HasNode z u (record { layout = k; number = made })) (gives_to t desk m goes n on lower.now lower-filled) (hand m goes);
+    }
+
+  -- or it was refused
+  pub shrink_refused : (a : Above) → t.above ≡ Some a → (upper : Bor Body) (lower : Body) → IsFilled a.stamp.cell (above_of desk) upper.now → IsFilled t.stamp.cell (node_of desk) lower → (made : ℕ) (site : Site)
+      → site ≡ site_in a.stamp upper (get_or old.key.items (a.depth - 1) 0) → TakesMany site (child_word (node (smaller_node lower made))) → ShrinksTooMuch t desk made
+  shrink_refused a at upper lower upper-filled lower-filled made site named many = (
+    m,
+    goes,
+    record {
+      above = a;
+      is = at;
+      site = site;
+      inside = subst (IsSiteIn a.stamp (above_of desk)) (sym named) (site_is_in a.stamp (above_of desk) upper (get_or old.key.items (a.depth - 1) 0) upper-filled);
+      many = subst (λ (k : Layout). TakesMany site (child_word (node (record { layout = k; number = made })))) (sym (gives_to t desk m goes n on lower lower-filled)) many;
+    },
+  )

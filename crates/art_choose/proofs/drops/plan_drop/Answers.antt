@@ -1,0 +1,51 @@
+use Rattle.std.proofs.Common.{◌<◌, ℕ, ◌-◌, List, Option, get_or, subst, sym}
+use Rattle.art_choose.proofs.FoundLeaves.{drop_knows, drop_refused, found_deep, found_taken}
+use Rattle.art_choose.proofs.LeftChildren.{keeps_two}
+use Rattle.art_decide.proofs.ChildSites.{site_named}
+use Rattle.art_decide.proofs.WholeCells.{kept_within}
+use Rattle.art_decide.specs.Bodies.{AreWithin, IsFilled}
+use Rattle.art_place.specs.Desks.{node_of}
+use Rattle.art_plan.specs.Puts.{IsTaken}
+use Rattle.art_plan.specs.declared.sites.Site.{Site}
+use Rattle.art_remove.specs.Cases.{IsDrop}
+use Rattle.art_remove.specs.Removals.{KeepsTwo}
+use Rattle.art_choose.proofs.drops.plan_drop.Goals as goal
+
+pub fill-requires : goal.fill-requires
+fill-requires c =
+    let t = c.args.stand.now in
+    let old = c.requires.seen.1.0 in
+    subst (AreWithin t.stamp.cell) (sym c.node.ensures) (kept_within c.requires.seen.0 old.view t.stamp (node_of c.args.desk.now) old.standing.place.kept)
+
+pub site_at-site-requires-clause-some : goal.site_at-site-requires-clause-some
+site_at-site-requires-clause-some c = found_deep c.requires.seen.0 c.args.stand.now c.args.desk.now c.args.old.now c.requires.found c.requires.seen.1
+
+pub drop-requires-clause-taken : goal.drop-requires-clause-taken
+drop-requires-clause-taken c =
+    let t = c.args.stand.now in
+    let is = site_named t.stamp _ c.as_slice.result.now c.args.old.now.key.items t.depth c.site_at-site.result c.site_at-site.ensures.site c.as_slice.ensures.value in
+    let filled = subst (λ (reads : List (Option ℕ)). IsFilled t.stamp.cell reads c.fill.new.body) c.node.ensures c.fill.ensures in
+    subst IsTaken (sym is) (found_taken c.requires.seen.0 t c.args.desk.now c.args.old.now c.requires.found c.requires.seen.1 _ filled)
+
+pub drop-requires-clause-two : goal.drop-requires-clause-two
+drop-requires-clause-two c =
+    let t = c.args.stand.now in
+    let filled = subst (λ (reads : List (Option ℕ)). IsFilled t.stamp.cell reads c.fill.new.body) c.node.ensures c.fill.ensures in
+    subst KeepsTwo (sym c.site_at-site.ensures.site) (keeps_two t c.args.desk.now _ _ filled c.requires.stays)
+
+pub returns-clause-planned : goal.returns-clause-planned
+returns-clause-planned c = λ done z u seen standing.
+    let t = c.args.stand.now in
+    let old = c.args.old.now in
+    let is = site_named t.stamp _ c.as_slice.result.now old.key.items t.depth c.site_at-site.result c.site_at-site.ensures.site c.as_slice.ensures.value in
+    let filled = subst (λ (reads : List (Option ℕ)). IsFilled t.stamp.cell reads c.fill.new.body) c.node.ensures c.fill.ensures in
+    let low = subst (λ (bytes : List ℕ). get_or bytes (t.depth - 1) 0 < 256) c.as_slice.ensures.value c.site_at-site.ensures.low in
+    c.drop.ensures.planned done z u t.depth (subst (λ (site : Site). IsDrop z u site old t.depth) (sym is) (drop_knows z t c.args.desk.now old c.requires.found _ filled u seen standing low))
+
+pub returns-clause-refused : goal.returns-clause-refused
+returns-clause-refused c = λ refused.
+    let t = c.args.stand.now in
+    let old = c.args.old.now in
+    let is = site_named t.stamp _ c.as_slice.result.now old.key.items t.depth c.site_at-site.result c.site_at-site.ensures.site c.as_slice.ensures.value in
+    let filled = subst (λ (reads : List (Option ℕ)). IsFilled t.stamp.cell reads c.fill.new.body) c.node.ensures c.fill.ensures in
+    drop_refused c.requires.seen.0 t c.args.desk.now old c.requires.found _ filled c.site_at-site.result is (c.drop.ensures.refused refused)

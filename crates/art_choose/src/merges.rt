@@ -1,0 +1,51 @@
+//! The leaf goes, and the node that names it gives way to its one other child.
+ghost use Rattle.std.specs.Prelude.{◌≡◌, ℕ, None, true, false};
+ghost use Rattle.art_cell.specs.declared.cells.Link.TheVariants.{Leaf as leaf_link};
+ghost use Rattle.art_choose.specs.Plans.{HasFound, HasOther, PlansMerge, PutsTooMuch};
+ghost use Rattle.art_choose.specs.Seen.{AreSeen};
+ghost use Rattle.art_plan.specs.Changes.{targets};
+ghost use Rattle.art_remove.specs.Removals.{removed};
+ghost use Rattle.art_step.specs.declared.views.Sizes.{Sizes};
+
+use art_cell::Cell;
+use art_decide::{Bodies, fill, site_at};
+use art_place::{Desk, Stand};
+use art_plan::{Below, Change};
+use art_remove::{OldLeaf, merge_leaf};
+
+/// The leaf goes from a node that has one other child, this leaf: that one takes the node's place in the cell above. All words of
+/// both cells were read and checked. False where the words are more than a change takes.
+pub fn plan_merge_leaf(
+    change: &mut Change,
+    bodies: &mut Bodies,
+    stand: &Stand,
+    desk: &Desk,
+    old: &OldLeaf,
+    other: u32,
+) -> bool
+    requires found { HasFound stand.now old.now }
+    requires other { (beside : ℕ) × HasOther stand.now desk.now old.now beside (leaf_link other) }
+    requires seen { (z : Sizes) × AreSeen z old.now.key.items stand.now desk.now }
+    ensures planned { result ≡ true → PlansMerge stand.now desk.now old.now change.new }
+    ensures targets { result ≡ true → targets change.new ≡ 2 }
+    ensures deed { change.new.deed ≡ removed old.now }
+    ensures leaf { change.new.leaf ≡ None }
+    ensures refused { result ≡ false → PutsTooMuch stand.now desk.now (leaf_link other) }
+{
+    let Cell::Node(node) = stand.stamp.cell else {
+        unreachable!();
+    };
+    let Some(above) = stand.above else {
+        unreachable!();
+    };
+    fill(&mut bodies.node, stand.stamp.cell, desk.node());
+    fill(&mut bodies.above, above.stamp.cell, desk.above());
+    let key = old.key.as_slice();
+    let site = site_at(above.stamp, &bodies.above, key, above.depth);
+    let below = Below {
+        node,
+        stamp: stand.stamp,
+        body: &bodies.node,
+    };
+    merge_leaf(change, &site, &below, other, old)
+}

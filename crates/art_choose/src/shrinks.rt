@@ -1,0 +1,54 @@
+//! The leaf goes, and the node that names it gives way to a smaller one.
+ghost use Rattle.std.specs.Prelude.{◌≡◌, None, true, false};
+ghost use Rattle.art_cell.specs.declared.layouts.Layout.{Layout};
+ghost use Rattle.art_choose.specs.Losses.{loss_at};
+ghost use Rattle.art_choose.specs.Plans.{HasFound, PlansShrink, ShrinksTooMuch};
+ghost use Rattle.art_choose.specs.Seen.{AreSeen};
+ghost use Rattle.art_choose.specs.declared.losses.Loss.TheVariants as losses;
+ghost use Rattle.art_plan.specs.Changes.{targets};
+ghost use Rattle.art_remove.specs.Removals.{removed};
+ghost use Rattle.art_step.specs.declared.views.Sizes.{Sizes};
+
+use art_cell::Cell;
+use art_decide::{Bodies, byte_at, fill, site_at};
+use art_place::{Desk, Stand};
+use art_plan::{Below, Change};
+use art_remove::{OldLeaf, shrink};
+
+/// The leaf goes from a node that keeps few children: the next smaller one, which has this number, takes its place in the cell
+/// above. All words of both cells were read and checked. False where the words are more than a change takes.
+pub fn plan_shrink(
+    change: &mut Change,
+    bodies: &mut Bodies,
+    stand: &Stand,
+    desk: &Desk,
+    old: &OldLeaf,
+    made: u32,
+) -> bool
+    requires found { HasFound stand.now old.now }
+    requires shrinks { (k : Layout) × (loss_at stand.now desk.now ≡ losses.Shrinks k) }
+    requires seen { (z : Sizes) × AreSeen z old.now.key.items stand.now desk.now }
+    ensures planned { result ≡ true → PlansShrink stand.now desk.now old.now made change.new }
+    ensures targets { result ≡ true → targets change.new ≡ 2 }
+    ensures deed { change.new.deed ≡ removed old.now }
+    ensures leaf { change.new.leaf ≡ None }
+    ensures refused { result ≡ false → ShrinksTooMuch stand.now desk.now made }
+{
+    let Cell::Node(node) = stand.stamp.cell else {
+        unreachable!();
+    };
+    let Some(above) = stand.above else {
+        unreachable!();
+    };
+    fill(&mut bodies.node, stand.stamp.cell, desk.node());
+    fill(&mut bodies.above, above.stamp.cell, desk.above());
+    let key = old.key.as_slice();
+    let site = site_at(above.stamp, &bodies.above, key, above.depth);
+    let below = Below {
+        node,
+        stamp: stand.stamp,
+        body: &bodies.node,
+    };
+    let byte = byte_at(key, stand.depth - 1);
+    shrink(change, &site, &below, byte, old, made)
+}

@@ -1,0 +1,10 @@
+pub mod AboveSites
+pub mod ChildSites
+pub mod EmptyTrees
+pub mod FreeBytes
+pub mod FullNodes
+pub mod OtherLeaves
+pub mod OtherPrefixes
+pub mod PrefixBytes
+pub mod SeenBodies
+pub mod WholeCells

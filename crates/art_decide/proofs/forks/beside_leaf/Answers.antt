@@ -1,0 +1,65 @@
+use Rattle.std.proofs.Common.{◌≡◌, ◌+◌, ◌-◌, ℕ, List, Option, get_or, subst, sym, ap, ◌∙◌, arith}
+use Rattle.art_decide.specs.Bodies.{AreWithin, IsFilled}
+use Rattle.art_decide.proofs.ChildSites.{site_named}
+use Rattle.art_decide.proofs.OtherLeaves.{leaf_apart, leaf_behind, leaf_deep, leaf_inside, leaf_knows, leaf_refused, leaf_taken}
+use Rattle.art_decide.proofs.WholeCells.{kept_within}
+use Rattle.art_insert.specs.Cases.{IsForkLeaf}
+use Rattle.art_plan.specs.Puts.{IsTaken}
+use Rattle.art_place.specs.Desks.{node_of}
+use Rattle.art_plan.specs.declared.sites.Site.{Site}
+use Rattle.art_decide.proofs.forks.beside_leaf.Goals as goal
+
+pub site_at-site-requires-clause-some : goal.site_at-site-requires-clause-some
+site_at-site-requires-clause-some c =
+    leaf_deep c.requires.seen.0 c.args.new.now.key.items c.args.stand.now c.args.desk.now c.in-OtherLeaf.other c.in-OtherLeaf.at c.in-OtherLeaf.byte c.in-OtherLeaf.is c.requires.seen.1
+
+pub overflow_sub-parting : goal.overflow_sub-parting
+overflow_sub-parting c =
+    leaf_behind c.requires.seen.0 c.args.new.now.key.items c.args.stand.now c.args.desk.now c.in-OtherLeaf.other c.in-OtherLeaf.at c.in-OtherLeaf.byte c.in-OtherLeaf.is c.requires.seen.1
+
+pub fork_leaf-requires-clause-taken : goal.fork_leaf-requires-clause-taken
+fork_leaf-requires-clause-taken c =
+    let t = c.args.stand.now in
+    let key = c.args.new.now.key.items in
+    let is = site_named t.stamp _ c.as_slice.result.now key t.depth c.site_at-site.result c.site_at-site.ensures.site c.as_slice.ensures.value in
+    let filled = subst (λ (reads : List (Option ℕ)). IsFilled t.stamp.cell reads c.fill.new.body) c.node.ensures c.fill.ensures in
+    subst IsTaken (sym is) (leaf_taken c.requires.seen.0 key t c.args.desk.now c.in-OtherLeaf.other c.in-OtherLeaf.at c.in-OtherLeaf.byte c.in-OtherLeaf.is c.requires.seen.1 _ filled)
+
+pub fork_leaf-requires-clause-inside : goal.fork_leaf-requires-clause-inside
+fork_leaf-requires-clause-inside c =
+    let t = c.args.stand.now in
+    let key = c.args.new.now.key.items in
+    let behind = leaf_behind c.requires.seen.0 key t c.args.desk.now c.in-OtherLeaf.other c.in-OtherLeaf.at c.in-OtherLeaf.byte c.in-OtherLeaf.is c.requires.seen.1 in
+    let inside = leaf_inside c.requires.seen.0 key t c.args.desk.now c.in-OtherLeaf.other c.in-OtherLeaf.at c.in-OtherLeaf.byte c.in-OtherLeaf.is c.requires.seen.1 in
+    omega (arith, behind, inside)
+
+pub fork_leaf-requires-clause-apart : goal.fork_leaf-requires-clause-apart
+fork_leaf-requires-clause-apart c =
+    let t = c.args.stand.now in
+    let key = c.args.new.now.key.items in
+    let behind = leaf_behind c.requires.seen.0 key t c.args.desk.now c.in-OtherLeaf.other c.in-OtherLeaf.at c.in-OtherLeaf.byte c.in-OtherLeaf.is c.requires.seen.1 in
+    let all : t.depth + (c.in-OtherLeaf.at - t.depth) ≡ c.in-OtherLeaf.at = omega (arith, behind) in
+    λ e. leaf_apart c.requires.seen.0 key t c.args.desk.now c.in-OtherLeaf.other c.in-OtherLeaf.at c.in-OtherLeaf.byte c.in-OtherLeaf.is c.requires.seen.1 (e ∙ ap (λ (i : ℕ). get_or key i 0) all)
+
+pub returns-clause-planned : goal.returns-clause-planned
+returns-clause-planned c = λ done z u seen standing hand needed.
+    let t = c.args.stand.now in
+    let key = c.args.new.now.key.items in
+    let is = site_named t.stamp _ c.as_slice.result.now key t.depth c.site_at-site.result c.site_at-site.ensures.site c.as_slice.ensures.value in
+    let filled = subst (λ (reads : List (Option ℕ)). IsFilled t.stamp.cell reads c.fill.new.body) c.node.ensures c.fill.ensures in
+    c.fork_leaf.ensures.planned done z u (subst (λ (site : Site). IsForkLeaf z u site c.args.new.now (record { depth = t.depth; common = c.in-OtherLeaf.at - t.depth }) c.in-OtherLeaf.other c.in-OtherLeaf.byte c.args.made) (sym is)
+    (leaf_knows z t c.args.desk.now c.args.new.now c.in-OtherLeaf.other c.in-OtherLeaf.at c.in-OtherLeaf.byte c.args.made c.in-OtherLeaf.is _ filled u seen standing hand needed))
+
+pub returns-clause-refused : goal.returns-clause-refused
+returns-clause-refused c = λ refused.
+    let t = c.args.stand.now in
+    let new = c.args.new.now in
+    let is = site_named t.stamp _ c.as_slice.result.now new.key.items t.depth c.site_at-site.result c.site_at-site.ensures.site c.as_slice.ensures.value in
+    let filled = subst (λ (reads : List (Option ℕ)). IsFilled t.stamp.cell reads c.fill.new.body) c.node.ensures c.fill.ensures in
+    leaf_refused c.requires.seen.0 t c.args.desk.now new c.in-OtherLeaf.other c.in-OtherLeaf.at c.in-OtherLeaf.byte c.args.made c.in-OtherLeaf.is _ filled c.site_at-site.result is (c.fork_leaf.ensures.refused refused)
+
+pub fill-requires : goal.fill-requires
+fill-requires c =
+    let t = c.args.stand.now in
+    let old = c.requires.seen.1.vouched in
+    subst (AreWithin t.stamp.cell) (sym c.node.ensures) (kept_within c.requires.seen.0 old.view t.stamp (node_of c.args.desk.now) old.standing.place.kept)

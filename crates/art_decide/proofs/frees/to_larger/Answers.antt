@@ -1,0 +1,83 @@
+use Rattle.std.proofs.Common.{◌<◌, ℕ, List, Option, get_or, subst, sym, ap, ◌∙◌}
+use Rattle.art_decide.specs.Bodies.{AreWithin, IsFilled}
+use Rattle.art_decide.proofs.AboveSites.{above_deep, above_taken}
+use Rattle.art_decide.proofs.ChildSites.{site_named}
+use Rattle.art_decide.proofs.FreeBytes.{byte_crowded, free_on}
+use Rattle.art_decide.proofs.FullNodes.{full_knows, full_refused}
+use Rattle.art_decide.proofs.WholeCells.{above_kept, kept_within}
+use Rattle.art_plan.specs.Puts.{IsCrowded, IsTaken}
+use Rattle.art_place.specs.Desks.{above_of, node_of}
+use Rattle.art_decide.proofs.frees.to_larger.Goals as goal
+
+pub site_at-site-requires-clause-some : goal.site_at-site-requires-clause-some
+site_at-site-requires-clause-some c =
+    let z = c.requires.seen.0 in
+    let t = c.args.stand.now in
+    let key = c.args.new.now.key.items in
+    let desk = c.args.desk.now in
+    above_deep z key t desk c.in-Free.node (free_on z key t desk c.in-Free.node c.in-Free.field-1 c.in-Free.is c.requires.seen.1) c.in-Some.above c.in-Some.is (c.requires.seen.1.above c.in-Some.above c.in-Some.is c.requires.full)
+
+pub grow-requires-clause-taken : goal.grow-requires-clause-taken
+grow-requires-clause-taken c =
+    let z = c.requires.seen.0 in
+    let t = c.args.stand.now in
+    let a = c.in-Some.above in
+    let key = c.args.new.now.key.items in
+    let desk = c.args.desk.now in
+    let is = site_named a.stamp _ c.as_slice-key.result.now key a.depth c.site_at-site.result c.site_at-site.ensures.site c.as_slice-key.ensures.value in
+    let filled = subst (λ (reads : List (Option ℕ)). IsFilled a.stamp.cell reads c.fill-2.new.body) c.above.ensures c.fill-2.ensures in
+    subst IsTaken (sym is)
+    (above_taken z key t desk c.in-Free.node (free_on z key t desk c.in-Free.node c.in-Free.field-1 c.in-Free.is c.requires.seen.1) a c.in-Some.is (c.requires.seen.1.above a c.in-Some.is c.requires.full) _ filled)
+
+pub grow-requires-clause-crowded : goal.grow-requires-clause-crowded
+grow-requires-clause-crowded c =
+    let z = c.requires.seen.0 in
+    let t = c.args.stand.now in
+    let key = c.args.new.now.key.items in
+    let filled = subst (λ (reads : List (Option ℕ)). IsFilled t.stamp.cell reads c.fill.new.body) c.node.ensures c.fill.ensures in
+    let byte = c.byte_at-byte.ensures.byte ∙ ap (λ (bytes : List ℕ). get_or bytes t.depth 0) c.as_slice-key.ensures.value in
+    let low = subst (λ (b : ℕ). b < 256) byte c.byte_at-byte.ensures.low in
+    subst (IsCrowded c.fill.new.body) (sym byte)
+    (byte_crowded z key t c.args.desk.now c.in-Free.node c.in-Free.field-1 c.in-Free.is c.requires.seen.1 c.fill.new.body filled low c.requires.full)
+
+pub returns-clause-planned : goal.returns-clause-planned
+returns-clause-planned c = λ done z u seen standing hand needed.
+    let t = c.args.stand.now in
+    let a = c.in-Some.above in
+    let new = c.args.new.now in
+    let is = site_named a.stamp _ c.as_slice-key.result.now new.key.items a.depth c.site_at-site.result c.site_at-site.ensures.site c.as_slice-key.ensures.value in
+    let upper = subst (λ (reads : List (Option ℕ)). IsFilled a.stamp.cell reads c.fill-2.new.body) c.above.ensures c.fill-2.ensures in
+    let lower = subst (λ (reads : List (Option ℕ)). IsFilled t.stamp.cell reads c.fill.new.body) c.node.ensures c.fill.ensures in
+    let byte = c.byte_at-byte.ensures.byte ∙ ap (λ (bytes : List ℕ). get_or bytes t.depth 0) c.as_slice-key.ensures.value in
+    c.grow.ensures.planned done z u a.depth
+    (full_knows z t c.args.desk.now new c.in-Free.node c.in-Free.field-1 c.args.made c.in-Free.is a c.in-Some.is c.requires.full seen _ _ upper lower u c.site_at-site.result is standing hand needed
+    c.byte_at-byte.result byte)
+
+pub returns-clause-refused : goal.returns-clause-refused
+returns-clause-refused c = λ refused.
+    let t = c.args.stand.now in
+    let a = c.in-Some.above in
+    let new = c.args.new.now in
+    let is = site_named a.stamp _ c.as_slice-key.result.now new.key.items a.depth c.site_at-site.result c.site_at-site.ensures.site c.as_slice-key.ensures.value in
+    let upper = subst (λ (reads : List (Option ℕ)). IsFilled a.stamp.cell reads c.fill-2.new.body) c.above.ensures c.fill-2.ensures in
+    let lower = subst (λ (reads : List (Option ℕ)). IsFilled t.stamp.cell reads c.fill.new.body) c.node.ensures c.fill.ensures in
+    full_refused c.requires.seen.0 t c.args.desk.now new c.in-Free.node c.in-Free.field-1 c.args.made c.in-Free.is a c.in-Some.is c.requires.full c.requires.seen.1 _ c.fill.new.body upper lower c.site_at-site.result is
+    (c.grow.ensures.refused refused)
+
+pub fill-requires : goal.fill-requires
+fill-requires c =
+    let t = c.args.stand.now in
+    let old = c.requires.seen.1.vouched in
+    subst (AreWithin t.stamp.cell) (sym c.node.ensures) (kept_within c.requires.seen.0 old.view t.stamp (node_of c.args.desk.now) old.standing.place.kept)
+
+pub fill-requires-2 : goal.fill-requires-2
+fill-requires-2 c =
+    let z = c.requires.seen.0 in
+    let t = c.args.stand.now in
+    let a = c.in-Some.above in
+    let key = c.args.new.now.key.items in
+    let desk = c.args.desk.now in
+    let n = c.in-Free.node in
+    let old = c.requires.seen.1.vouched in
+    subst (AreWithin a.stamp.cell) (sym c.above.ensures)
+    (kept_within z old.view a.stamp (above_of desk) (above_kept z key t desk old.view old.standing n (free_on z key t desk n c.in-Free.field-1 c.in-Free.is c.requires.seen.1) a c.in-Some.is))

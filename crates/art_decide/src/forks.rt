@@ -1,0 +1,87 @@
+//! The leaf comes beside what stands on the key's way: another leaf, or a node with another prefix.
+ghost use Rattle.std.specs.Prelude.{◌≡◌, ◌<◌, ℕ, true, false, Some};
+ghost use Rattle.art_cell.specs.declared.cells.Node.{Node as NodeOf};
+ghost use Rattle.art_decide.specs.Plans.{IsTooMuch, PlansInsert};
+ghost use Rattle.art_decide.specs.Seen.{IsSeen};
+ghost use Rattle.art_find.specs.declared.verdicts.Verdict.TheVariants as verdicts;
+ghost use Rattle.art_insert.specs.Puts.{inserted};
+ghost use Rattle.art_plan.specs.Changes.{targets};
+ghost use Rattle.art_step.specs.declared.views.Sizes.{Sizes};
+
+use crate::Bodies;
+use crate::bodies::{fill, site_at};
+use art_find::Verdict;
+use art_insert::{NewLeaf, Parting, fork_leaf, fork_prefix};
+use art_node::prefix;
+use art_place::{Desk, Stand};
+use art_plan::{Below, Change};
+
+/// Another leaf stands where the leaf would: a new node has both.
+pub(crate) fn beside_leaf(
+    change: &mut Change,
+    bodies: &mut Bodies,
+    stand: &Stand,
+    desk: &Desk,
+    new: &NewLeaf,
+    made: u32,
+) -> bool
+    requires other { (l : ℕ) × (at : ℕ) × (byte : ℕ) × (stand.now.verdict ≡ verdicts.OtherLeaf l at byte) }
+    requires seen { (z : Sizes) × IsSeen z new.now.key.items stand.now desk.now }
+    ensures planned { result ≡ true → PlansInsert stand.now desk.now new.now made change.new }
+    ensures targets { result ≡ true → 0 < targets change.new }
+    ensures deed { change.new.deed ≡ inserted new.now }
+    ensures leaf { change.new.leaf ≡ Some new.now.number }
+    ensures refused { result ≡ false → IsTooMuch stand.now desk.now new.now made }
+{
+    let Verdict::OtherLeaf(other, at, byte) = stand.verdict else {
+        unreachable!();
+    };
+    fill(&mut bodies.node, stand.stamp.cell, desk.node());
+    let site = site_at(stand.stamp, &bodies.node, new.key.as_slice(), stand.depth);
+    let parting = Parting {
+        depth: stand.depth,
+        common: at - stand.depth,
+    };
+    fork_leaf(change, &site, new, parting, other, byte, made)
+}
+
+/// The prefix of the node parts from the key: a new node comes between the cell above and the node.
+pub(crate) fn beside_node(
+    change: &mut Change,
+    bodies: &mut Bodies,
+    stand: &Stand,
+    desk: &Desk,
+    new: &NewLeaf,
+    made: u32,
+) -> bool
+    requires other { (n : NodeOf) × (header : ℕ) × (at : ℕ) × (stand.now.verdict ≡ verdicts.OtherPrefix n header at) }
+    requires seen { (z : Sizes) × IsSeen z new.now.key.items stand.now desk.now }
+    ensures planned { result ≡ true → PlansInsert stand.now desk.now new.now made change.new }
+    ensures targets { result ≡ true → 0 < targets change.new }
+    ensures deed { change.new.deed ≡ inserted new.now }
+    ensures leaf { change.new.leaf ≡ Some new.now.number }
+    ensures refused { result ≡ false → IsTooMuch stand.now desk.now new.now made }
+{
+    let Verdict::OtherPrefix(node, _, at) = stand.verdict else {
+        unreachable!();
+    };
+    let Some(above) = stand.above else {
+        unreachable!();
+    };
+    let Some(bytes) = prefix(desk.node()) else {
+        unreachable!();
+    };
+    fill(&mut bodies.node, stand.stamp.cell, desk.node());
+    fill(&mut bodies.above, above.stamp.cell, desk.above());
+    let site = site_at(above.stamp, &bodies.above, new.key.as_slice(), above.depth);
+    let below = Below {
+        node,
+        stamp: stand.stamp,
+        body: &bodies.node,
+    };
+    let parting = Parting {
+        depth: above.depth,
+        common: at,
+    };
+    fork_prefix(change, &site, &below, bytes.as_slice(), new, parting, made)
+}

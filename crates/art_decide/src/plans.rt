@@ -1,0 +1,50 @@
+//! The plan of an insert.
+ghost use Rattle.std.specs.Prelude.{◌≡◌, ◌<◌, true, false, Some};
+ghost use Rattle.art_decide.specs.Plans.{Comes, IsTooMuch, PlansInsert};
+ghost use Rattle.art_decide.specs.Seen.{IsSeen};
+ghost use Rattle.art_insert.specs.Puts.{inserted};
+ghost use Rattle.art_plan.specs.Changes.{targets};
+ghost use Rattle.art_step.specs.declared.views.Sizes.{Sizes};
+
+use crate::forks::{beside_leaf, beside_node};
+use crate::frees::{to_anchor, to_byte, to_larger};
+use crate::{Bodies, needed};
+use art_find::Verdict;
+use art_insert::NewLeaf;
+use art_place::{Desk, Stand};
+use art_plan::Change;
+
+/// The change that inserts the leaf, where its key stands; all that it writes was read and checked. Where it makes a node, that
+/// has this number. False where the words are more than a change takes.
+pub fn plan_insert(
+    change: &mut Change,
+    bodies: &mut Bodies,
+    stand: &Stand,
+    desk: &Desk,
+    new: &NewLeaf,
+    made: u32,
+) -> bool
+    requires comes { Comes stand.now.verdict }
+    requires seen { (z : Sizes) × IsSeen z new.now.key.items stand.now desk.now }
+    ensures planned { result ≡ true → PlansInsert stand.now desk.now new.now made change.new }
+    ensures targets { result ≡ true → 0 < targets change.new }
+    ensures deed { change.new.deed ≡ inserted new.now }
+    ensures leaf { change.new.leaf ≡ Some new.now.number }
+    ensures refused { result ≡ false → IsTooMuch stand.now desk.now new.now made }
+{
+    match stand.verdict {
+        Verdict::Empty => to_anchor(change, stand, new),
+        Verdict::OtherLeaf(_, _, _) => beside_leaf(change, bodies, stand, desk, new, made),
+        Verdict::OtherPrefix(_, _, _) => beside_node(change, bodies, stand, desk, new, made),
+        Verdict::Free(_, _) => {
+            if needed(&stand.verdict).above {
+                to_larger(change, bodies, stand, desk, new, made)
+            } else {
+                to_byte(change, bodies, stand, desk, new)
+            }
+        }
+        Verdict::Found(_, _) | Verdict::Overlaps | Verdict::Torn | Verdict::Absent => {
+            unreachable!()
+        }
+    }
+}

@@ -1,0 +1,166 @@
+-- The place of the key is sought, and checked.
+use Rattle.std.proofs.Common.{◌≡◌, ℕ, ◌≤◌, true, false, List, Option, Some, None, refl, sym, ap, ◌∙◌, subst, arith}
+use Rattle.std.specs.Prelude.{IfSome}
+use Rattle.std.proofs.lemmas.Option.{same_Some}
+use Rattle.art_attempt.proofs.Finds.{StandsThere, check_failed, check_passed, not_settling, settle_failed, settle_passed, stands_there, tells_nothing, undecided}
+use Rattle.art_attempt.proofs.Tries.{event_since, rest_told, still_reads, stock_reads}
+use Rattle.art_attempt.specs.Asking.{MayAsk}
+use Rattle.art_erase.specs.Erasing.{EndsSo, IsAbsent, IsFinding, absent, absent_of, asks_place, check_by, check_of, finding_asks}
+use Rattle.art_erase.specs.declared.erasing.Erasing.{Erasing}
+use Rattle.art_attempt.specs.declared.rooms.Room.{Room}
+use Rattle.art_find.proofs.Allowed.{allowed}
+use Rattle.art_find.proofs.Stages.{reads_on, tells_free}
+use Rattle.art_find.specs.Asking.{Answers, IsAllowed}
+use Rattle.art_find.specs.Descents.{answer_at, asks}
+use Rattle.art_find.specs.Verdicts.{value_of}
+use Rattle.art_find.specs.declared.asked.Answer.{Answer}
+use Rattle.art_find.specs.declared.asked.Asked.{Asked}
+use Rattle.art_find.specs.declared.asked.Asked.TheVariants.{Settle}
+use Rattle.art_find.specs.declared.verdicts.Verdict.{Verdict}
+use Rattle.art_find.specs.declared.verdicts.Verdict.TheVariants.{Found, Empty, OtherLeaf, OtherPrefix, Free, Overlaps, Torn, Absent}
+use Rattle.art_frame.proofs.Stocked.{stock_same}
+use Rattle.art_gather.specs.Vouching.{passed}
+use Rattle.art_place.proofs.FoundPlaces.{standing_grows}
+use Rattle.art_place.proofs.Keeping.{passed_grows}
+use Rattle.art_place.specs.Findings.{IsStanding, stand_at}
+use Rattle.art_place.specs.declared.findings.Finding.{Finding}
+use Rattle.art_place.specs.declared.findings.Stand.{Stand}
+use Rattle.art_step.proofs.Shows.{passed_rest, remove_settles, told_rest}
+use Rattle.art_step.specs.Shows.{HasValue, OnlyReads, Rest, Shows}
+use Rattle.art_step.specs.Steps.Check as check
+use Rattle.art_step.specs.WordPlaces.{HasVersion}
+use Rattle.art_step.specs.declared.deeds.Deed.{Deed}
+use Rattle.art_step.specs.declared.views.Sizes.{Sizes}
+use Rattle.art_step.specs.declared.views.View.{View}
+use Rattle.art_tree.specs.Heaps.{Cells}
+
+-- ---- what is asked
+
+pub no_place : (m : Finding) (o : Option Asked) (a : Asked) → stand_at m ≡ None → asks_place (stand_at m) o ≡ Some a → o ≡ Some a
+no_place m o a nowhere is = sym (ap (λ (t : Option Stand). asks_place t o) nowhere) ∙ is
+
+pub at_place : (m : Finding) (o : Option Asked) (a : Asked) (t : Stand) → stand_at m ≡ Some t → asks_place (stand_at m) o ≡ Some a → check_of t ≡ a
+at_place m o a t at is = same_Some {A = Asked} (check_of t) a (sym (ap (λ (s : Option Stand). asks_place s o) at) ∙ is)
+
+-- ---- the place is checked
+
+-- where no leaf has the key, a check tells the deed
+abbrev pub told_by : Verdict → Deed → Option Deed
+told_by (Found l value) d = None
+told_by found d = Some d
+
+pub told_other : (found : Verdict) (d : Deed) → ((l value : ℕ) → found ≡ Found l value → ⊥) → told_by found d ≡ Some d
+told_other (Found l value) d other = absurd (other l value refl)
+told_other Empty d other = refl
+told_other (OtherLeaf l at byte) d other = refl
+told_other (OtherPrefix n header at) d other = refl
+told_other (Free n header) d other = refl
+told_other Overlaps d other = refl
+told_other Torn d other = refl
+told_other Absent d other = refl
+
+place_passed : (z : Sizes) (d : Deed) (found : Verdict) (t : Stand) (r : Answer) (v w : View) → Answers z d (check_by found t) r v w → passed r ≡ true
+    → check.Unchanged z v w t.stamp (told_by found d)
+place_passed z d (Found l value) t r v w row is = check_passed z d t.stamp r v w row is
+place_passed z d Empty t r v w row is = settle_passed z d t.stamp r v w row is
+place_passed z d (OtherLeaf l at byte) t r v w row is = settle_passed z d t.stamp r v w row is
+place_passed z d (OtherPrefix n header at) t r v w row is = settle_passed z d t.stamp r v w row is
+place_passed z d (Free n header) t r v w row is = settle_passed z d t.stamp r v w row is
+place_passed z d Overlaps t r v w row is = settle_passed z d t.stamp r v w row is
+place_passed z d Torn t r v w row is = settle_passed z d t.stamp r v w row is
+place_passed z d Absent t r v w row is = settle_passed z d t.stamp r v w row is
+
+place_failed : (z : Sizes) (d : Deed) (found : Verdict) (t : Stand) (r : Answer) (v w : View) → Answers z d (check_by found t) r v w → passed r ≡ false → OnlyReads v w
+place_failed z d (Found l value) t r v w row is = check_failed z d t.stamp r v w row is
+place_failed z d Empty t r v w row is = settle_failed z d t.stamp r v w row is
+place_failed z d (OtherLeaf l at byte) t r v w row is = settle_failed z d t.stamp r v w row is
+place_failed z d (OtherPrefix n header at) t r v w row is = settle_failed z d t.stamp r v w row is
+place_failed z d (Free n header) t r v w row is = settle_failed z d t.stamp r v w row is
+place_failed z d Overlaps t r v w row is = settle_failed z d t.stamp r v w row is
+place_failed z d Torn t r v w row is = settle_failed z d t.stamp r v w row is
+place_failed z d Absent t r v w row is = settle_failed z d t.stamp r v w row is
+
+module _ (z : Sizes) (u : View) (m : Erasing) (r : Room) (v w : View) (f : IsFinding z u m r v) (later : v.steps ≤ w.steps) where
+  past : f.early.steps ≤ w.steps
+  past = let before = f.later in omega arith
+
+  -- the attempt ends, and nothing was told
+  pub ends_reading : OnlyReads f.early w → EndsSo z u r w
+  ends_reading only = record {
+    still = still_reads u f.early f.base w past only;
+    has = stock_reads z r.gone.key.items 0 f.early w r.stock only f.has;
+  }
+
+  module _ (t : Stand) (s : StandsThere z r.gone.key.items m.finding r.desk f.early v t) (a : Answer) (row : Answers z (absent r.gone) (check_of t) a v w) where
+    only_then : OnlyReads v w → OnlyReads f.early w
+    only_then only = (reads_on f.early v w only s.reads).only
+
+    pub fails_there : passed a ≡ false → EndsSo z u r w
+    fails_there off = ends_reading (only_then (place_failed z (absent r.gone) t.verdict t a v w row off))
+
+    module _ (on : passed a ≡ true) where
+      unchanged : check.Unchanged z v w t.stamp (told_by t.verdict (absent r.gone))
+      unchanged = place_passed z (absent r.gone) t.verdict t a v w row on
+
+      -- no leaf has the key
+      pub absent_there : told_by t.verdict (absent r.gone) ≡ Some (absent r.gone) → IsAbsent z u r w
+      absent_there is =
+          let q = subst (λ (o : Option Deed). check.Unchanged z v w t.stamp o) is unchanged in
+          let k = told_rest z f.early v w t.stamp (absent r.gone) s.reads.only q in
+          record {
+            event = event_since u f.early f.base w (absent r.gone) k.0;
+            rest = rest_told u f.early f.base w k.1;
+            free = tells_free f.early w k.1 f.base.free;
+            later = let before = f.base.later in let more = past in omega arith;
+            has = stock_same z r.gone.key.items 0 f.early w r.stock (ap (λ (o : Rest). o.hand) k.1) f.has;
+          }
+
+      -- a leaf has it
+      pub found_there : told_by t.verdict (absent r.gone) ≡ None → EndsSo z u r w
+      found_there is = ends_reading (only_then (passed_rest z v w t.stamp (subst (λ (o : Option Deed). check.Unchanged z v w t.stamp o) is unchanged)))
+
+      pub stands_still : IsStanding z r.gone.key.items t r.desk w
+      stands_still = standing_grows z r.gone.key.items t r.desk v w (passed_grows z v w t.stamp (told_by t.verdict (absent r.gone)) unchanged) s.standing
+
+-- ---- each step may be made
+
+module _ (z : Sizes) (u : View) (m : Erasing) (r : Room) (v : View) (f : IsFinding z u m r v) where
+  abbrev k : List ℕ
+  k = r.gone.key.items
+
+  abbrev so : Cells → Type 0
+  so s = HasValue s k (answer_at m.finding.descent.stage)
+
+  descent_allowed : (a : Asked) → asks m.finding.descent.stage ≡ Some a → IsAllowed z so v a
+  descent_allowed a is = subst (λ (o : Option Asked). IfSome o (IsAllowed z so v)) is (allowed z k (absent_of r.gone) m.finding.descent.depth m.finding.descent.stage f.early v f.fits.descent)
+
+  module _ (t : Stand) (s : StandsThere z k m.finding r.desk f.early v t) where
+    plain : HasVersion z t.stamp.cell × check.May z v t.stamp None
+    plain = (s.standing.stamp.inside, record { stamp = s.standing.stamp.stamp; tells = tt })
+
+    settles : (found : Verdict) → t.verdict ≡ found → value_of found ≡ None → MayAsk z (absent r.gone) v (Settle t.stamp)
+    settles found at none =
+        let may = descent_allowed (Settle t.stamp) s.settles in
+        let shows : Shows z v t.stamp (λ c. HasValue c k None) =
+        subst (λ (o : Option ℕ). Shows z v t.stamp (λ c. HasValue c k o)) (s.answers ∙ (ap value_of at ∙ none)) may.1.shows in
+        (may.0, record { stamp = may.1.stamp; tells = remove_settles z v t.stamp k shows })
+
+    check_allowed : (found : Verdict) → t.verdict ≡ found → MayAsk z (absent r.gone) v (check_by found t)
+    check_allowed (Found l value) at = plain
+    check_allowed Empty at = settles Empty at refl
+    check_allowed (OtherLeaf l i byte) at = settles (OtherLeaf l i byte) at refl
+    check_allowed (OtherPrefix n header i) at = settles (OtherPrefix n header i) at refl
+    check_allowed (Free n header) at = settles (Free n header) at refl
+    check_allowed Overlaps at = settles Overlaps at refl
+    check_allowed Torn at = settles Torn at refl
+    check_allowed Absent at = settles Absent at refl
+
+  place_allowed : (o : Option Stand) (a : Asked) → stand_at m.finding ≡ o → asks_place o (asks m.finding.descent.stage) ≡ Some a → MayAsk z (absent r.gone) v a
+  place_allowed (Some t) a at is =
+      let s = stands_there z k (absent_of r.gone) m.finding r.desk f.early v f.fits f.exact t at in
+      subst (MayAsk z (absent r.gone) v) (same_Some {A = Asked} (check_of t) a is) (check_allowed t s t.verdict refl)
+  place_allowed None a at is =
+      not_settling z (absent r.gone) so v a (tells_nothing m.finding.descent.stage (undecided m.finding at) a is) (descent_allowed a is)
+
+  pub finding_allowed : (a : Asked) → finding_asks m.finding ≡ Some a → MayAsk z (absent r.gone) v a
+  finding_allowed a is = place_allowed (stand_at m.finding) a refl is

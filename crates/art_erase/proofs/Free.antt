@@ -1,0 +1,65 @@
+-- As long as nothing is held, an attempt may be given up with nothing told.
+use Rattle.std.proofs.Common.{◌≡◌, List, true, None, sym, ap, ◌∙◌, arith}
+use Rattle.art_attempt.proofs.Free.{begun_locking, locking_none}
+use Rattle.art_attempt.specs.Inserting.{is_begun}
+use Rattle.art_attempt.specs.Trying.{StillTries}
+use Rattle.art_attempt.specs.declared.rooms.Room.{Room}
+use Rattle.art_erase.proofs.Finds.{ends_reading}
+use Rattle.art_erase.proofs.Vouched.{lower_so, reading_so, supplies_so}
+use Rattle.art_erase.specs.Erasing.{EndsSo, HasMade, HasVouched, IsFinding, StageFits, erased_at, free_at, goes}
+use Rattle.art_erase.specs.declared.erasing.Erasing.{Erasing}
+use Rattle.art_erase.specs.declared.erasing.Stage.{Stage}
+use Rattle.art_erase.specs.declared.erasing.Stage.TheVariants as stage
+use Rattle.art_find.proofs.Stages.{still_reading}
+use Rattle.art_frame.proofs.Stocked.{stock_same}
+use Rattle.art_gather.specs.Vouching as vouching
+use Rattle.art_gather.specs.Vouching.{IsVouching}
+use Rattle.art_gather.specs.declared.vouching.Vouching.{Vouching}
+use Rattle.art_gather.specs.declared.vouching.Vouching.TheVariants as vouches
+use Rattle.art_step.specs.Shows.{Rest, rest_of}
+use Rattle.art_step.specs.declared.views.Holding.{Holding}
+use Rattle.art_step.specs.declared.views.Sizes.{Sizes}
+use Rattle.art_step.specs.declared.views.View.{View}
+
+vouching_goes : (z : Sizes) (r : Room) (m : Erasing) (s : Vouching) (u v : View) → vouching.ended_at s ≡ None
+    → vouching.StageFits z r.gone.key.items (goes m.way) m.stand s r.desk u v → IsVouching z r.gone.key.items m.stand r.desk u v
+vouching_goes z r m (vouches.Above q) u v is fits = fits.0
+vouching_goes z r m (vouches.Here q) u v is fits = fits.0
+vouching_goes z r m vouches.CheckAbove u v is fits = fits.0
+vouching_goes z r m vouches.CheckHere u v is fits = fits.0
+vouching_goes z r m (vouches.Ended e) u v is fits = cc
+
+module _ (z : Sizes) (u : View) (m : Erasing) (r : Room) (v : View) where
+  finding_so : IsFinding z u m r v → EndsSo z u r v
+  finding_so f =
+      let reads = still_reading z r.gone.key.items _ m.finding.descent.depth m.finding.descent.stage f.early v f.going f.fits.descent in
+      ends_reading z u m r v v f (omega arith) reads.only
+
+  vouching_so : HasVouched z u m r v → vouching.ended_at m.vouching ≡ None → EndsSo z u r v
+  vouching_so h going = reading_so z u h.early h.base r v h.later h.has (vouching_goes z r m m.vouching h.early v going h.fits.stage).reads
+
+  making_so : HasMade z u m r v → is_begun m.making ≡ true → EndsSo z u r v
+  making_so h is =
+      let p = begun_locking r.change m.making h.early v is h.fits.stage in
+      let free = locking_none h.early r.change v p in
+      let base = h.base in
+      let still : StillTries u v = record {
+        rest = ap (λ (hs : List Holding). record (rest_of v) { held = hs; hand = u.hand; committed = u.committed }) (free ∙ sym base.free)
+            ∙ (ap (λ (o : Rest). record o { hand = u.hand; committed = u.committed }) p.same.rest ∙ base.rest);
+        free = free;
+        pinned = λ zero. base.pinned (sym (ap (λ (o : Rest). o.pin) p.same.rest) ∙ zero);
+        later = let a = base.later in let b = h.later in omega (arith, a, b);
+      } in
+      record {
+        still = still;
+        has = stock_same z r.gone.key.items 0 h.early v r.stock (ap (λ (o : Rest). o.hand) p.same.rest) h.has;
+      }
+
+  pub free_so : (s : Stage) → free_at s m.making ≡ true → erased_at s ≡ None → StageFits z u s m r v → EndsSo z u r v
+  free_so stage.Finding is going fits = finding_so fits
+  free_so (stage.Supplying layout) is going fits = supplies_so z u layout m r v fits.0
+  free_so (stage.Reading q) is going fits = let f = fits.0 in reading_so z u f.early f.base r v f.later f.has f.reads.reads
+  free_so stage.Vouching is going fits = vouching_so fits.0 fits.1
+  free_so stage.Lowering is going fits = lower_so z u m r v fits.0
+  free_so stage.Making is going fits = making_so fits.0 is
+  free_so (stage.Ended e) is going fits = cc

@@ -1,0 +1,6 @@
+pub mod Chosen
+pub mod Counts
+pub mod Finds
+pub mod Free
+pub mod Left
+pub mod Vouched

@@ -1,0 +1,25 @@
+use Rattle.std.proofs.Common.{ap, arith}
+use Rattle.art_attempt.specs.Inserting.{is_begun}
+use Rattle.art_erase.proofs.erasing.Erasing.begin.Goals as goal
+
+pub returns-clause-fits : goal.returns-clause-fits
+returns-clause-fits c z u v room so made refused =
+    let removal = made c.if-not-planned.false in
+    record {
+      room = room;
+      stage = (
+        record {
+          early = v;
+          base = so.still;
+          later = omega arith;
+          has = so.has;
+          leaf = removal.leaf;
+          deed = removal.deed;
+          fits = c.new-self.ensures.fits z v removal.planned so.still.free;
+        },
+        c.new-self.ensures.going removal.planned.some,
+      );
+    }
+
+pub returns-clause-free : goal.returns-clause-free
+returns-clause-free c = ap is_begun (c.new-self.ensures.begun (c.requires c.if-not-planned.false))

@@ -1,0 +1,22 @@
+use Rattle.std.proofs.Common.{arith}
+use Rattle.art_erase.proofs.Vouched.{begins_vouching}
+use Rattle.art_erase.proofs.erasing.Erasing.choose.Goals as goal
+use Rattle.art_gather.proofs.Vouches.{here_begins}
+
+pub read_on-requires : goal.read_on-requires
+read_on-requires c = c.requires.5.found
+
+pub returns-in-Merges-clause-fits : goal.returns-in-Merges-clause-fits
+returns-in-Merges-clause-fits c z u v room so lost =
+    let m = c.args.self.now in
+    let r = c.args.room.now in
+    let p = begins_vouching z u m.stand r v so lost in
+    c.read_on.ensures.fits z u v room (record {
+      early = v;
+      base = so.still;
+      later = omega arith;
+      has = so.has;
+      found = lost.found;
+      reads = p;
+      fits = here_begins z r.gone.key.items m.stand r.desk v v p c.new.result c.node.result.now c.node.ensures (c.new.ensures.fits z v m.stand.stamp);
+    })

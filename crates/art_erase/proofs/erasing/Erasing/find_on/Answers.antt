@@ -1,0 +1,56 @@
+use Rattle.std.proofs.Common.{◌≡◌, ◌∙◌, ℕ, List, sym, subst, arith}
+use Rattle.art_attempt.proofs.Finds.{still_going, undecided, zero_going}
+use Rattle.art_attempt.proofs.Steps.{cell_later}
+use Rattle.art_attempt.specs.declared.rooms.Room.{Room}
+use Rattle.art_erase.proofs.Finds.{ends_reading, no_place}
+use Rattle.art_erase.proofs.erasing.Erasing.find_on.Goals as goal
+use Rattle.art_erase.specs.Erasing.{IsFinding, StageFits, absent, absent_of}
+use Rattle.art_erase.specs.declared.erasing.Erasing.{Erasing}
+use Rattle.art_erase.specs.declared.erasing.Stage.{Stage as StageOf}
+use Rattle.art_find.proofs.Stages.{still_reading}
+use Rattle.art_find.specs.Descents.{asks}
+use Rattle.art_place.specs.Findings.{FindingFits}
+
+pub returns-then-not-on-clause-fits : goal.returns-then-not-on-clause-fits
+returns-then-not-on-clause-fits c z u v w asked room f is row =
+    let m = c.args.self.now in
+    let r = c.args.room.now in
+    let d = absent r.gone in
+    let what = absent_of r.gone in
+    let at = no_place m.finding (asks m.finding.descent.stage) asked c.requires.nowhere is in
+    let slice : c.as_slice.result.now ≡ r.gone.key.items = c.as_slice.ensures.value in
+    let fits = c.told-on.ensures.fits z what f.early v w asked (subst (λ (k : List ℕ). FindingFits z k what m.finding r.desk f.early v) (sym slice) f.fits) at row in
+    let now = c.told-on.new.self.descent in
+    let going = zero_going now.depth now.stage (c.told-on.ensures.anew c.if-not-on.true) in
+    let reads = still_reading z c.as_slice.result.now what now.depth now.stage f.early w going fits.descent in
+    let so = ends_reading z u m r v w f (cell_later z d asked c.args.answer v w row) reads.only in
+    record { room = record { sizes = room.sizes; key = room.key }; stage = record { still = so.still; has = so.has } }
+
+pub returns-else-not-on-clause-fits : goal.returns-else-not-on-clause-fits
+returns-else-not-on-clause-fits c z u v w asked room f is row =
+    let m = c.args.self.now in
+    let r = c.args.room.now in
+    let d = absent r.gone in
+    let what = absent_of r.gone in
+    let at = no_place m.finding (asks m.finding.descent.stage) asked c.requires.nowhere is in
+    let none = undecided m.finding c.requires.nowhere in
+    let slice : c.as_slice.result.now ≡ r.gone.key.items = c.as_slice.ensures.value in
+    let fits = c.told-on.ensures.fits z what f.early v w asked (subst (λ (k : List ℕ). FindingFits z k what m.finding r.desk f.early v) (sym slice) f.fits) at row in
+    let on = sym c.told-on.ensures.on ∙ c.if-not-on.false in
+    let one = cell_later z d asked c.args.answer v w row in
+    let before = f.later in
+    let next : Erasing = record m { finding = c.told-on.new.self } in
+    let then : Room = record r { desk = c.told-on.new.desk } in
+    let found : IsFinding z u next then w = record {
+      early = f.early;
+      base = f.base;
+      later = omega (arith, one, before);
+      has = f.has;
+      fits = subst (λ (k : List ℕ). FindingFits z k what c.told-on.new.self c.told-on.new.desk f.early w) slice fits;
+      going = still_going z d asked c.args.answer v w m.finding.descent c.told-on.new.self.descent c.told-on.ensures.stays at row none f.going on;
+      exact = c.told-on.ensures.exact;
+    } in
+    record {
+      room = record { sizes = room.sizes; key = room.key };
+      stage = subst (λ (g : StageOf). StageFits z u g next then w) (sym c.requires.stage) found;
+    }

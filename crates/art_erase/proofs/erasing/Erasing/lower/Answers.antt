@@ -1,0 +1,28 @@
+use Rattle.std.proofs.Common.{refl, arith}
+use Rattle.art_erase.proofs.Chosen.{merges_node}
+use Rattle.art_erase.proofs.Vouched.{begins_vouching}
+use Rattle.art_erase.proofs.erasing.Erasing.lower.Goals as goal
+
+pub returns-clause-fits : goal.returns-clause-fits
+returns-clause-fits c z u v r room so lost known merges named leaves =
+    let m = c.args.self.now in
+    let at = merges_node m.stand r.desk merges in
+    record {
+      room = room;
+      stage = (
+        record {
+          early = v;
+          base = so.still;
+          later = omega arith;
+          has = so.has;
+          found = lost.found;
+          byte = c.args.byte;
+          lower = c.args.node;
+          is = refl;
+          leaves = leaves;
+          fits = c.new-self.ensures.fits z r.gone.key.items m.stand r.desk r.lower v
+              (record { vouching = begins_vouching z u m.stand r v so lost; whole = known; here = at.0; is = at.1; named = named });
+        },
+        c.new-self.ensures.going,
+      );
+    }

@@ -1,0 +1,114 @@
+use Rattle.std.proofs.Common.{◌∙◌, ap, sym, subst, Some, arith}
+use Rattle.art_attempt.proofs.Steps.{cell_later}
+use Rattle.art_attempt.specs.declared.rooms.Room.{Room}
+use Rattle.art_cell.specs.declared.cells.Link.TheVariants.{Node as node}
+use Rattle.art_erase.proofs.Chosen.{leaves_same}
+use Rattle.art_erase.proofs.Vouched.{lower_so}
+use Rattle.art_erase.proofs.erasing.Erasing.lower_told.Goals as goal
+use Rattle.art_erase.specs.Erasing.{HasLower, StageFits, absent}
+use Rattle.art_erase.specs.declared.erasing.Erasing.{Erasing}
+use Rattle.art_erase.specs.declared.erasing.Stage.{Stage as StageOf}
+use Rattle.art_lower.specs.declared.lowering.Lowered.{Lowered}
+
+pub plan_lowers-requires : goal.plan_lowers-requires
+plan_lowers-requires c =
+    let q = c.requires.told in
+    let h = q.6 in
+    let m = c.args.self.now in
+    let r = c.args.room.now in
+    let k = r.gone.key.items in
+    let d = absent r.gone in
+    let one = cell_later q.0 d q.4 c.args.answer q.2 q.3 q.8 in
+    let before = h.later in
+    let next : Erasing = record m { lowering = c.told.new.self } in
+    let then : Room = record r { desk = c.told.new.desk; lower = c.told.new.lower } in
+    let lower : HasLower q.0 q.1 next then q.3 = record {
+      early = h.early;
+      base = h.base;
+      later = omega (arith, one, before);
+      has = h.has;
+      found = h.found;
+      byte = h.byte;
+      lower = h.lower;
+      is = h.is;
+      leaves = leaves_same m.stand r.desk c.told.new.desk c.told.ensures.node q.0 r.gone h.byte (node h.lower) h.leaves;
+      fits = c.told.ensures.fits q.0 k h.lower d h.early q.2 q.3 q.4 h.fits q.7 q.8;
+    } in
+    (q.0, q.1, q.3, record { sizes = q.5.sizes; key = q.5.key }, lower, sym c.ended.ensures.at ∙ (c.in-Some-Unchanged.is ∙ ap (λ (e : Lowered). Some e) c.in-Some-Unchanged.field-0-is))
+
+pub returns-in-None-clause-fits : goal.returns-in-None-clause-fits
+returns-in-None-clause-fits c z u v w asked room h is row =
+    let m = c.args.self.now in
+    let r = c.args.room.now in
+    let k = r.gone.key.items in
+    let d = absent r.gone in
+    let one = cell_later z d asked c.args.answer v w row in
+    let before = h.later in
+    let next : Erasing = record m { lowering = c.told.new.self } in
+    let then : Room = record r { desk = c.told.new.desk; lower = c.told.new.lower } in
+    let lower : HasLower z u next then w = record {
+      early = h.early;
+      base = h.base;
+      later = omega (arith, one, before);
+      has = h.has;
+      found = h.found;
+      byte = h.byte;
+      lower = h.lower;
+      is = h.is;
+      leaves = leaves_same m.stand r.desk c.told.new.desk c.told.ensures.node z r.gone h.byte (node h.lower) h.leaves;
+      fits = c.told.ensures.fits z k h.lower d h.early v w asked h.fits is row;
+    } in
+    record {
+      room = record { sizes = room.sizes; key = room.key };
+      stage = subst (λ (e : StageOf). StageFits z u e next then w) (sym c.requires.stage) (lower, sym c.ended.ensures.at ∙ c.in-None.is);
+    }
+
+pub returns-in-Some-Changed-clause-fits : goal.returns-in-Some-Changed-clause-fits
+returns-in-Some-Changed-clause-fits c z u v w asked room h is row =
+    let m = c.args.self.now in
+    let r = c.args.room.now in
+    let k = r.gone.key.items in
+    let d = absent r.gone in
+    let one = cell_later z d asked c.args.answer v w row in
+    let before = h.later in
+    let next : Erasing = record m { lowering = c.told.new.self } in
+    let then : Room = record r { desk = c.told.new.desk; lower = c.told.new.lower } in
+    let lower : HasLower z u next then w = record {
+      early = h.early;
+      base = h.base;
+      later = omega (arith, one, before);
+      has = h.has;
+      found = h.found;
+      byte = h.byte;
+      lower = h.lower;
+      is = h.is;
+      leaves = leaves_same m.stand r.desk c.told.new.desk c.told.ensures.node z r.gone h.byte (node h.lower) h.leaves;
+      fits = c.told.ensures.fits z k h.lower d h.early v w asked h.fits is row;
+    } in
+    let so = lower_so z u next then w lower in
+    record { room = record { sizes = room.sizes; key = room.key }; stage = record { still = so.still; has = so.has } }
+
+pub returns-in-Some-Unchanged-clause-fits : goal.returns-in-Some-Unchanged-clause-fits
+returns-in-Some-Unchanged-clause-fits c z u v w asked room h is row =
+    let m = c.args.self.now in
+    let r = c.args.room.now in
+    let k = r.gone.key.items in
+    let d = absent r.gone in
+    let one = cell_later z d asked c.args.answer v w row in
+    let before = h.later in
+    let next : Erasing = record m { lowering = c.told.new.self } in
+    let then : Room = record r { desk = c.told.new.desk; lower = c.told.new.lower } in
+    let lower : HasLower z u next then w = record {
+      early = h.early;
+      base = h.base;
+      later = omega (arith, one, before);
+      has = h.has;
+      found = h.found;
+      byte = h.byte;
+      lower = h.lower;
+      is = h.is;
+      leaves = leaves_same m.stand r.desk c.told.new.desk c.told.ensures.node z r.gone h.byte (node h.lower) h.leaves;
+      fits = c.told.ensures.fits z k h.lower d h.early v w asked h.fits is row;
+    } in
+    c.plan_lowers.ensures.fits z u w (record { sizes = room.sizes; key = room.key }) lower
+    (sym c.ended.ensures.at ∙ (c.in-Some-Unchanged.is ∙ ap (λ (e : Lowered). Some e) c.in-Some-Unchanged.field-0-is))

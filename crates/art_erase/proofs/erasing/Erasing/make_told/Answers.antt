@@ -1,0 +1,75 @@
+use Rattle.std.proofs.Common.{◌∙◌, ◌-◌, ◌<◌, sym, subst, arith}
+use Rattle.art_attempt.proofs.Left.{going_less, last_stays, step_or_last, still_made}
+use Rattle.art_attempt.proofs.Steps.{change_later}
+use Rattle.art_erase.proofs.Left.{ended_less}
+use Rattle.art_erase.proofs.erasing.Erasing.make_told.Goals as goal
+use Rattle.art_attempt.specs.Asking.{steps_of}
+use Rattle.art_attempt.specs.Inserting.{making_left}
+use Rattle.art_erase.specs.Erasing.{HasMade, StageFits, left_at}
+use Rattle.art_erase.specs.declared.erasing.Erasing.{Erasing}
+use Rattle.art_erase.specs.declared.erasing.Stage.{Stage as StageOf}
+use Rattle.art_make.proofs.Told.{allowed, few_steps}
+use Rattle.art_make.specs.Making.{fault_of}
+
+pub returns-in-None-clause-fits : goal.returns-in-None-clause-fits
+returns-in-None-clause-fits c z u v w asked room h is row =
+    let m = c.args.self.now in
+    let r = c.args.room.now in
+    let one = change_later z v w r.change asked c.args.answer (allowed z h.early v r.change m.making asked h.fits is) row in
+    let before = h.later in
+    let next : Erasing = record m { making = c.told.new.self } in
+    let made : HasMade z u next r w = record {
+      early = h.early;
+      base = h.base;
+      later = omega (arith, one, before);
+      has = h.has;
+      leaf = h.leaf;
+      deed = h.deed;
+      fits = c.told.ensures.fits z h.early v w asked h.fits is row;
+    } in
+    record {
+      room = room;
+      stage = subst (λ (g : StageOf). StageFits z u g next r w) (sym c.requires.stage) (made, sym c.ended.ensures ∙ c.in-None.is);
+    }
+
+pub returns-in-Some-clause-fits : goal.returns-in-Some-clause-fits
+returns-in-Some-clause-fits c z u v w asked room h is row =
+    let m = c.args.self.now in
+    let r = c.args.room.now in
+    let one = change_later z v w r.change asked c.args.answer (allowed z h.early v r.change m.making asked h.fits is) row in
+    let before = h.later in
+    c.made.ensures.fits z u w room (record {
+      early = h.early;
+      base = h.base;
+      later = omega (arith, one, before);
+      has = h.has;
+      leaf = h.leaf;
+      deed = h.deed;
+      fits = c.told.ensures.fits z h.early v w asked h.fits is row;
+    }) (sym c.ended.ensures ∙ c.in-Some.is)
+
+pub returns-in-None-clause-left : goal.returns-in-None-clause-left
+returns-in-None-clause-left c left begun =
+    let m = c.args.self.now in
+    let r = c.args.room.now in
+    let q = c.requires.told in
+    let h = q.6 in
+    let next = c.told.new.self in
+    let few = few_steps q.0 h.early q.2 r.change m.making h.fits (still_made r.change m.making q.4 q.7) in
+    let fits = c.told.ensures.fits q.0 h.early q.2 q.3 q.4 h.fits q.7 q.8 in
+    let end = few_steps q.0 h.early q.3 r.change next fits (sym c.ended.ensures ∙ c.in-None.is) in
+    subst (λ (s : StageOf). left_at (left - steps_of c.args.answer) s next < making_left left m.making) (sym c.requires.stage)
+    (going_less left (steps_of c.args.answer) m.making next begun few (last_stays (fault_of m.making) (fault_of next) c.told.ensures.stays)
+    (step_or_last c.args.answer (fault_of next) c.told.ensures.refused) c.told.ensures.steps end)
+
+pub returns-in-Some-clause-left : goal.returns-in-Some-clause-left
+returns-in-Some-clause-left c left begun =
+    let m = c.args.self.now in
+    let r = c.args.room.now in
+    let q = c.requires.told in
+    let h = q.6 in
+    let next = c.told.new.self in
+    let few = few_steps q.0 h.early q.2 r.change m.making h.fits (still_made r.change m.making q.4 q.7) in
+    subst (λ (s : StageOf). left_at (left - steps_of c.args.answer) s c.made.new.self.making < making_left left m.making) (sym c.made.ensures.stage)
+    (ended_less left (steps_of c.args.answer) r.gone.value m.making next begun few (last_stays (fault_of m.making) (fault_of next) c.told.ensures.stays)
+    (step_or_last c.args.answer (fault_of next) c.told.ensures.refused) c.in-Some.made (sym c.ended.ensures ∙ c.in-Some.is))

@@ -1,0 +1,33 @@
+use Rattle.std.proofs.Common.{sym, subst}
+use Rattle.art_attempt.specs.declared.rooms.Room.{Room}
+use Rattle.art_erase.proofs.Vouched.{lower_known, lower_other, lower_so}
+use Rattle.art_erase.proofs.erasing.Erasing.plan_lowers.Goals as goal
+use Rattle.art_erase.specs.Refused.{IsTooMuch}
+use Rattle.art_erase.specs.declared.erasing.Way.{Way as WayOf}
+
+pub plan_merge_node-planned-requires-clause-other : goal.plan_merge_node-planned-requires-clause-other
+plan_merge_node-planned-requires-clause-other c =
+    let q = c.requires in
+    lower_other q.0 q.1 c.args.self.now c.args.room.now q.2 q.4 c.in-Lowers.byte c.in-Lowers.node c.in-Lowers.is c.args.stamp q.5
+
+pub plan_merge_node-planned-requires-clause-seen : goal.plan_merge_node-planned-requires-clause-seen
+plan_merge_node-planned-requires-clause-seen c =
+    let q = c.requires in
+    let known = lower_known q.0 q.1 c.args.self.now c.args.room.now q.2 q.4 c.in-Lowers.byte c.in-Lowers.node c.in-Lowers.is c.args.stamp q.5 in
+    (q.0, known.0, known.1)
+
+pub returns-clause-fits : goal.returns-clause-fits
+returns-clause-fits c z u v room h is =
+    let m = c.args.self.now in
+    let r = c.args.room.now in
+    let so = lower_so z u m r v h in
+    let known = lower_known z u m r v h c.in-Lowers.byte c.in-Lowers.node c.in-Lowers.is c.args.stamp is in
+    let plan = c.plan_merge_node-planned.ensures in
+    let then : Room = record r {
+      bodies = c.plan_merge_node-planned.new.bodies;
+      lower_body = c.plan_merge_node-planned.new.lower_body;
+      change = c.plan_merge_node-planned.new.change;
+    } in
+    c.begin.ensures.fits z u v (record { sizes = room.sizes; key = room.key }) (record { still = so.still; has = so.has })
+    (λ done. record { planned = plan.planned done z v known.0 known.2 known.3; leaf = plan.leaf; deed = plan.deed })
+    (λ refused. subst (λ (way : WayOf). IsTooMuch way m.stand then) (sym c.in-Lowers.is) (c.args.stamp, plan.refused refused))

@@ -1,0 +1,25 @@
+use Rattle.std.proofs.Common.{Bool, subst, arith}
+use Rattle.art_erase.proofs.Vouched.{begins_vouching}
+use Rattle.art_erase.proofs.erasing.Erasing.vouch.Goals as goal
+use Rattle.art_gather.specs.Vouching.{Fits as VouchingFits}
+
+pub returns-clause-fits : goal.returns-clause-fits
+returns-clause-fits c z u v room so lost chosen =
+    let m = c.args.self.now in
+    let r = c.args.room.now in
+    let fits = c.new-self.ensures.fits z r.gone.key.items v (begins_vouching z u m.stand r v so lost) in
+    record {
+      room = room;
+      stage = (
+        record {
+          early = v;
+          base = so.still;
+          later = omega arith;
+          has = so.has;
+          found = lost.found;
+          chosen = chosen;
+          fits = subst (λ (b : Bool). VouchingFits z r.gone.key.items b m.stand c.new-self.result r.desk v v) c.goes.ensures fits;
+        },
+        c.new-self.ensures.going,
+      );
+    }

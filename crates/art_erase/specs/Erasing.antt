@@ -1,0 +1,337 @@
+-- What an attempt of a removal asks, and what it knows between two of its steps.
+use Rattle.std.specs.Prelude.{◌≡◌, ◌≢◌, ℕ, ◌<◌, ◌≤◌, ◌++◌, List, [], Option, Some, None, Bool, true, false, Result, Ok, Err, ⊤}
+use Rattle.std.specs.Option.{option_map}
+use Rattle.art_attempt.specs.Inserting.{is_begun, making_left, tries_left}
+use Rattle.art_attempt.specs.Trying.{IsKey, StillTries}
+use Rattle.art_attempt.specs.declared.asked.Asked.{Asked}
+use Rattle.art_attempt.specs.declared.asked.Asked.TheVariants as asked
+use Rattle.art_attempt.specs.declared.rooms.Room.{Room}
+use Rattle.art_cell.specs.declared.cells.Cell.{Cell as CellOf}
+use Rattle.art_cell.specs.declared.cells.Link.{Link}
+use Rattle.art_cell.specs.declared.cells.Link.TheVariants.{Leaf as leaf, Node as node}
+use Rattle.art_cell.specs.declared.cells.Node.{Node as NodeOf}
+use Rattle.art_cell.specs.declared.layouts.Layout.{Layout}
+use Rattle.art_choose.specs.Losses.{loss_at}
+use Rattle.art_choose.specs.Plans.{HasFound, HasOther}
+use Rattle.art_choose.specs.Seen.{IsSeen}
+use Rattle.art_choose.specs.declared.losses.Loss.TheVariants as loss
+use Rattle.art_erase.specs.Refused.{IsTooMuch}
+use Rattle.art_erase.specs.declared.erasing.Erased.{Erased}
+use Rattle.art_erase.specs.declared.erasing.Erased.TheVariants.{Gone, Absent, Exhausted, TooMany, Anew}
+use Rattle.art_erase.specs.declared.erasing.Erasing.{Erasing}
+use Rattle.art_erase.specs.declared.erasing.Stage.{Stage}
+use Rattle.art_erase.specs.declared.erasing.Stage.TheVariants as stage
+use Rattle.art_erase.specs.declared.erasing.Way.{Way}
+use Rattle.art_erase.specs.declared.erasing.Way.TheVariants as way
+use Rattle.art_find.specs.Descents as descents
+use Rattle.art_find.specs.declared.asked.Asked.{Asked as CellAsked}
+use Rattle.art_find.specs.declared.asked.Asked.TheVariants as cells
+use Rattle.art_find.specs.declared.verdicts.Verdict.{Verdict}
+use Rattle.art_find.specs.declared.verdicts.Verdict.TheVariants as verdict
+use Rattle.art_frame.specs.Stocks.{HasStock, node_in}
+use Rattle.art_frame.specs.declared.stocks.Stock.{Stock}
+use Rattle.art_gather.specs.Supplying as supplying
+use Rattle.art_gather.specs.Vouching as vouching
+use Rattle.art_gather.specs.Vouching.{IsVouching, KnowsHere}
+use Rattle.art_gather.specs.declared.asked.Asked.{Asked as SupplyAsked}
+use Rattle.art_gather.specs.declared.supplying.Wants.{Wants}
+use Rattle.art_lower.specs.Lowering as lowering
+use Rattle.art_make.specs.Making as making
+use Rattle.art_make.specs.Making.{HasFailed}
+use Rattle.art_make.specs.declared.asked.Asked.{Asked as ChangeAsked}
+use Rattle.art_make.specs.declared.making.Making.{Making}
+use Rattle.art_model.specs.declared.commands.Answer.TheVariants as reply
+use Rattle.art_place.specs.Desks.{node_of}
+use Rattle.art_place.specs.Findings.{FindingFits, IsStanding, stand_at}
+use Rattle.art_place.specs.Rereadings.{RereadingFits, reads_next}
+use Rattle.art_place.specs.declared.desks.Desk.{Desk}
+use Rattle.art_place.specs.declared.findings.Finding.{Finding}
+use Rattle.art_place.specs.declared.findings.Stand.{Stand}
+use Rattle.art_place.specs.declared.rereadings.Rereading.{Rereading}
+use Rattle.art_plan.specs.Changes.{IsPlanned, unlinked}
+use Rattle.art_remove.specs.Removals.{removed}
+use Rattle.art_remove.specs.declared.leaves.OldLeaf.{OldLeaf}
+use Rattle.art_step.specs.Events.{MakesEvent}
+use Rattle.art_step.specs.Shows.{rest_of}
+use Rattle.art_step.specs.Steps.Commit.{all_retired}
+use Rattle.art_step.specs.Views.{IsOnce, links_in_limbo, size_of}
+use Rattle.art_step.specs.declared.deeds.Act.TheVariants.{Remove}
+use Rattle.art_step.specs.declared.deeds.Deed.{Deed}
+use Rattle.art_step.specs.declared.deeds.Deed.TheVariants.{Done}
+use Rattle.art_step.specs.declared.faults.UpgradeFault.{UpgradeFault}
+use Rattle.art_step.specs.declared.faults.UpgradeFault.TheVariants as fault
+use Rattle.art_step.specs.declared.views.Pin.{Pin}
+use Rattle.art_step.specs.declared.views.Sizes.{Sizes}
+use Rattle.art_step.specs.declared.views.View.{View}
+
+-- ---- what it asks
+
+-- where no leaf has the key, a check tells that; of a leaf that has it a check tells nothing yet
+abbrev pub check_by : Verdict → Stand → CellAsked
+check_by (verdict.Found l value) t = cells.Check t.stamp
+check_by found t = cells.Settle t.stamp
+
+abbrev pub check_of : Stand → CellAsked
+check_of t = check_by t.verdict t
+
+-- the check of the place, once there is one; until then what the descent asks
+abbrev pub asks_place : Option Stand → Option CellAsked → Option CellAsked
+asks_place (Some t) o = Some (check_of t)
+asks_place None o = o
+
+abbrev pub finding_asks : Finding → Option CellAsked
+finding_asks m = asks_place (stand_at m) (descents.asks m.descent.stage)
+
+abbrev pub supply_asks : Erasing → Room → Option SupplyAsked
+supply_asks m r = supplying.asks r.gone.key.items 0 r.stock m.supplying
+
+abbrev pub reading_asks : Erasing → Rereading → Option CellAsked
+reading_asks m q = reads_next m.stand.stamp q
+
+abbrev pub vouching_asks : Erasing → Option CellAsked
+vouching_asks m = vouching.asks m.stand m.vouching
+
+abbrev pub lower_asks : Erasing → Option CellAsked
+lower_asks m = lowering.asks m.stand m.lowering
+
+abbrev pub made_asks : Erasing → Room → Option ChangeAsked
+made_asks m r = making.asks r.change m.making
+
+abbrev pub asks_at : Stage → Erasing → Room → Option Asked
+asks_at stage.Finding m r = option_map asked.Cell (finding_asks m.finding)
+asks_at (stage.Supplying layout) m r = option_map asked.Supply (supply_asks m r)
+asks_at (stage.Reading q) m r = option_map asked.Cell (reading_asks m q)
+asks_at stage.Vouching m r = option_map asked.Cell (vouching_asks m)
+asks_at stage.Lowering m r = option_map asked.Cell (lower_asks m)
+asks_at stage.Making m r = option_map asked.Change (made_asks m r)
+asks_at (stage.Ended e) m r = None
+
+-- the next step
+abbrev pub asks : Erasing → Room → Option Asked
+asks m r = asks_at m.stage m r
+
+abbrev pub erased_at : Stage → Option Erased
+erased_at (stage.Ended e) = Some e
+erased_at s = None
+
+-- how it ended, if it has
+abbrev pub ended_at : Erasing → Option Erased
+ended_at m = erased_at m.stage
+
+-- ---- what it tells
+
+-- no row has the key
+abbrev pub absent : OldLeaf → Deed
+absent old = Done (Remove old.key) reply.Absent
+
+abbrev pub absent_of : OldLeaf → Option ℕ → Deed
+absent_of old stands = absent old
+
+-- how it ends where the change was given up
+abbrev pub given_up : UpgradeFault → Erased
+given_up (fault.Changed e) = Anew
+given_up (fault.Exhausted c) = Exhausted c
+
+-- ---- what becomes of the cell that names the leaf
+
+-- what is wanted in hand for a smaller node
+abbrev pub wants_of : Sizes → Layout → Wants
+wants_of z layout = record { leaf = false; node = Some layout; sizes = z }
+
+-- whether the cell goes, so that the cell above is written too
+abbrev pub goes : Way → Bool
+goes way.Stays = false
+goes (way.Shrinks layout) = true
+goes (way.Merges other) = true
+goes (way.Lowers byte n) = true
+goes way.Torn = false
+
+-- where the cell is seen with the words of the node as they are now, whatever is read above it, it keeps this child at this byte
+abbrev pub LeavesOther : Sizes → Stand → Desk → OldLeaf → ℕ → Link → Type 0
+LeavesOther z t desk old byte d =
+    (later : Desk) → node_of later ≡ node_of desk → IsSeen z old.key.items t later → HasOther t later old byte d
+
+-- it is not seen so
+abbrev pub IsNeverSeen : Sizes → Stand → Desk → OldLeaf → Type 0
+IsNeverSeen z t desk old = (later : Desk) → node_of later ≡ node_of desk → IsSeen z old.key.items t later → ⊥
+
+-- what is known of the way that was chosen
+abbrev pub IsChosen : Sizes → Way → Stand → Desk → OldLeaf → Stock → Type 0
+IsChosen z way.Stays t desk old s = loss_at t desk ≢ loss.Merges
+IsChosen z (way.Shrinks layout) t desk old s = (loss_at t desk ≡ loss.Shrinks layout) × ((i : ℕ) × (node_in s layout ≡ Some i))
+IsChosen z (way.Merges other) t desk old s = KnowsHere t desk × ((byte : ℕ) × LeavesOther z t desk old byte (leaf other))
+IsChosen z (way.Lowers byte n) t desk old s = ⊥
+IsChosen z way.Torn t desk old s = KnowsHere t desk × IsNeverSeen z t desk old
+
+-- ---- what it knows, of a pass that had the view u at the beginning
+
+-- just the numbers of the stock are in hand
+abbrev pub HasNumbers : Sizes → View → Room → Type 0
+HasNumbers z v r = HasStock z r.gone.key.items 0 v r.stock
+
+-- but for steps, what is in hand and what reading changes, the pass is as it was
+pub record EndsSo (z : Sizes) (u : View) (r : Room) (v : View) : Type 0 where
+  pub still : StillTries u v
+  pub has : HasNumbers z v r
+
+-- the leaf stands there
+pub record IsLost (z : Sizes) (t : Stand) (r : Room) (v : View) : Type 0 where
+  pub standing : IsStanding z r.gone.key.items t r.desk v
+  pub found : HasFound t r.gone
+
+-- the place is sought
+pub record IsFinding (z : Sizes) (u : View) (m : Erasing) (r : Room) (v : View) : Type 0 where
+  pub early : View
+  pub base : StillTries u early
+  pub later : early.steps ≤ v.steps
+  pub has : HasNumbers z early r
+  pub fits : FindingFits z r.gone.key.items (absent_of r.gone) m.finding r.desk early v
+  pub going : descents.ended_at m.finding.descent.stage ≡ None
+  pub exact : descents.IsExact m.finding.descent.stage
+
+-- the number of a smaller node is sought, or it is in hand, or was not found
+pub record HasSupplies (z : Sizes) (u : View) (layout : Layout) (m : Erasing) (r : Room) (v : View) : Type 0 where
+  pub early : View
+  pub base : StillTries u early
+  pub lost : IsLost z m.stand r early
+  pub shrinks : loss_at m.stand r.desk ≡ loss.Shrinks layout
+  pub fits : supplying.Fits z (wants_of z layout) r.gone.key.items 0 m.supplying r.stock early v
+
+-- the words of the node are read, or all are known
+pub record IsReadingOn (z : Sizes) (u : View) (m : Erasing) (q : Rereading) (r : Room) (v : View) : Type 0 where
+  pub early : View
+  pub base : StillTries u early
+  pub later : early.steps ≤ v.steps
+  pub has : HasNumbers z early r
+  pub found : HasFound m.stand r.gone
+  pub reads : IsVouching z r.gone.key.items m.stand r.desk early v
+  pub fits : RereadingFits z v m.stand.stamp q (node_of r.desk)
+
+-- what is still to be read is read, and the cells are checked
+pub record HasVouched (z : Sizes) (u : View) (m : Erasing) (r : Room) (v : View) : Type 0 where
+  pub early : View
+  pub base : StillTries u early
+  pub later : early.steps ≤ v.steps
+  pub has : HasNumbers z early r
+  pub found : HasFound m.stand r.gone
+  pub chosen : IsChosen z m.way m.stand r.desk r.gone r.stock
+  pub fits : vouching.Fits z r.gone.key.items (goes m.way) m.stand m.vouching r.desk early v
+
+-- the same, with the lower node
+pub record HasLower (z : Sizes) (u : View) (m : Erasing) (r : Room) (v : View) : Type 0 where
+  pub early : View
+  pub base : StillTries u early
+  pub later : early.steps ≤ v.steps
+  pub has : HasNumbers z early r
+  pub found : HasFound m.stand r.gone
+  pub byte : ℕ
+  pub lower : NodeOf
+  pub is : m.way ≡ way.Lowers byte lower
+  pub leaves : LeavesOther z m.stand r.desk r.gone byte (node lower)
+  pub fits : lowering.Fits z r.gone.key.items m.stand lower m.lowering r.desk r.lower early v
+
+-- the change of the room may be made, and is the removal of the leaf
+pub record IsRemoval (z : Sizes) (r : Room) (v : View) : Type 0 where
+  pub planned : IsPlanned z v r.change
+  pub leaf : r.change.leaf ≡ None
+  pub deed : r.change.deed ≡ removed r.gone
+
+-- the change is made
+pub record HasMade (z : Sizes) (u : View) (m : Erasing) (r : Room) (v : View) : Type 0 where
+  pub early : View
+  pub base : StillTries u early
+  pub later : early.steps ≤ v.steps
+  pub has : HasNumbers z early r
+  pub leaf : r.change.leaf ≡ None
+  pub deed : r.change.deed ≡ removed r.gone
+  pub fits : making.Fits z r.change m.making early v
+
+abbrev pub free_at : Stage → Making → Bool
+free_at stage.Making m = is_begun m
+free_at s m = true
+
+-- nothing is held
+abbrev pub is_free : Erasing → Bool
+is_free m = free_at m.stage m.making
+
+-- ---- how many steps are left
+
+abbrev pub ended_left : ℕ → Erased → ℕ
+ended_left left Anew = tries_left left
+ended_left left e = 0
+
+abbrev pub left_at : ℕ → Stage → Making → ℕ
+left_at left stage.Making m = making_left left m
+left_at left (stage.Ended e) m = ended_left left e
+left_at left s m = tries_left left
+
+-- at most so many steps come, with those of the attempts that come after this one
+abbrev pub steps_left : ℕ → Erasing → ℕ
+steps_left left m = left_at left m.stage m.making
+
+-- ---- how it ends
+
+-- how an attempt ends by how its change did, where the row had this value
+abbrev pub erased_so : ℕ → Result ⊤ UpgradeFault → Erased
+erased_so value (Ok done) = Gone value
+erased_so value (Err e) = given_up e
+
+-- the leaf is out of the tree: one event; what the change unlinked is in limbo, what it linked left the hand
+pub record HasErased (z : Sizes) (u : View) (r : Room) (value : ℕ) (v : View) : Type 0 where
+  pub event : MakesEvent u v (removed r.gone)
+  pub had : r.gone.value ≡ value
+  pub pins : List Pin
+  pub limbo : v.limbo ≡ all_retired pins (unlinked r.change) ++ u.limbo
+  pub once : IsOnce (links_in_limbo v.limbo)
+  pub rest :
+      rest_of (record v { seen = u.seen; own = u.own; committed = u.committed; hand = u.hand; limbo = u.limbo }) ≡ rest_of u
+  pub free : v.held ≡ []
+  pub later : u.steps ≤ v.steps
+  pub has : HasNumbers z v r
+
+-- no row has the key: one event
+pub record IsAbsent (z : Sizes) (u : View) (r : Room) (v : View) : Type 0 where
+  pub event : MakesEvent u v (absent r.gone)
+  pub rest : rest_of (record v { seen = u.seen; own = u.own; committed = u.committed; hand = u.hand }) ≡ rest_of u
+  pub free : v.held ≡ []
+  pub later : u.steps ≤ v.steps
+  pub has : HasNumbers z v r
+
+-- a cell that the change locks has its counter at its end
+pub record IsExhausted (u : View) (r : Room) (c : CellOf) (v : View) : Type 0 where
+  pub early : View
+  pub deed : r.change.deed ≡ removed r.gone
+  pub failed : HasFailed early r.change (fault.Exhausted c) v
+
+abbrev pub EndFits : Sizes → View → Stand → Way → Room → Erased → View → Type 0
+EndFits z u t w r (Gone value) v = HasErased z u r value v
+EndFits z u t w r Absent v = IsAbsent z u r v
+EndFits z u t w r (Exhausted c) v = EndsSo z u r v × IsExhausted u r c v
+EndFits z u t w r TooMany v = EndsSo z u r v × IsTooMuch w t r
+EndFits z u t w r Anew v = EndsSo z u r v
+
+-- ---- at each stage
+
+abbrev pub StageFits : Sizes → View → Stage → Erasing → Room → View → Type 0
+StageFits z u stage.Finding m r v = IsFinding z u m r v
+StageFits z u (stage.Supplying layout) m r v = HasSupplies z u layout m r v × (supplying.ended_at m.supplying ≡ None)
+StageFits z u (stage.Reading q) m r v = IsReadingOn z u m q r v × (q.place < size_of m.stand.stamp.cell)
+StageFits z u stage.Vouching m r v = HasVouched z u m r v × (vouching.ended_at m.vouching ≡ None)
+StageFits z u stage.Lowering m r v = HasLower z u m r v × (lowering.ended_at m.lowering ≡ None)
+StageFits z u stage.Making m r v = HasMade z u m r v × (making.ended_at m.making ≡ None)
+StageFits z u (stage.Ended e) m r v = EndFits z u m.stand m.way r e v
+
+-- the room is one of a key
+pub record IsRoom (z : Sizes) (r : Room) : Type 0 where
+  pub sizes : r.sizes ≡ z
+  pub key : IsKey r.gone.key.items
+
+pub record Fits (z : Sizes) (u : View) (m : Erasing) (r : Room) (v : View) : Type 0 where
+  pub room : IsRoom z r
+  pub stage : StageFits z u m.stage m r v
+
+-- the key of the leaf that goes stays, and so do the row and the sizes
+pub record IsKept (r s : Room) : Type 0 where
+  pub key : s.gone.key ≡ r.gone.key
+  pub row : s.row ≡ r.row
+  pub sizes : s.sizes ≡ r.sizes

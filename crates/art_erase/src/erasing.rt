@@ -1,0 +1,540 @@
+//! One attempt of a removal, step by step: its stages, up to where the cells are vouched for.
+ghost use Rattle.std.specs.Prelude.{◌≡◌, ℕ, ◌-◌, ◌<◌, ◌≤◌, length, Some, None, true};
+ghost use Rattle.art_attempt.specs.Asking.{Answers, steps_in};
+ghost use Rattle.art_attempt.specs.Trying.{StillTries};
+ghost use Rattle.art_attempt.specs.declared.asked.Asked.{Asked as AskedStep};
+ghost use Rattle.art_cell.specs.declared.cells.Link.TheVariants.{Node as node_link};
+ghost use Rattle.art_choose.specs.Losses.{loss_at};
+ghost use Rattle.art_choose.specs.Others.{NamesChild};
+ghost use Rattle.art_choose.specs.Plans.{HasFound};
+ghost use Rattle.art_choose.specs.declared.losses.Loss.TheVariants as losses;
+ghost use Rattle.art_erase.specs.Erasing.{EndsSo, Fits, HasSupplies, IsChosen, IsFinding, IsKept, IsLost, IsReadingOn, IsRoom, LeavesOther};
+ghost use Rattle.art_erase.specs.Erasing.{absent, asks, check_of, finding_asks, free_at, given_up, goes, is_free, reading_asks};
+ghost use Rattle.art_erase.specs.Erasing.{steps_left, supply_asks, wants_of};
+ghost use Rattle.art_erase.specs.declared.erasing.Stage.TheVariants as stages;
+ghost use Rattle.art_find.specs.Asking.{Answers as CellAnswers};
+ghost use Rattle.art_find.specs.declared.asked.Asked.{Asked as CellAskedStep};
+ghost use Rattle.art_frame.specs.Stocks.{HasStock};
+ghost use Rattle.art_gather.specs.Asking.{Answers as SupplyAnswers};
+ghost use Rattle.art_gather.specs.Vouching.{KnowsHere, word_in as read_in};
+ghost use Rattle.art_gather.specs.declared.asked.Asked.{Asked as SupplyAsked};
+ghost use Rattle.art_place.specs.Findings.{stand_at};
+ghost use Rattle.art_step.specs.Views.{size_of};
+ghost use Rattle.art_step.specs.declared.views.Sizes.{Sizes as SizesOf};
+ghost use Rattle.art_step.specs.declared.views.View.{View};
+
+use art_attempt::{Answer, Asked, Room, cell_in, change_in, is_begun, nowhere, passed, word_in};
+use art_cell::{Cell, Layout, Link, Node};
+use art_choose::{Loss, lost, other_child};
+use art_find::{Answer as CellAnswer, Asked as CellAsked, Verdict};
+use art_gather::{Supplied, Supplying, Vouched, Vouching, Wants};
+use art_lower::{Lowered, Lowering};
+use art_make::Making;
+use art_place::{Desk, Finding, Rereading, Stand};
+use art_step::{Sizes, UpgradeFault};
+
+/// How an attempt of a removal ended.
+#[derive(Clone, Copy, Debug, PartialEq, Eq)]
+pub enum Erased {
+    /// The leaf is out of the tree; its row had this value.
+    Gone(u64),
+    /// The tree has no such key.
+    Absent,
+    /// The counter of a cell that was to be locked is at its end.
+    Exhausted(Cell),
+    /// The change has more words than one takes.
+    TooMany,
+    /// A version word was locked, obsolete or changed: it may be tried anew.
+    Anew,
+}
+
+/// What becomes of the cell that names the leaf.
+#[derive(Clone, Copy)]
+pub enum Way {
+    /// It stays.
+    Stays,
+    /// It gives way to a node of this layout, which is in hand.
+    Shrinks(Layout),
+    /// It gives way to its other child, this leaf.
+    Merges(u32),
+    /// It gives way to its other child, this node, at this byte.
+    Lowers(u8, Node),
+    /// The words that were read of it are those of no node, which its check is about to tell.
+    Torn,
+}
+
+/// Where an attempt stands between two of its steps.
+#[derive(Clone, Copy)]
+pub enum Stage {
+    /// The place of the key is sought.
+    Finding,
+    /// The number of a smaller node is sought, of this layout.
+    Supplying(Layout),
+    /// The words of the node that are missing are read, to tell which child it keeps.
+    Reading(Rereading),
+    /// What is still to be read is read, and the cells are checked.
+    Vouching,
+    /// The same, with the node that takes the place of the one that goes.
+    Lowering,
+    /// The change is made.
+    Making,
+    Ended(Erased),
+}
+
+/// One attempt of a removal, from the anchor down to its end. What is large stands beside it, in the room.
+#[derive(Clone, Copy)]
+pub struct Erasing {
+    pub(crate) stage: Stage,
+    pub(crate) finding: Finding,
+    /// Where the key stands, once that is known.
+    pub(crate) stand: Stand,
+    /// What becomes of the cell that names the leaf, once that is known.
+    pub(crate) way: Way,
+    pub(crate) supplying: Supplying,
+    pub(crate) vouching: Vouching,
+    pub(crate) lowering: Lowering,
+    pub(crate) making: Making,
+}
+
+impl Erasing {
+    ghost use Rattle.std.specs.Prelude.{IfSome};
+    ghost use Rattle.art_attempt.specs.Asking.{IsAllowed};
+    ghost use Rattle.art_attempt.specs.declared.rooms.Room.{Room as RoomOf};
+    ghost use Rattle.art_cell.specs.declared.layouts.Layout.{Layout as LayoutOf};
+    ghost use Rattle.art_erase.specs.Erasing.{HasLower, HasMade, HasVouched, asks_at, ended_at};
+    ghost use Rattle.art_gather.specs.Supplying.{ended_at as supplied_at};
+    ghost use Rattle.art_gather.specs.Vouching.{ended_at as vouched_at};
+    ghost use Rattle.art_lower.specs.Lowering.{ended_at as lowered_at};
+    ghost use Rattle.art_make.specs.Making.{ended_at as made_at};
+    ghost use Rattle.art_step.specs.declared.deeds.Deed.{Deed};
+
+    /// At its beginning.
+    pub fn new(room: &Room) -> Erasing
+        ensures going { ended_at result ≡ None }
+        ensures free { is_free result ≡ true }
+        ensures fits { (z : SizesOf) (u v : View) → IsRoom z room.now → StillTries u v →
+            HasStock z room.now.gone.key.items 0 v room.now.stock → Fits z u result room.now v }
+    {
+        let _ = room.sizes;
+        Erasing {
+            stage: Stage::Finding,
+            finding: Finding::new(),
+            stand: nowhere(),
+            way: Way::Stays,
+            supplying: Supplying::Ended(Supplied::Ready),
+            vouching: Vouching::Ended(Vouched::Changed),
+            lowering: Lowering::Ended(Lowered::Changed),
+            making: Making::Ended(Ok(())),
+        }
+    }
+
+    /// The next step, or none where it has ended.
+    pub fn next(&self, room: &Room) -> Option<Asked>
+        requires short { length room.now.gone.key.items ≤ 64 }
+        ensures asks { result ≡ asks self.now room.now }
+        ensures allowed { (z : SizesOf) (u v : View) → Fits z u self.now room.now v →
+            IfSome result (IsAllowed z (absent room.now.gone) room.now.change v) }
+        ensures going { (z : SizesOf) (u v : View) → Fits z u self.now room.now v → ended_at self.now ≡ None →
+            (a : AskedStep) × (result ≡ Some a) }
+    {
+        match self.stage {
+            Stage::Finding => self.find_next(),
+            Stage::Supplying(_) => self.supply_next(room),
+            Stage::Reading(rereading) => self.read_next(rereading),
+            Stage::Vouching => self.vouch_next(),
+            Stage::Lowering => self.lower_next(),
+            Stage::Making => self.make_next(room),
+            Stage::Ended(_) => None,
+        }
+    }
+
+    /// The step that it asked for was made, with this answer.
+    pub fn told(&mut self, room: &mut Room, answer: Answer)
+        requires { (z : SizesOf) × (u : View) × (v : View) × (w : View) × (asked : AskedStep) × Fits z u self.old room.old v ×
+            (asks self.old room.old ≡ Some asked) × Answers z (absent room.old.gone) room.old.change asked answer v w }
+        ensures kept { IsKept room.old room.new }
+        ensures fits { (z : SizesOf) (u v w : View) (asked : AskedStep) → Fits z u self.old room.old v →
+            asks self.old room.old ≡ Some asked → Answers z (absent room.old.gone) room.old.change asked answer v w →
+            Fits z u self.new room.new w }
+        ensures left { (left : ℕ) → (is_free self.old ≡ true → 0 < left) →
+            steps_left (left - steps_in answer) self.new < steps_left left self.old }
+    {
+        match self.stage {
+            Stage::Finding => self.find_told(room, cell_in(answer)),
+            Stage::Supplying(layout) => self.supply_told(room, layout, word_in(answer)),
+            Stage::Reading(rereading) => self.read_told(room, rereading, cell_in(answer)),
+            Stage::Vouching => self.vouch_told(room, cell_in(answer)),
+            Stage::Lowering => self.lower_told(room, cell_in(answer)),
+            Stage::Making => self.make_told(room, change_in(answer)),
+            Stage::Ended(_) => {}
+        }
+    }
+
+    /// How it ended, if it has.
+    pub fn ended(&self) -> Option<Erased>
+        ensures at { result ≡ ended_at self.now }
+    {
+        match self.stage {
+            Stage::Ended(erased) => Some(erased),
+            _ => None,
+        }
+    }
+
+    /// Whether nothing is held: no cell was locked yet, or none is any more.
+    pub fn is_free(&self) -> bool
+        ensures at { result ≡ is_free self.now }
+        ensures free { result ≡ true → ended_at self.now ≡ None → (z : SizesOf) (u v : View) (r : RoomOf) → Fits z u self.now r v →
+            EndsSo z u r v }
+    {
+        free_at(self.stage, &self.making)
+    }
+
+    /// What comes next on the way to the place of the key, and its check.
+    fn find_next(&self) -> Option<Asked>
+        ensures asks { (r : RoomOf) → result ≡ asks_at stages.Finding self.now r }
+        ensures allowed { (z : SizesOf) (u v : View) (r : RoomOf) → IsFinding z u self.now r v →
+            IfSome result (IsAllowed z (absent r.gone) r.change v) }
+        ensures going { (z : SizesOf) (u v : View) (r : RoomOf) → IsFinding z u self.now r v → (a : AskedStep) × (result ≡ Some a) }
+    {
+        Some(Asked::Cell(finding_asked(&self.finding)?))
+    }
+
+    /// What comes next where the number of a smaller node is sought.
+    fn supply_next(&self, room: &Room) -> Option<Asked>
+        requires short { length room.now.gone.key.items ≤ 64 }
+        ensures asks { (k : LayoutOf) → result ≡ asks_at (stages.Supplying k) self.now room.now }
+        ensures allowed { (z : SizesOf) (u v : View) (k : LayoutOf) (d : Deed) → HasSupplies z u k self.now room.now v →
+            IfSome result (IsAllowed z d room.now.change v) }
+        ensures going { (z : SizesOf) (u v : View) (k : LayoutOf) → HasSupplies z u k self.now room.now v →
+            supplied_at self.now.supplying ≡ None → (a : AskedStep) × (result ≡ Some a) }
+    {
+        let asked = self
+            .supplying
+            .next(room.gone.key.as_slice(), 0, &room.stock)?;
+        Some(Asked::Supply(asked))
+    }
+
+    /// What comes next where the node is read on.
+    fn read_next(&self, rereading: Rereading) -> Option<Asked>
+        ensures asks { (r : RoomOf) → result ≡ asks_at (stages.Reading rereading) self.now r }
+        ensures allowed { (z : SizesOf) (u v : View) (r : RoomOf) (d : Deed) → IsReadingOn z u self.now rereading r v →
+            IfSome result (IsAllowed z d r.change v) }
+        ensures going { (z : SizesOf) (u v : View) (r : RoomOf) → IsReadingOn z u self.now rereading r v →
+            rereading.place < size_of self.now.stand.stamp.cell → (a : AskedStep) × (result ≡ Some a) }
+    {
+        Some(Asked::Cell(rereading.next(self.stand.stamp)?))
+    }
+
+    /// What comes next where the cells are vouched for.
+    fn vouch_next(&self) -> Option<Asked>
+        ensures asks { (r : RoomOf) → result ≡ asks_at stages.Vouching self.now r }
+        ensures allowed { (z : SizesOf) (u v : View) (r : RoomOf) (d : Deed) → HasVouched z u self.now r v →
+            IfSome result (IsAllowed z d r.change v) }
+        ensures going { (z : SizesOf) (u v : View) (r : RoomOf) → HasVouched z u self.now r v → vouched_at self.now.vouching ≡ None →
+            (a : AskedStep) × (result ≡ Some a) }
+    {
+        Some(Asked::Cell(self.vouching.next(&self.stand)?))
+    }
+
+    /// The same, with the lower node.
+    fn lower_next(&self) -> Option<Asked>
+        ensures asks { (r : RoomOf) → result ≡ asks_at stages.Lowering self.now r }
+        ensures allowed { (z : SizesOf) (u v : View) (r : RoomOf) (d : Deed) → HasLower z u self.now r v →
+            IfSome result (IsAllowed z d r.change v) }
+        ensures going { (z : SizesOf) (u v : View) (r : RoomOf) → HasLower z u self.now r v → lowered_at self.now.lowering ≡ None →
+            (a : AskedStep) × (result ≡ Some a) }
+    {
+        Some(Asked::Cell(self.lowering.next(&self.stand)?))
+    }
+
+    /// What comes next where the change is made.
+    fn make_next(&self, room: &Room) -> Option<Asked>
+        ensures asks { result ≡ asks_at stages.Making self.now room.now }
+        ensures allowed { (z : SizesOf) (u v : View) (d : Deed) → HasMade z u self.now room.now v →
+            IfSome result (IsAllowed z d room.now.change v) }
+        ensures going { (z : SizesOf) (u v : View) → HasMade z u self.now room.now v → made_at self.now.making ≡ None →
+            (a : AskedStep) × (result ≡ Some a) }
+    {
+        Some(Asked::Change(self.making.next(&room.change)?))
+    }
+
+    /// A cell was looked at on the way to the place of the key.
+    fn find_told(&mut self, room: &mut Room, answer: CellAnswer)
+        requires stage { self.old.stage ≡ stages.Finding }
+        requires told { (z : SizesOf) × (u : View) × (v : View) × (w : View) × (asked : CellAskedStep) × IsRoom z room.old ×
+            IsFinding z u self.old room.old v × (finding_asks self.old.finding ≡ Some asked) ×
+            CellAnswers z (absent room.old.gone) asked answer v w }
+        ensures kept { IsKept room.old room.new }
+        ensures free { is_free self.new ≡ true }
+        ensures fits { (z : SizesOf) (u v w : View) (asked : CellAskedStep) → IsRoom z room.old → IsFinding z u self.old room.old v →
+            finding_asks self.old.finding ≡ Some asked → CellAnswers z (absent room.old.gone) asked answer v w →
+            Fits z u self.new room.new w }
+    {
+        match self.finding.stand() {
+            Some(stand) => self.settled(room, stand, answer),
+            None => self.find_on(room, answer),
+        }
+    }
+
+    /// The descent goes on, or its way was changed.
+    fn find_on(&mut self, room: &mut Room, answer: CellAnswer)
+        requires stage { self.old.stage ≡ stages.Finding }
+        requires nowhere { stand_at self.old.finding ≡ None }
+        requires told { (z : SizesOf) × (u : View) × (v : View) × (w : View) × (asked : CellAskedStep) × IsRoom z room.old ×
+            IsFinding z u self.old room.old v × (finding_asks self.old.finding ≡ Some asked) ×
+            CellAnswers z (absent room.old.gone) asked answer v w }
+        ensures kept { IsKept room.old room.new }
+        ensures free { is_free self.new ≡ true }
+        ensures fits { (z : SizesOf) (u v w : View) (asked : CellAskedStep) → IsRoom z room.old → IsFinding z u self.old room.old v →
+            finding_asks self.old.finding ≡ Some asked → CellAnswers z (absent room.old.gone) asked answer v w →
+            Fits z u self.new room.new w }
+    {
+        let on = self
+            .finding
+            .told(&mut room.desk, room.gone.key.as_slice(), answer);
+        if !on {
+            self.stage = Stage::Ended(Erased::Anew);
+        }
+    }
+
+    /// The place of the key was checked.
+    fn settled(&mut self, room: &mut Room, stand: Stand, answer: CellAnswer)
+        requires { (z : SizesOf) × (u : View) × (v : View) × (w : View) × IsRoom z room.old × IsFinding z u self.old room.old v ×
+            (stand_at self.old.finding ≡ Some stand) × CellAnswers z (absent room.old.gone) (check_of stand) answer v w }
+        ensures kept { IsKept room.old room.new }
+        ensures free { is_free self.new ≡ true }
+        ensures fits { (z : SizesOf) (u v w : View) → IsRoom z room.old → IsFinding z u self.old room.old v →
+            stand_at self.old.finding ≡ Some stand → CellAnswers z (absent room.old.gone) (check_of stand) answer v w →
+            Fits z u self.new room.new w }
+    {
+        if !passed(answer) {
+            self.stage = Stage::Ended(Erased::Anew);
+            return;
+        }
+        self.stand = stand;
+        match stand.verdict {
+            Verdict::Found(leaf, value) => {
+                room.gone.number = leaf;
+                room.gone.value = value;
+                self.choose(room);
+            }
+            _ => self.stage = Stage::Ended(Erased::Absent),
+        }
+    }
+
+    /// The leaf is there, and its place was checked: what goes with it says what comes next.
+    fn choose(&mut self, room: &mut Room)
+        requires { (z : SizesOf) × (u : View) × (v : View) × IsRoom z room.old × EndsSo z u room.old v × IsLost z self.old.stand room.old v }
+        ensures kept { IsKept room.old room.new }
+        ensures free { is_free self.new ≡ true }
+        ensures fits { (z : SizesOf) (u v : View) → IsRoom z room.old → EndsSo z u room.old v → IsLost z self.old.stand room.old v →
+            Fits z u self.new room.new v }
+    {
+        match self.loss(&room.desk) {
+            Loss::Leaf => self.vouch(room, Way::Stays),
+            Loss::Shrinks(layout) => self.supply(room, layout),
+            Loss::Merges => self.read_on(room, Rereading::new(room.desk.node())),
+        }
+    }
+
+    /// What goes with the leaf, by the words that were read.
+    fn loss(&self, desk: &Desk) -> Loss
+        ensures { result ≡ loss_at self.now.stand desk.now }
+    {
+        lost(self.stand.stamp.cell, desk.node().get(1).unwrap_or(0))
+    }
+
+    /// A smaller node would do: its number is sought.
+    fn supply(&mut self, room: &mut Room, layout: Layout)
+        requires { (z : SizesOf) × (u : View) × (v : View) × IsRoom z room.old × EndsSo z u room.old v }
+        ensures kept { IsKept room.old room.new }
+        ensures free { is_free self.new ≡ true }
+        ensures fits { (z : SizesOf) (u v : View) → IsRoom z room.old → EndsSo z u room.old v → IsLost z self.old.stand room.old v →
+            loss_at self.old.stand room.old.desk ≡ losses.Shrinks layout → Fits z u self.new room.new v }
+    {
+        let wants = wants_of(room.sizes, layout);
+        self.supplying = Supplying::new(&wants, &mut room.stock);
+        self.supply_on(room, layout);
+    }
+
+    /// A word of free numbers was looked at.
+    fn supply_told(&mut self, room: &mut Room, layout: Layout, word: u64)
+        requires { (z : SizesOf) × (u : View) × (v : View) × (w : View) × (asked : SupplyAsked) × IsRoom z room.old ×
+            HasSupplies z u layout self.old room.old v × (supply_asks self.old room.old ≡ Some asked) × SupplyAnswers z asked word v w }
+        ensures kept { IsKept room.old room.new }
+        ensures free { is_free self.new ≡ true }
+        ensures fits { (z : SizesOf) (u v w : View) (asked : SupplyAsked) → IsRoom z room.old → HasSupplies z u layout self.old room.old v →
+            supply_asks self.old room.old ≡ Some asked → SupplyAnswers z asked word v w → Fits z u self.new room.new w }
+    {
+        let wants = wants_of(room.sizes, layout);
+        self.supplying.told(&wants, &mut room.stock, word);
+        self.supply_on(room, layout);
+    }
+
+    /// It goes on; or the smaller node is in hand; or there is none, and the larger one stays.
+    fn supply_on(&mut self, room: &Room, layout: Layout)
+        ensures free { is_free self.new ≡ true }
+        ensures fits { (z : SizesOf) (u v : View) → IsRoom z room.now → HasSupplies z u layout self.old room.now v →
+            Fits z u self.new room.now v }
+    {
+        match self.supplying.ended() {
+            None => self.stage = Stage::Supplying(layout),
+            Some(Supplied::Ready) => self.vouch(room, Way::Shrinks(layout)),
+            Some(Supplied::Full(_)) => self.vouch(room, Way::Stays),
+        }
+    }
+
+    /// A word of the node was read.
+    fn read_told(&mut self, room: &mut Room, rereading: Rereading, answer: CellAnswer)
+        requires found { HasFound self.old.stand room.old.gone }
+        requires more { rereading.place < size_of self.old.stand.stamp.cell }
+        ensures kept { IsKept room.old room.new }
+        ensures free { is_free self.new ≡ true }
+        ensures fits { (z : SizesOf) (u v w : View) (asked : CellAskedStep) → IsRoom z room.old →
+            IsReadingOn z u self.old rereading room.old v → reading_asks self.old rereading ≡ Some asked →
+            CellAnswers z (absent room.old.gone) asked answer v w → Fits z u self.new room.new w }
+    {
+        let mut rereading = rereading;
+        room.desk.reread_node(&mut rereading, read_in(answer));
+        self.read_on(room, rereading);
+    }
+
+    /// The node is read on, or all its words are known.
+    fn read_on(&mut self, room: &Room, rereading: Rereading)
+        requires { HasFound self.old.stand room.now.gone }
+        ensures free { is_free self.new ≡ true }
+        ensures fits { (z : SizesOf) (u v : View) → IsRoom z room.now → IsReadingOn z u self.old rereading room.now v →
+            Fits z u self.new room.now v }
+    {
+        match rereading.next(self.stand.stamp) {
+            Some(_) => self.stage = Stage::Reading(rereading),
+            None => self.read_whole(room),
+        }
+    }
+
+    /// All words of the node are known: it goes, and gives way to its other child, or it keeps two.
+    fn read_whole(&mut self, room: &Room)
+        requires { HasFound self.old.stand room.now.gone }
+        ensures free { is_free self.new ≡ true }
+        ensures fits { (z : SizesOf) (u v : View) → IsRoom z room.now → EndsSo z u room.now v → IsLost z self.old.stand room.now v →
+            KnowsHere self.old.stand room.now.desk → Fits z u self.new room.now v }
+    {
+        match self.loss(&room.desk) {
+            Loss::Merges => self.merge(room),
+            _ => self.vouch(room, Way::Stays),
+        }
+    }
+
+    /// The node gives way to its other child.
+    fn merge(&mut self, room: &Room)
+        requires { HasFound self.old.stand room.now.gone }
+        ensures free { is_free self.new ≡ true }
+        ensures fits { (z : SizesOf) (u v : View) → IsRoom z room.now → EndsSo z u room.now v → IsLost z self.old.stand room.now v →
+            KnowsHere self.old.stand room.now.desk → loss_at self.old.stand room.now.desk ≡ losses.Merges →
+            Fits z u self.new room.now v }
+    {
+        let Some((byte, link)) = other_child(&self.stand, &room.desk, &room.gone) else {
+            self.vouch(room, Way::Torn);
+            return;
+        };
+        match link {
+            Link::Leaf(other) => self.vouch(room, Way::Merges(other)),
+            Link::Node(node) => self.lower(byte, node),
+        }
+    }
+
+    /// What becomes of the cell is known: what is written is vouched for.
+    fn vouch(&mut self, room: &Room, way: Way)
+        ensures free { is_free self.new ≡ true }
+        ensures fits { (z : SizesOf) (u v : View) → IsRoom z room.now → EndsSo z u room.now v → IsLost z self.old.stand room.now v →
+            IsChosen z way self.old.stand room.now.desk room.now.gone room.now.stock → Fits z u self.new room.now v }
+    {
+        self.way = way;
+        self.vouching = Vouching::new(&self.stand, goes(way), &room.desk);
+        self.stage = Stage::Vouching;
+    }
+
+    /// The lower node is stamped and read, and all three cells are vouched for.
+    fn lower(&mut self, byte: u8, node: Node)
+        ensures free { is_free self.new ≡ true }
+        ensures fits { (z : SizesOf) (u v : View) (r : RoomOf) → IsRoom z r → EndsSo z u r v → IsLost z self.old.stand r v →
+            KnowsHere self.old.stand r.desk → loss_at self.old.stand r.desk ≡ losses.Merges →
+            NamesChild self.old.stand r.desk (node_link node) → LeavesOther z self.old.stand r.desk r.gone byte (node_link node) →
+            Fits z u self.new r v }
+    {
+        self.way = Way::Lowers(byte, node);
+        self.lowering = Lowering::new(node);
+        self.stage = Stage::Lowering;
+    }
+}
+
+/// The check of the place, once there is one; until then what the descent asks.
+fn finding_asked(finding: &Finding) -> Option<CellAsked>
+    ensures { result ≡ finding_asks finding.now }
+{
+    match finding.stand() {
+        Some(stand) => Some(check_of(&stand)),
+        None => finding.next(),
+    }
+}
+
+/// Where no leaf has the key, a check tells that; of a leaf that has it a check tells nothing yet.
+fn check_of(stand: &Stand) -> CellAsked
+    ensures { result ≡ check_of stand.now }
+{
+    match stand.verdict {
+        Verdict::Found(_, _) => CellAsked::Check(stand.stamp),
+        _ => CellAsked::Settle(stand.stamp),
+    }
+}
+
+/// Whether nothing is held at this stage.
+fn free_at(stage: Stage, making: &Making) -> bool
+    ensures { result ≡ free_at stage making.now }
+{
+    match stage {
+        Stage::Making => is_begun(making),
+        _ => true,
+    }
+}
+
+/// What is wanted in hand for a smaller node.
+fn wants_of(sizes: Sizes, layout: Layout) -> Wants
+    ensures { result ≡ wants_of sizes layout }
+{
+    Wants {
+        leaf: false,
+        node: Some(layout),
+        sizes,
+    }
+}
+
+/// Whether the cell that names the leaf goes, so that the cell above is written too.
+pub(crate) fn goes(way: Way) -> bool
+    ensures { result ≡ goes way }
+{
+    match way {
+        Way::Shrinks(_) | Way::Merges(_) | Way::Lowers(_, _) => true,
+        Way::Stays | Way::Torn => false,
+    }
+}
+
+/// How an attempt ends whose change was given up.
+pub(crate) fn given_up(fault: UpgradeFault) -> Erased
+    ensures { result ≡ given_up fault }
+{
+    match fault {
+        UpgradeFault::Changed(_) => Erased::Anew,
+        UpgradeFault::Exhausted(cell) => Erased::Exhausted(cell),
+    }
+}
+
+/// The word that was read.
+fn read_in(answer: CellAnswer) -> u64
+    ensures { result ≡ read_in answer }
+{
+    match answer {
+        CellAnswer::Word(word) => word,
+        _ => 0,
+    }
+}

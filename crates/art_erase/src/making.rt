@@ -1,0 +1,235 @@
+//! How an attempt of a removal goes on once the cells were vouched for: the change is planned and made.
+ghost use Rattle.std.specs.Prelude.{◌≡◌, ℕ, ◌-◌, ◌<◌, Some, true, false};
+ghost use Rattle.art_attempt.specs.Asking.{steps_of};
+ghost use Rattle.art_attempt.specs.Inserting.{is_begun, making_left};
+ghost use Rattle.art_erase.specs.Erasing.{EndsSo, Fits, HasLower, HasMade, HasVouched, IsKept, IsRemoval, IsRoom};
+ghost use Rattle.art_erase.specs.Erasing.{absent, erased_so, is_free, lower_asks, made_asks, steps_left, vouching_asks};
+ghost use Rattle.art_erase.specs.Refused.{IsTooMuch};
+ghost use Rattle.art_erase.specs.declared.erasing.Stage.TheVariants as stages;
+ghost use Rattle.art_erase.specs.declared.erasing.Way.TheVariants as ways;
+ghost use Rattle.art_find.specs.Asking.{Answers as CellAnswers};
+ghost use Rattle.art_find.specs.declared.asked.Asked.{Asked as CellAskedStep};
+ghost use Rattle.art_gather.specs.Vouching.{ended_at as vouched_at};
+ghost use Rattle.art_gather.specs.declared.vouching.Vouched.TheVariants.{Unchanged as unchanged};
+ghost use Rattle.art_lower.specs.Lowering.{ended_at as lowered_at};
+ghost use Rattle.art_lower.specs.declared.lowering.Lowered.TheVariants.{Unchanged as lowered};
+ghost use Rattle.art_make.specs.Asking.{Answers as ChangeAnswers};
+ghost use Rattle.art_make.specs.Making.{ended_at as made_at};
+ghost use Rattle.art_make.specs.declared.asked.Asked.{Asked as ChangeAsked};
+ghost use Rattle.art_plan.specs.Changes.{targets};
+ghost use Rattle.art_step.specs.declared.views.Sizes.{Sizes};
+ghost use Rattle.art_step.specs.declared.views.View.{View};
+
+use crate::erasing::{Erased, Erasing, Stage, Way, given_up, goes};
+use art_attempt::Room;
+use art_cell::Layout;
+use art_choose::{Lower, plan_drop, plan_merge_leaf, plan_merge_node, plan_shrink};
+use art_find::Answer as CellAnswer;
+use art_gather::Vouched;
+use art_lower::Lowered;
+use art_make::{Answer as ChangeAnswer, Making};
+use art_step::{Stamp, UpgradeFault};
+
+impl Erasing {
+    /// A word was read, or a cell was checked.
+    pub(crate) fn vouch_told(&mut self, room: &mut Room, answer: CellAnswer)
+        requires stage { self.old.stage ≡ stages.Vouching }
+        requires told { (z : Sizes) × (u : View) × (v : View) × (w : View) × (asked : CellAskedStep) × IsRoom z room.old ×
+            HasVouched z u self.old room.old v × (vouching_asks self.old ≡ Some asked) ×
+            CellAnswers z (absent room.old.gone) asked answer v w }
+        ensures kept { IsKept room.old room.new }
+        ensures free { is_free self.new ≡ true }
+        ensures fits { (z : Sizes) (u v w : View) (asked : CellAskedStep) → IsRoom z room.old → HasVouched z u self.old room.old v →
+            vouching_asks self.old ≡ Some asked → CellAnswers z (absent room.old.gone) asked answer v w →
+            Fits z u self.new room.new w }
+    {
+        self.vouching
+            .told(&self.stand, goes(self.way), &mut room.desk, answer);
+        match self.vouching.ended() {
+            None => {}
+            Some(Vouched::Changed) => self.stage = Stage::Ended(Erased::Anew),
+            Some(Vouched::Unchanged) => self.plan(room),
+        }
+    }
+
+    /// All that is written was seen: the change is planned.
+    fn plan(&mut self, room: &mut Room)
+        requires { (z : Sizes) × (u : View) × (v : View) × IsRoom z room.old × HasVouched z u self.old room.old v ×
+            (vouched_at self.old.vouching ≡ Some unchanged) }
+        ensures kept { IsKept room.old room.new }
+        ensures free { is_free self.new ≡ true }
+        ensures fits { (z : Sizes) (u v : View) → IsRoom z room.old → HasVouched z u self.old room.old v →
+            vouched_at self.old.vouching ≡ Some unchanged → Fits z u self.new room.new v }
+    {
+        match self.way {
+            Way::Stays => self.plan_stays(room),
+            Way::Shrinks(layout) => self.plan_shrinks(room, layout),
+            Way::Merges(other) => self.plan_merges(room, other),
+            Way::Lowers(_, _) | Way::Torn => unreachable!(),
+        }
+    }
+
+    /// The leaf goes alone.
+    fn plan_stays(&mut self, room: &mut Room)
+        requires way { self.old.way ≡ ways.Stays }
+        requires vouched { (z : Sizes) × (u : View) × (v : View) × IsRoom z room.old × HasVouched z u self.old room.old v ×
+            (vouched_at self.old.vouching ≡ Some unchanged) }
+        ensures kept { IsKept room.old room.new }
+        ensures free { is_free self.new ≡ true }
+        ensures fits { (z : Sizes) (u v : View) → IsRoom z room.old → HasVouched z u self.old room.old v →
+            vouched_at self.old.vouching ≡ Some unchanged → Fits z u self.new room.new v }
+    {
+        let Room {
+            gone,
+            desk,
+            bodies,
+            change,
+            ..
+        } = room;
+        let planned = plan_drop(change, bodies, &self.stand, desk, gone);
+        self.begin(room, planned);
+    }
+
+    /// The node gives way to a smaller one.
+    fn plan_shrinks(&mut self, room: &mut Room, layout: Layout)
+        requires way { self.old.way ≡ ways.Shrinks layout }
+        requires vouched { (z : Sizes) × (u : View) × (v : View) × IsRoom z room.old × HasVouched z u self.old room.old v ×
+            (vouched_at self.old.vouching ≡ Some unchanged) }
+        ensures kept { IsKept room.old room.new }
+        ensures free { is_free self.new ≡ true }
+        ensures fits { (z : Sizes) (u v : View) → IsRoom z room.old → HasVouched z u self.old room.old v →
+            vouched_at self.old.vouching ≡ Some unchanged → Fits z u self.new room.new v }
+    {
+        let made = room.number_for(Some(layout));
+        let Room {
+            gone,
+            desk,
+            bodies,
+            change,
+            ..
+        } = room;
+        let planned = plan_shrink(change, bodies, &self.stand, desk, gone, made);
+        self.begin(room, planned);
+    }
+
+    /// The node gives way to its other child, a leaf.
+    fn plan_merges(&mut self, room: &mut Room, other: u32)
+        requires way { self.old.way ≡ ways.Merges other }
+        requires vouched { (z : Sizes) × (u : View) × (v : View) × IsRoom z room.old × HasVouched z u self.old room.old v ×
+            (vouched_at self.old.vouching ≡ Some unchanged) }
+        ensures kept { IsKept room.old room.new }
+        ensures free { is_free self.new ≡ true }
+        ensures fits { (z : Sizes) (u v : View) → IsRoom z room.old → HasVouched z u self.old room.old v →
+            vouched_at self.old.vouching ≡ Some unchanged → Fits z u self.new room.new v }
+    {
+        let Room {
+            gone,
+            desk,
+            bodies,
+            change,
+            ..
+        } = room;
+        let planned = plan_merge_leaf(change, bodies, &self.stand, desk, gone, other);
+        self.begin(room, planned);
+    }
+
+    /// The lower node was stamped or read, or one of the three cells was.
+    pub(crate) fn lower_told(&mut self, room: &mut Room, answer: CellAnswer)
+        requires stage { self.old.stage ≡ stages.Lowering }
+        requires told { (z : Sizes) × (u : View) × (v : View) × (w : View) × (asked : CellAskedStep) × IsRoom z room.old ×
+            HasLower z u self.old room.old v × (lower_asks self.old ≡ Some asked) ×
+            CellAnswers z (absent room.old.gone) asked answer v w }
+        ensures kept { IsKept room.old room.new }
+        ensures free { is_free self.new ≡ true }
+        ensures fits { (z : Sizes) (u v w : View) (asked : CellAskedStep) → IsRoom z room.old → HasLower z u self.old room.old v →
+            lower_asks self.old ≡ Some asked → CellAnswers z (absent room.old.gone) asked answer v w →
+            Fits z u self.new room.new w }
+    {
+        let Room { desk, lower, .. } = room;
+        self.lowering.told(&self.stand, desk, lower, answer);
+        match self.lowering.ended() {
+            None => {}
+            Some(Lowered::Changed) => self.stage = Stage::Ended(Erased::Anew),
+            Some(Lowered::Unchanged(stamp)) => self.plan_lowers(room, stamp),
+        }
+    }
+
+    /// The node gives way to its other child, a node that has this stamp.
+    fn plan_lowers(&mut self, room: &mut Room, stamp: Stamp)
+        requires { (z : Sizes) × (u : View) × (v : View) × IsRoom z room.old × HasLower z u self.old room.old v ×
+            (lowered_at self.old.lowering ≡ Some (lowered stamp)) }
+        ensures kept { IsKept room.old room.new }
+        ensures free { is_free self.new ≡ true }
+        ensures fits { (z : Sizes) (u v : View) → IsRoom z room.old → HasLower z u self.old room.old v →
+            lowered_at self.old.lowering ≡ Some (lowered stamp) → Fits z u self.new room.new v }
+    {
+        let Way::Lowers(byte, node) = self.way else {
+            unreachable!();
+        };
+        let child = Lower { stamp, node, byte };
+        let Room {
+            gone,
+            desk,
+            lower,
+            bodies,
+            lower_body,
+            change,
+            ..
+        } = room;
+        let stand = &self.stand;
+        let planned = plan_merge_node(change, bodies, lower_body, stand, desk, &child, lower, gone);
+        self.begin(room, planned);
+    }
+
+    /// The change is planned, and is made; or it is too much.
+    fn begin(&mut self, room: &Room, planned: bool)
+        requires { planned ≡ true → 0 < targets room.now.change }
+        ensures free { is_free self.new ≡ true }
+        ensures fits { (z : Sizes) (u v : View) → IsRoom z room.now → EndsSo z u room.now v →
+            (planned ≡ true → IsRemoval z room.now v) → (planned ≡ false → IsTooMuch self.old.way self.old.stand room.now) →
+            Fits z u self.new room.now v }
+    {
+        if !planned {
+            self.stage = Stage::Ended(Erased::TooMany);
+            return;
+        }
+        self.making = Making::new(&room.change);
+        self.stage = Stage::Making;
+    }
+
+    /// A step of the change was made.
+    pub(crate) fn make_told(&mut self, room: &mut Room, answer: ChangeAnswer)
+        requires stage { self.old.stage ≡ stages.Making }
+        requires told { (z : Sizes) × (u : View) × (v : View) × (w : View) × (asked : ChangeAsked) × IsRoom z room.old ×
+            HasMade z u self.old room.old v × (made_asks self.old room.old ≡ Some asked) ×
+            ChangeAnswers room.old.change asked answer v w }
+        ensures kept { IsKept room.old room.new }
+        ensures fits { (z : Sizes) (u v w : View) (asked : ChangeAsked) → IsRoom z room.old → HasMade z u self.old room.old v →
+            made_asks self.old room.old ≡ Some asked → ChangeAnswers room.old.change asked answer v w →
+            Fits z u self.new room.new w }
+        ensures left { (left : ℕ) → (is_begun self.old.making ≡ true → 0 < left) →
+            steps_left (left - steps_of answer) self.new < making_left left self.old.making }
+    {
+        self.making.told(&room.change, answer);
+        match self.making.ended() {
+            None => {}
+            Some(made) => self.made(room, made),
+        }
+    }
+
+    /// The change is made, or was given up.
+    fn made(&mut self, room: &mut Room, made: Result<(), UpgradeFault>)
+        ensures kept { IsKept room.old room.new }
+        ensures stage { self.new.stage ≡ stages.Ended (erased_so room.old.gone.value made) }
+        ensures fits { (z : Sizes) (u v : View) → IsRoom z room.old → HasMade z u self.old room.old v →
+            made_at self.old.making ≡ Some made → Fits z u self.new room.new v }
+    {
+        match made {
+            Ok(()) => {
+                room.spend();
+                self.stage = Stage::Ended(Erased::Gone(room.gone.value));
+            }
+            Err(fault) => self.stage = Stage::Ended(given_up(fault)),
+        }
+    }
+}

@@ -1,0 +1,4 @@
+pub mod Blocking
+pub mod Closes
+pub mod Opens
+pub mod Stocked

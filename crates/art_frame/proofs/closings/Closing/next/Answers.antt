@@ -1,0 +1,15 @@
+-- The first number in hand may go back, and the pass may go idle where there is none.
+use Rattle.std.proofs.Common.{refl, subst, sym}
+use Rattle.art_epoch.specs.Asking.{IsAllowed}
+use Rattle.art_epoch.specs.declared.asked.Asked.{Asked}
+use Rattle.art_frame.specs.Closings.{ClosingFits}
+use Rattle.art_frame.specs.Stocks.{first_in}
+use Rattle.art_frame.specs.declared.closings.Closing.{Closing}
+use Rattle.art_frame.proofs.Closes.{may_give}
+use Rattle.art_frame.proofs.closings.Closing.next.Goals as goal
+
+pub returns-in-Giving-clause-allowed : goal.returns-in-Giving-clause-allowed
+returns-in-Giving-clause-allowed c z k value u v ps qs us fits =
+    let s = c.args.stock.now in
+    let g = subst (λ (m : Closing). ClosingFits z k value u ps us m qs s v) c.in-Giving.is fits in
+    subst (λ (a : Asked). IsAllowed z v a) (sym c.gives.ensures) (may_give z k value u v ps qs us s g (first_in s) refl)

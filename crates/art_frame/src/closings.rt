@@ -1,0 +1,129 @@
+//! The close of an attempt.
+ghost use Rattle.std.specs.Prelude.{◌≡◌, ◌+◌, ◌<◌, ◌≤◌, ℕ, List, IfSome, Some, length, true};
+ghost use Rattle.art_cell.specs.declared.cells.Link.{Link as LinkOf};
+ghost use Rattle.art_epoch.specs.Asking.{Answers, IsAllowed};
+ghost use Rattle.art_epoch.specs.Limbo.{IsLimbo, places_of};
+ghost use Rattle.art_epoch.specs.Reclaiming.{Retires};
+ghost use Rattle.art_epoch.specs.declared.asked.Asked.{Asked as AskedStep};
+ghost use Rattle.art_epoch.specs.declared.asked.Asked.TheVariants.{Note as note};
+ghost use Rattle.art_epoch.specs.declared.limbo.Place.{Place};
+ghost use Rattle.art_frame.specs.Closings.{ClosingFits, IsClosed, MayClose, asks, begins, gives, is_ended, stage_given, steps_left, stock_given};
+ghost use Rattle.art_frame.specs.Stocks.{nothing};
+ghost use Rattle.art_frame.specs.declared.closings.Closing.TheVariants.{Giving as giving};
+ghost use Rattle.art_frame.specs.declared.stocks.Stock.{Stock as StockOf};
+ghost use Rattle.art_step.specs.Tokens.{links_of};
+ghost use Rattle.art_step.specs.declared.views.Sizes.{Sizes};
+ghost use Rattle.art_step.specs.declared.views.View.{View};
+
+use crate::Stock;
+use art_epoch::{Asked, Limbo, Retiring};
+use art_step::numbers_of;
+
+/// Closes an attempt: the epoch is noted, which labels what was unlinked; each number that is still in hand goes back; then the
+/// pass goes idle. The limbo and the numbers in hand stand beside it.
+#[derive(Clone, Copy, Debug, PartialEq, Eq)]
+pub enum Closing {
+    /// The epoch is to be noted.
+    Labelling,
+    /// The first number in hand is to go back, or the pass to go idle where there is none.
+    Giving,
+    Ended,
+}
+
+impl Closing {
+    /// Of an attempt that unlinked what these child words name.
+    pub fn new(unlinked: &[u64]) -> Closing
+        ensures begins { result ≡ begins unlinked.now }
+        ensures fits { (z : Sizes) (k : List ℕ) (value : ℕ) (u : View) (ps : List Place) (stock : StockOf) →
+            MayClose z k value u ps (links_of unlinked.now) stock →
+            ClosingFits z k value u ps (links_of unlinked.now) result ps stock u }
+    {
+        if unlinked.is_empty() {
+            return Closing::Giving;
+        }
+        Closing::Labelling
+    }
+
+    /// The next step, or none where it has ended.
+    pub fn next(&self, stock: &Stock) -> Option<Asked>
+        ensures asks { result ≡ asks self.now stock.now }
+        ensures allowed { (z : Sizes) (k : List ℕ) (value : ℕ) (u v : View) (ps qs : List Place) (us : List LinkOf) →
+            ClosingFits z k value u ps us self.now qs stock.now v → IfSome result (IsAllowed z v) }
+    {
+        match self {
+            Closing::Labelling => Some(Asked::Note),
+            Closing::Giving => Some(gives(stock)),
+            Closing::Ended => None,
+        }
+    }
+
+    /// The step that it asked for was made, and found this word.
+    pub fn told(&mut self, limbo: &mut Limbo, stock: &mut Stock, unlinked: &[u64], word: u64)
+        requires few { length unlinked.now ≤ 3 }
+        requires fits { (z : Sizes) × (k : List ℕ) × (value : ℕ) × (u : View) × (v : View) × (ps : List Place) × (asked : AskedStep) ×
+            ClosingFits z k value u ps (links_of unlinked.now) self.old (places_of limbo.old) stock.old v ×
+            (asks self.old stock.old ≡ Some asked) }
+        ensures left { steps_left self.new stock.new < steps_left self.old stock.old }
+        ensures fits { (z : Sizes) (k : List ℕ) (value : ℕ) (u v w : View) (ps : List Place) (asked : AskedStep) →
+            ClosingFits z k value u ps (links_of unlinked.now) self.old (places_of limbo.old) stock.old v →
+            asks self.old stock.old ≡ Some asked → Answers z asked word v w →
+            ClosingFits z k value u ps (links_of unlinked.now) self.new (places_of limbo.new) stock.new w }
+    {
+        *self = match *self {
+            Closing::Labelling => labelled(limbo, unlinked, word),
+            Closing::Giving => given(stock),
+            Closing::Ended => Closing::Ended,
+        };
+    }
+
+    /// Whether it has ended.
+    pub fn ended(&self) -> bool
+        ensures at { result ≡ is_ended self.now }
+        ensures closed { (z : Sizes) (k : List ℕ) (value : ℕ) (u v : View) (ps qs : List Place) (us : List LinkOf) (stock : StockOf) →
+            ClosingFits z k value u ps us self.now qs stock v → result ≡ true → IsClosed z u v ps qs us × (stock ≡ nothing) }
+    {
+        match self {
+            Closing::Ended => true,
+            _ => false,
+        }
+    }
+}
+
+/// The first number in hand goes back; where there is none, 0 is stored.
+fn gives(stock: &Stock) -> Asked
+    ensures { result ≡ gives stock.now }
+{
+    match stock.first() {
+        Some(link) => Asked::Give(link),
+        None => Asked::Store(0),
+    }
+}
+
+/// The epoch was found, and labels what was unlinked.
+fn labelled(limbo: &mut Limbo, unlinked: &[u64], epoch: u64) -> Closing
+    requires few { length unlinked.now ≤ 3 }
+    requires room { length (places_of limbo.old) + length (links_of unlinked.now) ≤ 64 }
+    ensures next { result ≡ giving }
+    ensures retires { (z : Sizes) (v w : View) → IsLimbo (places_of limbo.old) (links_of unlinked.now) v.limbo →
+        Answers z note epoch v w → Retires z v w (places_of limbo.old) (places_of limbo.new) (links_of unlinked.now) }
+{
+    Retiring.told(limbo, numbers_of(unlinked), epoch);
+    Closing::Giving
+}
+
+/// The first number in hand went back, or the pass went idle.
+fn given(stock: &mut Stock) -> Closing
+    ensures stock { stock.new ≡ stock_given stock.old }
+    ensures next { result ≡ stage_given stock.old }
+{
+    match stock.first() {
+        Some(link) => {
+            stock.spend(link);
+            Closing::Giving
+        }
+        None => {
+            *stock = Stock::new();
+            Closing::Ended
+        }
+    }
+}

@@ -1,0 +1,322 @@
+-- Numbers come into the hand one after another, and the leaf gets its words.
+use Rattle.std.proofs.Common.{◌≡◌, ◌≢◌, ℕ, ◌+◌, ◌<◌, ◌≤◌, Bool, true, false, List, Option, Some, None, nat_lt, refl, sym, ap, ◌∙◌, subst, arith, ⊎_elim, if◌then◌else◌}
+use Rattle.std.specs.Option.{option_and_then, option_map}
+use Rattle.std.specs.Prelude.{IfSome}
+use Rattle.std.proofs.lemmas.Bool.{cases_eq, lt-ltb, ltb-true}
+use Rattle.std.proofs.lemmas.Option.{same_Some}
+use Rattle.art_cell.specs.Children.{number_of}
+use Rattle.art_cell.specs.declared.cells.Link.{Link}
+use Rattle.art_cell.specs.declared.cells.Link.TheVariants.{Leaf as leaf, Node as node}
+use Rattle.art_cell.specs.declared.cells.Node.{Node}
+use Rattle.art_cell.specs.Leaves.{leaf_word}
+use Rattle.art_cell.specs.declared.layouts.Layout.{Layout}
+use Rattle.art_cell.specs.declared.layouts.Layout.TheVariants.{Node4, Node16, Node48, Node256}
+use Rattle.art_cell.specs.declared.layouts.Pool.{Pool}
+use Rattle.art_cell.specs.declared.layouts.Pool.TheVariants.{Leaves}
+use Rattle.art_commit.specs.CommitLaws.{HasNode}
+use Rattle.art_epoch.proofs.Searching.{few_looks}
+use Rattle.art_epoch.specs.Asking.{Answers as NumberAnswers}
+use Rattle.art_epoch.specs.Taking.{NoneBefore, OnlyTakes, SearchFits, Takes, TookLowest, TookNone}
+use Rattle.art_epoch.specs.Taking as taking
+use Rattle.art_epoch.specs.declared.asked.Asked.{Asked as NumberAsked}
+use Rattle.art_epoch.specs.declared.asked.Asked.TheVariants.{Clear}
+use Rattle.art_epoch.specs.declared.taking.Search.{Search}
+use Rattle.art_epoch.specs.declared.taking.Search.TheVariants.{Looking, Clearing, Took}
+use Rattle.art_epoch.specs.declared.taking.Taking.{Taking}
+use Rattle.art_frame.proofs.Stocked.{stock_same, stock_took_leaf, stock_took_node, taken_node}
+use Rattle.art_frame.specs.Stocks.{HasStock, IsIn, node_in, with_leaf, with_node, words_written}
+use Rattle.art_frame.specs.declared.stocks.Stock.{Stock}
+use Rattle.art_gather.specs.Asking.{Answers, IsAllowed}
+use Rattle.art_gather.specs.Supplying.{Fits, HasLeafWords, HasNone, IsPacking, IsSoon, IsSought, IsWanted, OnlySupplies, StageFits, asks, few_steps, leaf_asked, leaf_looks, leaf_steps, leaf_write, looks_before, most_steps, node_looks, node_steps, search_looks, search_steps, steps_before}
+use Rattle.art_gather.specs.declared.asked.Asked.{Asked}
+use Rattle.art_gather.specs.declared.asked.Asked.TheVariants.{Number as number_asked, Leaf as leaf_written}
+use Rattle.art_gather.specs.declared.supplying.Supplying.{Supplying}
+use Rattle.art_gather.specs.declared.supplying.Supplying.TheVariants as stage
+use Rattle.art_gather.specs.declared.supplying.Wants.{Wants}
+use Rattle.art_make.specs.Packing.{IsPacked, OnlyPacks, PackingFits, word_asked}
+use Rattle.art_make.specs.declared.packing.LeafWrite.{LeafWrite}
+use Rattle.art_make.specs.declared.packing.Packing.{Packing}
+use Rattle.art_step.specs.Steps.Write as write
+use Rattle.art_step.specs.Tokens.{link_of_number}
+use Rattle.art_step.specs.Views.{IsInHand, Member, pool_of_layout}
+use Rattle.art_step.specs.WordPlaces.{free_words, pool_size}
+use Rattle.art_step.specs.declared.numbers.Number.{Number}
+use Rattle.art_step.specs.declared.views.InHand.{InHand}
+use Rattle.art_step.specs.declared.views.Sizes.{Sizes}
+use Rattle.art_step.specs.declared.views.View.{View}
+
+-- ---- a search
+
+-- as long as it goes on, nothing came into the hand
+searching_hand : (z : Sizes) (v0 v : View) (pool : Pool) (words : ℕ) (s : Search) (a : NumberAsked) → SearchFits z v0 v pool words s → taking.asks_at pool words s ≡ Some a → v.hand ≡ v0.hand
+searching_hand z v0 v pool words (Looking i) a fits is = fits.2
+searching_hand z v0 v pool words (Clearing i k) a fits is = fits.hand
+searching_hand z v0 v pool words (Took i k) a fits is = cc
+
+takes_then : (u v w : View) → OnlyTakes u v → OnlyTakes v w → OnlyTakes u w
+takes_then u v w a b = b ∙ ap (λ (y : View). record y { steps = w.steps; failures = w.failures; found = w.found; hand = w.hand }) a
+
+-- what it tells when it has ended
+pub takes_some : (z : Sizes) (v w : View) (pool : Pool) (o : Option Number) (d : Link) → option_map link_of_number o ≡ Some d → Takes z v w pool o → TookLowest z v w pool d
+takes_some z v w pool (Some n) d is takes = subst (TookLowest z v w pool) (same_Some {A = Link} (link_of_number n) d is) takes
+takes_some z v w pool None d is takes = cc
+
+pub takes_none : (z : Sizes) (v w : View) (pool : Pool) (o : Option Number) → option_map link_of_number o ≡ None → Takes z v w pool o → TookNone z v w pool
+takes_none z v w pool (Some n) is takes = cc
+takes_none z v w pool None is takes = takes
+
+-- before a node is sought the leaf came
+pub before_node : (z : Sizes) (layout : Layout) → steps_before z (pool_of_layout layout) ≡ leaf_steps z
+before_node z Node4 = refl
+before_node z Node16 = refl
+before_node z Node48 = refl
+before_node z Node256 = refl
+
+pub looked_before_node : (z : Sizes) (layout : Layout) → looks_before z (pool_of_layout layout) ≡ leaf_looks z
+looked_before_node z Node4 = refl
+looked_before_node z Node16 = refl
+looked_before_node z Node48 = refl
+looked_before_node z Node256 = refl
+
+pub soon_node : (z : Sizes) (layout : Layout) (u v : View) → IsSoon u v (leaf_steps z) (leaf_looks z) → IsSoon u v (steps_before z (pool_of_layout layout)) (looks_before z (pool_of_layout layout))
+soon_node z layout u v soon = rw (before_node z layout, looked_before_node z layout) soon
+
+module _ (z : Sizes) (k : List ℕ) (value : ℕ) (s : Stock) (u : View) (t : Taking) (pool : Pool) (v : View) (p : IsSought z k value s u t pool v) where
+  only_sought : OnlyTakes u v
+  only_sought = takes_then u p.early v p.base.only p.seeks.only
+
+  later_sought : u.steps ≤ v.steps
+  later_sought = let a = p.base.later in let b = p.seeks.some in omega arith
+
+  soon_sought : IsSoon u v (steps_before z pool + search_steps z pool) (looks_before z pool + search_looks z pool)
+  soon_sought =
+      let words : t.words ≡ free_words (pool_size z pool) = p.seeks.words ∙ ap (λ (q : Pool). free_words (pool_size z q)) p.pool_is in
+      let most = p.soon.steps in
+      let steps = p.seeks.steps in
+      let few = p.soon.counted in
+      let looks = few_looks z p.early t v p.seeks in
+      record { steps = omega (arith, most, steps, words); counted = omega (arith, few, looks, words) }
+
+  -- few steps were made
+  pub leaf_soon : pool ≡ Leaves → IsSoon u v (search_steps z Leaves) (search_looks z Leaves)
+  leaf_soon is =
+      let a = subst (λ (q : Pool). IsSoon u v (steps_before z q + search_steps z q) (looks_before z q + search_looks z q)) is soon_sought in
+      let most = a.steps in
+      let few = a.counted in
+      record { steps = omega (arith, most); counted = omega (arith, few) }
+
+  pub leaf_few : (wants : Wants) → pool ≡ Leaves → IsSoon u v (most_steps z wants) (few_steps z wants)
+  leaf_few wants is =
+      let a = leaf_soon is in
+      let most = a.steps in
+      let few = a.counted in
+      record { steps = omega (arith, most); counted = omega (arith, few) }
+
+  pub node_few : (wants : Wants) (layout : Layout) → wants.node ≡ Some layout → pool ≡ pool_of_layout layout → IsSoon u v (most_steps z wants) (few_steps z wants)
+  node_few wants layout want is =
+      let a = subst (λ (q : Pool). IsSoon u v (steps_before z q + search_steps z q) (looks_before z q + search_looks z q)) is soon_sought in
+      let most = a.steps in
+      let few = a.counted in
+      let before = before_node z layout in
+      let looked = looked_before_node z layout in
+      let steps : node_steps z wants.node ≡ search_steps z (pool_of_layout layout) = ap (node_steps z) want in
+      let looks : node_looks z wants.node ≡ search_looks z (pool_of_layout layout) = ap (node_looks z) want in
+      record { steps = omega (arith, most, before, steps); counted = omega (arith, few, looked, looks) }
+
+  pub sought_on : (a : NumberAsked) → taking.asks t ≡ Some a → OnlySupplies z k value s u v
+  sought_on a is = record {
+    only = only_sought;
+    later = later_sought;
+    has = stock_same z k value p.early v s (searching_hand z p.early v t.pool t.words t.search a p.seeks.search is) p.base.has;
+  }
+
+  pub sought_none : TookNone z p.early v t.pool → OnlySupplies z k value s u v
+  sought_none none = record { only = only_sought; later = later_sought; has = stock_same z k value p.early v s none.hand p.base.has }
+
+  -- and each word of the pool was found to give none
+  pub none_sought : (wants : Wants) → IsWanted wants pool → TookNone z p.early v t.pool → HasNone z wants pool u v
+  none_sought wants wanted none = record {
+    wanted = wanted;
+    since = p.early.steps;
+    after = p.base.later;
+    none = subst (λ (q : Pool). NoneBefore v p.early.steps q (free_words (pool_size z q))) p.pool_is none.none;
+  }
+
+  pub sought_leaf : (d : Link) → pool ≡ Leaves → TookLowest z p.early v t.pool d → s.leaf ≡ None → OnlySupplies z k value (with_leaf (number_of d) s) u v
+  sought_leaf d is took none = record {
+    only = only_sought;
+    later = later_sought;
+    has = stock_took_leaf z k value p.early v d s (subst (λ (q : Pool). TookLowest z p.early v q d) (p.pool_is ∙ is) took) none p.base.has;
+  }
+
+  pub sought_node : (layout : Layout) (d : Link) → pool ≡ pool_of_layout layout → TookLowest z p.early v t.pool d → node_in s layout ≡ None
+      → OnlySupplies z k value (with_node (taken_node layout d) s) u v
+  sought_node layout d is took none = record {
+    only = only_sought;
+    later = later_sought;
+    has = stock_took_node z k value p.early v layout d s (subst (λ (q : Pool). TookLowest z p.early v q d) (p.pool_is ∙ is) took) none p.base.has;
+  }
+
+-- it begins
+pub begins_sought : (z : Sizes) (k : List ℕ) (value : ℕ) (s : Stock) (u v : View) (t : Taking) (pool : Pool) → OnlySupplies z k value s u v → IsSoon u v (steps_before z pool) (looks_before z pool) → taking.Fits z v t v → t.pool ≡ pool
+    → IsSought z k value s u t pool v
+begins_sought z k value s u v t pool base soon fits is = record { early = v; base = base; soon = soon; seeks = fits; pool_is = is }
+
+-- no step was made
+pub soon_first : (u : View) (most few : ℕ) → IsSoon u u most few
+soon_first u most few = record { steps = omega arith; counted = omega arith }
+
+pub begins_supplies : (z : Sizes) (k : List ℕ) (value : ℕ) (s : Stock) (u : View) → HasStock z k value u s → OnlySupplies z k value s u u
+begins_supplies z k value s u has = record { only = refl; later = omega arith; has = has }
+
+-- a word was found
+module _ (z : Sizes) (k : List ℕ) (value : ℕ) (s : Stock) (u : View) (t t' : Taking) (pool : Pool) (v w : View) (p : IsSought z k value s u t pool v) where
+  pub told_sought : t'.pool ≡ t.pool → taking.Fits z p.early t' w → IsSought z k value s u t' pool w
+  told_sought same fits = record { early = p.early; base = p.base; soon = p.soon; seeks = fits; pool_is = same ∙ p.pool_is }
+
+-- what was asked of numbers
+pub number_answers : (z : Sizes) (o : Option NumberAsked) (asked : Asked) (word : ℕ) (v w : View) → option_map number_asked o ≡ Some asked → Answers z asked word v w
+    → (a : NumberAsked) × (o ≡ Some a) × NumberAnswers z a word v w
+number_answers z (Some a) asked word v w is row = (a, refl, subst (λ (q : Asked). Answers z q word v w) (sym (same_Some {A = Asked} (number_asked a) asked is)) row)
+number_answers z None asked word v w is row = cc
+
+-- ---- the leaf gets its words
+
+node_written : (s : Stock) (b : Bool) (layout : Layout) → node_in (record s { written = b }) layout ≡ node_in s layout
+node_written s b Node4 = refl
+node_written s b Node16 = refl
+node_written s b Node48 = refl
+node_written s b Node256 = refl
+
+same_leaf : (i j : ℕ) → leaf i ≡ leaf j → i ≡ j
+same_leaf i j is = ap number_of is
+
+-- with one more word, or with all of them
+module _ (z : Sizes) (k : List ℕ) (value : ℕ) (s : Stock) (v w : View) (l : ℕ) (is : s.leaf ≡ Some l) (has : HasStock z k value v s) (only : OnlyPacks v w l) where
+  node_packed : (n : Node) → HasNode z v n → HasNode z w n
+  node_packed n o = record { hand = o.hand; has = (only.others o.hand (λ e. cc)).1 o.has; link = o.link; number = o.number; fits = o.fits }
+
+  was_in : (x : InHand) (d : Link) → x.link ≡ d → Member x w.hand → IsIn s d
+  was_in x (leaf i) at m = ⊎_elim
+      (λ (e : i ≡ l). is ∙ ap (λ (j : ℕ). Some j) (sym e))
+      (λ (other : i ≢ l). subst (IsIn s) at (has.only x ((only.others x (λ e. other (same_leaf i l (sym at ∙ e)))).0 m)))
+      (cases_eq i l)
+  was_in x (node n) at m = subst (IsIn s) at (has.only x ((only.others x (λ e. let no : node n ≡ leaf l = sym at ∙ e in cc)).0 m))
+
+  pub stock_packed : (b : Bool) → IsPacked z w l k value (words_written (record s { written = b })) → HasStock z k value w (record s { written = b })
+  stock_packed b packed = record {
+    leaf = λ i at. subst (λ (j : ℕ). IsPacked z w j k value (words_written (record s { written = b }))) (same_Some {A = ℕ} l i (sym is ∙ at)) packed;
+    nodes = λ n at. node_packed n (has.nodes n (sym (node_written s b n.layout) ∙ at));
+    only = λ x m. on x.link (was_in x x.link refl m);
+  }
+    where
+      on : (d : Link) → IsIn s d → IsIn (record s { written = b }) d
+      on (leaf i) at = at
+      on (node n) at = node_written s b n.layout ∙ at
+
+packed_none : (z : Sizes) (w : View) (l : ℕ) (k : List ℕ) (value place : ℕ) → IsPacked z w l k value place → IsPacked z w l k value 0
+packed_none z w l k value place p = record { is = p.is; words = λ i low. absurd (omega arith) }
+
+-- a word of it was written
+module _ (z : Sizes) (wants : Wants) (k : List ℕ) (value : ℕ) (s : Stock) (u : View) (p : Packing) (v w : View) (f : Fits z wants k value (stage.Packing p) s u v) where
+  abbrev packing : IsPacking z k value s u p v
+  packing = f.stage.1
+
+  abbrev next_word : LeafWrite
+  next_word = record { place = p.place; word = leaf_word k value p.place }
+
+  pub asks_next : word_asked k value p.place ≡ Some next_word
+  asks_next = rw (lt-ltb p.place 10 packing.more) refl
+
+  asked_word : (asked : Asked) → option_and_then (leaf_asked k value p) s.leaf ≡ Some asked → leaf_written packing.leaf next_word ≡ asked
+  asked_word asked is = same_Some {A = Asked} (leaf_written packing.leaf next_word) asked
+      (sym (ap (option_and_then (leaf_asked k value p)) packing.is ∙ ap (option_map (leaf_write packing.leaf)) asks_next) ∙ is)
+
+  module _ (asked : Asked) (word : ℕ) (is : option_and_then (leaf_asked k value p) s.leaf ≡ Some asked) (row : Answers z asked word v w) where
+    pub wrote_word : (y : InHand) → IsInHand v (leaf packing.leaf) y → write.LeafOutcome v w y p.place (leaf_word k value p.place)
+    wrote_word = subst (λ (q : Asked). Answers z q word v w) (sym (asked_word asked is)) row
+
+    wrote : write.LeafOutcome v w packing.packs.packed.is.hand p.place (leaf_word k value p.place)
+    wrote = wrote_word packing.packs.packed.is.hand packing.packs.packed.is.has
+
+    only_written : OnlyTakes u w
+    only_written = takes_then u v w f.only.only (subst (OnlyTakes v) (sym wrote.is) refl)
+
+    later_written : u.steps ≤ w.steps
+    later_written = let a = ap (λ (t : View). t.steps) wrote.is in let b = f.only.later in omega arith
+
+    module _ (p' : Packing) (packs : PackingFits z packing.leaf k value p' packing.early w) where
+      -- few steps were made
+      pub packed_soon : IsSoon u w (leaf_steps z) (leaf_looks z)
+      packed_soon =
+          let low = packs.low in
+          let most = packing.soon.steps in
+          let few = packing.soon.counted in
+          let steps = packs.steps in
+          let same = packs.only.failures in
+          record { steps = omega (arith, most, steps, low); counted = omega (arith, few, steps, same, low) }
+
+      pub packed_few : IsSoon u w (most_steps z wants) (few_steps z wants)
+      packed_few =
+          let soon = packed_soon in
+          let most = soon.steps in
+          let few = soon.counted in
+          record { steps = omega (arith, most); counted = omega (arith, few) }
+
+      -- one is still to be written
+      pub packed_on : OnlySupplies z k value s u w
+      packed_on = record {
+        only = only_written;
+        later = later_written;
+        has = subst (λ (b : Bool). HasStock z k value w (record s { written = b })) (sym packing.blank)
+            (stock_packed z k value s packing.early w packing.leaf packing.is packing.base.has packs.only false (packed_none z w packing.leaf k value p'.place packs.packed));
+      }
+
+      -- all are
+      pub packed_all : p'.place ≡ 10 → OnlySupplies z k value (record s { written = true }) u w
+      packed_all is = record {
+        only = only_written;
+        later = later_written;
+        has = stock_packed z k value s packing.early w packing.leaf packing.is packing.base.has packs.only true (subst (IsPacked z w packing.leaf k value) is packs.packed);
+      }
+
+-- the leaf is there, with its words
+pub leaf_words : (s : Stock) (l : ℕ) → s.leaf ≡ Some l → HasLeafWords (record s { written = true })
+leaf_words s l is = record { leaf = l; is = is; written = refl }
+
+-- ---- what it asks for may be done
+
+search_allowed : (z : Sizes) (v0 v : View) (pool : Pool) (words : ℕ) (s : Search) → words ≡ free_words (pool_size z pool) → SearchFits z v0 v pool words s
+    → IfSome (option_map number_asked (taking.asks_at pool words s)) (IsAllowed z v)
+search_allowed z v0 v pool words (Looking i) is fits = by_test (nat_lt i words) refl
+  where
+    by_test : (b : Bool) → nat_lt i words ≡ b → IfSome (option_map number_asked (if b then Some (Clear pool i None) else None)) (IsAllowed z v)
+    by_test true low = record { word = subst (λ (n : ℕ). i < n) is (ltb-true i words low); low = tt }
+    by_test false low = tt
+search_allowed z v0 v pool words (Clearing i k) is fits = record { word = subst (λ (n : ℕ). i < n) is fits.inside; low = fits.lowest.low }
+search_allowed z v0 v pool words (Took i k) is fits = tt
+
+taking_allowed : (z : Sizes) (v0 v : View) (t : Taking) → taking.Fits z v0 t v → IfSome (option_map number_asked (taking.asks t)) (IsAllowed z v)
+taking_allowed z v0 v t fits = search_allowed z v0 v t.pool t.words t.search fits.words fits.search
+
+pub allowed : (z : Sizes) (wants : Wants) (k : List ℕ) (value : ℕ) (m : Supplying) (s : Stock) (u v : View) → StageFits z wants k value m s u v → IfSome (asks k value s m) (IsAllowed z v)
+allowed z wants k value (stage.Leaf t) s u v fits = taking_allowed z fits.2.sought.early v t fits.2.sought.seeks
+allowed z wants k value (stage.Packing p) s u v fits =
+    let q = fits.1 in
+    rw q.is rw (lt-ltb p.place 10 q.more) (q.packs.packed.is, q.more)
+allowed z wants k value (stage.Node t) s u v fits = taking_allowed z fits.1.seeking.sought.early v t fits.1.seeking.sought.seeks
+allowed z wants k value (stage.Ended r) s u v fits = tt
+
+-- ---- a node came into the hand
+
+pub node_there : (layout : Layout) (i : ℕ) (s : Stock) → node_in (with_node (record { layout = layout; number = i }) s) layout ≡ Some i
+node_there Node4 i s = refl
+node_there Node16 i s = refl
+node_there Node48 i s = refl
+node_there Node256 i s = refl
+
+pub leaf_words_with_node : (layout : Layout) (i : ℕ) (s : Stock) → HasLeafWords s → HasLeafWords (with_node (record { layout = layout; number = i }) s)
+leaf_words_with_node Node4 i s has = record { leaf = has.leaf; is = has.is; written = has.written }
+leaf_words_with_node Node16 i s has = record { leaf = has.leaf; is = has.is; written = has.written }
+leaf_words_with_node Node48 i s has = record { leaf = has.leaf; is = has.is; written = has.written }
+leaf_words_with_node Node256 i s has = record { leaf = has.leaf; is = has.is; written = has.written }

@@ -1,0 +1,198 @@
+-- Words of the two cells are read one after another, and then both are checked.
+use Rattle.std.proofs.Common.{◌≡◌, ℕ, ◌+◌, ◌<◌, ◌≤◌, arith, Bool, true, false, List, Option, Some, None, refl, sym, ap, ◌∙◌, subst}
+use Rattle.std.specs.Prelude.{Ok, Err}
+use Rattle.std.proofs.lemmas.Bool.{lt-ltb}
+use Rattle.std.proofs.lemmas.Option.{same_Some}
+use Rattle.art_cell.specs.Reads.{word_read}
+use Rattle.art_cell.specs.declared.cells.Cell.{Cell}
+use Rattle.art_cell.specs.declared.cells.Cell.TheVariants as cell
+use Rattle.art_cell.specs.declared.cells.Node.{Node}
+use Rattle.art_decide.specs.Seen.{WasVouched}
+use Rattle.art_find.proofs.Allowed.{none_held}
+use Rattle.art_find.proofs.Stages.{reads_on}
+use Rattle.art_find.specs.Asking.{Answers}
+use Rattle.art_find.specs.declared.asked.Answer.{Answer}
+use Rattle.art_find.specs.declared.asked.Answer.TheVariants.{Begun, Word, Checked}
+use Rattle.art_find.specs.declared.asked.Asked.{Asked}
+use Rattle.art_find.specs.declared.asked.Asked.TheVariants.{Read, Check}
+use Rattle.art_gather.specs.Vouching.{Fits, HasLeft, IsReadingHere, IsVouching, KnowsAbove, KnowsHere, VouchesAbove, after_check, word_in, written_above}
+use Rattle.art_gather.specs.declared.vouching.Vouched.TheVariants.{Unchanged}
+use Rattle.art_gather.specs.declared.vouching.Vouching.{Vouching}
+use Rattle.art_gather.specs.declared.vouching.Vouching.TheVariants.{CheckHere, Ended}
+use Rattle.art_place.proofs.FoundPlaces.{placed_above, placed_node, standing_grows, standing_stays}
+use Rattle.art_place.proofs.Keeping.{Grows, cell_fits, passed_grows, read_grows}
+use Rattle.art_place.specs.Desks.{above_of, node_of}
+use Rattle.art_place.specs.Findings.{IsUnder}
+use Rattle.art_place.specs.Kept.{IsKept}
+use Rattle.art_place.specs.Rereadings.{RereadingFits, reads_next}
+use Rattle.art_place.specs.declared.desks.Desk.{Desk}
+use Rattle.art_place.specs.declared.findings.Above.{Above}
+use Rattle.art_place.specs.declared.findings.Stand.{Stand}
+use Rattle.art_place.specs.declared.rereadings.Rereading.{Rereading}
+use Rattle.art_step.proofs.Shows.{failed_rest, passed_rest, read_rest}
+use Rattle.art_step.specs.Shows.{HasStamp}
+use Rattle.art_step.specs.Steps.Check as check
+use Rattle.art_step.specs.Steps.Read as read
+use Rattle.art_step.specs.Views.{IsNotHeld, size_of}
+use Rattle.art_step.specs.declared.deeds.Deed.{Deed}
+use Rattle.art_step.specs.declared.views.Fact.TheVariants.{Word as word_fact}
+use Rattle.art_step.specs.declared.views.Sizes.{Sizes}
+use Rattle.art_step.specs.declared.views.Stamp.{Stamp}
+use Rattle.art_step.specs.declared.views.View.{View}
+
+-- ---- the cell above
+
+pub is_above : (both : Bool) (t : Stand) (a : Above) → written_above both t ≡ Some a → t.above ≡ Some a
+is_above true t a is = is
+is_above false t a is = cc
+
+-- it is stamped, and what is kept of it was read; the cell below it is a node
+pub record IsOver (z : Sizes) (v : View) (a : Above) (reads : List (Option ℕ)) (c : Cell) : Type 0 where
+  pub stamp : HasStamp z v a.stamp
+  pub kept : IsKept z v a.stamp reads
+  pub node : Node
+  pub is : c ≡ cell.Node node
+
+pub under_over : (z : Sizes) (k : List ℕ) (o : Option Above) (reads : List (Option ℕ)) (v : View) (c : Cell) (a : Above) → IsUnder z k o reads v c → o ≡ Some a → IsOver z v a reads c
+under_over z k o reads v cell.Anchor a under is = let no : None ≡ Some a = sym under ∙ is in cc
+under_over z k o reads v (cell.Leaf l) a under is = absurd under
+under_over z k o reads v (cell.Node n) a under is =
+    let one : under.0 ≡ a = same_Some {A = Above} under.0 a (sym under.1 ∙ is) in
+    record {
+      stamp = subst (λ (y : Above). HasStamp z v y.stamp) one under.2.on;
+      kept = subst (λ (y : Above). IsKept z v y.stamp reads) one under.3;
+      node = n;
+      is = refl;
+    }
+
+-- ---- steps are counted
+
+-- fewer are left
+pub left_less : (u v : View) (left less most : ℕ) → less ≤ left → HasLeft u v left most → HasLeft u v less most
+left_less u v left less most fewer has = let a = has.steps in record { failures = has.failures; steps = omega (arith, fewer, a) }
+
+-- one was made, and did not fail
+left_on : (u v w : View) (left less most : ℕ) → w.failures ≡ v.failures → w.steps ≡ v.steps + 1 → less < left → HasLeft u v left most → HasLeft u w less most
+left_on u v w left less most same step fewer has = let a = has.steps in record { failures = same ∙ has.failures; steps = omega (arith, step, fewer, a) }
+
+pub read_left : (z : Sizes) (u v w : View) (x : Stamp) (i word left less most : ℕ) → read.Outcome z v w x i word → less < left → HasLeft u v left most → HasLeft u w less most
+read_left z u v w x i word left less most row = left_on u v w left less most (ap (λ (y : View). y.failures) row.is) (ap (λ (y : View). y.steps) row.is)
+
+pub passed_left : (z : Sizes) (u v w : View) (x : Stamp) (left less most : ℕ) → check.Unchanged z v w x None → less < left → HasLeft u v left most → HasLeft u w less most
+passed_left z u v w x left less most row = left_on u v w left less most (ap (λ (y : View). y.failures) row.is) (ap (λ (y : View). y.steps) row.is)
+
+-- ---- a rereading begins
+
+module _ (z : Sizes) (k : List ℕ) (t : Stand) (desk : Desk) (u v : View) (p : IsVouching z k t desk u v) (r : Rereading) (reads : List (Option ℕ)) where
+  abbrev Begins : Stamp → Type 0
+  Begins x = IsNotHeld v.held x.cell → HasStamp z v x → IsKept z v x reads → RereadingFits z v x r reads
+
+  pub here_begins : reads ≡ node_of desk → Begins t.stamp → RereadingFits z v t.stamp r (node_of desk)
+  here_begins is begins = subst (RereadingFits z v t.stamp r) is
+      (begins (none_held v t.stamp.cell p.reads.free) p.standing.stamp (subst (IsKept z v t.stamp) (sym is) p.standing.place.kept))
+
+  pub above_begins : (a : Above) → t.above ≡ Some a → reads ≡ above_of desk → Begins a.stamp → RereadingFits z v a.stamp r (above_of desk)
+  above_begins a at is begins =
+      let over = under_over z k t.above (above_of desk) v t.stamp.cell a p.standing.place.under at in
+      subst (RereadingFits z v a.stamp r) is (begins (none_held v a.stamp.cell p.reads.free) over.stamp (subst (IsKept z v a.stamp) (sym is) over.kept))
+
+-- ---- a word was read
+
+-- the word that is read was not known
+pub not_known : (z : Sizes) (v : View) (x : Stamp) (r : Rereading) (reads : List (Option ℕ)) → RereadingFits z v x r reads → r.place < size_of x.cell → word_read reads r.place ≡ None
+not_known z v x r reads fits more = fits.unknown (omega (arith, more, cell_fits x.cell))
+
+-- so they are not all known
+pub not_all_known : (z : Sizes) (t : Stand) (desk : Desk) (v : View) (r : Rereading) → IsReadingHere z t desk v r → ¬ KnowsHere t desk
+not_all_known z t desk v r here known =
+    let unknown = not_known z v t.stamp r (node_of desk) here.fits here.more in
+    let one = known r.place (omega (arith, here.fits.after)) here.more in
+    let no : None ≡ Some one.0 = sym unknown ∙ one.1 in cc
+
+word_told : (z : Sizes) (d : Deed) (x : Stamp) (i : ℕ) (answer : Answer) (v w : View) → Answers z d (Read x i) answer v w → read.Outcome z v w x i (word_in answer)
+word_told z d x i (Begun r) v w row = absurd row
+word_told z d x i (Word word) v w row = row
+word_told z d x i (Checked r) v w row = absurd row
+
+asks_word : (x : Stamp) (r : Rereading) (asked : Asked) → r.place < size_of x.cell → reads_next x r ≡ Some asked → Read x r.place ≡ asked
+asks_word x r asked more is =
+    let next : reads_next x r ≡ Some (Read x r.place) = rw (lt-ltb r.place (size_of x.cell) more) refl in
+    same_Some {A = Asked} (Read x r.place) asked (sym next ∙ is)
+
+pub read_told : (z : Sizes) (d : Deed) (x : Stamp) (r : Rereading) (asked : Asked) (answer : Answer) (v w : View) → r.place < size_of x.cell → reads_next x r ≡ Some asked
+    → Answers z d asked answer v w → read.Outcome z v w x r.place (word_in answer)
+read_told z d x r asked answer v w more is row =
+    word_told z d x r.place answer v w (subst (λ (a : Asked). Answers z d a answer v w) (sym (asks_word x r asked more is)) row)
+
+module _ (z : Sizes) (k : List ℕ) (t : Stand) (desk desk' : Desk) (u v w : View) (x : Stamp) (i word : ℕ) (row : read.Outcome z v w x i word) (p : IsVouching z k t desk u v) where
+  grows : Grows v w
+  grows = read_grows v w x (word_fact i word) row.is
+
+  pub here_on : above_of desk' ≡ above_of desk → IsKept z w t.stamp (node_of desk') → IsVouching z k t desk' u w
+  here_on same kept = record {
+    reads = reads_on u v w (read_rest v w x (word_fact i word) row.is) p.reads;
+    standing = standing_stays z k t desk desk' v w grows (placed_node z k v w t.above desk desk' t.stamp grows same kept p.standing.place) p.standing;
+  }
+
+  pub above_on : (a : Above) → t.above ≡ Some a → node_of desk' ≡ node_of desk → IsKept z w a.stamp (above_of desk') → IsVouching z k t desk' u w
+  above_on a at same kept =
+      let over = under_over z k t.above (above_of desk) v t.stamp.cell a p.standing.place.under at in
+      record {
+        reads = reads_on u v w (read_rest v w x (word_fact i word) row.is) p.reads;
+        standing = standing_stays z k t desk desk' v w grows (placed_above z k v w t.above desk desk' t.stamp grows a over.node at over.is same kept p.standing.place) p.standing;
+      }
+
+-- ---- a check was made
+
+module _ (z : Sizes) (k : List ℕ) (both : Bool) (t : Stand) (desk : Desk) (u v w : View) (p : IsVouching z k t desk u v) where
+  -- it succeeded: what is known stays so, and at this step it held in a tree
+  module _ (x : Stamp) (passed : check.Unchanged z v w x None) where
+    pub passed_on : IsVouching z k t desk u w
+    passed_on = record {
+      reads = reads_on u v w (passed_rest z v w x passed) p.reads;
+      standing = standing_grows z k t desk v w (passed_grows z v w x None passed) p.standing;
+    }
+
+    pub was_vouched : WasVouched z k t desk x
+    was_vouched = record { view = v; standing = p.standing; tree = passed.vouched.0; shape = passed.vouched.1; holds = passed.vouched.2 }
+
+  module _ (left : ℕ) (some : 0 < left) (has : HasLeft u v left 532) where
+    check_told : (d : Deed) (x : Stamp) (answer : Answer) (next : Vouching) → (check.Unchanged z v w x None → Fits z k both t next desk u w) → Answers z d (Check x) answer v w
+        → Fits z k both t (after_check answer next) desk u w
+    check_told d x (Begun r) next on row = absurd row
+    check_told d x (Word word) next on row = absurd row
+    check_told d x (Checked (Ok done)) next on row = on row
+    check_told d x (Checked (Err e)) next on row = record {
+      stage = reads_on u v w (failed_rest v w x e.found row.3) p.reads;
+      failures = ap (λ (y : View). y.failures) row.3.is ∙ ap (λ (n : ℕ). n + 1) has.failures;
+      steps = let step = ap (λ (y : View). y.steps) row.3.is in let few = has.steps in omega (arith, step, few, some);
+    }
+
+    pub above_checked : (d : Deed) (a : Above) (asked : Asked) (answer : Answer) → 1 < left → written_above both t ≡ Some a → KnowsAbove both t desk → KnowsHere t desk
+        → Check a.stamp ≡ asked → Answers z d asked answer v w → Fits z k both t (after_check answer CheckHere) desk u w
+    above_checked d a asked answer more is above here at row =
+        check_told d a.stamp answer CheckHere
+        (λ passed. let still = passed_left z u v w a.stamp left 1 532 passed more has in
+        record {
+          stage = (
+            passed_on a.stamp passed,
+            above,
+            here,
+            (λ b other. subst (λ (y : Above). WasVouched z k t desk y.stamp) (same_Some {A = Above} a b (sym is ∙ other)) (was_vouched a.stamp passed)),
+          );
+          failures = still.failures;
+          steps = still.steps;
+        })
+        (subst (λ (q : Asked). Answers z d q answer v w) (sym at) row)
+
+    pub here_checked : (d : Deed) (asked : Asked) (answer : Answer) → KnowsAbove both t desk → KnowsHere t desk → VouchesAbove z k both t desk → Check t.stamp ≡ asked
+        → Answers z d asked answer v w → Fits z k both t (after_check answer (Ended Unchanged)) desk u w
+    here_checked d asked answer above here vouches at row =
+        check_told d t.stamp answer (Ended Unchanged)
+        (λ passed. let still = passed_left z u v w t.stamp left 0 532 passed some has in
+        record {
+          stage = (passed_on t.stamp passed, record { here = was_vouched t.stamp passed; whole = here; above = vouches; all = above });
+          failures = still.failures;
+          steps = still.steps;
+        })
+        (subst (λ (q : Asked). Answers z d q answer v w) (sym at) row)

@@ -1,0 +1,3 @@
+pub mod Asking
+pub mod Supplying
+pub mod Vouching

@@ -1,0 +1,134 @@
+-- What a vouching knows between two of its steps.
+use Rattle.std.specs.Prelude.{◌≡◌, ℕ, ◌+◌, ◌-◌, ◌<◌, ◌≤◌, List, Bool, true, false, Option, Some, None, Ok, if◌then◌else◌}
+use Rattle.std.specs.Option.{option_map, option_and_then}
+use Rattle.art_decide.specs.Seen.{WasVouched}
+use Rattle.art_find.specs.Descents.{IsReading}
+use Rattle.art_find.specs.declared.asked.Answer.{Answer}
+use Rattle.art_find.specs.declared.asked.Answer.TheVariants as told
+use Rattle.art_find.specs.declared.asked.Asked.{Asked}
+use Rattle.art_find.specs.declared.asked.Asked.TheVariants.{Check}
+use Rattle.art_gather.specs.declared.vouching.Vouched.{Vouched}
+use Rattle.art_gather.specs.declared.vouching.Vouched.TheVariants.{Unchanged, Changed}
+use Rattle.art_gather.specs.declared.vouching.Vouching.{Vouching}
+use Rattle.art_gather.specs.declared.vouching.Vouching.TheVariants.{Above, Here, CheckAbove, CheckHere, Ended}
+use Rattle.art_place.specs.Desks.{above_of, node_of}
+use Rattle.art_place.specs.Findings.{IsStanding}
+use Rattle.art_place.specs.Rereadings.{AreKnown, RereadingFits, reads_next}
+use Rattle.art_place.specs.declared.desks.Desk.{Desk}
+use Rattle.art_place.specs.declared.findings.Above.{Above as CellAbove}
+use Rattle.art_place.specs.declared.findings.Stand.{Stand}
+use Rattle.art_place.specs.declared.rereadings.Rereading.{Rereading}
+use Rattle.art_step.specs.Views.{size_of}
+use Rattle.art_step.specs.declared.views.Sizes.{Sizes}
+use Rattle.art_step.specs.declared.views.View.{View}
+
+-- ---- what it asks
+
+abbrev pub above_reads : Rereading → CellAbove → Option Asked
+above_reads r a = reads_next a.stamp r
+
+abbrev pub above_checks : CellAbove → Asked
+above_checks a = Check a.stamp
+
+-- the next step
+abbrev pub asks : Stand → Vouching → Option Asked
+asks t (Above r) = option_and_then (above_reads r) t.above
+asks t (Here r) = reads_next t.stamp r
+asks t CheckAbove = option_map above_checks t.above
+asks t CheckHere = Some (Check t.stamp)
+asks t (Ended r) = None
+
+-- how it ended, if it has
+abbrev pub ended_at : Vouching → Option Vouched
+ended_at (Ended r) = Some r
+ended_at m = None
+
+-- how many steps it makes at most from here on: a cell has at most 265 words after its version word
+abbrev pub steps_left : Vouching → ℕ
+steps_left (Above r) = 266 - r.place + 267
+steps_left (Here r) = 266 - r.place + 2
+steps_left CheckAbove = 2
+steps_left CheckHere = 1
+steps_left (Ended r) = 0
+
+-- how many failures there are, of so many at the beginning: a check that failed is one more
+abbrev pub failures_of : Vouching → ℕ → ℕ
+failures_of (Ended Changed) n = n + 1
+failures_of m n = n
+
+-- no step failed since the view u, and those that were made since and those that are left are at most so many
+pub record HasLeft (u v : View) (left most : ℕ) : Type 0 where
+  pub failures : v.failures ≡ u.failures
+  pub steps : v.steps + left ≤ u.steps + most
+
+-- the word that was read
+abbrev pub word_in : Answer → ℕ
+word_in (told.Word word) = word
+word_in answer = 0
+
+-- whether it says that a version word is unchanged
+abbrev pub passed : Answer → Bool
+passed (told.Checked (Ok x)) = true
+passed answer = false
+
+-- a check that succeeded leads to this stage
+abbrev pub after_check : Answer → Vouching → Vouching
+after_check answer next = if passed answer then next else Ended Changed
+
+-- ---- what it knows, of a pass that had the view u when it began
+
+-- the cell above, where both cells are vouched for
+abbrev pub written_above : Bool → Stand → Option CellAbove
+written_above both t = if both then t.above else None
+
+-- all words of the cell above are known, where both are
+abbrev pub KnowsAbove : Bool → Stand → Desk → Type 0
+KnowsAbove both t desk = (a : CellAbove) → written_above both t ≡ Some a → AreKnown (above_of desk) 1 (size_of a.stamp.cell)
+
+-- and a check of it succeeded after that
+abbrev pub VouchesAbove : Sizes → List ℕ → Bool → Stand → Desk → Type 0
+VouchesAbove z k both t desk = (a : CellAbove) → written_above both t ≡ Some a → WasVouched z k t desk a.stamp
+
+-- all words of the cell where the key stands are known
+abbrev pub KnowsHere : Stand → Desk → Type 0
+KnowsHere t desk = AreKnown (node_of desk) 1 (size_of t.stamp.cell)
+
+-- the pass only read, and the key stands where it stood
+pub record IsVouching (z : Sizes) (k : List ℕ) (t : Stand) (desk : Desk) (u v : View) : Type 0 where
+  pub reads : IsReading u v
+  pub standing : IsStanding z k t desk v
+
+-- all words of the cell, and of the one above where both are vouched for, were known when a check of it succeeded
+pub record IsVouched (z : Sizes) (k : List ℕ) (both : Bool) (t : Stand) (desk : Desk) : Type 0 where
+  pub here : WasVouched z k t desk t.stamp
+  pub whole : KnowsHere t desk
+  pub above : VouchesAbove z k both t desk
+  pub all : KnowsAbove both t desk
+
+-- words of the cell above are read
+pub record IsReadingAbove (z : Sizes) (both : Bool) (t : Stand) (desk : Desk) (v : View) (r : Rereading) : Type 0 where
+  pub above : CellAbove
+  pub is : written_above both t ≡ Some above
+  pub fits : RereadingFits z v above.stamp r (above_of desk)
+  pub more : r.place < size_of above.stamp.cell
+
+-- or of the cell where the key stands
+pub record IsReadingHere (z : Sizes) (t : Stand) (desk : Desk) (v : View) (r : Rereading) : Type 0 where
+  pub fits : RereadingFits z v t.stamp r (node_of desk)
+  pub more : r.place < size_of t.stamp.cell
+
+-- at each stage
+abbrev pub StageFits : Sizes → List ℕ → Bool → Stand → Vouching → Desk → View → View → Type 0
+StageFits z k both t (Above r) desk u v = IsVouching z k t desk u v × IsReadingAbove z both t desk v r
+StageFits z k both t (Here r) desk u v = IsVouching z k t desk u v × KnowsAbove both t desk × IsReadingHere z t desk v r
+StageFits z k both t CheckAbove desk u v =
+    IsVouching z k t desk u v × KnowsAbove both t desk × KnowsHere t desk × ((a : CellAbove) × (written_above both t ≡ Some a))
+StageFits z k both t CheckHere desk u v =
+    IsVouching z k t desk u v × KnowsAbove both t desk × KnowsHere t desk × VouchesAbove z k both t desk
+StageFits z k both t (Ended Unchanged) desk u v = IsVouching z k t desk u v × IsVouched z k both t desk
+StageFits z k both t (Ended Changed) desk u v = IsReading u v
+
+pub record Fits (z : Sizes) (k : List ℕ) (both : Bool) (t : Stand) (m : Vouching) (desk : Desk) (u v : View) : Type 0 where
+  pub stage : StageFits z k both t m desk u v
+  pub failures : v.failures ≡ failures_of m u.failures
+  pub steps : v.steps + steps_left m ≤ u.steps + 532

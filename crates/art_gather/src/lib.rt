@@ -1,0 +1,57 @@
+//! What a change still wants once its place is known: numbers, and all words of the cells that it writes.
+//!
+//! # The problem
+//!
+//! A descent has found where a key stands, and read as little as it could (`art_place`). Before a change is planned the pass
+//! has to have in hand what comes into the tree, and to have seen each word of each cell that it is about to write: a node
+//! that it replaces is copied from words that it read, and a word that it writes stands in for one that it knew.
+//!
+//! Neither is held by a lock. Numbers come from pools that all passes share, and a pool may be empty. The cells may be changed
+//! by others at any step, up to the upgrades. So all of this is gathered first, while nothing is held, and can be given up.
+//!
+//! # Supplying
+//!
+//! `Supplying` brings into the hand what the change wants (`Wants`) and the stock has not:
+//!
+//! ```text
+//! the leaf's number ──► its ten words ──► the node's number ──► Ready
+//!        └─ no free word gave one ─────────────┴─► Full(pool)
+//! ```
+//!
+//! A number that is still in hand from an earlier try is used again, and a leaf that has its words keeps them. Nobody else
+//! sees a leaf in hand, so its words are plain writes.
+//!
+//! # Vouching
+//!
+//! `Vouching` sees all words of the cell where the key stands, and of the cell above where that is written too:
+//!
+//! ```text
+//! read the cell above ──► read the cell ──► check the cell above ──► check the cell ──► Unchanged
+//!                                               └─ the word is another ─┴─► Changed
+//! ```
+//!
+//! Reads go from the top down, in ascending place, past what is known. Each check comes after all reads, also where nothing was
+//! left to read: an unchanged version word shows that at this step there is a tree that has all that was noted, and not only
+//! the words of that cell (`WasVouched` of `art_decide`). Without the second check a plan could join words of different trees.
+//!
+//! # Machines
+//!
+//! Both are values of scalars with `next` and `told`, as those of `art_epoch` and `art_find`; the stock, the place and the
+//! words that were read stand beside them. `make` makes a step of a supplying; a vouching asks what a descent asks.
+//!
+//! # What is proved
+//!
+//! Each step may be made, and each answer keeps what the machine knows. While numbers come, nothing of the view changes but
+//! steps, failures, what was found, and the hand, which has just the numbers of the stock. It is `Full` only where a number of
+//! that pool was wanted and each free word was found without a bit, or lost its bit to another pass. A vouching only reads;
+//! where it ends `Unchanged`, all words are known and each cell was vouched for; where `Changed`, one check failed. A supplying
+//! makes at most two steps for each free word of the two pools, and ten; a vouching makes at most 532.
+#![tactic(auto)]
+
+mod asked;
+mod supplying;
+mod vouching;
+
+pub use asked::{Asked, make};
+pub use supplying::{Supplied, Supplying, Wants};
+pub use vouching::{Vouched, Vouching};

@@ -1,0 +1,260 @@
+//! Numbers come into the hand, and the leaf gets its words.
+ghost use Rattle.std.specs.Prelude.{◌≡◌, ℕ, ◌+◌, ◌≤◌, List, length, Some, None, true};
+ghost use Rattle.art_cell.specs.Children.{number_of};
+ghost use Rattle.art_cell.specs.declared.layouts.Pool.TheVariants.{Leaves as leaves};
+ghost use Rattle.art_epoch.specs.Taking.{Fits as TakingFits};
+ghost use Rattle.art_frame.specs.Stocks.{HasStock, node_in};
+ghost use Rattle.art_gather.specs.Asking.{Answers};
+ghost use Rattle.art_gather.specs.Supplying.{Fits, HasLeafWords, IsSoon, IsSought, OnlySupplies, asks, leaf_asked, leaf_looks};
+ghost use Rattle.art_gather.specs.Supplying.{leaf_steps};
+ghost use Rattle.art_gather.specs.declared.asked.Asked.{Asked as AskedStep};
+ghost use Rattle.art_gather.specs.declared.supplying.Supplying.TheVariants.{Leaf as leaf_sought, Packing as packed, Node as node_sought};
+ghost use Rattle.art_gather.specs.declared.supplying.Wants.{Wants as WantsOf};
+ghost use Rattle.art_step.specs.Views.{pool_of_layout};
+ghost use Rattle.art_step.specs.declared.views.Sizes.{Sizes as SizesOf};
+ghost use Rattle.art_step.specs.declared.views.View.{View};
+
+use crate::Asked;
+use art_cell::{Layout, Link, Node, Pool};
+use art_epoch::Taking;
+use art_frame::Stock;
+use art_make::Packing;
+use art_step::{Sizes, pool_of_layout, spent};
+
+/// What a change wants to have in hand.
+#[derive(Clone, Copy)]
+pub struct Wants {
+    /// A leaf, with its words.
+    pub leaf: bool,
+    /// A node of this layout.
+    pub node: Option<Layout>,
+    pub sizes: Sizes,
+}
+
+/// How a supplying ended.
+#[derive(Clone, Copy, Debug, PartialEq, Eq)]
+pub enum Supplied {
+    /// All that is wanted is in hand.
+    Ready,
+    /// No number of the pool was found.
+    Full(Pool),
+}
+
+/// Where a supplying stands between two of its steps.
+#[derive(Clone, Copy)]
+pub enum Supplying {
+    /// The number of a leaf is sought.
+    Leaf(Taking),
+    /// The leaf gets its words.
+    Packing(Packing),
+    /// The number of a node is sought.
+    Node(Taking),
+    Ended(Supplied),
+}
+
+impl Supplying {
+    ghost use Rattle.std.specs.Prelude.{IfSome};
+    ghost use Rattle.art_gather.specs.Asking.{IsAllowed};
+    ghost use Rattle.art_gather.specs.Supplying.{ended_at};
+
+    /// At its beginning.
+    pub fn new(wants: &Wants, stock: &mut Stock) -> Supplying
+        requires { (k : List ℕ) × (value : ℕ) × (u : View) × HasStock wants.now.sizes k value u stock.old }
+        ensures keeps { HasLeafWords stock.old → HasLeafWords stock.new }
+        ensures fits { (k : List ℕ) (value : ℕ) (u : View) → HasStock wants.now.sizes k value u stock.old →
+            Fits wants.now.sizes wants.now k value result stock.new u u }
+    {
+        if !wants.leaf {
+            return node_wanted(wants, stock);
+        }
+        match stock.leaf() {
+            Some(_) => {}
+            None => return leaf_sought(stock, Taking::new(Pool::Leaves, wants.sizes)),
+        }
+        if stock.is_written() {
+            return node_wanted(wants, stock);
+        }
+        Supplying::Packing(Packing::new())
+    }
+
+    /// The next step, or none where it has ended.
+    pub fn next(&self, key: &[u8], value: u64, stock: &Stock) -> Option<Asked>
+        requires few { length key.now ≤ 64 }
+        ensures asks { result ≡ asks key.now value stock.now self.now }
+        ensures allowed { (z : SizesOf) (u v : View) → (wants : WantsOf) → Fits z wants key.now value self.now stock.now u v →
+            IfSome result (IsAllowed z v) }
+        ensures going { (z : SizesOf) (u v : View) → (wants : WantsOf) → Fits z wants key.now value self.now stock.now u v →
+            ended_at self.now ≡ None → (a : AskedStep) × (result ≡ Some a) }
+    {
+        self.asked(key, value, stock)
+    }
+
+    /// The step that it asked for was made, and found this word.
+    pub fn told(&mut self, wants: &Wants, stock: &mut Stock, word: u64)
+        requires { (z : SizesOf) × (k : List ℕ) × (value : ℕ) × (u : View) × (v : View) × (w : View) × (asked : AskedStep) ×
+            Fits z wants.now k value self.old stock.old u v × (asks k value stock.old self.old ≡ Some asked) ×
+            Answers z asked word v w }
+        ensures keeps { HasLeafWords stock.old → HasLeafWords stock.new }
+        ensures fits { (z : SizesOf) (k : List ℕ) (value : ℕ) (u v w : View) (asked : AskedStep) →
+            Fits z wants.now k value self.old stock.old u v → asks k value stock.old self.old ≡ Some asked →
+            Answers z asked word v w → Fits z wants.now k value self.new stock.new u w }
+    {
+        *self = match *self {
+            Supplying::Leaf(taking) => leaf_told(stock, taking, word),
+            Supplying::Packing(packing) => leaf_packed(wants, stock, packing),
+            Supplying::Node(taking) => node_told(wants, stock, taking, word),
+            Supplying::Ended(supplied) => Supplying::Ended(supplied),
+        };
+    }
+
+    /// How it ended, if it has.
+    pub fn ended(&self) -> Option<Supplied>
+        ensures at { result ≡ ended_at self.now }
+    {
+        match *self {
+            Supplying::Ended(supplied) => Some(supplied),
+            _ => None,
+        }
+    }
+
+    /// The next step, by the stage alone.
+    fn asked(&self, key: &[u8], value: u64, stock: &Stock) -> Option<Asked>
+        requires few { length key.now ≤ 64 }
+        ensures { result ≡ asks key.now value stock.now self.now }
+    {
+        match *self {
+            Supplying::Leaf(taking) => Some(Asked::Number(taking.next()?)),
+            Supplying::Packing(packing) => write_asked(key, value, packing, stock.leaf()?),
+            Supplying::Node(taking) => Some(Asked::Number(taking.next()?)),
+            Supplying::Ended(_) => None,
+        }
+    }
+}
+
+/// The write of the next word of the leaf.
+fn write_asked(key: &[u8], value: u64, packing: Packing, leaf: u32) -> Option<Asked>
+    requires few { length key.now ≤ 64 }
+    ensures { result ≡ leaf_asked key.now value packing leaf }
+{
+    Some(Asked::Leaf(leaf, packing.next(key, value)?))
+}
+
+/// The search for the number of a leaf found this word.
+fn leaf_told(stock: &mut Stock, taking: Taking, word: u64) -> Supplying
+    requires { (z : SizesOf) × (wants : WantsOf) × (k : List ℕ) × (value : ℕ) × (u : View) × (v : View) × (w : View) ×
+        (asked : AskedStep) × Fits z wants k value (leaf_sought taking) stock.old u v ×
+        (asks k value stock.old (leaf_sought taking) ≡ Some asked) × Answers z asked word v w }
+    ensures { (z : SizesOf) (wants : WantsOf) (k : List ℕ) (value : ℕ) (u v w : View) (asked : AskedStep) →
+        Fits z wants k value (leaf_sought taking) stock.old u v → asks k value stock.old (leaf_sought taking) ≡ Some asked →
+        Answers z asked word v w → Fits z wants k value result stock.new u w }
+{
+    let mut taking = taking;
+    taking.told(word);
+    leaf_sought(stock, taking)
+}
+
+/// The number of a leaf is sought on; or it was found, and the leaf gets its words; or there is none.
+fn leaf_sought(stock: &mut Stock, taking: Taking) -> Supplying
+    requires { (z : SizesOf) × (early : View) × (v : View) × TakingFits z early taking v }
+    ensures { (z : SizesOf) (wants : WantsOf) (k : List ℕ) (value : ℕ) (u v : View) → wants.sizes ≡ z → wants.leaf ≡ true →
+        stock.old.leaf ≡ None → IsSought z k value stock.old u taking leaves v → Fits z wants k value result stock.new u v }
+{
+    match taking.next() {
+        Some(_) => return Supplying::Leaf(taking),
+        None => {}
+    }
+    let link = match spent(taking.number()) {
+        Some(link) => link,
+        None => return Supplying::Ended(Supplied::Full(Pool::Leaves)),
+    };
+    stock.add_leaf(number_of(link));
+    Supplying::Packing(Packing::new())
+}
+
+/// A word of the leaf was written.
+fn leaf_packed(wants: &Wants, stock: &mut Stock, packing: Packing) -> Supplying
+    requires { (z : SizesOf) × (k : List ℕ) × (value : ℕ) × (u : View) × (v : View) × (w : View) × (asked : AskedStep) × (word : ℕ) ×
+        Fits z wants.now k value (packed packing) stock.old u v × (asks k value stock.old (packed packing) ≡ Some asked) ×
+        Answers z asked word v w }
+    ensures keeps { HasLeafWords stock.old → HasLeafWords stock.new }
+    ensures fits { (z : SizesOf) (k : List ℕ) (value : ℕ) (u v w : View) (asked : AskedStep) (word : ℕ) →
+        Fits z wants.now k value (packed packing) stock.old u v → asks k value stock.old (packed packing) ≡ Some asked →
+        Answers z asked word v w → Fits z wants.now k value result stock.new u w }
+{
+    let mut packing = packing;
+    packing.told();
+    if packing.is_over() {
+        stock.set_written();
+        return node_wanted(wants, stock);
+    }
+    Supplying::Packing(packing)
+}
+
+/// What there is to do once the leaf is there, where one is wanted.
+fn node_wanted(wants: &Wants, stock: &mut Stock) -> Supplying
+    requires { (z : SizesOf) × (v : View) × (k : List ℕ) × (value : ℕ) × (wants.now.sizes ≡ z) × HasStock z k value v stock.old }
+    ensures keeps { HasLeafWords stock.old → HasLeafWords stock.new }
+    ensures fits { (z : SizesOf) (k : List ℕ) (value : ℕ) (u v : View) → wants.now.sizes ≡ z → OnlySupplies z k value stock.old u v →
+        IsSoon u v (leaf_steps z) (leaf_looks z) → (wants.now.leaf ≡ true → HasLeafWords stock.old) →
+        Fits z wants.now k value result stock.new u v }
+{
+    let Some(layout) = wants.node else {
+        return Supplying::Ended(Supplied::Ready);
+    };
+    match stock.node(layout) {
+        Some(_) => Supplying::Ended(Supplied::Ready),
+        None => {
+            let taking = Taking::new(pool_of_layout(layout), wants.sizes);
+            node_sought(layout, stock, taking)
+        }
+    }
+}
+
+/// The search for the number of a node found this word.
+fn node_told(wants: &Wants, stock: &mut Stock, taking: Taking, word: u64) -> Supplying
+    requires { (z : SizesOf) × (k : List ℕ) × (value : ℕ) × (u : View) × (v : View) × (w : View) × (asked : AskedStep) ×
+        Fits z wants.now k value (node_sought taking) stock.old u v ×
+        (asks k value stock.old (node_sought taking) ≡ Some asked) × Answers z asked word v w }
+    ensures keeps { HasLeafWords stock.old → HasLeafWords stock.new }
+    ensures fits { (z : SizesOf) (k : List ℕ) (value : ℕ) (u v w : View) (asked : AskedStep) →
+        Fits z wants.now k value (node_sought taking) stock.old u v → asks k value stock.old (node_sought taking) ≡ Some asked →
+        Answers z asked word v w → Fits z wants.now k value result stock.new u w }
+{
+    let mut taking = taking;
+    taking.told(word);
+    let Some(layout) = wants.node else {
+        unreachable!();
+    };
+    node_sought(layout, stock, taking)
+}
+
+/// The number of a node of the layout is sought on; or it was found; or there is none.
+fn node_sought(layout: Layout, stock: &mut Stock, taking: Taking) -> Supplying
+    requires { (z : SizesOf) × (early : View) × (v : View) × TakingFits z early taking v }
+    ensures keeps { HasLeafWords stock.old → HasLeafWords stock.new }
+    ensures fits { (z : SizesOf) (wants : WantsOf) (k : List ℕ) (value : ℕ) (u v : View) → wants.sizes ≡ z →
+        wants.node ≡ Some layout → node_in stock.old layout ≡ None → (wants.leaf ≡ true → HasLeafWords stock.old) →
+        IsSought z k value stock.old u taking (pool_of_layout layout) v → Fits z wants k value result stock.new u v }
+{
+    match taking.next() {
+        Some(_) => return Supplying::Node(taking),
+        None => {}
+    }
+    let link = match spent(taking.number()) {
+        Some(link) => link,
+        None => return Supplying::Ended(Supplied::Full(pool_of_layout(layout))),
+    };
+    let number = number_of(link);
+    stock.add_node(Node { layout, number });
+    Supplying::Ended(Supplied::Ready)
+}
+
+/// The number of a leaf or of a node.
+fn number_of(link: Link) -> u32
+    ensures { result ≡ number_of link }
+{
+    match link {
+        Link::Leaf(number) => number,
+        Link::Node(node) => node.number,
+    }
+}

@@ -1,0 +1,4 @@
+pub mod LowerNames
+pub mod LowerOthers
+pub mod LowerSeen
+pub mod Lowers

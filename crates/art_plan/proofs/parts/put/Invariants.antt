@@ -1,0 +1,6 @@
+use Rattle.std.proofs.Common.{◌≡◌, ◌++◌, take}
+use Rattle.art_plan.specs.Puts.{puts_of}
+use Rattle.art_plan.proofs.parts.put.Given as goal
+
+abbrev pub invariant-loop-write : goal.invariant-loop-write
+invariant-loop-write l = l.change ≡ record l.fn.change { puts = record { items = l.fn.change.puts.items ++ puts_of l.target (take l.write-index l.writes) } }

@@ -1,0 +1,74 @@
+//! The parts of a change, filled in one after another.
+ghost use Rattle.std.specs.Prelude.{◌≡◌, ◌+◌, ◌<◌, ◌≤◌, ◌∷◌, ◌++◌, [], None, Some, length, true, false};
+ghost use Rattle.art_plan.specs.Puts.{change_of, puts_of};
+
+use crate::{Change, Put, Target};
+use art_cell::{Body, Node, Write};
+use art_step::{Deed, Stamp};
+
+/// The node at a site, which was read whole under a stamp.
+#[derive(Clone, Copy)]
+pub struct Below<'a> {
+    pub node: Node,
+    pub stamp: Stamp,
+    pub body: &'a Body,
+}
+
+/// Makes it a change that does the deed and links this leaf, or none; it locks, writes, makes and unlinks nothing yet.
+pub fn begin(change: &mut Change, deed: Deed, leaf: Option<u32>)
+    ensures { change.new ≡ change_of [] [] None change.old.body leaf [] deed }
+{
+    change.targets.clear();
+    change.puts.clear();
+    change.node = None;
+    change.leaf = leaf;
+    change.unlinked.clear();
+    change.deed = deed;
+}
+
+/// Locks one more cell, below the others.
+pub fn lock(change: &mut Change, stamp: Stamp, obsolete: bool)
+    requires { length change.old.targets.items < 3 }
+    ensures { change.new ≡ record change.old {
+      targets = record { items = change.old.targets.items ++ record { stamp = stamp; obsolete = obsolete } ∷ [] };
+    } }
+{
+    change.targets.push(Target { stamp, obsolete });
+}
+
+/// Unlinks one more cell, by its child word.
+pub fn unlink(change: &mut Change, child: u64)
+    requires { length change.old.unlinked.items < 3 }
+    ensures { change.new ≡ record change.old { unlinked = record { items = change.old.unlinked.items ++ child ∷ [] } } }
+{
+    change.unlinked.push(child);
+}
+
+/// Makes the node with this number and these words.
+pub fn make(change: &mut Change, number: u32, body: Body)
+    ensures { change.new ≡ record change.old { node = Some number; body = body } }
+{
+    change.node = Some(number);
+    change.body = body;
+}
+
+/// Writes these words into the target with an index, after those of before. False, with nothing changed, where there is no room.
+pub fn put(change: &mut Change, target: usize, writes: &[Write]) -> bool
+    ensures put { result ≡ true → change.new ≡ record change.old {
+      puts = record { items = change.old.puts.items ++ puts_of target writes.now };
+    } }
+    ensures kept { result ≡ false → change.new ≡ change.old }
+    ensures refused { result ≡ false → 32 < length change.old.puts.items + length writes.now }
+{
+    if change.puts.len() + writes.len() > 32 {
+        return false;
+    }
+    for write in writes {
+        change.puts.push(Put {
+            target,
+            place: write.place,
+            value: write.value,
+        });
+    }
+    true
+}

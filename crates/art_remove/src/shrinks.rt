@@ -1,0 +1,96 @@
+//! A node that few children are left of gives way to a smaller one.
+ghost use Rattle.std.specs.Prelude.{◌≡◌, ℕ, Some, None, true, false};
+ghost use Rattle.art_cell.specs.Bodies.{Becomes, IsBody};
+ghost use Rattle.art_cell.specs.Children.{child_word as word_of_link};
+ghost use Rattle.art_cell.specs.Reads.{IsBodyOf, without_child, word_of};
+ghost use Rattle.art_cell.specs.Words.{child_of, prefix_of};
+ghost use Rattle.art_cell.specs.declared.cells.Link.TheVariants.{Node as node_link};
+ghost use Rattle.art_node.specs.Prefixes.{IsNodeOf};
+ghost use Rattle.art_node.specs.Sizes.{smaller};
+ghost use Rattle.art_plan.specs.Changes.{IsPlanned, targets};
+ghost use Rattle.art_plan.specs.Puts.{HasChild, IsTaken, TakesMany};
+ghost use Rattle.art_remove.specs.Cases.{IsShrink};
+ghost use Rattle.art_remove.specs.Removals.{IsSparse, removed, smaller_node};
+ghost use Rattle.art_step.specs.declared.views.Sizes.{Sizes};
+ghost use Rattle.art_step.specs.declared.views.View.{View};
+
+use crate::leaves::{OldLeaf, begin};
+use art_cell::{Body, Layout, Link, Node, NodeKind};
+use art_node::child_word;
+use art_node4::Node4;
+use art_node16::Node16;
+use art_node48::Node48;
+use art_node256::Node256;
+use art_plan::{Below, Change, Site, lock, make, put, replaced, unlink};
+
+/// The leaf goes from a byte of the node below the site: the next smaller one has the other children, and takes its place. False
+/// where the words are more than a change takes.
+pub fn shrink(
+    change: &mut Change,
+    site: &Site,
+    below: &Below,
+    byte: u8,
+    old: &OldLeaf,
+    made: u32,
+) -> bool
+    requires taken { IsTaken site.now }
+    requires sparse { IsSparse below.now.body.now byte }
+    ensures planned { result ≡ true → (z : Sizes) (u : View) (depth : ℕ)
+        → IsShrink z u site.now old.now depth below.now byte (smaller_node below.now.body.now made) → IsPlanned z u change.new }
+    ensures targets { result ≡ true → targets change.new ≡ 2 }
+    ensures deed { change.new.deed ≡ removed old.now }
+    ensures leaf { change.new.leaf ≡ None }
+    ensures refused { result ≡ false → TakesMany site.now (word_of_link (node_link (smaller_node below.now.body.now made))) }
+{
+    let body = shrunk(below.body, byte);
+    let new_node = child_word(Link::Node(Node {
+        layout: body.layout,
+        number: made,
+    }));
+    let writes = replaced(site, new_node);
+    let old_leaf = child_word(Link::Leaf(old.number));
+    let old_node = child_word(Link::Node(below.node));
+    begin(change, old);
+    lock(change, site.stamp(), false);
+    lock(change, below.stamp, true);
+    unlink(change, old_leaf);
+    unlink(change, old_node);
+    make(change, made, body);
+    put(change, 0, writes.as_slice())
+}
+
+/// The next smaller node, without the child of the byte.
+fn shrunk(body: &Body, byte: u8) -> Body
+    requires sparse { IsSparse body.now byte }
+    ensures layout { result.layout ≡ smaller body.now.layout }
+    ensures node { IsNodeOf (smaller body.now.layout) (word_of result) (prefix_of (word_of body.now))
+        (without_child (child_of body.now.layout (word_of body.now)) byte) }
+{
+    art_node::shrink(&without(body, byte))
+}
+
+/// The node without the child of the byte.
+fn without(body: &Body, byte: u8) -> Body
+    requires { HasChild body.now byte }
+    ensures layout { result.layout ≡ body.now.layout }
+    ensures less { Becomes body.now.layout (word_of body.now) (word_of result)
+        (without_child (child_of body.now.layout (word_of body.now)) byte) }
+{
+    match body.layout {
+        Layout::Node4 => with_less::<Node4>(*body, byte),
+        Layout::Node16 => with_less::<Node16>(*body, byte),
+        Layout::Node48 => with_less::<Node48>(*body, byte),
+        Layout::Node256 => with_less::<Node256>(*body, byte),
+    }
+}
+
+/// The same, of a node of this kind.
+fn with_less<K: NodeKind>(mut body: Body, byte: u8) -> Body
+    requires body { IsBodyOf K.layout body }
+    requires there { (c : ℕ) × (child_of K.layout (word_of body) byte ≡ Some c) }
+    ensures layout { result.layout ≡ body.layout }
+    ensures less { Becomes K.layout (word_of body) (word_of result) (without_child (child_of K.layout (word_of body)) byte) }
+{
+    K::take(&mut body, byte);
+    body
+}
