@@ -1,20 +1,18 @@
--- What a client sees of an insert that has ended.
-use Rattle.std.proofs.Common.{◌≡◌, ℕ, ◌++◌, true, List, [], ◌∷◌, length, None, sym, ap, ap₂, ◌∙◌, subst}
-use Rattle.art_attempt.specs.Inserting.{EndsSo, present}
+-- What a client sees of a write that has ended.
+use Rattle.std.proofs.Common.{◌≡◌, ℕ, ◌++◌, true, List, [], ◌∷◌, length, Option, Some, None, sym, ap, ap₂, ◌∙◌, subst}
+use Rattle.art_change.proofs.EitherKind.{left_by}
+use Rattle.art_change.specs.Tries.{key_of, value_of}
 use Rattle.art_attempt.specs.declared.rooms.Room.{Room}
-use Rattle.art_change.specs.Inserts.{HasAnswered, HasOutcome, IsClosing, IsDone, gone_by, told_by}
-use Rattle.art_change.specs.declared.inserts.Insert.{Insert}
-use Rattle.art_change.specs.declared.inserts.Outcome.{Outcome}
-use Rattle.art_change.specs.declared.inserts.Outcome.TheVariants.{New, Present, Full, Exhausted, Overlaps, TooMany, Busy, Crowded}
+use Rattle.art_change.specs.Writes.{HasAnswered, IsClosing, IsDone, gone_by, told_by}
+use Rattle.art_change.specs.declared.writes.Write.{Write}
+use Rattle.art_change.specs.declared.writes.Outcome.{Outcome}
+use Rattle.art_change.specs.declared.writes.Outcome.TheVariants.{New, Present, Gone, Absent, Full, Exhausted, Overlaps, TooMany, Busy, Crowded}
 use Rattle.art_epoch.specs.declared.limbo.Place.{Place}
 use Rattle.art_frame.specs.Closings.{ClosingFits, IsClosed, is_ended}
 use Rattle.art_frame.specs.declared.closings.Closing.{Closing}
 use Rattle.art_frame.specs.declared.closings.Closing.TheVariants as closing
-use Rattle.art_insert.specs.Puts.{inserted}
-use Rattle.art_place.specs.declared.findings.Stand.{Stand}
 use Rattle.art_step.specs.Events.{MakesEvent, SeesEvent}
 use Rattle.art_step.specs.Histories.{IsLegal, event, places}
-use Rattle.art_step.specs.Shows.{Rest}
 use Rattle.art_step.specs.Tokens.{links_of}
 use Rattle.art_step.specs.declared.deeds.Deed.{Deed}
 use Rattle.art_step.specs.declared.views.Event.{Event}
@@ -22,7 +20,7 @@ use Rattle.art_step.specs.declared.views.Sizes.{Sizes}
 use Rattle.art_step.specs.declared.views.View.{View}
 
 -- the close has ended
-closed_at : (z : Sizes) (k : List ℕ) (value : ℕ) (u v : View) (ps qs : List Place) (m : Insert) (r : Room) (c : Closing) → is_ended c ≡ true
+closed_at : (z : Sizes) (k : List ℕ) (value : ℕ) (u v : View) (ps qs : List Place) (m : Write) (r : Room) (c : Closing) → is_ended c ≡ true
     → ClosingFits z k value u ps (links_of (gone_by m.outcome r.change)) c qs r.stock v → IsClosed z u v ps qs (links_of (gone_by m.outcome r.change))
 closed_at z k value u v ps qs m r closing.Ended is fits = fits.0
 closed_at z k value u v ps qs m r closing.Labelling is fits = cc
@@ -42,43 +40,36 @@ module _ (u opened ended v : View) (seen : opened.seen ≡ u.seen) (own : opened
   none_all : ended.seen ≡ opened.seen → ended.own ≡ opened.own → SeesEvent u v None
   none_all same mine = (seen' ∙ (same ∙ seen), own' ∙ (mine ∙ own))
 
-  module _ (z : Sizes) (r : Room) where
-    so_none : EndsSo z opened r ended → SeesEvent u v None
-    so_none so = none_all (ap (λ (a : Rest). a.seen) so.still.rest) (ap (λ (a : Rest). a.own) so.still.rest)
+  sees_all : (what : Option Deed) → SeesEvent opened ended what → SeesEvent u v what
+  sees_all None sees = none_all sees.0 sees.1
+  sees_all (Some what) sees = event_all what sees
 
-    tells_as : (t : Stand) (o : Outcome) (left : ℕ) → HasOutcome z opened t r o left ended → SeesEvent u v (told_by o r.row)
-    tells_as t New left h = event_all (inserted r.row) h.event
-    tells_as t (Present stands) left h = event_all (present r.row stands) h.event
-    tells_as t (Full pool) left h = so_none h.0
-    tells_as t (Exhausted c) left h = so_none h.0
-    tells_as t Overlaps left h = so_none h.0
-    tells_as t TooMany left h = so_none h.0
-    tells_as t Busy left h = so_none h.0
-    tells_as t (Crowded b) left h = absurd h
-
-module _ (z : Sizes) (u : View) (ps : List Place) (m : Insert) (r : Room) (qs : List Place) (v : View) where
-  closing_answers : IsClosing z u ps m r qs v → is_ended m.closing ≡ true → HasAnswered z u m.outcome r.row qs v
+module _ (z : Sizes) (u : View) (ps : List Place) (m : Write) (r : Room) (qs : List Place) (v : View) where
+  closing_answers : IsClosing z u ps m r qs v → is_ended m.closing ≡ true → HasAnswered z u m.job m.outcome (key_of m.job r) (value_of m.job r) qs v
   closing_answers k is =
-      let closed = closed_at z r.row.key.items r.row.value k.ended v k.waiting qs m r m.closing is k.fits in
+      let closed = closed_at z (key_of m.job r).items (value_of m.job r) k.ended v k.waiting qs m r m.closing is k.fits in
       record {
         idle = ap (λ (t : View). t.pin) closed.is;
         free = closed.free;
         limbo = closed.limbo;
-        tells = tells_as u k.opened k.ended v (ap (λ (t : View). t.seen) k.frame.is) (ap (λ (t : View). t.own) k.frame.is) (ap (λ (t : View). t.pass) k.frame.is)
-            (ap (λ (t : View). t.seen) closed.is) (ap (λ (t : View). t.own) closed.is) z (record r { stock = k.stock }) m.trying.stand m.outcome m.left k.outcome;
+        tells = sees_all u k.opened k.ended v (ap (λ (t : View). t.seen) k.frame.is) (ap (λ (t : View). t.own) k.frame.is) (ap (λ (t : View). t.pass) k.frame.is)
+            (ap (λ (t : View). t.seen) closed.is) (ap (λ (t : View). t.own) closed.is) (told_by m.outcome m.job (key_of m.job r) (value_of m.job r))
+            (left_by z k.opened (record r { stock = k.stock }) k.ended m.job m.trying m.outcome m.left k.outcome).tells;
       }
 
-  pub answered : (o : Outcome) → m.outcome ≡ o → IsDone z u ps o m r qs v → HasAnswered z u o r.row qs v
+  pub answered : (o : Outcome) → m.outcome ≡ o → IsDone z u ps o m r qs v → HasAnswered z u m.job o (key_of m.job r) (value_of m.job r) qs v
   answered (Crowded b) is done = record {
     idle = done.0.idle;
     free = ap (λ (t : View). t.held) done.0.only ∙ done.1;
     limbo = done.0.limbo;
     tells = (ap (λ (t : View). t.seen) done.0.only, ap (λ (t : View). t.own) done.0.only);
   }
-  answered New is done = subst (λ (o : Outcome). HasAnswered z u o r.row qs v) is (closing_answers done.0 done.1)
-  answered (Present stands) is done = subst (λ (o : Outcome). HasAnswered z u o r.row qs v) is (closing_answers done.0 done.1)
-  answered (Full pool) is done = subst (λ (o : Outcome). HasAnswered z u o r.row qs v) is (closing_answers done.0 done.1)
-  answered (Exhausted c) is done = subst (λ (o : Outcome). HasAnswered z u o r.row qs v) is (closing_answers done.0 done.1)
-  answered Overlaps is done = subst (λ (o : Outcome). HasAnswered z u o r.row qs v) is (closing_answers done.0 done.1)
-  answered TooMany is done = subst (λ (o : Outcome). HasAnswered z u o r.row qs v) is (closing_answers done.0 done.1)
-  answered Busy is done = subst (λ (o : Outcome). HasAnswered z u o r.row qs v) is (closing_answers done.0 done.1)
+  answered New is done = subst (λ (o : Outcome). HasAnswered z u m.job o (key_of m.job r) (value_of m.job r) qs v) is (closing_answers done.0 done.1)
+  answered (Present stands) is done = subst (λ (o : Outcome). HasAnswered z u m.job o (key_of m.job r) (value_of m.job r) qs v) is (closing_answers done.0 done.1)
+  answered (Gone value) is done = subst (λ (o : Outcome). HasAnswered z u m.job o (key_of m.job r) (value_of m.job r) qs v) is (closing_answers done.0 done.1)
+  answered Absent is done = subst (λ (o : Outcome). HasAnswered z u m.job o (key_of m.job r) (value_of m.job r) qs v) is (closing_answers done.0 done.1)
+  answered (Full pool) is done = subst (λ (o : Outcome). HasAnswered z u m.job o (key_of m.job r) (value_of m.job r) qs v) is (closing_answers done.0 done.1)
+  answered (Exhausted c) is done = subst (λ (o : Outcome). HasAnswered z u m.job o (key_of m.job r) (value_of m.job r) qs v) is (closing_answers done.0 done.1)
+  answered Overlaps is done = subst (λ (o : Outcome). HasAnswered z u m.job o (key_of m.job r) (value_of m.job r) qs v) is (closing_answers done.0 done.1)
+  answered TooMany is done = subst (λ (o : Outcome). HasAnswered z u m.job o (key_of m.job r) (value_of m.job r) qs v) is (closing_answers done.0 done.1)
+  answered Busy is done = subst (λ (o : Outcome). HasAnswered z u m.job o (key_of m.job r) (value_of m.job r) qs v) is (closing_answers done.0 done.1)

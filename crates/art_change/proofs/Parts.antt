@@ -1,4 +1,4 @@
--- What a part of an insert asked, and what it is told.
+-- What a part of a write asked, and what it is told.
 use Rattle.std.proofs.Common.{◌≡◌, Option, Some, sym, subst}
 use Rattle.std.specs.Option.{option_map}
 use Rattle.art_attempt.specs.Asking.{Answers as AttemptAnswers}

@@ -1,17 +1,19 @@
--- A pass that is ready for an insert is so again after it.
+-- A pass that is ready for a write is so again after it.
 use Rattle.std.proofs.Common.{◌≡◌, ℕ, List, [], true, Option, Some, None, refl, sym, ap, ◌∙◌, subst}
 use Rattle.std.proofs.lemmas.Option.{same_Some}
-use Rattle.art_attempt.specs.Inserting.{IsRoom}
 use Rattle.art_attempt.specs.declared.rooms.Room.{Room}
 use Rattle.art_cell.specs.declared.cells.Link.{Link}
 use Rattle.art_cell.specs.declared.cells.Link.TheVariants.{Leaf as leaf, Node as node}
 use Rattle.art_change.proofs.Answered.{answered}
-use Rattle.art_change.specs.Inserts.{Fits, HasGround, HasOutcome, IsClosing, IsDone, IsReady, MayInsert, StageFits, ended_at, gone_by, outcome_at}
-use Rattle.art_change.specs.declared.inserts.Insert.{Insert}
-use Rattle.art_change.specs.declared.inserts.Outcome.{Outcome}
-use Rattle.art_change.specs.declared.inserts.Outcome.TheVariants.{New, Present, Full, Exhausted, Overlaps, TooMany, Busy, Crowded}
-use Rattle.art_change.specs.declared.inserts.Stage.{Stage}
-use Rattle.art_change.specs.declared.inserts.Stage.TheVariants as stage
+use Rattle.art_change.proofs.EitherKind.{left_by}
+use Rattle.art_change.specs.Tries.{IsRoom, key_of, value_of}
+use Rattle.art_change.specs.declared.tries.Job.{Job}
+use Rattle.art_change.specs.Writes.{Fits, HasGround, IsClosing, IsDone, IsReady, MayWrite, StageFits, ended_at, gone_by, outcome_at}
+use Rattle.art_change.specs.declared.writes.Write.{Write}
+use Rattle.art_change.specs.declared.writes.Outcome.{Outcome}
+use Rattle.art_change.specs.declared.writes.Outcome.TheVariants.{New, Present, Gone, Absent, Full, Exhausted, Overlaps, TooMany, Busy, Crowded}
+use Rattle.art_change.specs.declared.writes.Stage.{Stage}
+use Rattle.art_change.specs.declared.writes.Stage.TheVariants as stage
 use Rattle.art_epoch.specs.declared.limbo.Place.{Place}
 use Rattle.art_frame.proofs.Stocked.{first_is_in, none_is_in}
 use Rattle.art_frame.specs.Closings.{ClosingFits, IsClosed, is_ended}
@@ -19,8 +21,6 @@ use Rattle.art_frame.specs.Stocks.{HasStock, first_in}
 use Rattle.art_frame.specs.declared.closings.Closing.{Closing}
 use Rattle.art_frame.specs.declared.closings.Closing.TheVariants as closing
 use Rattle.art_frame.specs.declared.stocks.Stock.{Stock}
-use Rattle.art_place.specs.declared.findings.Stand.{Stand}
-use Rattle.art_step.specs.Shows.{Rest}
 use Rattle.art_step.specs.Tokens.{links_of}
 use Rattle.art_step.specs.Views.{Member}
 use Rattle.art_step.specs.declared.views.Sizes.{Sizes}
@@ -46,32 +46,22 @@ empty_has z k value v s o hand = by_first (first_in s) refl
     by_first None is = refl
     by_first (Some d) is = absurd (no_link d is)
 
-pub ready_may : (z : Sizes) (u : View) (own : ℕ) (ps : List Place) (r : Room) → IsReady z u own ps r.stock → IsRoom z r → MayInsert z u own ps r
-ready_may z u own ps r ready room = record {
+pub ready_may : (z : Sizes) (u : View) (own : ℕ) (j : Job) (ps : List Place) (r : Room) → IsReady z u own ps r.stock → IsRoom z j r → MayWrite z u own j ps r
+ready_may z u own j ps r ready room = record {
   frame = ready.frame;
   room = room;
-  has = has_empty z r.row.key.items r.row.value u r.stock ready.stock ready.hand;
+  has = has_empty z (key_of j r).items (value_of j r) u r.stock ready.stock ready.hand;
 }
 
 -- ---- after it
 
-closed_stock : (z : Sizes) (k : List ℕ) (value : ℕ) (u v : View) (ps qs : List Place) (m : Insert) (r : Room) (c : Closing) → is_ended c ≡ true
+closed_stock : (z : Sizes) (k : List ℕ) (value : ℕ) (u v : View) (ps qs : List Place) (m : Write) (r : Room) (c : Closing) → is_ended c ≡ true
     → ClosingFits z k value u ps (links_of (gone_by m.outcome r.change)) c qs r.stock v → IsClosed z u v ps qs (links_of (gone_by m.outcome r.change)) × (first_in r.stock ≡ None)
 closed_stock z k value u v ps qs m r closing.Ended is fits = (fits.0, ap first_in fits.1)
 closed_stock z k value u v ps qs m r closing.Labelling is fits = cc
 closed_stock z k value u v ps qs m r closing.Giving is fits = cc
 
-same_pass : (z : Sizes) (u v : View) (t : Stand) (r : Room) (o : Outcome) (left : ℕ) → HasOutcome z u t r o left v → v.pass ≡ u.pass
-same_pass z u v t r New left h = ap (λ (a : Rest). a.pass) h.rest
-same_pass z u v t r (Present stands) left h = ap (λ (a : Rest). a.pass) h.rest
-same_pass z u v t r (Full pool) left h = ap (λ (a : Rest). a.pass) h.0.still.rest
-same_pass z u v t r (Exhausted c) left h = ap (λ (a : Rest). a.pass) h.0.still.rest
-same_pass z u v t r Overlaps left h = ap (λ (a : Rest). a.pass) h.0.still.rest
-same_pass z u v t r TooMany left h = ap (λ (a : Rest). a.pass) h.0.still.rest
-same_pass z u v t r Busy left h = ap (λ (a : Rest). a.pass) h.0.still.rest
-same_pass z u v t r (Crowded b) left h = absurd h
-
-module _ (z : Sizes) (u : View) (own : ℕ) (s : Stock) (ps : List Place) (m : Insert) (r : Room) (qs : List Place) (v : View) (ready : IsReady z u own ps s) where
+module _ (z : Sizes) (u : View) (own : ℕ) (s : Stock) (ps : List Place) (m : Write) (r : Room) (qs : List Place) (v : View) (ready : IsReady z u own ps s) where
   after : IsDone z u ps m.outcome m r qs v → v.pass ≡ u.pass → v.hand ≡ [] → first_in r.stock ≡ None → IsReady z v own qs r.stock
   after done pass hand stock =
       let a = answered z u ps m r qs v m.outcome refl done in
@@ -89,16 +79,18 @@ module _ (z : Sizes) (u : View) (own : ℕ) (s : Stock) (ps : List Place) (m : I
 
   closing_ready : IsDone z u ps m.outcome m r qs v → IsClosing z u ps m r qs v → is_ended m.closing ≡ true → IsReady z v own qs r.stock
   closing_ready done k is =
-      let closed = closed_stock z r.row.key.items r.row.value k.ended v k.waiting qs m r m.closing is k.fits in
-      let pass = same_pass z k.opened k.ended m.trying.stand (record r { stock = k.stock }) m.outcome m.left k.outcome in
+      let closed = closed_stock z (key_of m.job r).items (value_of m.job r) k.ended v k.waiting qs m r m.closing is k.fits in
+      let pass = (left_by z k.opened (record r { stock = k.stock }) k.ended m.job m.trying m.outcome m.left k.outcome).pass in
       after done (ap (λ (t : View). t.pass) closed.0.is ∙ (pass ∙ ap (λ (t : View). t.pass) k.frame.is)) (ap (λ (t : View). t.hand) closed.0.is) closed.1
 
   done_ready : (o : Outcome) → m.outcome ≡ o → IsDone z u ps o m r qs v → IsReady z v own qs r.stock
   done_ready (Crowded b) is done =
       after (subst (λ (o : Outcome). IsDone z u ps o m r qs v) (sym is) done) (ap (λ (t : View). t.pass) done.0.only) (ap (λ (t : View). t.hand) done.0.only ∙ ready.hand)
-      (empty_has z r.row.key.items r.row.value u r.stock done.2 ready.hand)
+      (empty_has z (key_of m.job r).items (value_of m.job r) u r.stock done.2 ready.hand)
   done_ready New is done = closing_ready (subst (λ (o : Outcome). IsDone z u ps o m r qs v) (sym is) done) done.0 done.1
   done_ready (Present stands) is done = closing_ready (subst (λ (o : Outcome). IsDone z u ps o m r qs v) (sym is) done) done.0 done.1
+  done_ready (Gone value) is done = closing_ready (subst (λ (o : Outcome). IsDone z u ps o m r qs v) (sym is) done) done.0 done.1
+  done_ready Absent is done = closing_ready (subst (λ (o : Outcome). IsDone z u ps o m r qs v) (sym is) done) done.0 done.1
   done_ready (Full pool) is done = closing_ready (subst (λ (o : Outcome). IsDone z u ps o m r qs v) (sym is) done) done.0 done.1
   done_ready (Exhausted c) is done = closing_ready (subst (λ (o : Outcome). IsDone z u ps o m r qs v) (sym is) done) done.0 done.1
   done_ready Overlaps is done = closing_ready (subst (λ (o : Outcome). IsDone z u ps o m r qs v) (sym is) done) done.0 done.1
@@ -116,12 +108,12 @@ module _ (z : Sizes) (u : View) (own : ℕ) (s : Stock) (ps : List Place) (m : I
 
 -- ---- the ground of its outcome
 
-module _ (z : Sizes) (u : View) (ps : List Place) (m : Insert) (r : Room) (qs : List Place) (v : View) where
+module _ (z : Sizes) (u : View) (ps : List Place) (m : Write) (r : Room) (qs : List Place) (v : View) where
   ground_at : (s : Stage) (o : Outcome) → outcome_at s m.outcome ≡ Some o → StageFits z u ps s m r qs v → IsDone z u ps o m r qs v
   ground_at stage.Opening o is fits = cc
   ground_at stage.Trying o is fits = cc
   ground_at stage.Closing o is fits = cc
   ground_at stage.Ended o is fits = subst (λ (a : Outcome). IsDone z u ps a m r qs v) (same_Some {A = Outcome} m.outcome o is) fits
 
-  pub ends_with : (o : Outcome) → ended_at m ≡ Some o → Fits z u ps m r qs v → HasGround z u ps o r qs v
-  ends_with o is fits = (m, ground_at m.stage o is fits.stage)
+  pub ends_with : (o : Outcome) → ended_at m ≡ Some o → Fits z u ps m r qs v → HasGround z u m.job ps o r qs v
+  ends_with o is fits = (m, refl, ground_at m.stage o is fits.stage)

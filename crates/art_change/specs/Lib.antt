@@ -1,2 +1,4 @@
 pub mod Asking
-pub mod Inserts
+pub mod Made
+pub mod Tries
+pub mod Writes

@@ -1,16 +1,17 @@
-//! An insert, from the opening of its frame to its close.
+//! An insert or a removal, from the opening of its frame to its close.
 //!
 //! # The way
 //!
 //! ```text
 //! Opening ── what waits in limbo goes back; four places, or it is Crowded; the pass is pinned
 //!    ▼
-//! Trying ─── one attempt after another (`art_attempt`), as long as they end as `Anew` and turns are left
+//! Trying ─── one attempt after another (of an insert `art_attempt`, of a removal `art_erase`), as long as they end as `Anew` and
+//!            turns are left
 //!    ▼
 //! Closing ── a label for what was unlinked, unused numbers back, the pass goes idle
 //! ```
 //!
-//! The steps of attempts are counted, those of the frame are not. Where all turns are used and nothing is held, the insert ends
+//! The steps of attempts are counted, those of the frame are not. Where all turns are used and nothing is held, the write ends
 //! as `Busy`: also where its last step told it that a pool is empty, since a refusal is no answer. An attempt that holds a cell
 //! goes on until it holds none, and one that has told its event is answered. A cell whose counter is at its end takes no step,
 //! and is told as that.
@@ -19,7 +20,8 @@
 //!
 //! # What stands beside it
 //!
-//! `Insert` is a value of scalars with `next` and `told`. The room of its attempts and the limbo of the pass stand beside it.
+//! `Write` is a value of scalars with `next` and `told`. Its `Job` says whether the row of the room comes, or the row of its leaf
+//! goes. The room of its attempts and the limbo of the pass stand beside it.
 //!
 //! # What is proved
 //!
@@ -31,10 +33,12 @@
 
 mod asked;
 mod driver;
-mod inserts;
+mod tries;
 mod writers;
+mod writes;
 
 pub use asked::{Answer, Asked};
 pub use driver::step;
-pub use inserts::{Insert, Outcome, Stage};
-pub use writers::{Inserted, Writer};
+pub use tries::{Job, Tried, Trying};
+pub use writers::{Writer, Written};
+pub use writes::{Outcome, Stage, Write};

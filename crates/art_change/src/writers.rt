@@ -1,19 +1,20 @@
 //! What a pass keeps beside the table to change it.
 ghost use Rattle.std.specs.Prelude.{◌≡◌, ◌+◌, ◌≤◌};
-ghost use Rattle.art_change.specs.Inserts.{HasAnswered, HasGround, most_steps, row_of};
+ghost use Rattle.art_change.specs.Writes.{HasAnswered, HasGround, most_steps};
+ghost use Rattle.art_change.specs.declared.tries.Job.TheVariants as jobs;
 ghost use Rattle.art_epoch.specs.Limbo.{places_of};
 ghost use Rattle.art_step.specs.declared.views.View.{View};
 
-use crate::Outcome;
-use crate::driver::insert;
+use crate::driver::write;
+use crate::{Job, Outcome};
 use art_attempt::Room;
 use art_epoch::Limbo;
 use art_key::Key;
 use art_step::{EpochSteps, Sizes};
 
-/// How an insert ended, and how often it tried anew.
+/// How a write ended, and how often it tried anew.
 #[derive(Clone, Copy, Debug, PartialEq, Eq)]
-pub struct Inserted {
+pub struct Written {
     pub outcome: Outcome,
     pub restarts: u64,
 }
@@ -26,7 +27,7 @@ pub struct Writer {
 }
 
 impl Writer {
-    ghost use Rattle.art_change.specs.Inserts.{IsFresh, IsWriter};
+    ghost use Rattle.art_change.specs.Writes.{IsFresh, IsWriter};
     ghost use Rattle.art_step.specs.declared.views.Sizes.{Sizes as SizesOf};
 
     /// The pass `own` of a table with so many numbers.
@@ -47,21 +48,41 @@ impl Writer {
         key: &Key,
         value: u64,
         turns: u32,
-    ) -> Inserted
+    ) -> Written
         requires admitted { S.admits steps.old key.now.items }
         requires may { IsWriter (S.sizes steps.old) (S.view steps.old) self.old }
         ensures only { S.only steps.old steps.new }
-        ensures answered { HasAnswered (S.sizes steps.old) (S.view steps.old) result.outcome (row_of key.now value)
+        ensures answered { HasAnswered (S.sizes steps.old) (S.view steps.old) jobs.Insert result.outcome key.now value
             (places_of self.new.limbo) (S.view steps.new) }
         ensures row { (self.new.room.row.key ≡ key.now) × (self.new.room.row.value ≡ value) }
-        ensures ground { HasGround (S.sizes steps.old) (S.view steps.old) (places_of self.old.limbo) result.outcome self.new.room
-            (places_of self.new.limbo) (S.view steps.new) }
+        ensures ground { HasGround (S.sizes steps.old) (S.view steps.old) jobs.Insert (places_of self.old.limbo) result.outcome
+            self.new.room (places_of self.new.limbo) (S.view steps.new) }
         ensures may { IsWriter (S.sizes steps.old) (S.view steps.new) self.new }
         ensures steps { (S.view steps.new).steps ≤
             (S.view steps.old).steps + most_steps turns (S.sizes steps.old).passes (places_of self.old.limbo) }
     {
         self.room.set(key, value);
-        insert(steps, self.own, turns, &mut self.room, &mut self.limbo)
+        let Writer { own, room, limbo } = self;
+        write(steps, Job::Insert, *own, turns, room, limbo)
+    }
+
+    /// Removes the row with the key, in so many turns.
+    pub fn remove<S: EpochSteps>(&mut self, steps: &mut S, key: &Key, turns: u32) -> Written
+        requires admitted { S.admits steps.old key.now.items }
+        requires may { IsWriter (S.sizes steps.old) (S.view steps.old) self.old }
+        ensures only { S.only steps.old steps.new }
+        ensures answered { HasAnswered (S.sizes steps.old) (S.view steps.old) jobs.Remove result.outcome key.now 0
+            (places_of self.new.limbo) (S.view steps.new) }
+        ensures key { self.new.room.gone.key ≡ key.now }
+        ensures ground { HasGround (S.sizes steps.old) (S.view steps.old) jobs.Remove (places_of self.old.limbo) result.outcome
+            self.new.room (places_of self.new.limbo) (S.view steps.new) }
+        ensures may { IsWriter (S.sizes steps.old) (S.view steps.new) self.new }
+        ensures steps { (S.view steps.new).steps ≤
+            (S.view steps.old).steps + most_steps turns (S.sizes steps.old).passes (places_of self.old.limbo) }
+    {
+        self.room.set_gone(key);
+        let Writer { own, room, limbo } = self;
+        write(steps, Job::Remove, *own, turns, room, limbo)
     }
 
     /// What it unlinked and has not given back.

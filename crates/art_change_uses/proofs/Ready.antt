@@ -1,7 +1,7 @@
 -- A pass that looked a key up is ready to write as it was.
 use Rattle.std.proofs.Common.{◌≡◌, ◌==◌, ◌<◌, ℕ, zero, suc, true, false, List, [], length, Option, refl, sym, ap, ◌∙◌, subst, arith, ⊎_elim}
 use Rattle.std.proofs.lemmas.Bool.{cases_Bool}
-use Rattle.art_change.specs.Inserts.{IsFresh, IsReady, IsWriter}
+use Rattle.art_change.specs.Writes.{IsFresh, IsReady, IsWriter}
 use Rattle.art_change.specs.declared.writers.Writer.{Writer}
 use Rattle.art_change_uses.specs.Writes.{WritesFirst}
 use Rattle.art_epoch.proofs.Waiting.{limbo_mapped}

@@ -1,6 +1,6 @@
 -- The first pass of a world writes.
 use Rattle.std.specs.Prelude.{◌<◌, length}
-use Rattle.art_change.specs.Inserts.{IsWriter}
+use Rattle.art_change.specs.Writes.{IsWriter}
 use Rattle.art_change.specs.declared.writers.Writer.{Writer}
 use Rattle.art_step.specs.WordRows.{view_at}
 use Rattle.art_world.specs.Contents.{Contents}

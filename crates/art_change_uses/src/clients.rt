@@ -1,6 +1,6 @@
 //! The first pass of a world writes, and looks up.
 ghost use Rattle.std.specs.Prelude.{◌≡◌, ◌<◌, ◌≤◌, IfOk};
-ghost use Rattle.art_change.specs.Inserts.{IsWriter};
+ghost use Rattle.art_change.specs.Writes.{IsWriter};
 ghost use Rattle.art_change_uses.specs.Writes.{WritesFirst};
 ghost use Rattle.art_step.specs.Views.{last_counter};
 ghost use Rattle.art_world.specs.Stepper.{OnlyStepped, sizes_of, view_of};
@@ -41,6 +41,16 @@ pub(crate) fn puts(world: &mut World, writer: &mut Writer, key: &Key, value: u64
 {
     let mut stepper = world.at(0);
     writer.insert(&mut stepper, key, value, TURNS).outcome
+}
+
+/// How a removal of the key ends.
+pub(crate) fn takes(world: &mut World, writer: &mut Writer, key: &Key) -> Outcome
+    requires { WritesFirst world.old writer.old }
+    ensures sizes { world.new.sizes ≡ world.old.sizes }
+    ensures writes { WritesFirst world.new writer.new }
+{
+    let mut stepper = world.at(0);
+    writer.remove(&mut stepper, key, TURNS).outcome
 }
 
 /// How a get of the key ends, of the pass of the writer.

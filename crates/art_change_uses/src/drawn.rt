@@ -1,10 +1,11 @@
-//! Drawn inserts and gets answer as a map of rows does.
+//! Drawn inserts, removals and gets answer as a map of rows does, and all numbers are accounted for in the end.
 ghost use Rattle.std.specs.Prelude.{◌≡◌};
 ghost use Rattle.art_change_uses.specs.Writes.{WritesFirst};
 
-use crate::clients::{finds, opened, puts};
-use art_cell::Pool;
+use crate::clients::{finds, opened, puts, takes};
+use art_cell::{Link, Pool};
 use art_change::{Outcome, Writer};
+use art_epoch::Limbo;
 use art_find::Got;
 use art_key::{Schema, encode};
 use art_model::{Command, Reply, SortedRows, Tuple, Value};
@@ -27,7 +28,7 @@ const SIZES: Sizes = Sizes {
 /// A drawn tuple of the schema of one column.
 fn one_column(numbers: &mut Pcg32) -> Tuple {
     let mut tuple = Tuple::new();
-    tuple.push(Value::Int(i128::from(numbers.next_u32() % 1500)));
+    tuple.push(Value::Int(i128::from(numbers.next_u32() % 900)));
     tuple
 }
 
@@ -35,17 +36,35 @@ fn one_column(numbers: &mut Pcg32) -> Tuple {
 fn three_columns(numbers: &mut Pcg32) -> Tuple {
     let mut tuple = Tuple::new();
     tuple.push(Value::Int(i128::from(numbers.next_u32() % 3)));
-    tuple.push(Value::Int(i128::from(numbers.next_u32() % 300)));
+    tuple.push(Value::Int(i128::from(numbers.next_u32() % 150)));
     tuple.push(Value::Int(i128::from(numbers.next_u32() % 2)));
     tuple
 }
 
-/// How an insert ends whose map answers so, where leaves are left.
+/// How an insert or a removal ends whose map answers so, where leaves are left.
 fn outcome_of(reply: &Reply) -> Option<Outcome> {
     match *reply {
         Reply::Inserted => Some(Outcome::New),
         Reply::Present(value) => Some(Outcome::Present(value)),
+        Reply::Removed(value) => Some(Outcome::Gone(value)),
+        Reply::Absent => Some(Outcome::Absent),
         _ => None,
+    }
+}
+
+/// What is done with a tuple.
+enum Drawn {
+    Insert(u64),
+    Remove,
+    Get,
+}
+
+/// A drawn command: an insert half of the time, else a removal or a get.
+fn draw(numbers: &mut Pcg32) -> Drawn {
+    match numbers.next_u32() % 4 {
+        0 | 1 => Drawn::Insert(numbers.next_u64()),
+        2 => Drawn::Remove,
+        _ => Drawn::Get,
     }
 }
 
@@ -58,7 +77,7 @@ fn got_of(reply: &Reply) -> Option<Got> {
     }
 }
 
-/// One command, in the tree and in the map: an insert of the tuple with this value, or a get of it.
+/// One command of the tuple, in the tree and in the map.
 fn agree(
     rt: &impl Abort,
     world: &mut World,
@@ -66,20 +85,24 @@ fn agree(
     rows: &mut SortedRows,
     schema: &Schema,
     tuple: Tuple,
-    value: Option<u64>,
+    command: Drawn,
 )
     requires { WritesFirst world.old writer.old }
     ensures sizes { world.new.sizes ≡ world.old.sizes }
     ensures writes { WritesFirst world.new writer.new }
 {
     let key = encode(schema, &tuple).expect(rt, "a tuple of the schema");
-    match value {
-        Some(value) => {
+    match command {
+        Drawn::Insert(value) => {
             let told = rows.apply(&Command::Insert(tuple, value));
             let reply = told.expect(rt, "memory");
             assert_eq!(rt; Some(puts(world, writer, &key, value)), outcome_of(&reply));
         }
-        None => {
+        Drawn::Remove => {
+            let reply = rows.apply(&Command::Remove(tuple)).expect(rt, "memory");
+            assert_eq!(rt; Some(takes(world, writer, &key)), outcome_of(&reply));
+        }
+        Drawn::Get => {
             let reply = rows.apply(&Command::Get(tuple)).expect(rt, "memory");
             assert_eq!(rt; Some(finds(world, writer, &key)), got_of(&reply));
         }
@@ -97,6 +120,18 @@ fn free_leaves(world: &World) -> u32
     free
 }
 
+/// How many numbers of leaves wait in limbo.
+fn waiting_leaves(limbo: &Limbo) -> usize {
+    let mut waiting = 0usize;
+    for place in limbo.places() {
+        match place.link {
+            Link::Leaf(_) => waiting = waiting.wrapping_add(1),
+            Link::Node(_) => {}
+        }
+    }
+    waiting
+}
+
 #[test]
 fn drawn_commands_of_one_column_answer_as_a_map(rt: HostRuntime) -> Result<(), Fail> {
     let (mut world, mut writer) = opened(rt.alloc(), &SIZES, 0)?;
@@ -105,8 +140,7 @@ fn drawn_commands_of_one_column_answer_as_a_map(rt: HostRuntime) -> Result<(), F
     let mut numbers = Pcg32::seed_from_u64(1);
     for _ in 0..10000 {
         let tuple = one_column(&mut numbers);
-        let inserts = numbers.next_u32() % 2 == 0 && rows.rows().len() < 1000;
-        let value = inserts.then_some(numbers.next_u64());
+        let command = draw(&mut numbers);
         agree(
             &rt,
             &mut world,
@@ -114,12 +148,13 @@ fn drawn_commands_of_one_column_answer_as_a_map(rt: HostRuntime) -> Result<(), F
             &mut rows,
             &schema,
             tuple,
-            value,
+            command,
         );
     }
-    assert_eq!(rt; rows.rows().len(), 1000);
-    assert_eq!(rt; free_leaves(&world), 24);
-    assert_eq!(rt; writer.end().places().len() < 8, true);
+    let accounted = (free_leaves(&world) as usize)
+        .wrapping_add(rows.rows().len())
+        .wrapping_add(waiting_leaves(&writer.end()));
+    assert_eq!(rt; accounted, 1024);
     Ok(())
 }
 
@@ -131,8 +166,7 @@ fn drawn_commands_of_three_columns_answer_as_a_map(rt: HostRuntime) -> Result<()
     let mut numbers = Pcg32::seed_from_u64(1);
     for _ in 0..10000 {
         let tuple = three_columns(&mut numbers);
-        let inserts = numbers.next_u32() % 2 == 0 && rows.rows().len() < 1000;
-        let value = inserts.then_some(numbers.next_u64());
+        let command = draw(&mut numbers);
         agree(
             &rt,
             &mut world,
@@ -140,11 +174,12 @@ fn drawn_commands_of_three_columns_answer_as_a_map(rt: HostRuntime) -> Result<()
             &mut rows,
             &schema,
             tuple,
-            value,
+            command,
         );
     }
-    assert_eq!(rt; rows.rows().len(), 1000);
-    assert_eq!(rt; free_leaves(&world), 24);
-    assert_eq!(rt; writer.end().places().len() < 8, true);
+    let accounted = (free_leaves(&world) as usize)
+        .wrapping_add(rows.rows().len())
+        .wrapping_add(waiting_leaves(&writer.end()));
+    assert_eq!(rt; accounted, 1024);
     Ok(())
 }

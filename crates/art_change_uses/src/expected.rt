@@ -1,4 +1,4 @@
-//! The steps of inserts that were written down beforehand.
+//! The steps of inserts and removals that were written down beforehand.
 
 /// Insert into the empty anchor.
 pub(crate) const INTO_THE_EMPTY_ANCHOR: &str = "\
@@ -275,5 +275,241 @@ write n4#0[2] := 0x0\n\
 commit anchor\n\
 release n4#0\n\
 release n4#1\n\
+pin 0\n\
+";
+
+/// Remove of the root leaf.
+pub(crate) const OF_THE_ROOT_LEAF: &str = "\
+epoch\n\
+pin 1\n\
+begin anchor\n\
+read anchor[1]\n\
+check anchor\n\
+read leaves#0[0]\n\
+read leaves#0[1]\n\
+read leaves#0[2]\n\
+check anchor\n\
+check anchor\n\
+upgrade anchor\n\
+write anchor[1] := 0x0\n\
+commit anchor\n\
+epoch\n\
+pin 0\n\
+";
+
+/// Remove that leaves a leaf.
+pub(crate) const THAT_LEAVES_A_LEAF: &str = "\
+epoch\n\
+pin 1\n\
+begin anchor\n\
+read anchor[1]\n\
+check anchor\n\
+begin n4#0\n\
+check anchor\n\
+read n4#0[1]\n\
+read n4#0[10]\n\
+read n4#0[12]\n\
+check n4#0\n\
+read leaves#1[0]\n\
+read leaves#1[1]\n\
+read leaves#1[2]\n\
+check n4#0\n\
+read n4#0[2]\n\
+read n4#0[3]\n\
+read n4#0[4]\n\
+read n4#0[5]\n\
+read n4#0[6]\n\
+read n4#0[7]\n\
+read n4#0[8]\n\
+read n4#0[9]\n\
+read n4#0[11]\n\
+read n4#0[13]\n\
+read n4#0[14]\n\
+check anchor\n\
+check n4#0\n\
+upgrade anchor\n\
+upgrade n4#0\n\
+write anchor[1] := 0x1\n\
+commit anchor\n\
+release n4#0\n\
+epoch\n\
+pin 0\n\
+";
+
+/// Remove that leaves an inner node.
+pub(crate) const THAT_LEAVES_AN_INNER_NODE: &str = "\
+epoch\n\
+pin 1\n\
+begin anchor\n\
+read anchor[1]\n\
+check anchor\n\
+begin n4#1\n\
+check anchor\n\
+read n4#1[1]\n\
+read n4#1[10]\n\
+read n4#1[12]\n\
+check n4#1\n\
+read leaves#2[0]\n\
+read leaves#2[1]\n\
+read leaves#2[2]\n\
+check n4#1\n\
+read n4#1[2]\n\
+read n4#1[3]\n\
+read n4#1[4]\n\
+read n4#1[5]\n\
+read n4#1[6]\n\
+read n4#1[7]\n\
+read n4#1[8]\n\
+read n4#1[9]\n\
+read n4#1[11]\n\
+read n4#1[13]\n\
+read n4#1[14]\n\
+begin n4#0\n\
+check n4#1\n\
+read n4#0[1]\n\
+read n4#0[2]\n\
+read n4#0[3]\n\
+read n4#0[4]\n\
+read n4#0[5]\n\
+read n4#0[6]\n\
+read n4#0[7]\n\
+read n4#0[8]\n\
+read n4#0[9]\n\
+read n4#0[10]\n\
+read n4#0[11]\n\
+read n4#0[12]\n\
+read n4#0[13]\n\
+read n4#0[14]\n\
+check anchor\n\
+check n4#1\n\
+check n4#0\n\
+upgrade anchor\n\
+upgrade n4#1\n\
+upgrade n4#0\n\
+write anchor[1] := 0x2\n\
+write n4#0[1] := 0x202\n\
+write n4#0[2] := 0x100000000000000\n\
+commit anchor\n\
+release n4#1\n\
+release n4#0\n\
+epoch\n\
+pin 0\n\
+";
+
+/// Remove of one of three rows.
+pub(crate) const OF_ONE_OF_THREE: &str = "\
+epoch\n\
+pin 1\n\
+begin anchor\n\
+read anchor[1]\n\
+check anchor\n\
+begin n4#0\n\
+check anchor\n\
+read n4#0[1]\n\
+read n4#0[10]\n\
+read n4#0[13]\n\
+check n4#0\n\
+read leaves#2[0]\n\
+read leaves#2[1]\n\
+read leaves#2[2]\n\
+check n4#0\n\
+read n4#0[2]\n\
+read n4#0[3]\n\
+read n4#0[4]\n\
+read n4#0[5]\n\
+read n4#0[6]\n\
+read n4#0[7]\n\
+read n4#0[8]\n\
+read n4#0[9]\n\
+read n4#0[11]\n\
+read n4#0[12]\n\
+read n4#0[14]\n\
+check n4#0\n\
+upgrade n4#0\n\
+write n4#0[1] := 0x2\n\
+write n4#0[10] := 0x102000000000000\n\
+write n4#0[13] := 0x0\n\
+commit n4#0\n\
+epoch\n\
+pin 0\n\
+";
+
+/// Remove that shrinks a Node16.
+pub(crate) const THAT_SHRINKS_A_NODE16: &str = "\
+epoch\n\
+advance\n\
+watch 1\n\
+watch 2\n\
+watch 3\n\
+watch 4\n\
+watch 5\n\
+watch 6\n\
+watch 7\n\
+give leaves#4\n\
+epoch\n\
+pin 3\n\
+begin anchor\n\
+read anchor[1]\n\
+check anchor\n\
+begin n16#0\n\
+check anchor\n\
+read n16#0[1]\n\
+read n16#0[10]\n\
+read n16#0[15]\n\
+check n16#0\n\
+read leaves#3[0]\n\
+read leaves#3[1]\n\
+read leaves#3[2]\n\
+check n16#0\n\
+take n4 word 0\n\
+take n4 word 0 lowest\n\
+read n16#0[2]\n\
+read n16#0[3]\n\
+read n16#0[4]\n\
+read n16#0[5]\n\
+read n16#0[6]\n\
+read n16#0[7]\n\
+read n16#0[8]\n\
+read n16#0[9]\n\
+read n16#0[11]\n\
+read n16#0[12]\n\
+read n16#0[13]\n\
+read n16#0[14]\n\
+read n16#0[16]\n\
+read n16#0[17]\n\
+read n16#0[18]\n\
+read n16#0[19]\n\
+read n16#0[20]\n\
+read n16#0[21]\n\
+read n16#0[22]\n\
+read n16#0[23]\n\
+read n16#0[24]\n\
+read n16#0[25]\n\
+read n16#0[26]\n\
+read n16#0[27]\n\
+check anchor\n\
+check n16#0\n\
+upgrade anchor\n\
+upgrade n16#0\n\
+claim n4#0\n\
+write n4#0[1] := 0x3\n\
+write n4#0[2] := 0x0\n\
+write n4#0[3] := 0x0\n\
+write n4#0[4] := 0x0\n\
+write n4#0[5] := 0x0\n\
+write n4#0[6] := 0x0\n\
+write n4#0[7] := 0x0\n\
+write n4#0[8] := 0x0\n\
+write n4#0[9] := 0x0\n\
+write n4#0[10] := 0x102030000000000\n\
+write n4#0[11] := 0x1\n\
+write n4#0[12] := 0x9\n\
+write n4#0[13] := 0x11\n\
+write n4#0[14] := 0x0\n\
+write anchor[1] := 0x2\n\
+commit anchor\n\
+release n16#0\n\
+release n4#0\n\
+epoch\n\
 pin 0\n\
 ";

@@ -1,4 +1,4 @@
-//! Inserts and gets over a world of one thread: their steps, one after another, and their answers beside a map of rows. Nothing
+//! Inserts, removals and gets over a world of one thread: their steps, one after another, and their answers beside a map of rows. Nothing
 //! stands above this crate.
 #![tactic(auto)]
 

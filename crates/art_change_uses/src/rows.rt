@@ -3,7 +3,7 @@ ghost use Rattle.std.specs.Prelude.{◌≡◌};
 ghost use Rattle.art_change_uses.specs.Writes.{WritesFirst};
 ghost use Rattle.art_step.specs.WordPlaces.{HasFreeWord};
 
-use crate::clients::{finds, opened, puts};
+use crate::clients::{finds, opened, puts, takes};
 use art_cell::{Cell, Layout, Node, Pool};
 use art_change::{Outcome, Writer};
 use art_find::Got;
@@ -68,6 +68,46 @@ fn fills(rt: &impl Abort, world: &mut World, writer: &mut Writer, first: u8, end
         assert_eq!(rt; puts(world, writer, &key, value), Outcome::New);
         assert_eq!(rt; finds(world, writer, &key), Got::Found(value));
     }
+}
+
+/// Rows with the numbers from `first` on before `end` are removed: each had its value, and is absent then.
+fn empties(rt: &impl Abort, world: &mut World, writer: &mut Writer, first: u8, end: u8)
+    requires { WritesFirst world.old writer.old }
+    ensures sizes { world.new.sizes ≡ world.old.sizes }
+    ensures writes { WritesFirst world.new writer.new }
+{
+    let schema = Schema::parse("u8").expect(rt, "a schema");
+    for number in first..end {
+        let key = key_of(rt, &schema, i128::from(number));
+        let value = u64::from(number);
+        assert_eq!(rt; takes(world, writer, &key), Outcome::Gone(value));
+        assert_eq!(rt; finds(world, writer, &key), Got::Absent);
+        assert_eq!(rt; takes(world, writer, &key), Outcome::Absent);
+    }
+}
+
+#[test]
+fn nodes_shrink_at_thirty_six_twelve_three_and_one(rt: HostRuntime) -> Result<(), Fail> {
+    let (mut world, mut writer) = opened(rt.alloc(), &SIZES, 0)?;
+    fills(&rt, &mut world, &mut writer, 0, 60);
+    empties(&rt, &mut world, &mut writer, 0, 23);
+    assert_eq!(rt; root_kind(&world), 5);
+    empties(&rt, &mut world, &mut writer, 23, 24);
+    assert_eq!(rt; root_kind(&world), 4);
+    empties(&rt, &mut world, &mut writer, 24, 47);
+    assert_eq!(rt; root_kind(&world), 4);
+    empties(&rt, &mut world, &mut writer, 47, 48);
+    assert_eq!(rt; root_kind(&world), 3);
+    empties(&rt, &mut world, &mut writer, 48, 56);
+    assert_eq!(rt; root_kind(&world), 3);
+    empties(&rt, &mut world, &mut writer, 56, 57);
+    assert_eq!(rt; root_kind(&world), 2);
+    empties(&rt, &mut world, &mut writer, 57, 59);
+    assert_eq!(rt; root_kind(&world), 1);
+    empties(&rt, &mut world, &mut writer, 59, 60);
+    assert_eq!(rt; world.word(Cell::Anchor, 1), 0);
+    assert_eq!(rt; writer.end().room() > 60, true);
+    Ok(())
 }
 
 #[test]

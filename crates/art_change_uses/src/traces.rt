@@ -1,6 +1,7 @@
-//! The steps of inserts, one after another, are those that were written down.
+//! The steps of inserts and removals, one after another, are those that were written down.
 ghost use Rattle.std.specs.Prelude.{◌≡◌};
-ghost use Rattle.art_change.specs.Inserts.{IsFresh, IsReady};
+ghost use Rattle.art_change.specs.Tries.{IsRoom};
+ghost use Rattle.art_change.specs.Writes.{IsFresh, IsReady};
 ghost use Rattle.art_epoch.specs.Limbo.{places_of};
 ghost use Rattle.art_step.specs.declared.views.View.{View};
 ghost use Rattle.art_world.specs.Stepper.{OnlyStepped, sizes_of, view_of};
@@ -9,7 +10,7 @@ use crate::expected;
 use crate::lines::write_line;
 use arrayvec::ArrayString;
 use art_attempt::Room;
-use art_change::{Insert, step};
+use art_change::{Job, Write, step};
 use art_epoch::Limbo;
 use art_key::{Key, Schema, encode};
 use art_model::{NoMemory, Tuple, Value};
@@ -28,17 +29,20 @@ const SIZES: Sizes = Sizes {
     passes: 8,
 };
 
-/// More text than any insert here has.
+/// A write of a number: its row comes with this value, or goes.
+type Written = (i128, Option<u64>);
+
+/// More text than any write here has.
 type Text = ArrayString<4096>;
 
-/// The steps of an insert of the row, by the first pass.
+/// The steps of a write of the key, by the first pass: its row comes with the value, or goes.
 fn steps_of(
     rt: &impl Abort,
     stepper: &mut Stepper<'_>,
     room: &mut Room,
     limbo: &mut Limbo,
     key: &Key,
-    value: u64,
+    value: Option<u64>,
 ) -> Text
     requires sizes { room.old.sizes ≡ sizes_of stepper.old }
     requires ready { IsReady (sizes_of stepper.old) (view_of stepper.old) 0 (places_of limbo.old) room.old.stock }
@@ -46,18 +50,43 @@ fn steps_of(
     ensures sizes { room.new.sizes ≡ sizes_of stepper.new }
     ensures ready { IsReady (sizes_of stepper.new) (view_of stepper.new) 0 (places_of limbo.new) room.new.stock }
 {
-    room.set(key, value);
-    let mut insert = Insert::new(0, 1_000_000, room, limbo);
+    match value {
+        Some(value) => {
+            room.set(key, value);
+            run(rt, stepper, Job::Insert, room, limbo)
+        }
+        None => {
+            room.set_gone(key);
+            run(rt, stepper, Job::Remove, room, limbo)
+        }
+    }
+}
+
+/// The steps of a write of what the room has, by the first pass.
+fn run(
+    rt: &impl Abort,
+    stepper: &mut Stepper<'_>,
+    job: Job,
+    room: &mut Room,
+    limbo: &mut Limbo,
+) -> Text
+    requires room { IsRoom (sizes_of stepper.old) job room.old }
+    requires ready { IsReady (sizes_of stepper.old) (view_of stepper.old) 0 (places_of limbo.old) room.old.stock }
+    ensures only { OnlyStepped stepper.old stepper.new }
+    ensures sizes { room.new.sizes ≡ sizes_of stepper.new }
+    ensures ready { IsReady (sizes_of stepper.new) (view_of stepper.new) 0 (places_of limbo.new) room.new.stock }
+{
+    let mut write = Write::new(job, 0, 1_000_000, room, limbo);
     let mut text = Text::new();
     loop {
-        if let Some(outcome) = insert.ended() {
+        if let Some(outcome) = write.ended() {
             let _ = outcome;
             return text;
         }
-        if let Some(asked) = insert.next(room, limbo) {
+        if let Some(asked) = write.next(room, limbo) {
             write_line(&mut text, asked).expect(rt, "the text has room");
         }
-        step(stepper, &mut insert, room, limbo);
+        step(stepper, &mut write, room, limbo);
     }
 }
 
@@ -76,19 +105,19 @@ fn key_of(rt: &impl Abort, schema: &Schema, number: i128) -> Key {
     encode(schema, &tuple).expect(rt, "a number of the column")
 }
 
-/// The steps of the last of these inserts, one after another into an empty tree.
+/// The steps of the last of these writes, one after another, from an empty tree on.
 fn last_steps(
     rt: &impl Abort,
     alloc: Global,
     schema: &str,
-    rows: &[(i128, u64)],
+    writes: &[Written],
 ) -> Result<Text, NoMemory> {
     let mut world = World::open(alloc, &SIZES, 0)?;
     let schema = Schema::parse(schema).expect(rt, "a schema");
     let (mut room, mut limbo) = empty(&SIZES);
     let mut stepper = world.at(0);
     let mut text = Text::new();
-    for (number, value) in rows {
+    for (number, value) in writes {
         let key = key_of(rt, &schema, *number);
         text = steps_of(rt, &mut stepper, &mut room, &mut limbo, &key, *value);
     }
@@ -97,28 +126,33 @@ fn last_steps(
 
 #[test]
 fn an_insert_into_the_empty_anchor(rt: HostRuntime) -> Result<(), Fail> {
-    let text = last_steps(&rt, rt.alloc(), "u8", &[(1, 1)])?;
+    let text = last_steps(&rt, rt.alloc(), "u8", &[(1, Some(1))])?;
     assert_eq!(rt; text.as_str(), expected::INTO_THE_EMPTY_ANCHOR);
     Ok(())
 }
 
 #[test]
 fn an_insert_of_a_key_that_is_there(rt: HostRuntime) -> Result<(), Fail> {
-    let text = last_steps(&rt, rt.alloc(), "u8", &[(1, 1), (1, 9)])?;
+    let text = last_steps(&rt, rt.alloc(), "u8", &[(1, Some(1)), (1, Some(9))])?;
     assert_eq!(rt; text.as_str(), expected::OF_A_KEY_THAT_IS_THERE);
     Ok(())
 }
 
 #[test]
 fn an_insert_where_another_leaf_stands(rt: HostRuntime) -> Result<(), Fail> {
-    let text = last_steps(&rt, rt.alloc(), "u8", &[(1, 1), (5, 5)])?;
+    let text = last_steps(&rt, rt.alloc(), "u8", &[(1, Some(1)), (5, Some(5))])?;
     assert_eq!(rt; text.as_str(), expected::WHERE_ANOTHER_LEAF_STANDS);
     Ok(())
 }
 
 #[test]
 fn an_insert_at_a_free_entry(rt: HostRuntime) -> Result<(), Fail> {
-    let text = last_steps(&rt, rt.alloc(), "u8", &[(1, 1), (5, 5), (3, 3)])?;
+    let text = last_steps(
+        &rt,
+        rt.alloc(),
+        "u8",
+        &[(1, Some(1)), (5, Some(5)), (3, Some(3))],
+    )?;
     assert_eq!(rt; text.as_str(), expected::AT_A_FREE_ENTRY);
     Ok(())
 }
@@ -129,7 +163,13 @@ fn an_insert_into_a_full_node4(rt: HostRuntime) -> Result<(), Fail> {
         &rt,
         rt.alloc(),
         "u8",
-        &[(1, 1), (2, 2), (3, 3), (4, 4), (5, 5)],
+        &[
+            (1, Some(1)),
+            (2, Some(2)),
+            (3, Some(3)),
+            (4, Some(4)),
+            (5, Some(5)),
+        ],
     )?;
     assert_eq!(rt; text.as_str(), expected::INTO_A_FULL_NODE4);
     Ok(())
@@ -137,7 +177,75 @@ fn an_insert_into_a_full_node4(rt: HostRuntime) -> Result<(), Fail> {
 
 #[test]
 fn an_insert_where_the_prefix_differs(rt: HostRuntime) -> Result<(), Fail> {
-    let text = last_steps(&rt, rt.alloc(), "u16", &[(257, 1), (258, 2), (515, 3)])?;
+    let text = last_steps(
+        &rt,
+        rt.alloc(),
+        "u16",
+        &[(257, Some(1)), (258, Some(2)), (515, Some(3))],
+    )?;
     assert_eq!(rt; text.as_str(), expected::WHERE_THE_PREFIX_DIFFERS);
+    Ok(())
+}
+
+#[test]
+fn a_removal_of_the_root_leaf(rt: HostRuntime) -> Result<(), Fail> {
+    let text = last_steps(&rt, rt.alloc(), "u8", &[(1, Some(1)), (1, None)])?;
+    assert_eq!(rt; text.as_str(), expected::OF_THE_ROOT_LEAF);
+    Ok(())
+}
+
+#[test]
+fn a_removal_that_leaves_a_leaf(rt: HostRuntime) -> Result<(), Fail> {
+    let text = last_steps(
+        &rt,
+        rt.alloc(),
+        "u8",
+        &[(1, Some(1)), (5, Some(5)), (5, None)],
+    )?;
+    assert_eq!(rt; text.as_str(), expected::THAT_LEAVES_A_LEAF);
+    Ok(())
+}
+
+#[test]
+fn a_removal_that_leaves_an_inner_node(rt: HostRuntime) -> Result<(), Fail> {
+    let text = last_steps(
+        &rt,
+        rt.alloc(),
+        "u16",
+        &[(257, Some(1)), (258, Some(2)), (515, Some(3)), (515, None)],
+    )?;
+    assert_eq!(rt; text.as_str(), expected::THAT_LEAVES_AN_INNER_NODE);
+    Ok(())
+}
+
+#[test]
+fn a_removal_of_one_of_three_rows(rt: HostRuntime) -> Result<(), Fail> {
+    let text = last_steps(
+        &rt,
+        rt.alloc(),
+        "u8",
+        &[(1, Some(1)), (2, Some(2)), (3, Some(3)), (3, None)],
+    )?;
+    assert_eq!(rt; text.as_str(), expected::OF_ONE_OF_THREE);
+    Ok(())
+}
+
+#[test]
+fn a_removal_that_shrinks_a_node16(rt: HostRuntime) -> Result<(), Fail> {
+    let text = last_steps(
+        &rt,
+        rt.alloc(),
+        "u8",
+        &[
+            (1, Some(1)),
+            (2, Some(2)),
+            (3, Some(3)),
+            (4, Some(4)),
+            (5, Some(5)),
+            (5, None),
+            (4, None),
+        ],
+    )?;
+    assert_eq!(rt; text.as_str(), expected::THAT_SHRINKS_A_NODE16);
     Ok(())
 }

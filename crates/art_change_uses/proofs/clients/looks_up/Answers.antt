@@ -1,5 +1,5 @@
 use Rattle.std.proofs.Common.{◌∙◌, sym, subst}
-use Rattle.art_change.specs.Inserts.{IsReady}
+use Rattle.art_change.specs.Writes.{IsReady}
 use Rattle.art_change_uses.proofs.Ready.{looked_ready}
 use Rattle.art_change_uses.proofs.clients.looks_up.Goals as goal
 use Rattle.art_epoch.specs.Limbo.{places_of}

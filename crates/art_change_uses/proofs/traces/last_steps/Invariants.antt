@@ -1,5 +1,5 @@
 use Rattle.std.proofs.Common.{◌≡◌}
-use Rattle.art_change.specs.Inserts.{IsReady}
+use Rattle.art_change.specs.Writes.{IsReady}
 use Rattle.art_change_uses.proofs.traces.last_steps.Given as goal
 use Rattle.art_epoch.specs.Limbo.{places_of}
 use Rattle.art_world.specs.Stepper.{sizes_of, view_of}

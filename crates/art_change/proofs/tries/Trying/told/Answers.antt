@@ -1,0 +1,22 @@
+use Rattle.std.proofs.Common.{◌≡◌, Some, subst}
+use Rattle.art_attempt.specs.Asking.{Answers}
+use Rattle.art_change.proofs.EitherKind.{erases_on, inserts_on}
+use Rattle.art_change.proofs.tries.Trying.told.Goals as goal
+use Rattle.art_change.specs.Tries.{Fits, asks, deed_at}
+use Rattle.art_change.specs.declared.tries.Trying.{Trying as TryingOf}
+
+pub returns-in-Inserting-clause-fits : goal.returns-in-Inserting-clause-fits
+returns-in-Inserting-clause-fits c z u v w job asked fits is row =
+    let r = c.args.room.now in
+    let f = subst (λ (t : TryingOf). Fits z u job t r v) c.in-Inserting.is fits in
+    let i = subst (λ (t : TryingOf). asks t r ≡ Some asked) c.in-Inserting.is is in
+    let a = subst (λ (t : TryingOf). Answers z (deed_at t r) r.change asked c.args.answer v w) c.in-Inserting.is row in
+    inserts_on z u r v c.told.new.room w c.in-Inserting.inserting c.told.new.self job f (λ g. c.told.ensures.fits z u v w asked g i a)
+
+pub returns-in-Erasing-clause-fits : goal.returns-in-Erasing-clause-fits
+returns-in-Erasing-clause-fits c z u v w job asked fits is row =
+    let r = c.args.room.now in
+    let f = subst (λ (t : TryingOf). Fits z u job t r v) c.in-Erasing.is fits in
+    let i = subst (λ (t : TryingOf). asks t r ≡ Some asked) c.in-Erasing.is is in
+    let a = subst (λ (t : TryingOf). Answers z (deed_at t r) r.change asked c.args.answer v w) c.in-Erasing.is row in
+    erases_on z u r v c.told-in-Erasing.new.room w c.in-Erasing.erasing c.told-in-Erasing.new.self job f (λ g. c.told-in-Erasing.ensures.fits z u v w asked g i a)

@@ -1,0 +1,29 @@
+use Rattle.std.proofs.Common.{arith}
+use Rattle.art_change.proofs.writes.Write.go_on.Goals as goal
+
+pub returns-then-self-eq0-clause-left : goal.returns-then-self-eq0-clause-left
+returns-then-self-eq0-clause-left c qs = let few = c.close.ensures.left qs in omega (arith, few)
+
+pub returns-then-self-eq0-clause-fits : goal.returns-then-self-eq0-clause-fits
+returns-then-self-eq0-clause-fits c z u opened v ps qs room frame so counted =
+    c.close.ensures.fits z u opened v ps qs room frame (so, c.if-self-eq0.true) counted
+
+pub returns-clause-left : goal.returns-clause-left
+returns-clause-left c qs =
+    let few = c.new-self.ensures.few c.args.self.now.left in
+    omega (arith, few)
+
+pub returns-clause-fits : goal.returns-clause-fits
+returns-clause-fits c z u opened v ps qs room frame so counted = record {
+  room = room;
+  stage = (
+    record {
+      opened = opened;
+      frame = frame;
+      fits = c.new-self.ensures.fits z opened v room so;
+      going = c.new-self.ensures.going;
+      counted = counted;
+    },
+    λ is. let some = c.if-self-eq0.false in omega (arith, some),
+  );
+}

@@ -1,0 +1,89 @@
+use Rattle.std.proofs.Common.{◌∙◌, ℕ, ◌<◌, ap, sym, subst}
+use Rattle.art_change.proofs.Parts.{attempt_told, frame_told}
+use Rattle.art_change.proofs.writes.Write.told.Goals as goal
+use Rattle.art_attempt.specs.Asking.{Answers as AttemptAnswers}
+use Rattle.art_change.specs.Tries.{asks as attempt_asks}
+use Rattle.art_attempt.specs.declared.asked.Answer.{Answer as AttemptAnswer}
+use Rattle.art_change.specs.Writes.{StageFits, asks_at, deed_at, left_at, steps_left}
+use Rattle.art_change.specs.declared.writes.Stage.{Stage as StageOf}
+use Rattle.art_epoch.specs.Asking.{Answers as FrameAnswers}
+use Rattle.art_epoch.specs.Limbo.{places_of}
+use Rattle.art_frame.specs.Closings.{asks as closing_asks}
+
+pub try_told-requires-clause-told : goal.try_told-requires-clause-told
+try_told-requires-clause-told c =
+    let m = c.args.self.now in
+    let r = c.args.room.now in
+    let q = c.requires in
+    let d = deed_at m r in
+    let qs = places_of c.args.limbo.now in
+    let stage = subst (λ (s : StageOf). StageFits q.0 q.1 q.4 s m r qs q.2) c.in-Trying.is q.6.stage in
+    let at = sym (ap (λ (s : StageOf). asks_at s m r qs) c.in-Trying.is) ∙ q.7 in
+    let k = attempt_told q.0 d r.change q.2 q.3 (attempt_asks m.trying r) q.5 c.args.answer at q.8 in
+    (q.0, q.1, q.2, q.3, q.4, qs, k.0, q.6.room, stage.0, k.1, subst (λ (a : AttemptAnswer). AttemptAnswers q.0 d r.change k.0 a q.2 q.3) (sym c.attempt_in.ensures) k.2)
+
+pub close_told-requires-clause-told : goal.close_told-requires-clause-told
+close_told-requires-clause-told c =
+    let m = c.args.self.now in
+    let r = c.args.room.now in
+    let q = c.requires in
+    let qs = places_of c.args.limbo.now in
+    let stage = subst (λ (s : StageOf). StageFits q.0 q.1 q.4 s m r qs q.2) c.in-Closing.is q.6.stage in
+    let at = sym (ap (λ (s : StageOf). asks_at s m r qs) c.in-Closing.is) ∙ q.7 in
+    let k = frame_told q.0 (deed_at m r) r.change q.2 q.3 (closing_asks m.closing r.stock) q.5 c.args.answer at q.8 in
+    (q.0, q.1, q.2, q.3, q.4, k.0, q.6.room, stage.0, k.1, subst (λ (x : ℕ). FrameAnswers q.0 k.0 x q.2 q.3) (sym c.word_in-in-Closing.ensures) k.2)
+
+pub returns-in-Trying-clause-fits : goal.returns-in-Trying-clause-fits
+returns-in-Trying-clause-fits c z u v w ps asked fits is row =
+    let m = c.args.self.now in
+    let r = c.args.room.now in
+    let d = deed_at m r in
+    let qs = places_of c.args.limbo.now in
+    let stage = subst (λ (s : StageOf). StageFits z u ps s m r qs v) c.in-Trying.is fits.stage in
+    let at = sym (ap (λ (s : StageOf). asks_at s m r qs) c.in-Trying.is) ∙ is in
+    let k = attempt_told z d r.change v w (attempt_asks m.trying r) asked c.args.answer at row in
+    c.try_told.ensures.fits z u v w ps qs k.0 fits.room stage.0 k.1 (subst (λ (a : AttemptAnswer). AttemptAnswers z d r.change k.0 a v w) (sym c.attempt_in.ensures) k.2)
+
+pub returns-in-Closing-clause-fits : goal.returns-in-Closing-clause-fits
+returns-in-Closing-clause-fits c z u v w ps asked fits is row =
+    let m = c.args.self.now in
+    let r = c.args.room.now in
+    let qs = places_of c.args.limbo.now in
+    let stage = subst (λ (s : StageOf). StageFits z u ps s m r qs v) c.in-Closing.is fits.stage in
+    let at = sym (ap (λ (s : StageOf). asks_at s m r qs) c.in-Closing.is) ∙ is in
+    let k = frame_told z (deed_at m r) r.change v w (closing_asks m.closing r.stock) asked c.args.answer at row in
+    c.close_told.ensures.fits z u v w ps k.0 fits.room stage.0 k.1 (subst (λ (x : ℕ). FrameAnswers z k.0 x v w) (sym c.word_in-in-Closing.ensures) k.2)
+
+pub try_told-requires-clause-turn : goal.try_told-requires-clause-turn
+try_told-requires-clause-turn c =
+    let q = c.requires in
+    (subst (λ (s : StageOf). StageFits q.0 q.1 q.4 s c.args.self.now c.args.room.now (places_of c.args.limbo.now) q.2) c.in-Trying.is q.6.stage).1
+
+pub returns-in-Opening-clause-left : goal.returns-in-Opening-clause-left
+returns-in-Opening-clause-left c =
+    let m = c.args.self.now in
+    let r = c.args.room.now in
+    let qs = places_of c.args.limbo.now in
+    subst (λ (s : StageOf). steps_left c.open_told.new.self c.args.room.now (places_of c.open_told.new.limbo) < left_at s m r qs) (sym c.in-Opening.is) c.open_told.ensures.left
+
+pub returns-in-Trying-clause-left : goal.returns-in-Trying-clause-left
+returns-in-Trying-clause-left c =
+    let m = c.args.self.now in
+    let r = c.args.room.now in
+    let qs = places_of c.args.limbo.now in
+    subst (λ (s : StageOf). steps_left c.try_told.new.self c.try_told.new.room (places_of c.args.limbo.now) < left_at s m r qs) (sym c.in-Trying.is) (c.try_told.ensures.left (places_of c.args.limbo.now))
+
+pub returns-in-Closing-clause-left : goal.returns-in-Closing-clause-left
+returns-in-Closing-clause-left c =
+    let m = c.args.self.now in
+    let r = c.args.room.now in
+    let qs = places_of c.args.limbo.now in
+    subst (λ (s : StageOf). steps_left c.close_told.new.self c.close_told.new.room (places_of c.close_told.new.limbo) < left_at s m r qs) (sym c.in-Closing.is) c.close_told.ensures.left
+
+pub returns-in-Ended-clause-left : goal.returns-in-Ended-clause-left
+returns-in-Ended-clause-left c =
+    let m = c.args.self.now in
+    let r = c.args.room.now in
+    let q = c.requires in
+    let at = sym (ap (λ (s : StageOf). asks_at s m r (places_of c.args.limbo.now)) c.in-Ended.is) ∙ q.7 in
+    absurd (cc)

@@ -1,0 +1,51 @@
+use Rattle.std.proofs.Common.{◌∙◌, ℕ, ◌+◌, ◌-◌, ◌<◌, ◌≤◌, ap, sym, subst, arith}
+use Rattle.art_change.proofs.Frames.{still_counted}
+use Rattle.art_change.proofs.EitherKind.{ended_steps, ends_as, try_counts, try_room}
+use Rattle.art_change.specs.Tries.{steps_left}
+use Rattle.art_change.proofs.writes.Write.try_told.Goals as goal
+
+pub returns-in-None-clause-fits : goal.returns-in-None-clause-fits
+returns-in-None-clause-fits c z u v w ps qs asked room t is row =
+    let m = c.args.self.now in
+    let r = c.args.room.now in
+    let fits = c.told.ensures.fits z t.opened v w m.job asked t.fits is row in
+    let made = try_counts z t.opened r v w asked c.args.answer m.job m.trying row t.fits is in
+    let left = c.saturating_sub-self.ensures ∙ ap (λ (n : ℕ). m.left - n) c.steps_in.ensures in
+    let counted = still_counted (t.opened.steps + m.turns) v.steps w.steps m.left _ t.counted made in
+    c.turn.ensures.fits z u w ps qs (try_room z t.opened c.told.new.room w m.job c.told.new.self fits) (record {
+      opened = t.opened;
+      frame = t.frame;
+      fits = fits;
+      going = sym c.ended.ensures.at ∙ c.in-None.is;
+      counted = subst (λ (n : ℕ). t.opened.steps + m.turns ≤ w.steps + n) (sym left) counted;
+    })
+
+pub returns-in-Some-clause-fits : goal.returns-in-Some-clause-fits
+returns-in-Some-clause-fits c z u v w ps qs asked room t is row =
+    let m = c.args.self.now in
+    let r = c.args.room.now in
+    let fits = c.told.ensures.fits z t.opened v w m.job asked t.fits is row in
+    let made = try_counts z t.opened r v w asked c.args.answer m.job m.trying row t.fits is in
+    let left = c.saturating_sub-self.ensures ∙ ap (λ (n : ℕ). m.left - n) c.steps_in.ensures in
+    let counted = still_counted (t.opened.steps + m.turns) v.steps w.steps m.left _ t.counted made in
+    c.tried.ensures.fits z u t.opened w ps qs (try_room z t.opened c.told.new.room w m.job c.told.new.self fits) t.frame
+    (ends_as z t.opened c.told.new.room w m.job c.told.new.self c.in-Some.tried fits (sym c.ended.ensures.at ∙ c.in-Some.is))
+    (subst (λ (n : ℕ). t.opened.steps + m.turns ≤ w.steps + n) (sym left) counted)
+
+pub returns-in-None-clause-left : goal.returns-in-None-clause-left
+returns-in-None-clause-left c qs =
+    let m = c.args.self.now in
+    let left = c.saturating_sub-self.ensures ∙ ap (λ (n : ℕ). m.left - n) c.steps_in.ensures in
+    let less = subst (λ (n : ℕ). steps_left n c.told.new.self < steps_left m.left m.trying) (sym left) (c.told.ensures.left m.left c.requires.turn) in
+    let few = c.turn.ensures.left qs in
+    omega (arith, less, few)
+
+pub returns-in-Some-clause-left : goal.returns-in-Some-clause-left
+returns-in-Some-clause-left c qs =
+    let m = c.args.self.now in
+    let t = c.told.new.self in
+    let left = c.saturating_sub-self.ensures ∙ ap (λ (n : ℕ). m.left - n) c.steps_in.ensures in
+    let less = subst (λ (n : ℕ). steps_left n t < steps_left m.left m.trying) (sym left) (c.told.ensures.left m.left c.requires.turn) in
+    let same = ended_steps c.saturating_sub-self.result t c.in-Some.tried (sym c.ended.ensures.at ∙ c.in-Some.is) in
+    let few = c.tried.ensures.left qs in
+    omega (arith, less, few, same)

@@ -1,0 +1,224 @@
+-- What a write asks, and what it knows between two of its steps: its opening, its attempts, its close.
+use Rattle.std.specs.Prelude.{◌≡◌, ℕ, ◌+◌, ◌<◌, ◌≤◌, ◌==◌, true, false, List, [], length, Option, Some, None, if◌then◌else◌}
+use Rattle.arrayvec.specs.ArrayVec.{ArrayVec}
+use Rattle.std.specs.Option.{option_map}
+use Rattle.art_attempt.specs.Inserting.{present, tries_left}
+use Rattle.art_attempt.specs.declared.rooms.Room.{Room}
+use Rattle.art_change.specs.Tries as tries
+use Rattle.art_change.specs.Tries.{EndFits, EndsSo, HasHand, IsRoom, key_of, value_of}
+use Rattle.art_change.specs.declared.asked.Asked.{Asked}
+use Rattle.art_change.specs.declared.asked.Asked.TheVariants as asked
+use Rattle.art_change.specs.declared.tries.Job.{Job}
+use Rattle.art_change.specs.declared.tries.Job.TheVariants as job
+use Rattle.art_change.specs.declared.tries.Tried.{Tried}
+use Rattle.art_change.specs.declared.tries.Tried.TheVariants as tried
+use Rattle.art_change.specs.declared.tries.Trying.{Trying}
+use Rattle.art_change.specs.declared.writes.Outcome.{Outcome}
+use Rattle.art_change.specs.declared.writes.Outcome.TheVariants.{New, Present, Gone, Absent, Full, Exhausted, Overlaps, TooMany, Busy, Crowded}
+use Rattle.art_change.specs.declared.writes.Stage.{Stage}
+use Rattle.art_change.specs.declared.writes.Stage.TheVariants as stage
+use Rattle.art_change.specs.declared.writes.Write.{Write}
+use Rattle.art_change.specs.declared.writers.Writer.{Writer}
+use Rattle.art_epoch.specs.Limbo.{IsLimbo, places_of}
+use Rattle.art_epoch.specs.Pins.{MayPin}
+use Rattle.art_epoch.specs.declared.limbo.Place.{Place}
+use Rattle.art_erase.specs.Erasing.{absent}
+use Rattle.art_frame.specs.Closings as closings
+use Rattle.art_frame.specs.Closings.{ClosingFits}
+use Rattle.art_frame.specs.Openings as openings
+use Rattle.art_frame.specs.Openings.{IsCrowded, IsOpened, MayOpen, OpeningFits}
+use Rattle.art_frame.specs.Stocks.{first_in}
+use Rattle.art_frame.specs.declared.stocks.Stock.{Stock}
+use Rattle.art_insert.specs.Puts.{inserted}
+use Rattle.art_insert.specs.declared.leaves.NewLeaf.{NewLeaf}
+use Rattle.art_plan.specs.declared.changes.Change.{Change}
+use Rattle.art_remove.specs.Removals.{removed}
+use Rattle.art_remove.specs.declared.leaves.OldLeaf.{OldLeaf}
+use Rattle.art_step.specs.Events.{SeesEvent}
+use Rattle.art_step.specs.Tokens.{links_of}
+use Rattle.art_step.specs.declared.deeds.Deed.{Deed}
+use Rattle.art_step.specs.declared.views.Sizes.{Sizes}
+use Rattle.art_step.specs.declared.views.View.{View}
+
+-- ---- what it asks
+
+abbrev pub asks_at : Stage → Write → Room → List Place → Option Asked
+asks_at stage.Opening m r ps = option_map asked.Frame (openings.asks m.opening ps)
+asks_at stage.Trying m r ps = option_map asked.Attempt (tries.asks m.trying r)
+asks_at stage.Closing m r ps = option_map asked.Frame (closings.asks m.closing r.stock)
+asks_at stage.Ended m r ps = None
+
+-- what the check of a place may tell
+abbrev pub deed_at : Write → Room → Deed
+deed_at m r = tries.deed_at m.trying r
+
+-- the next step, where ps wait in limbo
+abbrev pub asks : Write → Room → List Place → Option Asked
+asks m r ps = asks_at m.stage m r ps
+
+abbrev pub outcome_at : Stage → Outcome → Option Outcome
+outcome_at stage.Ended o = Some o
+outcome_at s o = None
+
+-- how it ended, if it has
+abbrev pub ended_at : Write → Option Outcome
+ended_at m = outcome_at m.stage m.outcome
+
+-- ---- how many steps are left
+
+-- a close takes at most seven
+abbrev pub left_at : Stage → Write → Room → List Place → ℕ
+left_at stage.Opening m r ps = openings.steps_left m.opening ps + tries_left m.left + 7
+left_at stage.Trying m r ps = tries.steps_left m.left m.trying + 7
+left_at stage.Closing m r ps = closings.steps_left m.closing r.stock
+left_at stage.Ended m r ps = 0
+
+-- at most so many steps come, where ps wait in limbo
+abbrev pub steps_left : Write → Room → List Place → ℕ
+steps_left m r ps = left_at m.stage m r ps
+
+-- so many in all, of so many passes, in so many turns
+abbrev pub most_steps : ℕ → ℕ → List Place → ℕ
+most_steps turns passes ps = turns + passes + length ps + 318
+
+-- attempts that come anew, where so many turns are left after one that ended so
+abbrev pub ended_left : ℕ → Tried → ℕ
+ended_left left tried.Anew = tries_left left
+ended_left left e = 0
+
+-- ---- how it ends
+
+-- what waits after the change with a label: the words of what it unlinked, where it was made
+abbrev pub gone_by : Outcome → Change → List ℕ
+gone_by New c = c.unlinked.items
+gone_by (Gone value) c = c.unlinked.items
+gone_by o c = []
+
+-- a refusal at the last turn is none: the turns were used
+abbrev pub or_busy : ℕ → Outcome → Outcome
+or_busy left o = if left == 0 then Busy else o
+
+-- how the write ends by how an attempt did, if it does not try anew
+abbrev pub outcome_of : ℕ → Tried → Option Outcome
+outcome_of left tried.New = Some New
+outcome_of left (tried.Present stands) = Some (Present stands)
+outcome_of left (tried.Gone value) = Some (Gone value)
+outcome_of left tried.Absent = Some Absent
+outcome_of left (tried.Full pool) = Some (or_busy left (Full pool))
+outcome_of left (tried.Exhausted c) = Some (Exhausted c)
+outcome_of left tried.Overlaps = Some (or_busy left Overlaps)
+outcome_of left tried.TooMany = Some (or_busy left TooMany)
+outcome_of left tried.Anew = None
+
+-- a row with this key and this value, and a leaf that had them
+abbrev pub row_of : ArrayVec ℕ → ℕ → NewLeaf
+row_of k value = record { number = 0; key = k; value = value }
+
+abbrev pub leaf_of : ArrayVec ℕ → ℕ → OldLeaf
+leaf_of k value = record { number = 0; key = k; value = value }
+
+-- its event, if it made one: of a write of this key, and of this value where a row comes
+abbrev pub told_by : Outcome → Job → ArrayVec ℕ → ℕ → Option Deed
+told_by New job.Insert k value = Some (inserted (row_of k value))
+told_by (Present stands) job.Insert k value = Some (present (row_of k value) stands)
+told_by (Gone had) job.Remove k value = Some (removed (leaf_of k had))
+told_by Absent job.Remove k value = Some (absent (leaf_of k value))
+told_by o j k value = None
+
+-- how it stands when the last attempt has ended, of a pass that had the view u when it was pinned; so many turns are left
+abbrev pub HasOutcome : Sizes → View → Job → Trying → Room → Outcome → ℕ → View → Type 0
+HasOutcome z u j t r New left v = EndFits z u j t r tried.New v
+HasOutcome z u j t r (Present stands) left v = EndFits z u j t r (tried.Present stands) v
+HasOutcome z u j t r (Gone value) left v = EndFits z u j t r (tried.Gone value) v
+HasOutcome z u j t r Absent left v = EndFits z u j t r tried.Absent v
+HasOutcome z u j t r (Full pool) left v = EndFits z u j t r (tried.Full pool) v
+HasOutcome z u j t r (Exhausted c) left v = EndFits z u j t r (tried.Exhausted c) v
+HasOutcome z u j t r Overlaps left v = EndFits z u j t r tried.Overlaps v
+HasOutcome z u j t r TooMany left v = EndFits z u j t r tried.TooMany v
+HasOutcome z u j t r Busy left v = EndsSo z u j r v × (left ≡ 0)
+HasOutcome z u j t r (Crowded b) left v = ⊥
+
+-- ---- what it knows, of a pass that had the view u when it began, where ps waited
+
+pub record MayWrite (z : Sizes) (u : View) (own : ℕ) (j : Job) (ps : List Place) (r : Room) : Type 0 where
+  pub frame : MayOpen z u own z.passes ps
+  pub room : IsRoom z j r
+  pub has : HasHand z j u r
+
+pub record IsOpening (z : Sizes) (u : View) (ps : List Place) (m : Write) (r : Room) (qs : List Place) (v : View) : Type 0 where
+  pub opening : OpeningFits z u ps m.opening qs v
+  pub going : openings.ended_at m.opening ≡ None
+  pub free : u.held ≡ []
+  pub has : HasHand z m.job u r
+  pub full : m.left ≡ m.turns
+
+-- the pass was pinned, and attempts go on; so many turns are left at least
+pub record IsTrying (z : Sizes) (u : View) (ps : List Place) (m : Write) (r : Room) (qs : List Place) (v : View) : Type 0 where
+  pub opened : View
+  pub frame : IsOpened z u opened ps qs
+  pub fits : tries.Fits z opened m.job m.trying r v
+  pub going : tries.ended_at m.trying ≡ None
+  pub counted : opened.steps + m.turns ≤ v.steps + m.left
+
+-- a turn is left, where nothing is held
+abbrev pub HasTurn : Write → Type 0
+HasTurn m = tries.is_free m.trying ≡ true → 0 < m.left
+
+-- the last attempt has ended, when these numbers were in hand and those places waited
+pub record IsClosing (z : Sizes) (u : View) (ps : List Place) (m : Write) (r : Room) (qs : List Place) (v : View) : Type 0 where
+  pub opened : View
+  pub ended : View
+  pub stock : Stock
+  pub waiting : List Place
+  pub frame : IsOpened z u opened ps waiting
+  pub outcome : HasOutcome z opened m.job m.trying (record r { stock = stock }) m.outcome m.left ended
+  pub counted : opened.steps + m.turns ≤ ended.steps + m.left
+  pub fits : ClosingFits z (key_of m.job r).items (value_of m.job r) ended waiting (links_of (gone_by m.outcome r.change)) m.closing qs r.stock v
+
+-- limbo was crowded, or the close has ended
+abbrev pub IsDone : Sizes → View → List Place → Outcome → Write → Room → List Place → View → Type 0
+IsDone z u ps (Crowded b) m r qs v = IsCrowded z u v ps qs b × (u.held ≡ []) × HasHand z m.job u r
+IsDone z u ps o m r qs v = IsClosing z u ps m r qs v × (closings.is_ended m.closing ≡ true)
+
+abbrev pub StageFits : Sizes → View → List Place → Stage → Write → Room → List Place → View → Type 0
+StageFits z u ps stage.Opening m r qs v = IsOpening z u ps m r qs v
+StageFits z u ps stage.Trying m r qs v = IsTrying z u ps m r qs v × HasTurn m
+StageFits z u ps stage.Closing m r qs v = IsClosing z u ps m r qs v × (closings.is_ended m.closing ≡ false)
+StageFits z u ps stage.Ended m r qs v = IsDone z u ps m.outcome m r qs v
+
+pub record Fits (z : Sizes) (u : View) (ps : List Place) (m : Write) (r : Room) (qs : List Place) (v : View) : Type 0 where
+  pub room : IsRoom z m.job r
+  pub stage : StageFits z u ps m.stage m r qs v
+
+-- ---- what a client sees
+
+-- an idle pass that holds nothing and has nothing in hand, where ps wait in limbo
+pub record IsReady (z : Sizes) (u : View) (own : ℕ) (ps : List Place) (s : Stock) : Type 0 where
+  pub frame : MayOpen z u own z.passes ps
+  pub hand : u.hand ≡ []
+  pub stock : first_in s ≡ None
+
+-- a pass that made no step yet
+pub record IsFresh (z : Sizes) (u : View) (own : ℕ) : Type 0 where
+  pub own_is : own ≡ u.pass
+  pub inside : own < z.passes
+  pub may : MayPin u
+  pub hand : u.hand ≡ []
+  pub limbo : u.limbo ≡ []
+
+-- a pass that is ready, of a table with so many numbers
+pub record IsWriter (z : Sizes) (u : View) (w : Writer) : Type 0 where
+  pub sizes : w.room.sizes ≡ z
+  pub ready : IsReady z u w.own (places_of w.limbo) w.room.stock
+
+-- it ended so, with the ground of its outcome: as a machine of this job has it that was run to its end
+abbrev pub HasGround : Sizes → View → Job → List Place → Outcome → Room → List Place → View → Type 0
+HasGround z u j ps o r qs v = (m : Write) × (m.job ≡ j) × IsDone z u ps o m r qs v
+
+-- the pass is idle and holds nothing; limbo is as the code has it; it made the event of the outcome, or none
+pub record HasAnswered (z : Sizes) (u : View) (j : Job) (o : Outcome) (k : ArrayVec ℕ) (value : ℕ) (qs : List Place) (v : View)
+    : Type 0 where
+  pub idle : v.pin ≡ 0
+  pub free : v.held ≡ []
+  pub limbo : IsLimbo qs [] v.limbo
+  pub tells : SeesEvent u v (told_by o j k value)

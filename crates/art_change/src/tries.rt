@@ -1,0 +1,152 @@
+//! An attempt of an insert or of a removal.
+ghost use Rattle.std.specs.Prelude.{◌≡◌, ℕ, ◌-◌, ◌<◌, ◌≤◌, None, Some, true};
+ghost use Rattle.art_attempt.specs.Asking.{Answers, IsAllowed, steps_in};
+ghost use Rattle.art_attempt.specs.Inserting.{tries_left};
+ghost use Rattle.art_attempt.specs.declared.asked.Asked.{Asked as AskedStep};
+ghost use Rattle.art_attempt.specs.declared.rooms.Room.{Room as RoomOf};
+ghost use Rattle.art_change.specs.Tries.{EndsSo, Fits, IsRoom, SameKey, asks, deed_at, ended_at, is_free, of_entered, of_erased, steps_left};
+ghost use Rattle.art_change.specs.declared.tries.Job.{Job as JobOf};
+ghost use Rattle.art_step.specs.declared.views.Sizes.{Sizes};
+ghost use Rattle.art_step.specs.declared.views.View.{View};
+
+use art_attempt::{Answer, Asked, Entered, Inserting, Room};
+use art_cell::{Cell, Pool};
+use art_erase::{Erased, Erasing};
+
+/// What a write does.
+#[derive(Clone, Copy, Debug, PartialEq, Eq)]
+pub enum Job {
+    /// The row of the room comes into the tree, if its key has none.
+    Insert,
+    /// The row with the key of the room's leaf goes, if there is one.
+    Remove,
+}
+
+/// How an attempt ended.
+#[derive(Clone, Copy, Debug, PartialEq, Eq)]
+pub enum Tried {
+    /// The row is in the tree.
+    New,
+    /// The key is there, and keeps this value.
+    Present(u64),
+    /// The row is out of the tree; it had this value.
+    Gone(u64),
+    /// No row has the key.
+    Absent,
+    /// No number of the pool was found.
+    Full(Pool),
+    /// The counter of a cell that was to be locked is at its end.
+    Exhausted(Cell),
+    /// A key begins the other.
+    Overlaps,
+    /// The change has more words than one takes.
+    TooMany,
+    /// A version word was locked, obsolete or changed: it may be tried anew.
+    Anew,
+}
+
+/// An attempt of either.
+#[derive(Clone, Copy)]
+pub enum Trying {
+    Inserting(Inserting),
+    Erasing(Erasing),
+}
+
+impl Trying {
+    ghost use Rattle.std.specs.Prelude.{IfSome};
+
+    /// At its beginning.
+    pub fn new(job: Job, room: &Room) -> Trying
+        ensures going { ended_at result ≡ None }
+        ensures few { (left : ℕ) → steps_left left result ≤ tries_left left }
+        ensures fits { (z : Sizes) (u v : View) → IsRoom z job room.now → EndsSo z u job room.now v → Fits z u job result room.now v }
+    {
+        match job {
+            Job::Insert => Trying::Inserting(Inserting::new(room)),
+            Job::Remove => Trying::Erasing(Erasing::new(room)),
+        }
+    }
+
+    /// The next step, or none where it has ended.
+    pub fn next(&self, room: &Room) -> Option<Asked>
+        requires { (z : Sizes) × (u : View) × (v : View) × (job : JobOf) × Fits z u job self.now room.now v }
+        ensures asks { result ≡ asks self.now room.now }
+        ensures allowed { (z : Sizes) (u v : View) (job : JobOf) → Fits z u job self.now room.now v →
+            IfSome result (IsAllowed z (deed_at self.now room.now) room.now.change v) }
+        ensures going { (z : Sizes) (u v : View) (job : JobOf) → Fits z u job self.now room.now v → ended_at self.now ≡ None →
+            (a : AskedStep) × (result ≡ Some a) }
+    {
+        match self {
+            Trying::Inserting(inserting) => inserting.next(room),
+            Trying::Erasing(erasing) => erasing.next(room),
+        }
+    }
+
+    /// The step that it asked for was made, with this answer.
+    pub fn told(&mut self, room: &mut Room, answer: Answer)
+        requires { (z : Sizes) × (u : View) × (v : View) × (w : View) × (job : JobOf) × (asked : AskedStep) ×
+            Fits z u job self.old room.old v × (asks self.old room.old ≡ Some asked) ×
+            Answers z (deed_at self.old room.old) room.old.change asked answer v w }
+        ensures key { (z : Sizes) (u v : View) (job : JobOf) → Fits z u job self.old room.old v → SameKey job room.old room.new }
+        ensures fits { (z : Sizes) (u v w : View) (job : JobOf) (asked : AskedStep) → Fits z u job self.old room.old v →
+            asks self.old room.old ≡ Some asked → Answers z (deed_at self.old room.old) room.old.change asked answer v w →
+            Fits z u job self.new room.new w }
+        ensures left { (left : ℕ) → (is_free self.old ≡ true → 0 < left) →
+            steps_left (left - steps_in answer) self.new < steps_left left self.old }
+    {
+        match self {
+            Trying::Inserting(inserting) => inserting.told(room, answer),
+            Trying::Erasing(erasing) => erasing.told(room, answer),
+        }
+    }
+
+    /// How it ended, if it has.
+    pub fn ended(&self) -> Option<Tried>
+        ensures at { result ≡ ended_at self.now }
+    {
+        match self {
+            Trying::Inserting(inserting) => Some(of_entered(inserting.ended()?)),
+            Trying::Erasing(erasing) => Some(of_erased(erasing.ended()?)),
+        }
+    }
+
+    /// Whether nothing is held: no cell was locked yet, or none is any more.
+    pub fn is_free(&self) -> bool
+        ensures at { result ≡ is_free self.now }
+        ensures free { result ≡ true → ended_at self.now ≡ None → (z : Sizes) (u v : View) (job : JobOf) (r : RoomOf) →
+            Fits z u job self.now r v → EndsSo z u job r v }
+    {
+        match self {
+            Trying::Inserting(inserting) => inserting.is_free(),
+            Trying::Erasing(erasing) => erasing.is_free(),
+        }
+    }
+}
+
+/// How an attempt of an insert ended.
+fn of_entered(entered: Entered) -> Tried
+    ensures { result ≡ of_entered entered }
+{
+    match entered {
+        Entered::New => Tried::New,
+        Entered::Present(value) => Tried::Present(value),
+        Entered::Full(pool) => Tried::Full(pool),
+        Entered::Exhausted(cell) => Tried::Exhausted(cell),
+        Entered::Overlaps => Tried::Overlaps,
+        Entered::TooMany => Tried::TooMany,
+        Entered::Anew => Tried::Anew,
+    }
+}
+
+/// How an attempt of a removal ended.
+fn of_erased(erased: Erased) -> Tried
+    ensures { result ≡ of_erased erased }
+{
+    match erased {
+        Erased::Gone(value) => Tried::Gone(value),
+        Erased::Absent => Tried::Absent,
+        Erased::Exhausted(cell) => Tried::Exhausted(cell),
+        Erased::TooMany => Tried::TooMany,
+        Erased::Anew => Tried::Anew,
+    }
+}

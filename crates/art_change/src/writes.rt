@@ -1,0 +1,368 @@
+//! A write, step by step: its opening, its attempts, its close.
+ghost use Rattle.std.specs.Prelude.{◌≡◌, ℕ, ◌+◌, ◌-◌, ◌<◌, ◌≤◌, List, [], length, Some, None, true, false};
+ghost use Rattle.art_attempt.specs.Asking.{Answers as AttemptAnswers, steps_in};
+ghost use Rattle.art_attempt.specs.Inserting.{tries_left};
+ghost use Rattle.art_attempt.specs.declared.asked.Asked.{Asked as AttemptAsked};
+ghost use Rattle.art_attempt.specs.declared.rooms.Room.{Room as RoomOf};
+ghost use Rattle.art_change.specs.Asking.{Answers};
+ghost use Rattle.art_change.specs.Tries.{EndFits, EndsSo, IsRoom, SameKey, asks as attempt_asks, key_of, value_of};
+ghost use Rattle.art_change.specs.Tries as tries;
+ghost use Rattle.art_change.specs.Writes.{Fits, HasAnswered, HasOutcome, HasTurn, IsClosing, IsOpening, IsTrying, MayWrite};
+ghost use Rattle.art_change.specs.Writes.{asks, asks_at, deed_at, ended_at, ended_left, gone_by, left_at, most_steps, or_busy, outcome_of, steps_left};
+ghost use Rattle.art_change.specs.declared.asked.Asked.{Asked as AskedStep};
+ghost use Rattle.art_change.specs.declared.writes.Stage.TheVariants as stages;
+ghost use Rattle.art_epoch.specs.Asking.{Answers as FrameAnswers};
+ghost use Rattle.art_epoch.specs.Limbo.{places_of};
+ghost use Rattle.art_epoch.specs.declared.asked.Asked.{Asked as FrameAsked};
+ghost use Rattle.art_epoch.specs.declared.limbo.Place.{Place};
+ghost use Rattle.art_frame.specs.Closings.{asks as closing_asks, is_ended};
+ghost use Rattle.art_frame.specs.Openings.{IsOpened, asks as opening_asks};
+ghost use Rattle.art_step.specs.declared.deeds.Deed.{Deed};
+ghost use Rattle.art_step.specs.declared.views.Sizes.{Sizes};
+ghost use Rattle.art_step.specs.declared.views.View.{View};
+
+use crate::asked::{attempt_in, word_in};
+use crate::{Answer, Asked, Job, Tried, Trying};
+use art_attempt::{Answer as AttemptAnswer, Room, steps_in};
+use art_cell::{Cell, Pool};
+use art_epoch::Limbo;
+use art_frame::{Blocker, Closing, Opened, Opening};
+use art_plan::Change;
+
+/// How a write ended.
+#[derive(Clone, Copy, Debug, PartialEq, Eq)]
+pub enum Outcome {
+    /// The row is in the tree.
+    New,
+    /// The key is there, and keeps this value.
+    Present(u64),
+    /// The row is out of the tree; it had this value.
+    Gone(u64),
+    /// No row has the key.
+    Absent,
+    /// No number of the pool was found.
+    Full(Pool),
+    /// The counter of a cell that was to be locked is at its end.
+    Exhausted(Cell),
+    /// A key begins the other.
+    Overlaps,
+    /// The change has more words than one takes.
+    TooMany,
+    /// All turns were used.
+    Busy,
+    /// Limbo had fewer than four places.
+    Crowded(Blocker),
+}
+
+/// Where a write stands between two of its steps.
+#[derive(Clone, Copy)]
+pub enum Stage {
+    /// What waits goes back, and the pass is pinned.
+    Opening,
+    /// An attempt is made.
+    Trying,
+    /// What was unlinked gets its label, what is in hand goes back, the pass goes idle.
+    Closing,
+    Ended,
+}
+
+/// An insert of the row of a room, or a removal of its leaf. The room and the limbo of the pass stand beside it.
+#[derive(Clone, Copy)]
+pub struct Write {
+    job: Job,
+    stage: Stage,
+    opening: Opening,
+    trying: Trying,
+    closing: Closing,
+    outcome: Outcome,
+    turns: u32,
+    /// How many turns are left: steps that its attempts may still make while nothing is held.
+    left: u32,
+    restarts: u64,
+}
+
+impl Write {
+    ghost use Rattle.std.specs.Prelude.{IfSome};
+    ghost use Rattle.art_change.specs.Asking.{IsAllowed};
+
+    /// By the pass `own`, in so many turns.
+    pub fn new(job: Job, own: u32, turns: u32, room: &Room, limbo: &Limbo) -> Write
+        ensures job { result.job ≡ job }
+        ensures left { (z : Sizes) (u : View) → MayWrite z u own job (places_of limbo.now) room.now →
+            steps_left result room.now (places_of limbo.now) ≤ most_steps turns z.passes (places_of limbo.now) }
+        ensures fits { (z : Sizes) (u : View) → MayWrite z u own job (places_of limbo.now) room.now →
+            Fits z u (places_of limbo.now) result room.now (places_of limbo.now) u }
+    {
+        Write {
+            job,
+            stage: Stage::Opening,
+            opening: Opening::new(own, room.sizes.passes, limbo),
+            trying: Trying::new(job, room),
+            closing: Closing::Ended,
+            outcome: Outcome::Busy,
+            turns,
+            left: turns,
+            restarts: 0,
+        }
+    }
+
+    /// The next step, or none where it has ended.
+    pub fn next(&self, room: &Room, limbo: &Limbo) -> Option<Asked>
+        requires { (z : Sizes) × (u : View) × (v : View) × (ps : List Place) × Fits z u ps self.now room.now (places_of limbo.now) v }
+        ensures asks { result ≡ asks self.now room.now (places_of limbo.now) }
+        ensures allowed { (z : Sizes) (u v : View) (ps : List Place) → Fits z u ps self.now room.now (places_of limbo.now) v →
+            IfSome result (IsAllowed z (deed_at self.now room.now) room.now.change v) }
+        ensures going { (z : Sizes) (u v : View) (ps : List Place) → Fits z u ps self.now room.now (places_of limbo.now) v →
+            ended_at self.now ≡ None → (a : AskedStep) × (result ≡ Some a) }
+    {
+        match self.stage {
+            Stage::Opening => self.open_next(limbo),
+            Stage::Trying => self.try_next(room),
+            Stage::Closing => self.close_next(room),
+            Stage::Ended => None,
+        }
+    }
+
+    /// The step that it asked for was made, with this answer.
+    pub fn told(&mut self, room: &mut Room, limbo: &mut Limbo, answer: Answer)
+        requires { (z : Sizes) × (u : View) × (v : View) × (w : View) × (ps : List Place) × (asked : AskedStep) ×
+            Fits z u ps self.old room.old (places_of limbo.old) v × (asks self.old room.old (places_of limbo.old) ≡ Some asked) ×
+            Answers z (deed_at self.old room.old) room.old.change asked answer v w }
+        ensures job { self.new.job ≡ self.old.job }
+        ensures key { SameKey self.old.job room.old room.new }
+        ensures fits { (z : Sizes) (u v w : View) (ps : List Place) (asked : AskedStep) →
+            Fits z u ps self.old room.old (places_of limbo.old) v → asks self.old room.old (places_of limbo.old) ≡ Some asked →
+            Answers z (deed_at self.old room.old) room.old.change asked answer v w →
+            Fits z u ps self.new room.new (places_of limbo.new) w }
+        ensures left { steps_left self.new room.new (places_of limbo.new) < steps_left self.old room.old (places_of limbo.old) }
+    {
+        match self.stage {
+            Stage::Opening => self.open_told(room, limbo, word_in(answer)),
+            Stage::Trying => self.try_told(room, attempt_in(answer)),
+            Stage::Closing => self.close_told(room, limbo, word_in(answer)),
+            Stage::Ended => {}
+        }
+    }
+
+    /// How it ended, if it has.
+    pub fn ended(&self) -> Option<Outcome>
+        ensures at { result ≡ ended_at self.now }
+        ensures answered { IfSome result (λ o. (z : Sizes) (u v : View) (ps qs : List Place) (r : RoomOf) →
+            Fits z u ps self.now r qs v → HasAnswered z u self.now.job o (key_of self.now.job r) (value_of self.now.job r) qs v) }
+    {
+        match self.stage {
+            Stage::Ended => Some(self.outcome),
+            _ => None,
+        }
+    }
+
+    /// Its attempt.
+    pub(crate) fn trying(&self) -> &Trying
+        ensures { result.now ≡ self.now.trying }
+    {
+        &self.trying
+    }
+
+    /// How often it tried anew.
+    pub fn restarts(&self) -> u64
+        ensures { result ≡ self.now.restarts }
+    {
+        self.restarts
+    }
+
+    /// What comes next of the opening.
+    fn open_next(&self, limbo: &Limbo) -> Option<Asked>
+        ensures asks { (r : RoomOf) → result ≡ asks_at stages.Opening self.now r (places_of limbo.now) }
+        ensures allowed { (z : Sizes) (u v : View) (ps : List Place) (r : RoomOf) (d : Deed) →
+            IsOpening z u ps self.now r (places_of limbo.now) v → IfSome result (IsAllowed z d r.change v) }
+        ensures going { (z : Sizes) (u v : View) (ps : List Place) (r : RoomOf) → IsOpening z u ps self.now r (places_of limbo.now) v →
+            (a : AskedStep) × (result ≡ Some a) }
+    {
+        Some(Asked::Frame(self.opening.next(limbo)?))
+    }
+
+    /// What comes next of an attempt.
+    fn try_next(&self, room: &Room) -> Option<Asked>
+        requires { (z : Sizes) × (u : View) × (v : View) × (ps : List Place) × (qs : List Place) × IsTrying z u ps self.now room.now qs v }
+        ensures asks { (qs : List Place) → result ≡ asks_at stages.Trying self.now room.now qs }
+        ensures allowed { (z : Sizes) (u v : View) (ps qs : List Place) → IsTrying z u ps self.now room.now qs v →
+            IfSome result (IsAllowed z (deed_at self.now room.now) room.now.change v) }
+        ensures going { (z : Sizes) (u v : View) (ps qs : List Place) → IsTrying z u ps self.now room.now qs v →
+            (a : AskedStep) × (result ≡ Some a) }
+    {
+        Some(Asked::Attempt(self.trying.next(room)?))
+    }
+
+    /// What comes next of the close.
+    fn close_next(&self, room: &Room) -> Option<Asked>
+        ensures asks { (qs : List Place) → result ≡ asks_at stages.Closing self.now room.now qs }
+        ensures allowed { (z : Sizes) (u v : View) (ps qs : List Place) (d : Deed) → IsClosing z u ps self.now room.now qs v →
+            IfSome result (IsAllowed z d room.now.change v) }
+        ensures going { is_ended self.now.closing ≡ false → (a : AskedStep) × (result ≡ Some a) }
+    {
+        Some(Asked::Frame(self.closing.next(&room.stock)?))
+    }
+
+    /// A step of the opening was made.
+    fn open_told(&mut self, room: &Room, limbo: &mut Limbo, word: u64)
+        requires stage { self.old.stage ≡ stages.Opening }
+        requires told { (z : Sizes) × (u : View) × (v : View) × (w : View) × (ps : List Place) × (asked : FrameAsked) × IsRoom z self.old.job room.now ×
+            IsOpening z u ps self.old room.now (places_of limbo.old) v ×
+            (opening_asks self.old.opening (places_of limbo.old) ≡ Some asked) × FrameAnswers z asked word v w }
+        ensures job { self.new.job ≡ self.old.job }
+        ensures left { steps_left self.new room.now (places_of limbo.new) < left_at stages.Opening self.old room.now (places_of limbo.old) }
+        ensures fits { (z : Sizes) (u v w : View) (ps : List Place) (asked : FrameAsked) → IsRoom z self.old.job room.now →
+            IsOpening z u ps self.old room.now (places_of limbo.old) v →
+            opening_asks self.old.opening (places_of limbo.old) ≡ Some asked → FrameAnswers z asked word v w →
+            Fits z u ps self.new room.now (places_of limbo.new) w }
+    {
+        self.opening.told(limbo, word);
+        match self.opening.ended() {
+            None => {}
+            Some(Opened::Pinned) => self.go_on(room),
+            Some(Opened::Crowded(blocker)) => {
+                self.outcome = Outcome::Crowded(blocker);
+                self.stage = Stage::Ended;
+            }
+        }
+    }
+
+    /// An attempt begins, where turns are left.
+    fn go_on(&mut self, room: &Room)
+        ensures job { self.new.job ≡ self.old.job }
+        ensures left { (qs : List Place) → steps_left self.new room.now qs ≤ tries_left self.old.left + 7 }
+        ensures fits { (z : Sizes) (u opened v : View) (ps qs : List Place) → IsRoom z self.old.job room.now → IsOpened z u opened ps qs →
+            EndsSo z opened self.old.job room.now v → opened.steps + self.old.turns ≤ v.steps + self.old.left →
+            Fits z u ps self.new room.now qs v }
+    {
+        if self.left == 0 {
+            self.close(room, Outcome::Busy);
+            return;
+        }
+        self.trying = Trying::new(self.job, room);
+        self.stage = Stage::Trying;
+    }
+
+    /// The last attempt has ended so: the frame is closed.
+    fn close(&mut self, room: &Room, outcome: Outcome)
+        ensures job { self.new.job ≡ self.old.job }
+        ensures left { (qs : List Place) → steps_left self.new room.now qs ≤ 7 }
+        ensures fits { (z : Sizes) (u opened v : View) (ps qs : List Place) → IsRoom z self.old.job room.now → IsOpened z u opened ps qs →
+            HasOutcome z opened self.old.job self.old.trying room.now outcome self.old.left v →
+            opened.steps + self.old.turns ≤ v.steps + self.old.left → Fits z u ps self.new room.now qs v }
+    {
+        self.outcome = outcome;
+        self.closing = Closing::new(gone_by(outcome, &room.change));
+        self.stage = Stage::Closing;
+    }
+
+    /// A step of an attempt was made.
+    fn try_told(&mut self, room: &mut Room, answer: AttemptAnswer)
+        requires stage { self.old.stage ≡ stages.Trying }
+        requires turn { HasTurn self.old }
+        requires told { (z : Sizes) × (u : View) × (v : View) × (w : View) × (ps : List Place) × (qs : List Place) × (asked : AttemptAsked) ×
+            IsRoom z self.old.job room.old × IsTrying z u ps self.old room.old qs v × (attempt_asks self.old.trying room.old ≡ Some asked) ×
+            AttemptAnswers z (deed_at self.old room.old) room.old.change asked answer v w }
+        ensures job { self.new.job ≡ self.old.job }
+        ensures key { SameKey self.old.job room.old room.new }
+        ensures fits { (z : Sizes) (u v w : View) (ps qs : List Place) (asked : AttemptAsked) → IsRoom z self.old.job room.old →
+            IsTrying z u ps self.old room.old qs v → attempt_asks self.old.trying room.old ≡ Some asked →
+            AttemptAnswers z (deed_at self.old room.old) room.old.change asked answer v w → Fits z u ps self.new room.new qs w }
+        ensures left { (qs : List Place) → steps_left self.new room.new qs < left_at stages.Trying self.old room.old qs }
+    {
+        self.trying.told(room, answer);
+        self.left = self.left.saturating_sub(steps_in(answer));
+        match self.trying.ended() {
+            None => self.turn(room),
+            Some(tried) => self.tried(room, tried),
+        }
+    }
+
+    /// The attempt goes on, where turns are left or something is held.
+    fn turn(&mut self, room: &Room)
+        requires stage { self.old.stage ≡ stages.Trying }
+        ensures job { self.new.job ≡ self.old.job }
+        ensures left { (qs : List Place) → steps_left self.new room.now qs ≤ left_at stages.Trying self.old room.now qs }
+        ensures fits { (z : Sizes) (u v : View) (ps qs : List Place) → IsRoom z self.old.job room.now → IsTrying z u ps self.old room.now qs v →
+            Fits z u ps self.new room.now qs v }
+    {
+        if self.left == 0 {
+            if self.trying.is_free() {
+                self.close(room, Outcome::Busy);
+            }
+        }
+    }
+
+    /// An attempt ended so.
+    fn tried(&mut self, room: &Room, tried: Tried)
+        ensures job { self.new.job ≡ self.old.job }
+        ensures left { (qs : List Place) → steps_left self.new room.now qs ≤ ended_left self.old.left tried + 7 }
+        ensures fits { (z : Sizes) (u opened v : View) (ps qs : List Place) → IsRoom z self.old.job room.now → IsOpened z u opened ps qs →
+            EndFits z opened self.old.job self.old.trying room.now tried v → opened.steps + self.old.turns ≤ v.steps + self.old.left →
+            Fits z u ps self.new room.now qs v }
+    {
+        match outcome_of(self.left, tried) {
+            Some(outcome) => self.close(room, outcome),
+            None => {
+                self.restarts = self.restarts.saturating_add(1);
+                self.go_on(room);
+            }
+        }
+    }
+
+    /// A step of the close was made.
+    fn close_told(&mut self, room: &mut Room, limbo: &mut Limbo, word: u64)
+        requires stage { self.old.stage ≡ stages.Closing }
+        requires told { (z : Sizes) × (u : View) × (v : View) × (w : View) × (ps : List Place) × (asked : FrameAsked) × IsRoom z self.old.job room.old ×
+            IsClosing z u ps self.old room.old (places_of limbo.old) v × (closing_asks self.old.closing room.old.stock ≡ Some asked) ×
+            FrameAnswers z asked word v w }
+        ensures job { self.new.job ≡ self.old.job }
+        ensures key { SameKey self.old.job room.old room.new }
+        ensures fits { (z : Sizes) (u v w : View) (ps : List Place) (asked : FrameAsked) → IsRoom z self.old.job room.old →
+            IsClosing z u ps self.old room.old (places_of limbo.old) v → closing_asks self.old.closing room.old.stock ≡ Some asked →
+            FrameAnswers z asked word v w → Fits z u ps self.new room.new (places_of limbo.new) w }
+        ensures left { steps_left self.new room.new (places_of limbo.new) < left_at stages.Closing self.old room.old (places_of limbo.old) }
+    {
+        let Room { stock, change, .. } = room;
+        self.closing
+            .told(limbo, stock, gone_by(self.outcome, change), word);
+        if self.closing.ended() {
+            self.stage = Stage::Ended;
+        }
+    }
+}
+
+/// The child words of what the change unlinked, where it was made.
+fn gone_by(outcome: Outcome, change: &Change) -> &[u64]
+    ensures words { result.now ≡ gone_by outcome change.now }
+    ensures few { length result.now ≤ 3 }
+{
+    match outcome {
+        Outcome::New | Outcome::Gone(_) => change.unlinked.as_slice(),
+        _ => &[],
+    }
+}
+
+/// How the write ends by how an attempt did, if it does not try anew.
+fn outcome_of(left: u32, tried: Tried) -> Option<Outcome>
+    ensures { result ≡ outcome_of left tried }
+{
+    match tried {
+        Tried::New => Some(Outcome::New),
+        Tried::Present(value) => Some(Outcome::Present(value)),
+        Tried::Gone(value) => Some(Outcome::Gone(value)),
+        Tried::Absent => Some(Outcome::Absent),
+        Tried::Full(pool) => Some(or_busy(left, Outcome::Full(pool))),
+        Tried::Exhausted(cell) => Some(Outcome::Exhausted(cell)),
+        Tried::Overlaps => Some(or_busy(left, Outcome::Overlaps)),
+        Tried::TooMany => Some(or_busy(left, Outcome::TooMany)),
+        Tried::Anew => None,
+    }
+}
+
+/// A refusal at the last turn is none: the turns were used.
+fn or_busy(left: u32, outcome: Outcome) -> Outcome
+    ensures { result ≡ or_busy left outcome }
+{
+    if left == 0 { Outcome::Busy } else { outcome }
+}
