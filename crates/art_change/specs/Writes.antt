@@ -211,7 +211,7 @@ pub record IsWriter (z : Sizes) (u : View) (w : Writer) : Type 0 where
   pub sizes : w.room.sizes ≡ z
   pub ready : IsReady z u w.own (places_of w.limbo) w.room.stock
 
--- it ended so, with the ground of its outcome: as a machine of this job has it that was run to its end
+-- it ended so, with what its outcome came of: as a machine of this job has it that was run to its end
 abbrev pub HasGround : Sizes → View → Job → List Place → Outcome → Room → List Place → View → Type 0
 HasGround z u j ps o r qs v = (m : Write) × (m.job ≡ j) × IsDone z u ps o m r qs v
 

@@ -84,7 +84,7 @@ pub(crate) fn write<S: EpochSteps>(
     ensures sizes { room.new.sizes ≡ room.old.sizes }
     ensures answered { HasAnswered (S.sizes steps.old) (S.view steps.old) job result.outcome (key_of job room.old) (value_of job room.old)
         (places_of limbo.new) (S.view steps.new) }
-    ensures ground { HasGround (S.sizes steps.old) (S.view steps.old) job (places_of limbo.old) result.outcome room.new
+    ensures grounds { HasGround (S.sizes steps.old) (S.view steps.old) job (places_of limbo.old) result.outcome room.new
         (places_of limbo.new) (S.view steps.new) }
     ensures ready { IsReady (S.sizes steps.old) (S.view steps.new) own (places_of limbo.new) room.new.stock }
     ensures steps { (S.view steps.new).steps ≤

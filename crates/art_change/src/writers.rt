@@ -55,7 +55,7 @@ impl Writer {
         ensures answered { HasAnswered (S.sizes steps.old) (S.view steps.old) jobs.Insert result.outcome key.now value
             (places_of self.new.limbo) (S.view steps.new) }
         ensures row { (self.new.room.row.key ≡ key.now) × (self.new.room.row.value ≡ value) }
-        ensures ground { HasGround (S.sizes steps.old) (S.view steps.old) jobs.Insert (places_of self.old.limbo) result.outcome
+        ensures grounds { HasGround (S.sizes steps.old) (S.view steps.old) jobs.Insert (places_of self.old.limbo) result.outcome
             self.new.room (places_of self.new.limbo) (S.view steps.new) }
         ensures may { IsWriter (S.sizes steps.old) (S.view steps.new) self.new }
         ensures steps { (S.view steps.new).steps ≤
@@ -74,7 +74,7 @@ impl Writer {
         ensures answered { HasAnswered (S.sizes steps.old) (S.view steps.old) jobs.Remove result.outcome key.now 0
             (places_of self.new.limbo) (S.view steps.new) }
         ensures key { self.new.room.gone.key ≡ key.now }
-        ensures ground { HasGround (S.sizes steps.old) (S.view steps.old) jobs.Remove (places_of self.old.limbo) result.outcome
+        ensures grounds { HasGround (S.sizes steps.old) (S.view steps.old) jobs.Remove (places_of self.old.limbo) result.outcome
             self.new.room (places_of self.new.limbo) (S.view steps.new) }
         ensures may { IsWriter (S.sizes steps.old) (S.view steps.new) self.new }
         ensures steps { (S.view steps.new).steps ≤

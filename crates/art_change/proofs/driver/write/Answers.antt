@@ -58,8 +58,8 @@ returns-in-Some-clause-ready g c =
     ready_again z (g.S.Steps.view c.args.steps.now) c.args.own c.args.room.now.stock (places_of c.args.limbo.now) l.write l.room (places_of l.limbo) (g.S.Steps.view l.steps) c.requires.ready
     c.in-Some.outcome (sym c.ended.ensures.at ∙ c.in-Some.is) l.invariant.fits
 
-pub returns-in-Some-clause-ground : goal.returns-in-Some-clause-ground
-returns-in-Some-clause-ground g c =
+pub returns-in-Some-clause-grounds : goal.returns-in-Some-clause-grounds
+returns-in-Some-clause-grounds g c =
     let z = g.S.Steps.sizes c.args.steps.now in
     let u = g.S.Steps.view c.args.steps.now in
     let l = c.loop-outcome in
