@@ -1,27 +1,35 @@
 -- Numbers are in the hand, the cells are vouched for, and the change is made.
-use Rattle.std.proofs.Common.{◌≡◌, ℕ, Bool, List, Option, Some, refl, sym, ap, ◌∙◌, subst, arith}
+use Rattle.std.proofs.Common.{◌≡◌, ℕ, ◌<◌, Bool, true, false, List, Option, Some, refl, sym, ap, ◌∙◌, subst, arith, ⊎_elim}
 use Rattle.std.specs.Prelude.{Ok, Err, Result, ⊤}
 use Rattle.std.specs.Option.{unwrap_or}
+use Rattle.std.proofs.lemmas.Bool.{cases_Bool}
 use Rattle.std.proofs.lemmas.Option.{same_Some}
-use Rattle.art_attempt.proofs.Tries.{event_since, limbo_committed, rest_committed, standing_takes, still_fails, still_reads, still_takes, stock_fails, stock_reads}
+use Rattle.art_attempt.proofs.Spent.{few_looks}
+use Rattle.art_attempt.proofs.Tries.{checked_since, event_since, limbo_committed, rest_committed, standing_takes, still_fails, still_later, still_reads, still_takes, stock_fails, stock_reads}
 use Rattle.art_attempt.specs.Inserting.{EndFits, EndsSo, HasEntered, HasMade, HasSupplies, HasVouched, IsFull, given_up}
 use Rattle.art_attempt.specs.Rooms.{both_of, number_for, spent_by, wants_of}
-use Rattle.art_attempt.specs.Trying.{IsKey}
+use Rattle.art_attempt.specs.Trying.{HasChecked, HasSpent, IsKey, IsLater}
 use Rattle.art_attempt.specs.declared.inserting.Inserting.{Inserting}
 use Rattle.art_attempt.specs.declared.rooms.Room.{Room}
 use Rattle.art_cell.specs.declared.cells.Link.TheVariants.{Node as node}
 use Rattle.art_cell.specs.declared.cells.Node.{Node}
 use Rattle.art_cell.specs.declared.layouts.Pool.{Pool}
 use Rattle.art_commit.specs.CommitLaws.{HasNode}
-use Rattle.art_decide.specs.Plans.{HasNeeded}
+use Rattle.art_decide.specs.Plans.{HasNeeded, IsLockedAt}
 use Rattle.art_decide.specs.Needs.{needs_of}
 use Rattle.art_decide.specs.Seen.{IsSeen}
+use Rattle.art_find.proofs.Counting.{Counted, answers_count}
+use Rattle.art_find.specs.Asking.{Answers as CellAnswers, goes_on}
+use Rattle.art_find.specs.Descents.{IsReading}
+use Rattle.art_find.specs.declared.asked.Answer.{Answer as CellAnswer}
+use Rattle.art_find.specs.declared.asked.Asked.{Asked as CellAsked}
 use Rattle.art_frame.proofs.Stocked.{linked_are_in, stock_commits}
 use Rattle.art_frame.specs.Stocks.{IsIn, words_written}
+use Rattle.art_gather.proofs.Vouches.{was_vouched}
 use Rattle.art_gather.specs.Supplying as supplying
 use Rattle.art_gather.specs.Supplying.{HasAll, HasNone}
 use Rattle.art_gather.specs.Vouching as vouching
-use Rattle.art_gather.specs.Vouching.{IsVouched, IsVouching, written_above}
+use Rattle.art_gather.specs.Vouching.{CheckedSince, IsVouched, IsVouching, written_above}
 use Rattle.art_gather.specs.declared.supplying.Supplied.{Supplied}
 use Rattle.art_gather.specs.declared.supplying.Supplied.TheVariants.{Ready, Full}
 use Rattle.art_gather.specs.declared.supplying.Supplying.{Supplying}
@@ -39,6 +47,7 @@ use Rattle.art_make.specs.Making.{HasFailed, IsOver}
 use Rattle.art_make.specs.Packing.{IsPacked}
 use Rattle.art_place.specs.Findings.{IsStanding}
 use Rattle.art_place.specs.declared.desks.Desk.{Desk}
+use Rattle.art_place.specs.declared.findings.Above.{Above}
 use Rattle.art_place.specs.declared.findings.Stand.{Stand}
 use Rattle.art_plan.specs.Changes.{node_made}
 use Rattle.art_step.specs.Events.{MakesEvent}
@@ -46,6 +55,7 @@ use Rattle.art_step.specs.declared.deeds.Deed.{Deed}
 use Rattle.art_step.specs.declared.faults.UpgradeFault.{UpgradeFault}
 use Rattle.art_step.specs.declared.faults.UpgradeFault.TheVariants as fault
 use Rattle.art_step.specs.declared.views.Sizes.{Sizes}
+use Rattle.art_step.specs.declared.views.Stamp.{Stamp}
 use Rattle.art_step.specs.declared.views.View.{View}
 
 -- ---- numbers
@@ -60,21 +70,33 @@ module _ (z : Sizes) (u : View) (m : Inserting) (r : Room) (v : View) (h : HasSu
   abbrev Stage : Supplying → Type 0
   Stage s = supplying.StageFits z (wants_of z m.stand.verdict) r.row.key.items r.row.value s r.stock h.early v
 
+  supplies_later : IsLater h.early v
+  supplies_later = record { steps = h.fits.only.later; failures = h.fits.only.failures }
+
+  -- with the numbers few steps were made
+  pub supplies_spent : HasSpent z u 24800 v
+  supplies_spent limited =
+      let spent = h.spent limited in
+      let counted = h.fits.counted in
+      let few = few_looks z (wants_of z m.stand.verdict) limited in
+      omega (arith, spent, counted, few)
+
   pub supplies_so : EndsSo z u r v
-  supplies_so = record { still = still_takes u h.early h.base v h.fits.only.later h.fits.only.only; has = h.fits.only.has }
+  supplies_so = record {
+    still = still_takes u h.early h.base v supplies_later h.fits.only.only;
+    spent = λ limited. (let spent = supplies_spent limited in omega (arith, spent));
+    has = h.fits.only.has;
+  }
 
   pub supplies_full : (pool : Pool) → supplying.ended_at m.supplying ≡ Some (Full pool) → IsFull z u m.stand r pool v
   supplies_full pool is =
       let none : HasNone z (wants_of z m.stand.verdict) pool h.early v = subst Stage (supplied_at m.supplying (Full pool) is) h.fits.stage in
       record {
         early = h.early;
+        base = h.base;
+        later = supplies_later;
         place = h.place;
-        none = record {
-          wanted = none.wanted;
-          since = none.since;
-          after = let a = h.base.later in let b = none.after in omega arith;
-          none = none.none;
-        };
+        none = none;
       }
 
   pub supplies_all : supplying.ended_at m.supplying ≡ Some Ready → HasAll (wants_of z m.stand.verdict) r.stock
@@ -84,6 +106,7 @@ module _ (z : Sizes) (u : View) (m : Inserting) (r : Room) (v : View) (h : HasSu
   pub vouching_begins : IsVouching z r.row.key.items m.stand r.desk v v
   vouching_begins = record {
     reads = record { only = refl; free = supplies_so.still.free; pinned = supplies_so.still.pinned };
+    later = omega arith;
     standing = standing_takes z r.row.key.items m.stand r.desk h.early v h.fits.only.only h.place.standing;
   }
 
@@ -96,12 +119,40 @@ vouched_as (vouches.Here r) e is = cc
 vouched_as vouches.CheckAbove e is = cc
 vouched_as vouches.CheckHere e is = cc
 
-seen_by : (z : Sizes) (k : List ℕ) (t : Stand) (desk : Desk) → IsVouched z k (both_of t.verdict) t desk → IsSeen z k t desk
-seen_by z k t desk p = record {
-  vouched = p.here;
+seen_by : (z : Sizes) (k : List ℕ) (t : Stand) (desk : Desk) (u v : View) → IsVouched z k (both_of t.verdict) t desk u v → IsSeen z k t desk
+seen_by z k t desk u v p = record {
+  vouched = was_vouched z k t desk u t.stamp v p.here;
   whole = p.whole;
-  above = λ a at both. let is = ap (λ (b : Bool). written_above b t) both ∙ at in (p.above a is, p.all a is);
+  above = λ a at both. let is = ap (λ (b : Bool). written_above b t) both ∙ at in (was_vouched z k t desk u a.stamp v (p.above a is), p.all a is);
 }
+
+-- each cell that an insert locks there was checked
+locked_checked : (z : Sizes) (k : List ℕ) (t : Stand) (desk : Desk) (u v : View) → IsVouched z k (both_of t.verdict) t desk u v → (x : Stamp) → IsLockedAt t x → CheckedSince z k t desk u x v
+locked_checked z k t desk u v p x = ⊎_elim
+    (λ (is : x ≡ t.stamp). subst (λ (y : Stamp). CheckedSince z k t desk u y v) (sym is) p.here)
+    (λ (q : (a : Above) × (t.above ≡ Some a) × ((needs_of t.verdict).above ≡ true) × (x ≡ a.stamp)).
+    subst (λ (y : Stamp). CheckedSince z k t desk u y v) (sym q.3) (p.above q.0 (ap (λ (b : Bool). written_above b t) q.2 ∙ q.1)))
+
+-- a vouching that has not ended met no failure
+going_failures : (t : Stand) (m : Vouching) (a : CellAsked) (n : ℕ) → vouching.asks t m ≡ Some a → vouching.failures_of m n ≡ n
+going_failures t (vouches.Above q) a n is = refl
+going_failures t (vouches.Here q) a n is = refl
+going_failures t vouches.CheckAbove a n is = refl
+going_failures t vouches.CheckHere a n is = refl
+going_failures t (vouches.Ended r) a n is = cc
+
+-- so where it ends as changed, it is the answer that does not go on
+pub changed_by : (z : Sizes) (k : List ℕ) (both : Bool) (t : Stand) (m m' : Vouching) (desk desk' : Desk) (d : Deed) (a : CellAsked) (r : CellAnswer) (u v w : View) → vouching.Fits z k both t m desk u v
+    → vouching.Fits z k both t m' desk' u w → vouching.asks t m ≡ Some a → CellAnswers z d a r v w → vouching.ended_at m' ≡ Some Changed → goes_on r ≡ false
+changed_by z k both t m m' desk desk' d a r u v w before after is row ended = ⊎_elim
+    (λ (on : goes_on r ≡ true).
+    let step : Counted v w true = subst (Counted v w) on (answers_count z d a r v w row) in
+    let same = step.failures in
+    let old = before.failures ∙ going_failures t m a u.failures is in
+    let new = after.failures ∙ ap (λ (s : Vouching). vouching.failures_of s u.failures) (vouched_as m' Changed ended) in
+    absurd (omega (arith, same, old, new)))
+    (λ (off : goes_on r ≡ false). off)
+    (cases_Bool (goes_on r))
 
 module _ (z : Sizes) (u : View) (m : Inserting) (r : Room) (v : View) (h : HasVouched z u m r v) where
   abbrev StageOf : Vouching → Type 0
@@ -110,25 +161,37 @@ module _ (z : Sizes) (u : View) (m : Inserting) (r : Room) (v : View) (h : HasVo
   vouched_reads : (e : Vouched) → vouching.ended_at m.vouching ≡ Some e → StageOf (vouches.Ended e)
   vouched_reads e is = subst StageOf (vouched_as m.vouching e is) h.fits.stage
 
-  pub vouched_changed : vouching.ended_at m.vouching ≡ Some Changed → EndsSo z u r v
+  pub vouched_spent : HasSpent z u 25400 v
+  vouched_spent limited =
+      let spent = h.spent limited in
+      let steps = h.fits.steps in
+      let more = h.later.failures in
+      omega (arith, spent, steps, more)
+
+  pub vouched_ends : IsReading h.early v → EndsSo z u r v
+  vouched_ends reads = record {
+    still = still_reads u h.early h.base v h.later reads.only;
+    spent = λ limited. (let spent = vouched_spent limited in omega (arith, spent));
+    has = stock_reads z r.row.key.items r.row.value h.early v r.stock reads.only h.has;
+  }
+
+  pub vouched_changed : vouching.ended_at m.vouching ≡ Some Changed → EndsSo z u r v × (u.failures < v.failures)
   vouched_changed is =
-      let reads = vouched_reads Changed is in
-      record {
-        still = still_reads u h.early h.base v h.later reads.only;
-        has = stock_reads z r.row.key.items r.row.value h.early v r.stock reads.only h.has;
-      }
+      let more = h.fits.failures ∙ ap (λ (s : Vouching). vouching.failures_of s h.early.failures) (vouched_as m.vouching Changed is) in
+      let before = h.base.later.failures in
+      (vouched_ends (vouched_reads Changed is), omega (arith, more, before))
 
   module _ (is : vouching.ended_at m.vouching ≡ Some Unchanged) where
     pub vouched_so : EndsSo z u r v
-    vouched_so =
-        let reads = (vouched_reads Unchanged is).0.reads in
-        record {
-          still = still_reads u h.early h.base v h.later reads.only;
-          has = stock_reads z r.row.key.items r.row.value h.early v r.stock reads.only h.has;
-        }
+    vouched_so = vouched_ends (vouched_reads Unchanged is).0.reads
 
     pub vouched_seen : IsSeen z r.row.key.items m.stand r.desk
-    vouched_seen = seen_by z r.row.key.items m.stand r.desk (vouched_reads Unchanged is).1
+    vouched_seen = seen_by z r.row.key.items m.stand r.desk h.early v (vouched_reads Unchanged is).1
+
+    pub vouched_each : (x : Stamp) → IsLockedAt m.stand x → HasChecked z u r.row.key.items m.stand r.desk x v
+    vouched_each x at =
+        checked_since u h.early h.base z r.row.key.items m.stand r.desk x v
+        (locked_checked z r.row.key.items m.stand r.desk h.early v (vouched_reads Unchanged is).1 x at)
 
     pub vouched_standing : IsStanding z r.row.key.items m.stand r.desk v
     vouched_standing = (vouched_reads Unchanged is).0.standing
@@ -156,6 +219,13 @@ module _ (z : Sizes) (u : View) (m : Inserting) (r : Room) (v : View) (h : HasMa
     over : IsOver h.early r.change made v
     over = (ends_as z h.early v r.change m.making made h.fits is).0
 
+    made_spent : HasSpent z u 25800 v
+    made_spent limited =
+        let spent = h.spent limited in
+        let steps = (ends_as z h.early v r.change m.making made h.fits is).1 in
+        let more = h.later.failures in
+        omega (arith, spent, steps, more)
+
     -- it is made
     pub change_entered : made ≡ Ok tt → HasEntered z u (record r { stock = spent_by r.change r.stock }) v
     change_entered ok =
@@ -170,7 +240,7 @@ module _ (z : Sizes) (u : View) (m : Inserting) (r : Room) (v : View) (h : HasMa
           once = done.once;
           rest = rest_committed u h.early h.base v r.change done over.free;
           free = over.free;
-          later = let a = h.base.later in let b = h.later in omega arith;
+          later = still_later u h.early h.base v h.later;
           has = stock_commits z r.row.key.items r.row.value h.early v r.change r.stock done (linked_are_in r.change r.stock leaves nodes) h.has;
         }
 
@@ -181,9 +251,25 @@ module _ (z : Sizes) (u : View) (m : Inserting) (r : Room) (v : View) (h : HasMa
         so : (f : UpgradeFault) → HasFailed h.early r.change f v → EndsSo z u r v
         so f failed = record {
           still = still_fails u h.early h.base v h.later r.change f failed over.free;
+          spent = made_spent;
           has = stock_fails z r.row.key.items r.row.value h.early v r.stock r.change f failed h.has;
         }
 
         by_fault : (f : UpgradeFault) → HasFailed h.early r.change f v → EndFits z u m.stand r (given_up f) v
-        by_fault (fault.Changed c) failed = so (fault.Changed c) failed
-        by_fault (fault.Exhausted c) failed = (so (fault.Exhausted c) failed, record { early = h.early; deed = h.deed; failed = failed })
+        by_fault (fault.Changed c) failed =
+            let more = failed.fails.3 in
+            let before = h.base.later.failures in
+            (so (fault.Changed c) failed, omega (arith, more, before))
+        by_fault (fault.Exhausted c) failed =
+            let locked = h.locks.only failed.index failed.target failed.is in (
+              so (fault.Exhausted c) failed,
+              record {
+                early = h.early;
+                base = h.base;
+                later = h.later;
+                deed = h.deed;
+                failed = failed;
+                locked = locked;
+                checked = h.locks.each failed.target.stamp locked;
+              },
+            )

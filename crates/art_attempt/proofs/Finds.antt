@@ -1,11 +1,13 @@
 -- The place of the key is sought, and checked.
-use Rattle.std.proofs.Common.{◌≡◌, ◌≢◌, ℕ, ◌≤◌, true, false, List, Option, Some, None, refl, sym, ap, ◌∙◌, subst, arith}
+use Rattle.std.proofs.Common.{◌≡◌, ◌≢◌, ℕ, ◌+◌, ◌<◌, ◌≤◌, length, true, false, List, Option, Some, None, refl, sym, ap, ◌∙◌, subst, arith}
 use Rattle.std.specs.Prelude.{IfSome, Ok, Err, ⊤}
 use Rattle.std.specs.Option.{option_map, unwrap_or}
 use Rattle.std.proofs.lemmas.Option.{same_Some}
-use Rattle.art_attempt.proofs.Tries.{event_since, rest_told, still_reads, stock_reads}
+use Rattle.art_attempt.proofs.Steps.{cell_fails}
+use Rattle.art_attempt.proofs.Tries.{checked_since, event_since, later_then, rest_told, still_later, still_reads, stock_reads}
 use Rattle.art_attempt.specs.Asking.{MayAsk}
 use Rattle.art_attempt.specs.Inserting.{EndFits, EndsSo, IsFinding, IsPresent, asks_place, check_by, check_of, deed_at, entered_by, finding_asks, present, present_of, value_found}
+use Rattle.art_attempt.specs.Trying.{HasChecked, HasSpent, IsLater}
 use Rattle.art_attempt.specs.declared.inserting.Entered.{Entered}
 use Rattle.art_attempt.specs.declared.inserting.Entered.TheVariants.{Present, Overlaps as overlaps}
 use Rattle.art_attempt.specs.declared.inserting.Inserting.{Inserting}
@@ -13,6 +15,7 @@ use Rattle.art_attempt.specs.declared.rooms.Room.{Room}
 use Rattle.art_cell.specs.declared.cells.Link.{Link}
 use Rattle.art_cell.specs.declared.cells.Link.TheVariants.{Leaf as leaf, Node as node}
 use Rattle.art_decide.specs.Plans.{Comes}
+use Rattle.art_find.proofs.Counting.{few_steps}
 use Rattle.art_find.proofs.Stages.{reads_on, tells_free, wants_word}
 use Rattle.art_find.proofs.Allowed.{allowed}
 use Rattle.art_find.specs.Asking.{Answers, IsAllowed, WantsWord, goes_on}
@@ -287,6 +290,29 @@ place_failed z d Overlaps t r v w row is = check_failed z d t.stamp r v w row is
 place_failed z d Torn t r v w row is = check_failed z d t.stamp r v w row is
 place_failed z d Absent t r v w row is = check_failed z d t.stamp r v w row is
 
+-- so it does not go on
+pub settle_off : (z : Sizes) (d : Deed) (x : Stamp) (r : Answer) (v w : View) → Answers z d (Settle x) r v w → passed r ≡ false → goes_on r ≡ false
+settle_off z d x (Begun r) v w row is = absurd row
+settle_off z d x (Word y) v w row is = absurd row
+settle_off z d x (Checked (Ok done)) v w row is = cc
+settle_off z d x (Checked (Err e)) v w row is = refl
+
+pub check_off : (z : Sizes) (d : Deed) (x : Stamp) (r : Answer) (v w : View) → Answers z d (Check x) r v w → passed r ≡ false → goes_on r ≡ false
+check_off z d x (Begun r) v w row is = absurd row
+check_off z d x (Word y) v w row is = absurd row
+check_off z d x (Checked (Ok done)) v w row is = cc
+check_off z d x (Checked (Err e)) v w row is = refl
+
+pub place_off : (z : Sizes) (d : Deed) (found : Verdict) (t : Stand) (r : Answer) (v w : View) → Answers z d (check_by found t) r v w → passed r ≡ false → goes_on r ≡ false
+place_off z d (Found l value) t r v w row is = settle_off z d t.stamp r v w row is
+place_off z d Empty t r v w row is = check_off z d t.stamp r v w row is
+place_off z d (OtherLeaf l at byte) t r v w row is = check_off z d t.stamp r v w row is
+place_off z d (OtherPrefix n header at) t r v w row is = check_off z d t.stamp r v w row is
+place_off z d (Free n header) t r v w row is = check_off z d t.stamp r v w row is
+place_off z d Overlaps t r v w row is = check_off z d t.stamp r v w row is
+place_off z d Torn t r v w row is = check_off z d t.stamp r v w row is
+place_off z d Absent t r v w row is = check_off z d t.stamp r v w row is
+
 -- a leaf may come there, or it is known how the attempt ends
 pub place_comes : (z : Sizes) (k : List ℕ) (depth : ℕ) (x : Stamp) (d : Deed) (found : Verdict) (v w : View) → found ≢ Absent → entered_by found ≡ None → Says z k depth x found v
     → check.Unchanged z v w x (told_by found d) → Comes found
@@ -299,6 +325,17 @@ place_comes z k depth x d Overlaps v w exact none says p = cc
 place_comes z k depth x d Torn v w exact none says p = absurd (says p.vouched.0 p.vouched.1 p.vouched.2)
 place_comes z k depth x d Absent v w exact none says p = absurd (exact refl)
 
+-- a check of such a place tells nothing
+plain_check : (z : Sizes) (d : Deed) (found : Verdict) (x : Stamp) (v w : View) → Comes found → check.Unchanged z v w x (told_by found d) → check.Unchanged z v w x None
+plain_check z d Empty x v w comes p = p
+plain_check z d (OtherLeaf l at byte) x v w comes p = p
+plain_check z d (OtherPrefix n header at) x v w comes p = p
+plain_check z d (Free n header) x v w comes p = p
+plain_check z d (Found l value) x v w comes p = absurd comes
+plain_check z d Overlaps x v w comes p = absurd comes
+plain_check z d Torn x v w comes p = absurd comes
+plain_check z d Absent x v w comes p = absurd comes
+
 -- that no other place is told leaves what was only read
 told_nothing : (z : Sizes) (d : Deed) (found : Verdict) (x : Stamp) (v w : View) → Comes found → check.Unchanged z v w x (told_by found d) → OnlyReads v w
 told_nothing z d Empty x v w comes p = passed_rest z v w x p
@@ -310,14 +347,28 @@ told_nothing z d Overlaps x v w comes p = absurd comes
 told_nothing z d Torn x v w comes p = absurd comes
 told_nothing z d Absent x v w comes p = absurd comes
 
-module _ (z : Sizes) (u : View) (m : Inserting) (r : Room) (v w : View) (f : IsFinding z u m r v) (later : v.steps ≤ w.steps) where
-  past : f.early.steps ≤ w.steps
-  past = let before = f.later in omega arith
+-- until a place is settled few steps were made
+finding_few : (z : Sizes) (u : View) (m : Inserting) (r : Room) (v : View) → length r.row.key.items ≤ 64 → IsFinding z u m r v → HasSpent z u 4300 v
+finding_few z u m r v short f limited =
+    let few = few_steps z r.row.key.items (present_of r.row) m.finding.descent.depth m.finding.descent.stage f.early v short f.going f.fits.descent in
+    let spent = f.spent limited in
+    omega (arith, few, spent)
+
+module _ (z : Sizes) (u : View) (m : Inserting) (r : Room) (v w : View) (short : length r.row.key.items ≤ 64) (f : IsFinding z u m r v) (later : IsLater v w) (one : w.steps ≤ v.steps + 1) where
+  past : IsLater f.early w
+  past = later_then f.early v w f.later later
+
+  pub finding_spent : HasSpent z u 4301 w
+  finding_spent limited =
+      let spent = finding_few z u m r v short f limited in
+      let more = later.failures in
+      omega (arith, spent, one, more)
 
   -- the attempt ends, and nothing was told
   pub ends_reading : OnlyReads f.early w → EndsSo z u r w
   ends_reading only = record {
     still = still_reads u f.early f.base w past only;
+    spent = λ limited. (let spent = finding_spent limited in omega (arith, spent));
     has = stock_reads z r.row.key.items r.row.value f.early w r.stock only f.has;
   }
 
@@ -325,35 +376,49 @@ module _ (z : Sizes) (u : View) (m : Inserting) (r : Room) (v w : View) (f : IsF
     pub only_then : OnlyReads v w → OnlyReads f.early w
     only_then only = (reads_on f.early v w only s.reads).only
 
-    entered_there : (found : Verdict) (e : Entered) (n : Stand) → d ≡ present r.row (unwrap_or (value_of found) 0) → Says z r.row.key.items t.depth t.stamp found v
-        → check.Unchanged z v w t.stamp (told_by found d) → entered_by found ≡ Some e → EndFits z u n r e w
-    entered_there (Found l value) e n is says p at =
+    -- the check of the place succeeded, and nothing was told
+    abbrev checked_there : check.Unchanged z v w t.stamp None → HasChecked z u r.row.key.items t r.desk t.stamp w
+    checked_there p = checked_since u f.early f.base z r.row.key.items t r.desk t.stamp w
+        (record {
+          before = v;
+          vouching = record { reads = s.reads; later = f.later.steps; standing = s.standing };
+          after = w;
+          passed = p;
+          done = omega arith;
+        })
+
+    entered_there : (found : Verdict) (e : Entered) → d ≡ present r.row (unwrap_or (value_of found) 0) → Says z r.row.key.items t.depth t.stamp found v
+        → check.Unchanged z v w t.stamp (told_by found d) → entered_by found ≡ Some e → EndFits z u t r e w
+    entered_there (Found l value) e is says p at =
         let q = subst (λ (b : Deed). check.Unchanged z v w t.stamp (Some b)) is p in
         let k = told_rest z f.early v w t.stamp (present r.row value) s.reads.only q in
         let present_there : IsPresent z u r value w = record {
           event = event_since u f.early f.base w (present r.row value) k.0;
           rest = rest_told u f.early f.base w k.1;
           free = tells_free f.early w k.1 f.base.free;
-          later = let before = f.base.later in omega arith;
+          later = still_later u f.early f.base w past;
           has = stock_same z r.row.key.items r.row.value f.early w r.stock (ap (λ (o : Rest). o.hand) k.1) f.has;
         } in
-        subst (λ (b : Entered). EndFits z u n r b w) (same_Some {A = Entered} (Present value) e at) present_there
-    entered_there Overlaps e n is says p at =
-        subst (λ (b : Entered). EndFits z u n r b w) (same_Some {A = Entered} overlaps e at)
-        (ends_reading (only_then (passed_rest z v w t.stamp p)), record { tree = p.vouched.0; shape = p.vouched.1; overlap = says p.vouched.0 p.vouched.1 p.vouched.2 })
-    entered_there Empty e n is says p at = cc
-    entered_there (OtherLeaf l i byte) e n is says p at = cc
-    entered_there (OtherPrefix b header i) e n is says p at = cc
-    entered_there (Free b header) e n is says p at = cc
-    entered_there Torn e n is says p at = cc
-    entered_there Absent e n is says p at = cc
+        subst (λ (b : Entered). EndFits z u t r b w) (same_Some {A = Entered} (Present value) e at) present_there
+    entered_there Overlaps e is says p at =
+        subst (λ (b : Entered). EndFits z u t r b w) (same_Some {A = Entered} overlaps e at)
+        (ends_reading (only_then (passed_rest z v w t.stamp p)), record { place = checked_there p; overlap = says p.vouched.0 p.vouched.1 p.vouched.2 })
+    entered_there Empty e is says p at = cc
+    entered_there (OtherLeaf l i byte) e is says p at = cc
+    entered_there (OtherPrefix b header i) e is says p at = cc
+    entered_there (Free b header) e is says p at = cc
+    entered_there Torn e is says p at = cc
+    entered_there Absent e is says p at = cc
 
-    pub ends_there : (a : Answer) (e : Entered) (n : Stand) → d ≡ present r.row (unwrap_or (value_of t.verdict) 0) → Answers z d (check_of t) a v w → passed a ≡ true
-        → entered_by t.verdict ≡ Some e → EndFits z u n r e w
-    ends_there a e n is row on at = entered_there t.verdict e n is s.standing.says (place_passed z d t.verdict t a v w row on) at
+    pub ends_there : (a : Answer) (e : Entered) → d ≡ present r.row (unwrap_or (value_of t.verdict) 0) → Answers z d (check_of t) a v w → passed a ≡ true
+        → entered_by t.verdict ≡ Some e → EndFits z u t r e w
+    ends_there a e is row on at = entered_there t.verdict e is s.standing.says (place_passed z d t.verdict t a v w row on) at
 
-    pub fails_there : (a : Answer) → Answers z d (check_of t) a v w → passed a ≡ false → EndsSo z u r w
-    fails_there a row off = ends_reading (only_then (place_failed z d t.verdict t a v w row off))
+    pub fails_there : (a : Answer) → Answers z d (check_of t) a v w → passed a ≡ false → EndsSo z u r w × (u.failures < w.failures)
+    fails_there a row off =
+        let more = cell_fails z d (check_of t) a v w row (place_off z d t.verdict t a v w row off) in
+        let before = (still_later u f.early f.base v f.later).failures in
+        (ends_reading (only_then (place_failed z d t.verdict t a v w row off)), omega (arith, more, before))
 
     -- a leaf may come
     module _ (a : Answer) (row : Answers z d (check_of t) a v w) (on : passed a ≡ true) (none : entered_by t.verdict ≡ None) where
@@ -362,6 +427,9 @@ module _ (z : Sizes) (u : View) (m : Inserting) (r : Room) (v w : View) (f : IsF
 
       pub comes_there : Comes t.verdict
       comes_there = place_comes z r.row.key.items t.depth t.stamp d t.verdict v w s.exact none s.standing.says unchanged
+
+      pub place_checked : HasChecked z u r.row.key.items t r.desk t.stamp w
+      place_checked = checked_there (plain_check z d t.verdict t.stamp v w comes_there unchanged)
 
       pub stands_still : IsStanding z r.row.key.items t r.desk w
       stands_still = standing_grows z r.row.key.items t r.desk v w (passed_grows z v w t.stamp (told_by t.verdict d) unchanged) s.standing

@@ -1,9 +1,9 @@
 -- As long as nothing is held, an attempt may be given up with nothing told.
-use Rattle.std.proofs.Common.{◌≡◌, ℕ, true, List, [], ◌∷◌, None, inl, refl, sym, ap, ◌∙◌, subst, arith, ⊎_elim}
+use Rattle.std.proofs.Common.{◌≡◌, ℕ, ◌≤◌, length, true, List, [], ◌∷◌, None, inl, refl, sym, ap, ◌∙◌, subst, arith, ⊎_elim}
 use Rattle.std.proofs.lemmas.Bool.{eqb-true}
-use Rattle.art_attempt.proofs.Enters.{supplies_so}
+use Rattle.art_attempt.proofs.Enters.{supplies_so, vouched_ends}
 use Rattle.art_attempt.proofs.Finds.{ends_reading}
-use Rattle.art_attempt.proofs.Tries.{still_reads, stock_reads}
+use Rattle.art_attempt.proofs.Tries.{later_first, still_later}
 use Rattle.art_attempt.specs.Inserting.{EndsSo, HasMade, HasVouched, IsFinding, StageFits, entered_at, free_at, is_begun}
 use Rattle.art_attempt.specs.Rooms.{both_of}
 use Rattle.art_attempt.specs.Trying.{StillTries}
@@ -52,6 +52,18 @@ begun_locking c ReleasingNode u v is fits = cc
 begun_locking c (GivingUp locked released e) u v is fits = cc
 begun_locking c (Ended r) u v is fits = cc
 
+-- no step of the change was made
+pub begun_made : (m : Making) → is_begun m ≡ true → making.most_steps m ≡ 0
+begun_made (Upgrading i) is = eqb-true i 0 is
+begun_made Claiming is = cc
+begun_made (Filling place) is = cc
+begun_made (Writing j) is = cc
+begun_made Committing is = cc
+begun_made (Releasing i) is = cc
+begun_made ReleasingNode is = cc
+begun_made (GivingUp locked released e) is = cc
+begun_made (Ended r) is = cc
+
 -- ---- at each stage
 
 vouching_goes : (z : Sizes) (r : Room) (m : Inserting) (s : Vouching) (u v : View) → vouching.ended_at s ≡ None
@@ -63,18 +75,13 @@ vouching_goes z r m vouches.CheckHere u v is fits = fits.0
 vouching_goes z r m (vouches.Ended e) u v is fits = cc
 
 module _ (z : Sizes) (u : View) (m : Inserting) (r : Room) (v : View) where
-  finding_so : IsFinding z u m r v → EndsSo z u r v
-  finding_so f =
+  finding_so : length r.row.key.items ≤ 64 → IsFinding z u m r v → EndsSo z u r v
+  finding_so short f =
       let reads = still_reading z r.row.key.items _ m.finding.descent.depth m.finding.descent.stage f.early v f.going f.fits.descent in
-      ends_reading z u m r v v f (omega arith) reads.only
+      ends_reading z u m r v v short f (later_first v) (omega arith) reads.only
 
   vouching_so : HasVouched z u m r v → vouching.ended_at m.vouching ≡ None → EndsSo z u r v
-  vouching_so h going =
-      let reads = (vouching_goes z r m m.vouching h.early v going h.fits.stage).reads in
-      record {
-        still = still_reads u h.early h.base v h.later reads.only;
-        has = stock_reads z r.row.key.items r.row.value h.early v r.stock reads.only h.has;
-      }
+  vouching_so h going = vouched_ends z u m r v h (vouching_goes z r m m.vouching h.early v going h.fits.stage).reads
 
   making_so : HasMade z u m r v → is_begun m.making ≡ true → EndsSo z u r v
   making_so h is =
@@ -86,16 +93,17 @@ module _ (z : Sizes) (u : View) (m : Inserting) (r : Room) (v : View) where
             ∙ (ap (λ (o : Rest). record o { hand = u.hand; committed = u.committed }) p.same.rest ∙ base.rest);
         free = free;
         pinned = λ zero. base.pinned (sym (ap (λ (o : Rest). o.pin) p.same.rest) ∙ zero);
-        later = let a = base.later in let b = h.later in omega (arith, a, b);
+        later = still_later u h.early base v h.later;
       } in
       record {
         still = still;
+        spent = λ limited. (let spent = h.spent limited in let steps = h.fits.steps in let most = begun_made m.making is in let more = h.later.failures in omega (arith, spent, steps, most, more));
         has = stock_same z r.row.key.items r.row.value h.early v r.stock (ap (λ (o : Rest). o.hand) p.same.rest) h.has;
       }
 
-  pub free_so : (s : Stage) → free_at s m.making ≡ true → entered_at s ≡ None → StageFits z u s m r v → EndsSo z u r v
-  free_so stage.Finding is going fits = finding_so fits
-  free_so stage.Supplying is going fits = supplies_so z u m r v fits.0
-  free_so stage.Vouching is going fits = vouching_so fits.0 fits.1
-  free_so stage.Making is going fits = making_so fits.0 is
-  free_so (stage.Ended e) is going fits = cc
+  pub free_so : length r.row.key.items ≤ 64 → (s : Stage) → free_at s m.making ≡ true → entered_at s ≡ None → StageFits z u s m r v → EndsSo z u r v
+  free_so short stage.Finding is going fits = finding_so short fits
+  free_so short stage.Supplying is going fits = supplies_so z u m r v fits.0
+  free_so short stage.Vouching is going fits = vouching_so fits.0 fits.1
+  free_so short stage.Making is going fits = making_so fits.0 is
+  free_so short (stage.Ended e) is going fits = cc

@@ -10,6 +10,7 @@ use Rattle.art_attempt.specs.declared.asked.Answer.TheVariants as told
 use Rattle.art_attempt.specs.declared.asked.Asked.{Asked}
 use Rattle.art_attempt.specs.declared.asked.Asked.TheVariants.{Cell, Supply, Change}
 use Rattle.art_attempt.specs.declared.inserting.Entered.TheVariants as entered
+use Rattle.art_attempt.specs.declared.inserting.Entered.TheVariants.{Anew}
 use Rattle.art_attempt.specs.declared.inserting.Stage.{Stage}
 use Rattle.art_attempt.specs.declared.inserting.Stage.TheVariants as stage
 use Rattle.art_find.specs.declared.asked.Asked.{Asked as CellAsked}
@@ -23,6 +24,7 @@ use Rattle.art_make.specs.declared.making.Making.{Making}
 use Rattle.art_make.specs.declared.making.Making.TheVariants.{Upgrading, Claiming, Filling, Writing, Committing, Releasing, ReleasingNode, GivingUp, Ended}
 use Rattle.art_plan.specs.declared.changes.Change.{Change as ChangeOf}
 use Rattle.art_step.specs.declared.deeds.Deed.{Deed}
+use Rattle.art_step.specs.declared.faults.Changed.{Changed}
 use Rattle.art_step.specs.declared.faults.UpgradeFault.{UpgradeFault}
 use Rattle.art_step.specs.declared.faults.UpgradeFault.TheVariants as fault
 use Rattle.art_step.specs.declared.views.Sizes.{Sizes}
@@ -118,7 +120,7 @@ still_made c ReleasingNode a is = refl
 still_made c (GivingUp locked released e) a is = refl
 still_made c (Ended r) a is = absurd (cc)
 
-fault_ended : (m : Making) (e : UpgradeFault) → ended_at m ≡ Some (Err e) → fault_of m ≡ Some e
+pub fault_ended : (m : Making) (e : UpgradeFault) → ended_at m ≡ Some (Err e) → fault_of m ≡ Some e
 fault_ended (Upgrading i) e is = absurd (cc)
 fault_ended Claiming e is = absurd (cc)
 fault_ended (Filling place) e is = absurd (cc)
@@ -129,6 +131,12 @@ fault_ended ReleasingNode e is = absurd (cc)
 fault_ended (GivingUp locked released f) e is = absurd (cc)
 fault_ended (Ended (Ok done)) e is = absurd (cc)
 fault_ended (Ended (Err f)) e is = cc
+
+-- it is tried anew where the change was given up for a cell that was changed
+pub anew_fault : (r : Result ⊤ UpgradeFault) → entered_so r ≡ Anew → (e : Changed) × (r ≡ Err (fault.Changed e))
+anew_fault (Ok done) is = absurd (cc)
+anew_fault (Err (fault.Exhausted c)) is = absurd (cc)
+anew_fault (Err (fault.Changed e)) is = (e, refl)
 
 pub last_stays : (o p : Option UpgradeFault) → ((e : UpgradeFault) → o ≡ Some e → p ≡ Some e) → is_last o ≡ true → is_last p ≡ true
 last_stays None p stays is = cc

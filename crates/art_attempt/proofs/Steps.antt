@@ -1,5 +1,5 @@
--- No step of an attempt goes back in time, and what an answer has in it is that of the part that asked.
-use Rattle.std.proofs.Common.{◌≡◌, ◌≤◌, Option, Some, sym, ap, subst, arith}
+-- No step of an attempt goes back in time, nor does a failure, and what an answer has in it is that of the part that asked.
+use Rattle.std.proofs.Common.{◌≡◌, ◌+◌, ◌<◌, ◌≤◌, Bool, true, false, Option, Some, sym, ap, subst, arith}
 use Rattle.std.specs.Prelude.{Ok, Err}
 use Rattle.std.specs.Option.{option_map}
 use Rattle.art_attempt.specs.Asking.{Answers, cell_in, change_in, word_in}
@@ -7,8 +7,10 @@ use Rattle.art_attempt.specs.declared.asked.Answer.{Answer}
 use Rattle.art_attempt.specs.declared.asked.Answer.TheVariants as told
 use Rattle.art_attempt.specs.declared.asked.Asked.{Asked}
 use Rattle.art_attempt.specs.declared.asked.Asked.TheVariants.{Cell, Supply, Change}
-use Rattle.art_find.proofs.Counting.{answers_count}
-use Rattle.art_find.specs.Asking.{Answers as CellAnswers}
+use Rattle.art_attempt.proofs.Tries.{later_first}
+use Rattle.art_attempt.specs.Trying.{IsLater}
+use Rattle.art_find.proofs.Counting.{Counted, answers_count}
+use Rattle.art_find.specs.Asking.{Answers as CellAnswers, goes_on}
 use Rattle.art_find.specs.declared.asked.Answer.{Answer as CellAnswer}
 use Rattle.art_find.specs.declared.asked.Asked.{Asked as CellAsked}
 use Rattle.art_gather.specs.Asking.{Answers as SupplyAnswers}
@@ -30,25 +32,49 @@ use Rattle.art_step.specs.declared.views.View.{View}
 
 -- ---- time
 
-pub cell_later : (z : Sizes) (d : Deed) (a : CellAsked) (r : CellAnswer) (v w : View) → CellAnswers z d a r v w → v.steps ≤ w.steps
-cell_later z d a r v w row = let one = (answers_count z d a r v w row).steps in omega arith
+pub counted_later : (v w : View) (on : Bool) → Counted v w on → IsLater v w
+counted_later v w true one = let step = one.steps in let same = one.failures in record { steps = omega (arith, step); failures = omega (arith, same) }
+counted_later v w false one = let step = one.steps in let more = one.failures in record { steps = omega (arith, step); failures = omega (arith, more) }
 
-refused_later : (v w : View) (x : Stamp) (e : UpgradeFault) → upgrade.Refused v w x e → v.steps ≤ w.steps
-refused_later v w x (fault.Changed e) k = let is = ap (λ (t : View). t.steps) k.3.is in omega arith
-refused_later v w x (fault.Exhausted e) k = let is = ap (λ (t : View). t.steps) k.2 in omega arith
+pub cell_later : (z : Sizes) (d : Deed) (a : CellAsked) (r : CellAnswer) (v w : View) → CellAnswers z d a r v w → IsLater v w
+cell_later z d a r v w row = counted_later v w (goes_on r) (answers_count z d a r v w row)
 
-pub change_later : (z : Sizes) (v w : View) (c : ChangeOf) (a : ChangeAsked) (answer : ChangeAnswer) → MayChange z c v a → ChangeAnswers c a answer v w → v.steps ≤ w.steps
-change_later z v w c (Upgrade x) (Upgraded (Ok done)) may row = let is = ap (λ (t : View). t.steps) row.is in omega arith
+pub cell_step : (z : Sizes) (d : Deed) (a : CellAsked) (r : CellAnswer) (v w : View) → CellAnswers z d a r v w → w.steps ≤ v.steps + 1
+cell_step z d a r v w row = let one = (answers_count z d a r v w row).steps in omega (arith, one)
+
+-- one that does not go on is one failure more
+pub cell_fails : (z : Sizes) (d : Deed) (a : CellAsked) (r : CellAnswer) (v w : View) → CellAnswers z d a r v w → goes_on r ≡ false → v.failures < w.failures
+cell_fails z d a r v w row off =
+    let one : Counted v w false = subst (Counted v w) off (answers_count z d a r v w row) in
+    let more = one.failures in
+    omega (arith, more)
+
+-- a step that did not fail
+step_later : (v w : View) → w.steps ≡ v.steps + 1 → w.failures ≡ v.failures → IsLater v w
+step_later v w step same = record { steps = omega (arith, step); failures = omega (arith, same) }
+
+refused_later : (v w : View) (x : Stamp) (e : UpgradeFault) → upgrade.Refused v w x e → IsLater v w
+refused_later v w x (fault.Changed e) k =
+    let step = ap (λ (t : View). t.steps) k.3.is in
+    let more = ap (λ (t : View). t.failures) k.3.is in
+    record { steps = omega (arith, step); failures = omega (arith, more) }
+refused_later v w x (fault.Exhausted e) k = subst (IsLater v) (sym k.2) (later_first v)
+
+pub change_later : (z : Sizes) (v w : View) (c : ChangeOf) (a : ChangeAsked) (answer : ChangeAnswer) → MayChange z c v a → ChangeAnswers c a answer v w → IsLater v w
+change_later z v w c (Upgrade x) (Upgraded (Ok done)) may row = step_later v w (ap (λ (t : View). t.steps) row.is) (ap (λ (t : View). t.failures) row.is)
 change_later z v w c (Upgrade x) (Upgraded (Err e)) may row = refused_later v w x e row
 change_later z v w c (Upgrade x) Done may row = absurd row
 change_later z v w c (Claim n) (Upgraded r) may row = absurd row
-change_later z v w c (Claim n) Done may row = let is = ap (λ (t : View). t.steps) row.is in omega arith
+change_later z v w c (Claim n) Done may row = step_later v w (ap (λ (t : View). t.steps) row.is) (ap (λ (t : View). t.failures) row.is)
 change_later z v w c (Write d i x) (Upgraded r) may row = absurd row
-change_later z v w c (Write d i x) Done may row = let o = row may.holding (may.may.held, may.cell) in let is = ap (λ (t : View). t.steps) o.is in omega arith
+change_later z v w c (Write d i x) Done may row =
+    let o = row may.holding (may.may.held, may.cell) in step_later v w (ap (λ (t : View). t.steps) o.is) (ap (λ (t : View). t.failures) o.is)
 change_later z v w c (Commit d b) (Upgraded r) may row = absurd row
-change_later z v w c (Commit d b) Done may row = let o = row.outcome may.holding (may.first.held, may.cell) in let is = ap (λ (t : View). t.steps) o.is in omega arith
+change_later z v w c (Commit d b) Done may row =
+    let o = row.outcome may.holding (may.first.held, may.cell) in step_later v w (ap (λ (t : View). t.steps) o.is) (ap (λ (t : View). t.failures) o.is)
 change_later z v w c (Release d b) (Upgraded r) may row = absurd row
-change_later z v w c (Release d b) Done may row = let o = row may.holding (may.may.0, may.cell) in let is = ap (λ (t : View). t.steps) o.is in omega arith
+change_later z v w c (Release d b) Done may row =
+    let o = row may.holding (may.may.0, may.cell) in step_later v w (ap (λ (t : View). t.steps) o.is) (ap (λ (t : View). t.failures) o.is)
 
 -- ---- what a part is told
 

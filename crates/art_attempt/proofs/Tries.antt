@@ -1,8 +1,9 @@
 -- What stays as it was while an attempt goes on, and how it ends with an event.
-use Rattle.std.proofs.Common.{◌≡◌, ℕ, ◌≤◌, ◌++◌, List, [], ◌∷◌, length, refl, sym, ap, ◌∙◌, subst, arith}
-use Rattle.art_attempt.specs.Trying.{StillTries}
+use Rattle.std.proofs.Common.{◌≡◌, ℕ, ◌++◌, List, [], ◌∷◌, length, refl, sym, ap, ◌∙◌, subst, arith}
+use Rattle.art_attempt.specs.Trying.{HasChecked, IsLater, StillTries}
 use Rattle.art_epoch.specs.Taking.{OnlyTakes}
 use Rattle.art_find.specs.Descents.{IsReading}
+use Rattle.art_gather.specs.Vouching.{CheckedSince}
 use Rattle.art_frame.proofs.Stocked.{stock_same}
 use Rattle.art_frame.specs.Stocks.{HasStock}
 use Rattle.art_frame.specs.declared.stocks.Stock.{Stock}
@@ -27,6 +28,19 @@ use Rattle.art_step.specs.declared.views.Sizes.{Sizes}
 use Rattle.art_step.specs.declared.views.Stamp.{Stamp}
 use Rattle.art_step.specs.declared.views.View.{View}
 
+-- ---- time
+
+pub later_first : (u : View) → IsLater u u
+later_first u = record { steps = omega arith; failures = omega arith }
+
+pub later_then : (u v w : View) → IsLater u v → IsLater v w → IsLater u w
+later_then u v w a b =
+    let steps = a.steps in
+    let after = b.steps in
+    let failures = a.failures in
+    let more = b.failures in
+    record { steps = omega (arith, steps, after); failures = omega (arith, failures, more) }
+
 -- ---- the hand
 
 pub stock_reads : (z : Sizes) (k : List ℕ) (value : ℕ) (v w : View) (s : Stock) → OnlyReads v w → HasStock z k value v s → HasStock z k value w s
@@ -49,13 +63,21 @@ standing_takes z k t desk v w only at = standing_grows z k t desk v w (takes_gro
 
 -- ---- nothing is told
 
+pub still_then : (u b v : View) → StillTries u b → StillTries b v → StillTries u v
+still_then u b v before after = record {
+  rest = ap (λ (r : Rest). record r { hand = u.hand; committed = u.committed }) after.rest ∙ before.rest;
+  free = after.free;
+  pinned = after.pinned;
+  later = later_then u b v before.later after.later;
+}
+
 module _ (u early : View) (base : StillTries u early) where
   pub reading_begins : IsReading early early
   reading_begins = record { only = refl; free = base.free; pinned = base.pinned }
 
-  module _ (v : View) (later : early.steps ≤ v.steps) where
-    still_later : u.steps ≤ v.steps
-    still_later = let before = base.later in omega arith
+  module _ (v : View) (later : IsLater early v) where
+    pub still_later : IsLater u v
+    still_later = later_then u early v base.later later
 
     pub still_reads : OnlyReads early v → StillTries u v
     still_reads only = record {
@@ -81,6 +103,10 @@ module _ (u early : View) (base : StillTries u early) where
       pinned = λ zero. base.pinned (sym (ap (λ (r : Rest). r.pin) failed.rest) ∙ zero);
       later = still_later;
     }
+
+  -- a check that succeeded since then did so since the view u
+  abbrev pub checked_since : (z : Sizes) (k : List ℕ) (t : Stand) (desk : Desk) (x : Stamp) (v : View) → CheckedSince z k t desk early x v → HasChecked z u k t desk x v
+  checked_since z k t desk x v checked = record { early = early; base = base; checked = checked }
 
   -- ---- an event is made
 

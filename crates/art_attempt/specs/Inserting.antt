@@ -1,9 +1,9 @@
 -- What an attempt of an insert asks, and what it knows between two of its steps.
-use Rattle.std.specs.Prelude.{◌≡◌, ℕ, ◌+◌, ◌-◌, ◌≤◌, ◌++◌, List, [], Option, Some, None, Bool, true, false, ◌==◌, if◌then◌else◌}
+use Rattle.std.specs.Prelude.{◌≡◌, ℕ, ◌+◌, ◌-◌, ◌<◌, ◌++◌, List, [], Option, Some, None, Bool, true, false, ◌==◌, if◌then◌else◌}
 use Rattle.std.specs.Option.{option_map, unwrap_or}
 use Rattle.std.specs.Prelude.{Result, Ok, Err, ⊤}
 use Rattle.art_attempt.specs.Rooms.{both_of, wants_of}
-use Rattle.art_attempt.specs.Trying.{IsKey, StillTries}
+use Rattle.art_attempt.specs.Trying.{HasChecked, HasSpent, IsKey, IsLater, StillTries}
 use Rattle.art_attempt.specs.declared.asked.Asked.{Asked}
 use Rattle.art_attempt.specs.declared.asked.Asked.TheVariants as asked
 use Rattle.art_attempt.specs.declared.inserting.Entered.{Entered}
@@ -14,9 +14,12 @@ use Rattle.art_attempt.specs.declared.inserting.Stage.TheVariants as stage
 use Rattle.art_attempt.specs.declared.rooms.Room.{Room}
 use Rattle.art_cell.specs.declared.cells.Cell.{Cell as CellOf}
 use Rattle.art_cell.specs.declared.layouts.Pool.{Pool}
-use Rattle.art_decide.specs.Plans.{Comes, IsTooMuch}
+use Rattle.art_decide.specs.Plans.{Comes, IsLockedAt, IsTooMuch, LocksOnly}
+use Rattle.art_decide.specs.Seen.{IsSeen}
+use Rattle.art_find.specs.Asking.{goes_on}
 use Rattle.art_find.specs.Descents as descents
 use Rattle.art_find.specs.Verdicts.{HasOverlap, value_of}
+use Rattle.art_find.specs.declared.asked.Answer.{Answer as CellAnswer}
 use Rattle.art_find.specs.declared.asked.Asked.{Asked as CellAsked}
 use Rattle.art_find.specs.declared.asked.Asked.TheVariants as cells
 use Rattle.art_find.specs.declared.verdicts.Verdict.{Verdict}
@@ -39,19 +42,19 @@ use Rattle.art_place.specs.declared.findings.Finding.{Finding}
 use Rattle.art_place.specs.declared.findings.Stand.{Stand}
 use Rattle.art_plan.specs.Changes.{unlinked}
 use Rattle.art_step.specs.Events.{MakesEvent}
-use Rattle.art_step.specs.Knowledge.{IsShape}
 use Rattle.art_step.specs.Shows.{rest_of}
 use Rattle.art_step.specs.Steps.Commit.{all_retired}
 use Rattle.art_step.specs.Views.{IsOnce, links_in_limbo}
 use Rattle.art_step.specs.declared.deeds.Act.TheVariants.{Insert}
 use Rattle.art_step.specs.declared.deeds.Deed.{Deed}
 use Rattle.art_step.specs.declared.deeds.Deed.TheVariants.{Done}
+use Rattle.art_step.specs.declared.faults.Changed.{Changed}
 use Rattle.art_step.specs.declared.faults.UpgradeFault.{UpgradeFault}
 use Rattle.art_step.specs.declared.faults.UpgradeFault.TheVariants as fault
 use Rattle.art_step.specs.declared.views.Pin.{Pin}
 use Rattle.art_step.specs.declared.views.Sizes.{Sizes}
+use Rattle.art_step.specs.declared.views.Stamp.{Stamp}
 use Rattle.art_step.specs.declared.views.View.{View}
-use Rattle.art_tree.specs.Heaps.{Cells}
 
 -- ---- what it asks
 
@@ -133,16 +136,22 @@ given_up (fault.Exhausted c) = Exhausted c
 
 -- ---- what it knows, of a pass that had the view u at the beginning
 
--- where the key stands is known, and a leaf may come there
-pub record HasPlace (z : Sizes) (t : Stand) (r : Room) (v : View) : Type 0 where
+-- since the view u, and not after v, a check of the stamp succeeded, with the desk as it is now
+abbrev pub IsChecked : Sizes → View → Stand → Room → Stamp → View → Type 0
+IsChecked z u t r x v = HasChecked z u r.row.key.items t r.desk x v
+
+-- where the key stands is known and was checked, and a leaf may come there
+pub record HasPlace (z : Sizes) (u : View) (t : Stand) (r : Room) (v : View) : Type 0 where
   pub standing : IsStanding z r.row.key.items t r.desk v
+  pub checked : IsChecked z u t r t.stamp v
   pub comes : Comes t.verdict
 
 -- the place is sought
 pub record IsFinding (z : Sizes) (u : View) (m : Inserting) (r : Room) (v : View) : Type 0 where
   pub early : View
   pub base : StillTries u early
-  pub later : early.steps ≤ v.steps
+  pub later : IsLater early v
+  pub spent : HasSpent z u (descents.most_steps m.finding.descent.depth m.finding.descent.stage) v
   pub has : HasStock z r.row.key.items r.row.value early r.stock
   pub fits : FindingFits z r.row.key.items (present_of r.row) m.finding r.desk early v
   pub going : descents.ended_at m.finding.descent.stage ≡ None
@@ -152,24 +161,33 @@ pub record IsFinding (z : Sizes) (u : View) (m : Inserting) (r : Room) (v : View
 pub record HasSupplies (z : Sizes) (u : View) (m : Inserting) (r : Room) (v : View) : Type 0 where
   pub early : View
   pub base : StillTries u early
-  pub place : HasPlace z m.stand r early
+  pub spent : HasSpent z u 4301 early
+  pub place : HasPlace z u m.stand r early
   pub fits : supplying.Fits z (wants_of z m.stand.verdict) r.row.key.items r.row.value m.supplying r.stock early v
 
 -- what is still to be read is read, and the cells are checked
 pub record HasVouched (z : Sizes) (u : View) (m : Inserting) (r : Room) (v : View) : Type 0 where
   pub early : View
   pub base : StillTries u early
-  pub later : early.steps ≤ v.steps
+  pub later : IsLater early v
+  pub spent : HasSpent z u 24800 early
   pub has : HasStock z r.row.key.items r.row.value early r.stock
   pub all : HasAll (wants_of z m.stand.verdict) r.stock
   pub comes : Comes m.stand.verdict
   pub fits : vouching.Fits z r.row.key.items (both_of m.stand.verdict) m.stand m.vouching r.desk early v
 
+-- what a change locks at this place is known, and each cell that it locks was checked
+pub record HasLocks (z : Sizes) (u : View) (t : Stand) (r : Room) (v : View) : Type 0 where
+  pub only : LocksOnly (IsLockedAt t) r.change
+  pub each : (x : Stamp) → IsLockedAt t x → IsChecked z u t r x v
+
 -- the change is made
 pub record HasMade (z : Sizes) (u : View) (m : Inserting) (r : Room) (v : View) : Type 0 where
   pub early : View
   pub base : StillTries u early
-  pub later : early.steps ≤ v.steps
+  pub later : IsLater early v
+  pub spent : HasSpent z u 25400 early
+  pub locks : HasLocks z u m.stand r early
   pub has : HasStock z r.row.key.items r.row.value early r.stock
   pub leaf : r.change.leaf ≡ r.stock.leaf
   pub deed : r.change.deed ≡ inserted r.row
@@ -229,9 +247,10 @@ abbrev pub entered_so : Result ⊤ UpgradeFault → Entered
 entered_so (Ok done) = New
 entered_so (Err e) = given_up e
 
--- but for steps, what is in hand and what reading changes, the pass is as it was
+-- but for steps, which are few, what is in hand and what reading changes, the pass is as it was
 pub record EndsSo (z : Sizes) (u : View) (r : Room) (v : View) : Type 0 where
   pub still : StillTries u v
+  pub spent : HasSpent z u 25800 v
   pub has : HasStock z r.row.key.items r.row.value v r.stock
 
 -- the leaf is in the tree: one event; what the change unlinked is in limbo, what it linked left the hand
@@ -243,7 +262,7 @@ pub record HasEntered (z : Sizes) (u : View) (r : Room) (v : View) : Type 0 wher
   pub rest :
       rest_of (record v { seen = u.seen; own = u.own; committed = u.committed; hand = u.hand; limbo = u.limbo }) ≡ rest_of u
   pub free : v.held ≡ []
-  pub later : u.steps ≤ v.steps
+  pub later : IsLater u v
   pub has : HasStock z r.row.key.items r.row.value v r.stock
 
 -- the key is there, and keeps its value: one event
@@ -251,35 +270,54 @@ pub record IsPresent (z : Sizes) (u : View) (r : Room) (stands : ℕ) (v : View)
   pub event : MakesEvent u v (present r.row stands)
   pub rest : rest_of (record v { seen = u.seen; own = u.own; committed = u.committed; hand = u.hand }) ≡ rest_of u
   pub free : v.held ≡ []
-  pub later : u.steps ≤ v.steps
+  pub later : IsLater u v
   pub has : HasStock z r.row.key.items r.row.value v r.stock
 
--- where the key stands a number of the pool is wanted, and no free word gave one in this attempt
+-- where the key stands, as a check in this attempt has shown, a number of the pool is wanted, and after that no free word gave one
 pub record IsFull (z : Sizes) (u : View) (t : Stand) (r : Room) (pool : Pool) (v : View) : Type 0 where
   pub early : View
-  pub place : HasPlace z t r early
-  pub none : HasNone z (wants_of z t.verdict) pool u v
+  pub base : StillTries u early
+  pub later : IsLater early v
+  pub place : HasPlace z u t r early
+  pub none : HasNone z (wants_of z t.verdict) pool early v
 
--- a cell that the change locks has its counter at its end
-pub record IsExhausted (u : View) (r : Room) (c : CellOf) (v : View) : Type 0 where
+-- a cell that the change locks, under a stamp that was checked in this attempt, has its counter at its end
+pub record IsExhausted (z : Sizes) (u : View) (t : Stand) (r : Room) (c : CellOf) (v : View) : Type 0 where
   pub early : View
+  pub base : StillTries u early
+  pub later : IsLater early v
   pub deed : r.change.deed ≡ inserted r.row
   pub failed : HasFailed early r.change (fault.Exhausted c) v
+  pub locked : IsLockedAt t failed.target.stamp
+  pub checked : IsChecked z u t r failed.target.stamp early
 
--- at a step of this attempt a tree had a key that begins this one, or that this one begins
-pub record IsOverlap (z : Sizes) (r : Room) : Type 0 where
-  pub tree : Cells
-  pub shape : IsShape z tree
-  pub overlap : HasOverlap tree r.row.key.items
+-- at a check in this attempt a tree had a key that begins this one, or that this one begins
+pub record IsOverlap (z : Sizes) (u : View) (t : Stand) (r : Room) (v : View) : Type 0 where
+  pub place : IsChecked z u t r t.stamp v
+  pub overlap : HasOverlap place.checked.passed.vouched.0 r.row.key.items
+
+-- all that the change writes was read, and checked in this attempt, and its words are more than a change takes
+pub record IsTooLarge (z : Sizes) (u : View) (t : Stand) (r : Room) (v : View) : Type 0 where
+  pub seen : IsSeen z r.row.key.items t r.desk
+  pub each : (x : Stamp) → IsLockedAt t x → IsChecked z u t r x v
+  pub made : ℕ
+  pub much : IsTooMuch t r.desk r.row made
 
 abbrev pub EndFits : Sizes → View → Stand → Room → Entered → View → Type 0
 EndFits z u t r New v = HasEntered z u r v
 EndFits z u t r (Present stands) v = IsPresent z u r stands v
 EndFits z u t r (Full pool) v = EndsSo z u r v × IsFull z u t r pool v
-EndFits z u t r (Exhausted c) v = EndsSo z u r v × IsExhausted u r c v
-EndFits z u t r Overlaps v = EndsSo z u r v × IsOverlap z r
-EndFits z u t r TooMany v = EndsSo z u r v × ((made : ℕ) × IsTooMuch t r.desk r.row made)
-EndFits z u t r Anew v = EndsSo z u r v
+EndFits z u t r (Exhausted c) v = EndsSo z u r v × IsExhausted z u t r c v
+EndFits z u t r Overlaps v = EndsSo z u r v × IsOverlap z u t r v
+EndFits z u t r TooMany v = EndsSo z u r v × IsTooLarge z u t r v
+EndFits z u t r Anew v = EndsSo z u r v × (u.failures < v.failures)
+
+-- ---- why it is tried anew
+
+-- a version word was locked, obsolete or changed: the last answer said so, or of the cells of the change one was changed
+abbrev pub IsAnewBy : Stage → Making → CellAnswer → Type 0
+IsAnewBy stage.Making m answer = (e : Changed) × (fault_of m ≡ Some (fault.Changed e))
+IsAnewBy s m answer = goes_on answer ≡ false
 
 -- ---- at each stage
 

@@ -1,6 +1,12 @@
--- What every attempt knows of the view: nothing is told, nothing is held.
-use Rattle.std.specs.Prelude.{◌≡◌, ◌≢◌, ℕ, ◌<◌, ◌≤◌, List, [], length, get_or}
+-- What every attempt knows of the view: nothing is told, nothing is held, and few steps were made.
+use Rattle.std.specs.Prelude.{◌≡◌, ◌≢◌, ℕ, ◌<◌, ◌≤◌, ◌^◌, List, [], length, get_or}
+use Rattle.art_epoch.specs.Taking.{MadeFew}
+use Rattle.art_gather.specs.Vouching.{CheckedSince}
+use Rattle.art_place.specs.declared.desks.Desk.{Desk}
+use Rattle.art_place.specs.declared.findings.Stand.{Stand}
 use Rattle.art_step.specs.Shows.{rest_of}
+use Rattle.art_step.specs.declared.views.Sizes.{Sizes}
+use Rattle.art_step.specs.declared.views.Stamp.{Stamp}
 use Rattle.art_step.specs.declared.views.View.{View}
 
 -- the bytes of a key
@@ -8,9 +14,34 @@ pub record IsKey (k : List ℕ) : Type 0 where
   pub bytes : (i : ℕ) → get_or k i 0 < 256
   pub short : length k ≤ 64
 
+-- no step is taken back, and no failure
+pub record IsLater (u v : View) : Type 0 where
+  pub steps : u.steps ≤ v.steps
+  pub failures : u.failures ≤ v.failures
+
 -- since the view u nothing is told, and nothing is held; the pass is pinned
 pub record StillTries (u v : View) : Type 0 where
   pub rest : rest_of (record v { hand = u.hand; committed = u.committed }) ≡ rest_of u
   pub free : v.held ≡ []
   pub pinned : v.pin ≢ 0
-  pub later : u.steps ≤ v.steps
+  pub later : IsLater u v
+
+-- since the view u, and not after v, a check of the stamp succeeded, when the key stood there and the desk was as it is now
+pub record HasChecked (z : Sizes) (u : View) (k : List ℕ) (t : Stand) (desk : Desk) (x : Stamp) (v : View) : Type 0 where
+  pub early : View
+  pub base : StillTries u early
+  pub checked : CheckedSince z k t desk early x v
+
+-- ---- how many steps it made
+
+-- as many numbers of each pool as a table may have
+pub record IsLimited (z : Sizes) : Type 0 where
+  pub leaves : z.leaves ≤ 2 ^ 20
+  pub n4 : z.n4 ≤ 2 ^ 18
+  pub n16 : z.n16 ≤ 2 ^ 16
+  pub n48 : z.n48 ≤ 2 ^ 14
+  pub n256 : z.n256 ≤ 2 ^ 12
+
+-- in such a table so many steps were made at most since the view u, and one more for each that failed
+abbrev pub HasSpent : Sizes → View → ℕ → View → Type 0
+HasSpent z u n v = IsLimited z → MadeFew u v n

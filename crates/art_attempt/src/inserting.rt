@@ -1,14 +1,15 @@
 //! One attempt of an insert, step by step.
-ghost use Rattle.std.specs.Prelude.{◌≡◌, ℕ, ◌-◌, ◌<◌, ◌≤◌, List, length, Some, None, true};
-ghost use Rattle.art_attempt.specs.Asking.{Answers, steps_in, steps_of};
+ghost use Rattle.std.specs.Prelude.{◌≡◌, ◌≢◌, ℕ, ◌-◌, ◌<◌, ◌≤◌, List, length, Some, None, true, false};
+ghost use Rattle.art_attempt.specs.Asking.{Answers, cell_in, steps_in, steps_of};
 ghost use Rattle.art_attempt.specs.Inserting.{Fits, HasMade, HasPlace, HasSupplies, HasVouched, IsFinding, IsRoom};
-ghost use Rattle.art_attempt.specs.Inserting.{asks, check_of, deed_at, entered_by, entered_so, finding_asks, found_at, free_at, given_up, is_begun, is_free};
+ghost use Rattle.art_attempt.specs.Inserting.{IsAnewBy, asks, check_of, deed_at, ended_at, entered_by, entered_so, finding_asks, found_at, free_at, given_up, is_begun, is_free};
 ghost use Rattle.art_attempt.specs.Inserting.{making_asks, making_left, steps_left, supply_asks, vouching_asks};
 ghost use Rattle.art_attempt.specs.Rooms.{SameRow, wants_of};
-ghost use Rattle.art_attempt.specs.Trying.{StillTries};
+ghost use Rattle.art_attempt.specs.Trying.{HasSpent, StillTries};
 ghost use Rattle.art_attempt.specs.declared.asked.Asked.{Asked as AskedStep};
+ghost use Rattle.art_attempt.specs.declared.inserting.Entered.TheVariants.{Anew as anew};
 ghost use Rattle.art_attempt.specs.declared.inserting.Stage.TheVariants as stages;
-ghost use Rattle.art_find.specs.Asking.{Answers as CellAnswers};
+ghost use Rattle.art_find.specs.Asking.{Answers as CellAnswers, goes_on};
 ghost use Rattle.art_find.specs.declared.asked.Asked.{Asked as CellAskedStep};
 ghost use Rattle.art_frame.specs.Stocks.{HasStock};
 ghost use Rattle.art_gather.specs.Asking.{Answers as SupplyAnswers};
@@ -17,9 +18,11 @@ ghost use Rattle.art_gather.specs.Vouching.{passed, ended_at as vouched_at};
 ghost use Rattle.art_gather.specs.declared.asked.Asked.{Asked as SupplyAsked};
 ghost use Rattle.art_gather.specs.declared.vouching.Vouched.TheVariants.{Unchanged as unchanged};
 ghost use Rattle.art_make.specs.Asking.{Answers as ChangeAnswers};
-ghost use Rattle.art_make.specs.Making.{ended_at as made_at};
+ghost use Rattle.art_make.specs.Making.{ended_at as made_at, fault_of};
 ghost use Rattle.art_make.specs.declared.asked.Asked.{Asked as ChangeAsked};
 ghost use Rattle.art_place.specs.Findings.{stand_at};
+ghost use Rattle.art_step.specs.declared.faults.Changed.{Changed};
+ghost use Rattle.art_step.specs.declared.faults.UpgradeFault.TheVariants.{Changed as changed};
 ghost use Rattle.art_step.specs.declared.views.Sizes.{Sizes};
 ghost use Rattle.art_step.specs.declared.views.View.{View};
 
@@ -82,7 +85,7 @@ pub struct Inserting {
 impl Inserting {
     ghost use Rattle.std.specs.Prelude.{IfSome};
     ghost use Rattle.art_attempt.specs.Asking.{IsAllowed};
-    ghost use Rattle.art_attempt.specs.Inserting.{EndsSo, asks_at, ended_at};
+    ghost use Rattle.art_attempt.specs.Inserting.{EndsSo, asks_at};
     ghost use Rattle.art_attempt.specs.declared.rooms.Room.{Room as RoomOf};
     ghost use Rattle.art_gather.specs.Supplying.{ended_at as supplied_at};
     ghost use Rattle.art_step.specs.declared.deeds.Deed.{Deed};
@@ -91,8 +94,8 @@ impl Inserting {
     pub fn new(room: &Room) -> Inserting
         ensures going { ended_at result ≡ None }
         ensures free { is_free result ≡ true }
-        ensures fits { (z : Sizes) (u v : View) → IsRoom z room.now → StillTries u v →
-            HasStock z room.now.row.key.items room.now.row.value v room.now.stock → Fits z u result room.now v }
+        ensures fits { (z : Sizes) (u : View) → IsRoom z room.now → StillTries u u →
+            HasStock z room.now.row.key.items room.now.row.value u room.now.stock → Fits z u result room.now u }
     {
         let _ = room.sizes;
         Inserting {
@@ -133,6 +136,7 @@ impl Inserting {
             Fits z u self.new room.new w }
         ensures left { (left : ℕ) → (is_free self.old ≡ true → 0 < left) →
             steps_left (left - steps_in answer) self.new < steps_left left self.old }
+        ensures anew { ended_at self.new ≡ Some anew → IsAnewBy self.old.stage self.new.making (cell_in answer) }
     {
         match self.stage {
             Stage::Finding => self.find_told(room, cell_in(answer)),
@@ -225,6 +229,7 @@ impl Inserting {
             IsFinding z u self.old room.old v × (finding_asks self.old.finding ≡ Some asked) ×
             CellAnswers z (deed_at self.old room.old) asked answer v w }
         ensures row { SameRow room.old room.new }
+        ensures anew { ended_at self.new ≡ Some anew → goes_on answer ≡ false }
         ensures free { is_free self.new ≡ true }
         ensures fits { (z : Sizes) (u v w : View) (asked : CellAskedStep) → IsRoom z room.old → IsFinding z u self.old room.old v →
             finding_asks self.old.finding ≡ Some asked → CellAnswers z (deed_at self.old room.old) asked answer v w →
@@ -244,6 +249,7 @@ impl Inserting {
             IsFinding z u self.old room.old v × (finding_asks self.old.finding ≡ Some asked) ×
             CellAnswers z (deed_at self.old room.old) asked answer v w }
         ensures row { SameRow room.old room.new }
+        ensures anew { ended_at self.new ≡ Some anew → goes_on answer ≡ false }
         ensures free { is_free self.new ≡ true }
         ensures fits { (z : Sizes) (u v w : View) (asked : CellAskedStep) → IsRoom z room.old → IsFinding z u self.old room.old v →
             finding_asks self.old.finding ≡ Some asked → CellAnswers z (deed_at self.old room.old) asked answer v w →
@@ -259,8 +265,10 @@ impl Inserting {
 
     /// The place of the key was checked.
     fn settled(&mut self, room: &mut Room, stand: Stand, answer: CellAnswer)
-        requires { (z : Sizes) × (u : View) × (v : View) × IsRoom z room.old × IsFinding z u self.old room.old v }
+        requires { (z : Sizes) × (u : View) × (v : View) × (w : View) × IsRoom z room.old × IsFinding z u self.old room.old v ×
+            (stand_at self.old.finding ≡ Some stand) × CellAnswers z (deed_at self.old room.old) (check_of stand) answer v w }
         ensures row { SameRow room.old room.new }
+        ensures anew { ended_at self.new ≡ Some anew → goes_on answer ≡ false }
         ensures free { is_free self.new ≡ true }
         ensures fits { (z : Sizes) (u v w : View) → IsRoom z room.old → IsFinding z u self.old room.old v →
             stand_at self.old.finding ≡ Some stand → CellAnswers z (deed_at self.old room.old) (check_of stand) answer v w →
@@ -281,9 +289,11 @@ impl Inserting {
     fn supply(&mut self, room: &mut Room)
         requires { (k : List ℕ) × (value : ℕ) × (v : View) × HasStock room.old.sizes k value v room.old.stock }
         ensures row { SameRow room.old room.new }
+        ensures not_anew { ended_at self.new ≢ Some anew }
         ensures free { is_free self.new ≡ true }
-        ensures fits { (z : Sizes) (u v : View) → IsRoom z room.old → StillTries u v → HasPlace z self.old.stand room.old v →
-            HasStock z room.old.row.key.items room.old.row.value v room.old.stock → Fits z u self.new room.new v }
+        ensures fits { (z : Sizes) (u v : View) → IsRoom z room.old → StillTries u v → HasSpent z u 4301 v →
+            HasPlace z u self.old.stand room.old v → HasStock z room.old.row.key.items room.old.row.value v room.old.stock →
+            Fits z u self.new room.new v }
     {
         let wants = wants_of(room.sizes, &self.stand.verdict);
         self.supplying = Supplying::new(&wants, &mut room.stock);
@@ -295,6 +305,7 @@ impl Inserting {
         requires { (z : Sizes) × (u : View) × (v : View) × (w : View) × (asked : SupplyAsked) × IsRoom z room.old ×
             HasSupplies z u self.old room.old v × (supply_asks self.old room.old ≡ Some asked) × SupplyAnswers z asked word v w }
         ensures row { SameRow room.old room.new }
+        ensures not_anew { ended_at self.new ≢ Some anew }
         ensures free { is_free self.new ≡ true }
         ensures fits { (z : Sizes) (u v w : View) (asked : SupplyAsked) → IsRoom z room.old → HasSupplies z u self.old room.old v →
             supply_asks self.old room.old ≡ Some asked → SupplyAnswers z asked word v w → Fits z u self.new room.new w }
@@ -306,6 +317,7 @@ impl Inserting {
 
     /// It goes on; or all is in hand, and the cells are vouched for; or a pool gave no number.
     fn supply_on(&mut self, room: &Room)
+        ensures not_anew { ended_at self.new ≢ Some anew }
         ensures free { is_free self.new ≡ true }
         ensures fits { (z : Sizes) (u v : View) → IsRoom z room.now → HasSupplies z u self.old room.now v → Fits z u self.new room.now v }
     {
@@ -318,6 +330,7 @@ impl Inserting {
 
     /// All is in hand: the cells are vouched for.
     fn vouch(&mut self, room: &Room)
+        ensures not_anew { ended_at self.new ≢ Some anew }
         ensures free { is_free self.new ≡ true }
         ensures fits { (z : Sizes) (u v : View) → IsRoom z room.now → HasSupplies z u self.old room.now v →
             HasAll (wants_of z self.old.stand.verdict) room.now.stock → Fits z u self.new room.now v }
@@ -334,6 +347,7 @@ impl Inserting {
             HasVouched z u self.old room.old v × (vouching_asks self.old ≡ Some asked) ×
             CellAnswers z (deed_at self.old room.old) asked answer v w }
         ensures row { SameRow room.old room.new }
+        ensures anew { ended_at self.new ≡ Some anew → goes_on answer ≡ false }
         ensures free { is_free self.new ≡ true }
         ensures fits { (z : Sizes) (u v w : View) (asked : CellAskedStep) → IsRoom z room.old → HasVouched z u self.old room.old v →
             vouching_asks self.old ≡ Some asked → CellAnswers z (deed_at self.old room.old) asked answer v w →
@@ -354,6 +368,7 @@ impl Inserting {
         requires { (z : Sizes) × (u : View) × (v : View) × IsRoom z room.old × HasVouched z u self.old room.old v ×
             (vouched_at self.old.vouching ≡ Some unchanged) }
         ensures row { SameRow room.old room.new }
+        ensures not_anew { ended_at self.new ≢ Some anew }
         ensures free { is_free self.new ≡ true }
         ensures fits { (z : Sizes) (u v : View) → IsRoom z room.old → HasVouched z u self.old room.old v →
             vouched_at self.old.vouching ≡ Some unchanged → Fits z u self.new room.new v }
@@ -390,6 +405,7 @@ impl Inserting {
             Fits z u self.new room.new w }
         ensures left { (left : ℕ) → (is_begun self.old.making ≡ true → 0 < left) →
             steps_left (left - steps_of answer) self.new < making_left left self.old.making }
+        ensures anew { ended_at self.new ≡ Some anew → (e : Changed) × (fault_of self.new.making ≡ Some (changed e)) }
     {
         self.making.told(&room.change, answer);
         match self.making.ended() {
@@ -402,6 +418,7 @@ impl Inserting {
     fn made(&mut self, room: &mut Room, made: Result<(), UpgradeFault>)
         ensures row { SameRow room.old room.new }
         ensures stage { self.new.stage ≡ stages.Ended (entered_so made) }
+        ensures making { self.new.making ≡ self.old.making }
         ensures fits { (z : Sizes) (u v : View) → IsRoom z room.old → HasMade z u self.old room.old v →
             made_at self.old.making ≡ Some made → Fits z u self.new room.new v }
     {

@@ -7,7 +7,7 @@ ghost use Rattle.art_frame.specs.Stocks.{AreIn, nothing};
 ghost use Rattle.art_make.specs.Making.{linked};
 
 use arrayvec::ArrayVec;
-use art_cell::{Body, Layout, Reads};
+use art_cell::{Body, Layout, Reads, Writes};
 use art_decide::{Bodies, needed};
 use art_find::Verdict;
 use art_frame::Stock;
@@ -139,6 +139,7 @@ fn no_change() -> Change {
     Change {
         targets: ArrayVec::new(),
         puts: ArrayVec::new(),
+        writes: Writes::new(),
         node: None,
         body: no_body(),
         leaf: None,

@@ -93,43 +93,45 @@ pub trait NodeKind {
         requires { IsBodyOf layout body.now }
         ensures { result.items ≡ entries layout (word_of body.now) };
 
-    /// The words to write so that the byte, which has none, has this child. None where the node is full.
-    final fn plan_add(body: &Body, byte: u8, child: u64) -> Option<Writes>
+    /// Makes the writes the words by which the byte, which has none, gets this child. False, with nothing changed, where the node
+    /// is full.
+    final fn plan_add(body: &Body, byte: u8, child: u64, writes: &mut Writes) -> bool
         requires body { IsBodyOf layout body.now }
         requires free { child_of layout (word_of body.now) byte ≡ None }
         requires child { 0 < child }
-        ensures full { IsNone result ↔ IsFull layout (word_of body.now) }
-        ensures plan { IfSome result (λ writes. IsPlan layout (word_of body.now) writes.items
-            (with_child (child_of layout (word_of body.now)) byte child)) }
+        ensures full { (result ≡ false) ↔ IsFull layout (word_of body.now) }
+        ensures plan { result ≡ true → IsPlan layout (word_of body.now) writes.new.items
+            (with_child (child_of layout (word_of body.now)) byte child) }
+        ensures refused { result ≡ false → writes.new ≡ writes.old }
     {
         let mut after = *body;
-        if Self::add(&mut after, byte, child) {
-            Some(changes(body, &after))
-        } else {
-            None
+        if !Self::add(&mut after, byte, child) {
+            return false;
         }
+        changes(body, &after, writes);
+        true
     }
 
-    /// The words to write so that the byte, which has a child, has this one.
-    final fn plan_set(body: &Body, byte: u8, child: u64) -> Writes
+    /// Makes the writes the words by which the byte, which has a child, gets this one.
+    final fn plan_set(body: &Body, byte: u8, child: u64, writes: &mut Writes)
         requires body { IsBodyOf layout body.now }
         requires there { (c : ℕ) × (child_of layout (word_of body.now) byte ≡ Some c) }
         requires child { 0 < child }
-        ensures { IsPlan layout (word_of body.now) result.items (with_child (child_of layout (word_of body.now)) byte child) }
+        ensures { IsPlan layout (word_of body.now) writes.new.items (with_child (child_of layout (word_of body.now)) byte child) }
     {
         let mut after = *body;
         Self::set(&mut after, byte, child);
-        changes(body, &after)
+        changes(body, &after, writes);
     }
 
-    /// The words to write so that the byte, which has a child, has none.
-    final fn plan_drop(body: &Body, byte: u8) -> Writes
+    /// Makes the writes the words by which the byte, which has a child, has none.
+    final fn plan_drop(body: &Body, byte: u8, writes: &mut Writes)
         requires body { IsBodyOf layout body.now }
         requires there { (c : ℕ) × (child_of layout (word_of body.now) byte ≡ Some c) }
-        ensures { IsPlan layout (word_of body.now) result.items (without_child (child_of layout (word_of body.now)) byte) }
+        ensures { IsPlan layout (word_of body.now) writes.new.items (without_child (child_of layout (word_of body.now)) byte) }
     {
         let mut after = *body;
         Self::take(&mut after, byte);
-        changes(body, &after)
+        changes(body, &after, writes);
     }
 }

@@ -16,11 +16,11 @@ pub struct Write {
 /// The words that a change writes, in ascending place, each place once.
 pub type Writes = ArrayVec<Write, WORDS>;
 
-/// The words of `after` that differ from those of `body`, in ascending place.
-pub fn changes(body: &Body, after: &Body) -> Writes
-    ensures { result.items ≡ changes body.now.layout (word_of body.now) (word_of after.now) }
+/// Makes the writes the words of `after` that differ from those of `body`, in ascending place.
+pub fn changes(body: &Body, after: &Body, writes: &mut Writes)
+    ensures { writes.new.items ≡ changes body.now.layout (word_of body.now) (word_of after.now) }
 {
-    let mut writes = Writes::new();
+    writes.clear();
     for place in 1..body.layout.size() {
         if body.words[place] != after.words[place] {
             writes.push(Write {
@@ -29,5 +29,4 @@ pub fn changes(body: &Body, after: &Body) -> Writes
             });
         }
     }
-    writes
 }

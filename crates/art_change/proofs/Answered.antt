@@ -1,6 +1,6 @@
 -- What a client sees of a write that has ended.
 use Rattle.std.proofs.Common.{◌≡◌, ℕ, ◌++◌, true, List, [], ◌∷◌, length, Option, Some, None, sym, ap, ap₂, ◌∙◌, subst}
-use Rattle.art_change.proofs.EitherKind.{left_by}
+use Rattle.art_change.proofs.EitherKind.{IsLeft, left_by, left_since}
 use Rattle.art_change.specs.Tries.{key_of, value_of}
 use Rattle.art_attempt.specs.declared.rooms.Room.{Room}
 use Rattle.art_change.specs.Writes.{HasAnswered, IsClosing, IsDone, gone_by, told_by}
@@ -20,7 +20,7 @@ use Rattle.art_step.specs.declared.views.Sizes.{Sizes}
 use Rattle.art_step.specs.declared.views.View.{View}
 
 -- the close has ended
-closed_at : (z : Sizes) (k : List ℕ) (value : ℕ) (u v : View) (ps qs : List Place) (m : Write) (r : Room) (c : Closing) → is_ended c ≡ true
+pub closed_at : (z : Sizes) (k : List ℕ) (value : ℕ) (u v : View) (ps qs : List Place) (m : Write) (r : Room) (c : Closing) → is_ended c ≡ true
     → ClosingFits z k value u ps (links_of (gone_by m.outcome r.change)) c qs r.stock v → IsClosed z u v ps qs (links_of (gone_by m.outcome r.change))
 closed_at z k value u v ps qs m r closing.Ended is fits = fits.0
 closed_at z k value u v ps qs m r closing.Labelling is fits = cc
@@ -45,6 +45,12 @@ module _ (u opened ended v : View) (seen : opened.seen ≡ u.seen) (own : opened
   sees_all (Some what) sees = event_all what sees
 
 module _ (z : Sizes) (u : View) (ps : List Place) (m : Write) (r : Room) (qs : List Place) (v : View) where
+  -- what its attempts left since the pass was pinned
+  pub left_opened : (k : IsClosing z u ps m r qs v) → IsLeft z k.opened m.job (record r { stock = k.stock }) m.outcome k.ended
+  left_opened k =
+      left_since z k.opened k.began k.begun.base m.job (record r { stock = k.stock }) m.outcome k.ended
+      (left_by z k.began (record r { stock = k.stock }) k.ended m.job m.trying m.outcome m.left k.outcome)
+
   closing_answers : IsClosing z u ps m r qs v → is_ended m.closing ≡ true → HasAnswered z u m.job m.outcome (key_of m.job r) (value_of m.job r) qs v
   closing_answers k is =
       let closed = closed_at z (key_of m.job r).items (value_of m.job r) k.ended v k.waiting qs m r m.closing is k.fits in
@@ -52,9 +58,9 @@ module _ (z : Sizes) (u : View) (ps : List Place) (m : Write) (r : Room) (qs : L
         idle = ap (λ (t : View). t.pin) closed.is;
         free = closed.free;
         limbo = closed.limbo;
-        tells = sees_all u k.opened k.ended v (ap (λ (t : View). t.seen) k.frame.is) (ap (λ (t : View). t.own) k.frame.is) (ap (λ (t : View). t.pass) k.frame.is)
+        tells = sees_all u k.opened k.ended v (ap (λ (t : View). t.seen) k.frame.frame.is) (ap (λ (t : View). t.own) k.frame.frame.is) (ap (λ (t : View). t.pass) k.frame.frame.is)
             (ap (λ (t : View). t.seen) closed.is) (ap (λ (t : View). t.own) closed.is) (told_by m.outcome m.job (key_of m.job r) (value_of m.job r))
-            (left_by z k.opened (record r { stock = k.stock }) k.ended m.job m.trying m.outcome m.left k.outcome).tells;
+            (left_opened k).tells;
       }
 
   pub answered : (o : Outcome) → m.outcome ≡ o → IsDone z u ps o m r qs v → HasAnswered z u m.job o (key_of m.job r) (value_of m.job r) qs v

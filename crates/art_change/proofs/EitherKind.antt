@@ -1,11 +1,13 @@
 -- How an attempt of either kind has ended, and its steps.
-use Rattle.std.proofs.Common.{◌≡◌, ℕ, ◌+◌, ◌≤◌, List, [], Option, Some, None, refl, sym, ap, ◌∙◌, subst}
+use Rattle.std.proofs.Common.{◌≡◌, ℕ, ◌+◌, ◌<◌, ◌≤◌, List, [], Option, Some, None, refl, sym, ap, ◌∙◌, subst}
 use Rattle.std.specs.Prelude.{⊤}
 use Rattle.std.specs.Option.{option_map}
 use Rattle.std.proofs.lemmas.Option.{same_Some}
 use Rattle.art_attempt.proofs.Counts as inserting
+use Rattle.art_attempt.proofs.Tries.{event_since, later_then}
 use Rattle.art_attempt.specs.Asking.{Answers as AttemptAnswers, steps_in}
 use Rattle.art_attempt.specs.Inserting as inserts
+use Rattle.art_attempt.specs.Trying.{IsLater, StillTries}
 use Rattle.art_attempt.specs.declared.asked.Answer.{Answer as AttemptAnswer}
 use Rattle.art_attempt.specs.declared.asked.Asked.{Asked as AttemptAsked}
 use Rattle.art_attempt.specs.declared.asked.Asked.TheVariants.{Change}
@@ -77,10 +79,10 @@ IsRefusal e = ⊥
 
 module _ (z : Sizes) (u : View) (r : Room) (v : View) where
   insert_so : inserts.EndsSo z u r v → EndsSo z u Insert r v
-  insert_so so = record { still = so.still; has = so.has }
+  insert_so so = record { still = so.still; spent = so.spent; has = so.has }
 
   erase_so : erases.EndsSo z u r v → EndsSo z u Remove r v
-  erase_so so = record { still = so.still; has = so.has }
+  erase_so so = record { still = so.still; spent = so.spent; has = so.has }
 
   insert_ends : (m : Insertion) (e : Entered) → inserts.EndFits z u m.stand r e v → InsertEnds z u m r (of_entered e) v
   insert_ends m entered.New fits = fits
@@ -89,14 +91,14 @@ module _ (z : Sizes) (u : View) (r : Room) (v : View) where
   insert_ends m (entered.Exhausted c) fits = (insert_so fits.0, fits.1)
   insert_ends m entered.Overlaps fits = (insert_so fits.0, fits.1)
   insert_ends m entered.TooMany fits = (insert_so fits.0, fits.1)
-  insert_ends m entered.Anew fits = insert_so fits
+  insert_ends m entered.Anew fits = (insert_so fits.0, fits.1)
 
-  erase_ends : (m : Erasure) (e : Erased) → erases.EndFits z u m.stand m.way r e v → EraseEnds z u m r (of_erased e) v
+  erase_ends : (m : Erasure) (e : Erased) → erases.EndFits z u m.stand m.way m.lowering r e v → EraseEnds z u m r (of_erased e) v
   erase_ends m (erased.Gone value) fits = fits
   erase_ends m erased.Absent fits = fits
   erase_ends m (erased.Exhausted c) fits = (erase_so fits.0, fits.1)
   erase_ends m erased.TooMany fits = (erase_so fits.0, fits.1)
-  erase_ends m erased.Anew fits = erase_so fits
+  erase_ends m erased.Anew fits = (erase_so fits.0, fits.1)
 
   pub ends_as : (j : Job) (t : Trying) (e : Tried) → Fits z u j t r v → ended_at t ≡ Some e → EndFits z u j t r e v
   ends_as Insert (Inserting m) e fits is =
@@ -121,7 +123,7 @@ module _ (z : Sizes) (u : View) (r : Room) (v : View) where
   insert_refused m (tried.Exhausted c) none fits = fits.0
   insert_refused m tried.Overlaps none fits = fits.0
   insert_refused m tried.TooMany none fits = fits.0
-  insert_refused m tried.Anew none fits = fits
+  insert_refused m tried.Anew none fits = fits.0
 
   erase_refused : (m : Erasure) (e : Tried) → IsRefusal e → EraseEnds z u m r e v → EndsSo z u Remove r v
   erase_refused m tried.New none fits = absurd none
@@ -132,7 +134,7 @@ module _ (z : Sizes) (u : View) (r : Room) (v : View) where
   erase_refused m (tried.Exhausted c) none fits = fits.0
   erase_refused m tried.Overlaps none fits = absurd fits
   erase_refused m tried.TooMany none fits = fits.0
-  erase_refused m tried.Anew none fits = fits
+  erase_refused m tried.Anew none fits = fits.0
 
   pub refused_so : (j : Job) (t : Trying) (e : Tried) → IsRefusal e → EndFits z u j t r e v → EndsSo z u j r v
   refused_so Insert (Inserting m) e none fits = insert_refused m e none fits
@@ -140,11 +142,19 @@ module _ (z : Sizes) (u : View) (r : Room) (v : View) where
   refused_so Insert (Erasing m) e none fits = absurd fits
   refused_so Remove (Inserting m) e none fits = absurd fits
 
+  -- a failure more, where it is tried anew
+  pub anew_failed : (j : Job) (t : Trying) → EndFits z u j t r tried.Anew v → u.failures < v.failures
+  anew_failed Insert (Inserting m) fits = fits.1
+  anew_failed Remove (Erasing m) fits = fits.1
+  anew_failed Insert (Erasing m) fits = absurd fits
+  anew_failed Remove (Inserting m) fits = absurd fits
+
 -- ---- what every end leaves
 
 -- nothing is held, the numbers are known, what was unlinked waits, and the event of the outcome was made, or none
 pub record IsLeft (z : Sizes) (u : View) (j : Job) (r : Room) (o : Outcome) (v : View) : Type 0 where
   pub free : v.held ≡ []
+  pub later : IsLater u v
   pub has : HasHand z j v r
   pub pass : v.pass ≡ u.pass
   pub waits : (qs : List Place) → IsLimbo qs [] u.limbo → IsLimbo qs (links_of (gone_by o r.change)) v.limbo
@@ -154,6 +164,7 @@ module _ (z : Sizes) (u : View) (r : Room) (v : View) where
   so_left : (j : Job) (o : Outcome) → gone_by o r.change ≡ [] → told_by o j (key_of j r) (value_of j r) ≡ None → EndsSo z u j r v → IsLeft z u j r o v
   so_left j o gone none so = record {
     free = so.still.free;
+    later = so.still.later;
     has = so.has;
     pass = ap (λ (a : Rest). a.pass) so.still.rest;
     waits = λ qs there.
@@ -165,6 +176,7 @@ module _ (z : Sizes) (u : View) (r : Room) (v : View) where
   insert_left : (m : Insertion) (o : Outcome) (left : ℕ) → HasOutcome z u Insert (Inserting m) r o left v → IsLeft z u Insert r o v
   insert_left m New left h = record {
     free = h.free;
+    later = h.later;
     has = h.has;
     pass = ap (λ (a : Rest). a.pass) h.rest;
     waits = λ qs there. subst (λ (es : List Retired). IsLimbo qs (unlinked r.change) es) (sym h.limbo)
@@ -173,6 +185,7 @@ module _ (z : Sizes) (u : View) (r : Room) (v : View) where
   }
   insert_left m (Present stands) left h = record {
     free = h.free;
+    later = h.later;
     has = h.has;
     pass = ap (λ (a : Rest). a.pass) h.rest;
     waits = λ qs there. subst (λ (es : List Retired). IsLimbo qs [] es) (sym (ap (λ (a : Rest). a.limbo) h.rest)) there;
@@ -192,6 +205,7 @@ module _ (z : Sizes) (u : View) (r : Room) (v : View) where
   erase_left m (Present stands) left h = absurd h
   erase_left m (Gone value) left h = record {
     free = h.free;
+    later = h.later;
     has = h.has;
     pass = ap (λ (a : Rest). a.pass) h.rest;
     waits = λ qs there. subst (λ (es : List Retired). IsLimbo qs (unlinked r.change) es) (sym h.limbo)
@@ -200,6 +214,7 @@ module _ (z : Sizes) (u : View) (r : Room) (v : View) where
   }
   erase_left m Absent left h = record {
     free = h.free;
+    later = h.later;
     has = h.has;
     pass = ap (λ (a : Rest). a.pass) h.rest;
     waits = λ qs there. subst (λ (es : List Retired). IsLimbo qs [] es) (sym (ap (λ (a : Rest). a.limbo) h.rest)) there;
@@ -230,6 +245,46 @@ module _ (z : Sizes) (u : View) (r : Room) (v : View) where
   left_by Remove (Erasing m) o left h = erase_left m o left h
   left_by Insert (Erasing m) o left h = none_left Insert (Erasing m) (λ e no. no) o left h
   left_by Remove (Inserting m) o left h = none_left Remove (Inserting m) (λ e no. no) o left h
+
+-- what an attempt left that began later is left since the pass was pinned
+module _ (z : Sizes) (u b : View) (base : StillTries u b) where
+  sees_since : (v : View) (what : Option Deed) → SeesEvent b v what → SeesEvent u v what
+  sees_since v None sees = (sees.0 ∙ ap (λ (a : Rest). a.seen) base.rest, sees.1 ∙ ap (λ (a : Rest). a.own) base.rest)
+  sees_since v (Some what) sees = event_since u b base v what sees
+
+  pub left_since : (j : Job) (r : Room) (o : Outcome) (v : View) → IsLeft z b j r o v → IsLeft z u j r o v
+  left_since j r o v left = record {
+    free = left.free;
+    later = later_then u b v base.later left.later;
+    has = left.has;
+    pass = left.pass ∙ ap (λ (a : Rest). a.pass) base.rest;
+    waits = λ qs there. left.waits qs (subst (λ (es : List Retired). IsLimbo qs [] es) (sym (ap (λ (a : Rest). a.limbo) base.rest)) there);
+    tells = sees_since v (told_by o j (key_of j r) (value_of j r)) left.tells;
+  }
+
+-- ---- it is tried anew
+
+anew_entered : (e : Entered) → of_entered e ≡ tried.Anew → e ≡ entered.Anew
+anew_entered entered.Anew is = refl
+anew_entered entered.New is = cc
+anew_entered (entered.Present stands) is = cc
+anew_entered (entered.Full pool) is = cc
+anew_entered (entered.Exhausted c) is = cc
+anew_entered entered.Overlaps is = cc
+anew_entered entered.TooMany is = cc
+
+anew_erased : (e : Erased) → of_erased e ≡ tried.Anew → e ≡ erased.Anew
+anew_erased erased.Anew is = refl
+anew_erased (erased.Gone value) is = cc
+anew_erased erased.Absent is = cc
+anew_erased (erased.Exhausted c) is = cc
+anew_erased erased.TooMany is = cc
+
+pub insert_anew : (m : Insertion) → ended_at (Inserting m) ≡ Some tried.Anew → inserts.ended_at m ≡ Some entered.Anew
+insert_anew m is = let k = map_some of_entered (inserts.ended_at m) tried.Anew is in k.1 ∙ ap (λ (e : Entered). Some e) (anew_entered k.0 k.2)
+
+pub erase_anew : (m : Erasure) → ended_at (Erasing m) ≡ Some tried.Anew → erases.ended_at m ≡ Some erased.Anew
+erase_anew m is = let k = map_some of_erased (erases.ended_at m) tried.Anew is in k.1 ∙ ap (λ (e : Erased). Some e) (anew_erased k.0 k.2)
 
 -- ---- how many steps are left
 

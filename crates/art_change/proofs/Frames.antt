@@ -1,12 +1,14 @@
 -- From the opening to the attempts, and from the last attempt to the close.
-use Rattle.std.proofs.Common.{◌≡◌, ℕ, ◌+◌, ◌-◌, ◌≤◌, ◌==◌, true, false, List, [], ◌∷◌, length, Option, Some, None, refl, ap, ◌∙◌, subst, arith, ⊎_elim}
+use Rattle.std.proofs.Common.{◌≡◌, ℕ, ◌+◌, ◌-◌, ◌<◌, ◌≤◌, ◌==◌, true, false, List, [], ◌∷◌, length, Option, Some, None, refl, ap, ◌∙◌, subst, arith, ⊎_elim}
 use Rattle.std.proofs.lemmas.Bool.{cases_Bool, eqb-true}
 use Rattle.std.proofs.lemmas.Option.{same_Some}
+use Rattle.art_attempt.proofs.Tries.{later_first, still_then}
 use Rattle.art_attempt.specs.Inserting.{tries_left}
+use Rattle.art_attempt.specs.Trying.{StillTries}
 use Rattle.art_attempt.specs.declared.rooms.Room.{Room}
-use Rattle.art_change.proofs.EitherKind.{IsRefusal, left_by, refused_so}
+use Rattle.art_change.proofs.EitherKind.{IsRefusal, anew_failed, left_by, left_since, refused_so}
 use Rattle.art_change.specs.Tries.{EndFits, EndsSo, HasHand, key_of, value_of}
-use Rattle.art_change.specs.Writes.{HasOutcome, IsClosing, IsDone, ended_left, gone_by, or_busy, outcome_of}
+use Rattle.art_change.specs.Writes.{HasBegun, HasOutcome, IsClosing, IsDone, ended_left, gone_by, or_busy, outcome_of}
 use Rattle.art_change.specs.declared.tries.Job.{Job}
 use Rattle.art_change.specs.declared.tries.Tried.{Tried}
 use Rattle.art_change.specs.declared.tries.Tried.TheVariants as tried
@@ -26,19 +28,41 @@ use Rattle.art_step.specs.Tokens.{links_of}
 use Rattle.art_step.specs.declared.views.Sizes.{Sizes}
 use Rattle.art_step.specs.declared.views.View.{View}
 
--- ---- the pass was pinned
+-- ---- an attempt begins
 
-module _ (z : Sizes) (u opened : View) (ps qs : List Place) (o : IsOpened z u opened ps qs) (free : u.held ≡ []) (j : Job) (r : Room) (has : HasHand z j u r) where
-  pub opened_so : EndsSo z opened j r opened
-  opened_so = record {
-    still = record {
+-- the first, when the pass was pinned
+module _ (z : Sizes) (u opened : View) (ps qs : List Place) (o : IsOpened z u opened ps qs) (free : u.held ≡ []) where
+  pub opened_begun : (restarts : ℕ) → restarts ≡ 0 → HasBegun z opened restarts opened
+  opened_begun restarts none = record {
+    base = record {
       rest = refl;
       free = ap (λ (t : View). t.held) o.is ∙ free;
       pinned = λ zero. let some = o.pinned in absurd (omega (arith, some, zero));
-      later = omega arith;
+      later = later_first opened;
     };
-    has = stock_same z (key_of j r).items (value_of j r) u opened r.stock (ap (λ (t : View). t.hand) o.is) has;
+    failed = omega (arith, none);
+    few = λ limited. omega arith;
   }
+
+  pub opened_has : (j : Job) (r : Room) → HasHand z j u r → HasHand z j opened r
+  opened_has j r has = stock_same z (key_of j r).items (value_of j r) u opened r.stock (ap (λ (t : View). t.hand) o.is) has
+
+-- nothing was done in it yet
+module _ (z : Sizes) (opened : View) (restarts : ℕ) (v : View) (begun : HasBegun z opened restarts v) where
+  pub begun_tries : StillTries v v
+  begun_tries = record { rest = refl; free = begun.base.free; pinned = begun.base.pinned; later = later_first v }
+
+  pub begun_so : (j : Job) (r : Room) → HasHand z j v r → EndsSo z v j r v
+  begun_so j r has = record { still = begun_tries; spent = λ limited. omega arith; has = has }
+
+-- another, after one that failed
+pub begun_again : (z : Sizes) (opened began v : View) (restarts more : ℕ) (j : Job) (r : Room) → HasBegun z opened restarts began → EndsSo z began j r v → began.failures < v.failures → more ≤ restarts + 1
+    → HasBegun z opened more v
+begun_again z opened began v restarts more j r begun so failed fewer = record {
+  base = still_then opened began v begun.base so.still;
+  failed = let before = begun.failed in omega (arith, before, failed, fewer);
+  few = λ limited. (let before = begun.few limited in let spent = so.spent limited in omega (arith, before, spent, failed));
+}
 
 -- ---- the last attempt has ended
 
@@ -51,10 +75,10 @@ links_fewer : (words : List ℕ) → length (links_of words) ≤ length words
 links_fewer [] = omega arith
 links_fewer (word ∷ words) = let rest = links_fewer words in let one = cons_more (link_of word) (links_of words) in omega (arith, rest, one)
 
-pub may_close : (z : Sizes) (u opened : View) (ps qs : List Place) → IsOpened z u opened ps qs → (j : Job) (t : Trying) (r : Room) (v : View) (o : Outcome) (left : ℕ) → HasOutcome z opened j t r o left v
-    → length (gone_by o r.change) ≤ 3 → MayClose z (key_of j r).items (value_of j r) v qs (links_of (gone_by o r.change)) r.stock
-may_close z u opened ps qs frame j t r v o left h few =
-    let end = left_by z opened r v j t o left h in
+pub may_close : (z : Sizes) (u opened began : View) (ps qs : List Place) → IsOpened z u opened ps qs → StillTries opened began → (j : Job) (t : Trying) (r : Room) (v : View) (o : Outcome) (left : ℕ)
+    → HasOutcome z began j t r o left v → length (gone_by o r.change) ≤ 3 → MayClose z (key_of j r).items (value_of j r) v qs (links_of (gone_by o r.change)) r.stock
+may_close z u opened began ps qs frame base j t r v o left h few =
+    let end = left_since z opened began base j r o v (left_by z began r v j t o left h) in
     record {
       free = end.free;
       stock = end.has;
@@ -89,7 +113,7 @@ module _ (z : Sizes) (u : View) (j : Job) (t : Trying) (r : Room) (left : ℕ) (
   tried_ends tried.Anew o fits is = cc
 
   -- it is tried anew
-  pub anew_ends : (e : Tried) → EndFits z u j t r e v → outcome_of left e ≡ None → EndsSo z u j r v
+  pub anew_ends : (e : Tried) → EndFits z u j t r e v → outcome_of left e ≡ None → EndsSo z u j r v × (u.failures < v.failures)
   anew_ends tried.New fits is = cc
   anew_ends (tried.Present stands) fits is = cc
   anew_ends (tried.Gone value) fits is = cc
@@ -98,7 +122,18 @@ module _ (z : Sizes) (u : View) (j : Job) (t : Trying) (r : Room) (left : ℕ) (
   anew_ends (tried.Exhausted c) fits is = cc
   anew_ends tried.Overlaps fits is = cc
   anew_ends tried.TooMany fits is = cc
-  anew_ends tried.Anew fits is = so tried.Anew tt fits
+  anew_ends tried.Anew fits is = (so tried.Anew tt fits, anew_failed z u r v j t fits)
+
+pub none_anew : (left : ℕ) (e : Tried) → outcome_of left e ≡ None → e ≡ tried.Anew
+none_anew left tried.Anew is = refl
+none_anew left tried.New is = cc
+none_anew left (tried.Present stands) is = cc
+none_anew left (tried.Gone value) is = cc
+none_anew left tried.Absent is = cc
+none_anew left (tried.Full pool) is = cc
+none_anew left (tried.Exhausted c) is = cc
+none_anew left tried.Overlaps is = cc
+none_anew left tried.TooMany is = cc
 
 -- ---- turns
 

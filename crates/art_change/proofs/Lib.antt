@@ -1,4 +1,5 @@
 pub mod Answered
+pub mod Counted
 pub mod EitherKind
 pub mod Frames
 pub mod Parts

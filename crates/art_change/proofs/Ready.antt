@@ -4,8 +4,7 @@ use Rattle.std.proofs.lemmas.Option.{same_Some}
 use Rattle.art_attempt.specs.declared.rooms.Room.{Room}
 use Rattle.art_cell.specs.declared.cells.Link.{Link}
 use Rattle.art_cell.specs.declared.cells.Link.TheVariants.{Leaf as leaf, Node as node}
-use Rattle.art_change.proofs.Answered.{answered}
-use Rattle.art_change.proofs.EitherKind.{left_by}
+use Rattle.art_change.proofs.Answered.{answered, left_opened}
 use Rattle.art_change.specs.Tries.{IsRoom, key_of, value_of}
 use Rattle.art_change.specs.declared.tries.Job.{Job}
 use Rattle.art_change.specs.Writes.{Fits, HasGround, IsClosing, IsDone, IsReady, MayWrite, StageFits, ended_at, gone_by, outcome_at}
@@ -80,8 +79,8 @@ module _ (z : Sizes) (u : View) (own : ℕ) (s : Stock) (ps : List Place) (m : W
   closing_ready : IsDone z u ps m.outcome m r qs v → IsClosing z u ps m r qs v → is_ended m.closing ≡ true → IsReady z v own qs r.stock
   closing_ready done k is =
       let closed = closed_stock z (key_of m.job r).items (value_of m.job r) k.ended v k.waiting qs m r m.closing is k.fits in
-      let pass = (left_by z k.opened (record r { stock = k.stock }) k.ended m.job m.trying m.outcome m.left k.outcome).pass in
-      after done (ap (λ (t : View). t.pass) closed.0.is ∙ (pass ∙ ap (λ (t : View). t.pass) k.frame.is)) (ap (λ (t : View). t.hand) closed.0.is) closed.1
+      let pass = (left_opened z u ps m r qs v k).pass in
+      after done (ap (λ (t : View). t.pass) closed.0.is ∙ (pass ∙ ap (λ (t : View). t.pass) k.frame.frame.is)) (ap (λ (t : View). t.hand) closed.0.is) closed.1
 
   done_ready : (o : Outcome) → m.outcome ≡ o → IsDone z u ps o m r qs v → IsReady z v own qs r.stock
   done_ready (Crowded b) is done =
@@ -115,5 +114,5 @@ module _ (z : Sizes) (u : View) (ps : List Place) (m : Write) (r : Room) (qs : L
   ground_at stage.Closing o is fits = cc
   ground_at stage.Ended o is fits = subst (λ (a : Outcome). IsDone z u ps a m r qs v) (same_Some {A = Outcome} m.outcome o is) fits
 
-  pub ends_with : (o : Outcome) → ended_at m ≡ Some o → Fits z u ps m r qs v → HasGround z u m.job ps o r qs v
-  ends_with o is fits = (m, refl, ground_at m.stage o is fits.stage)
+  pub ends_with : (o : Outcome) → ended_at m ≡ Some o → Fits z u ps m r qs v → HasGround z u m.job ps m.turns m.restarts o r qs v
+  ends_with o is fits = record { machine = m; job_is = refl; turns_are = refl; restarts_are = refl; done = ground_at m.stage o is fits.stage }

@@ -42,7 +42,7 @@ module _ (z : Sizes) (u : View) (ps : List Place) (m : Write) (r : Room) (qs : L
     few_at stage.Opening fits is = frame_few (openings.asks m.opening qs) is
     few_at stage.Trying fits is =
         let k = attempt_told z (deed_at m r) r.change v w (tries.asks m.trying r) asked answer is row in
-        try_few z fits.0.opened r v w k.0 (attempt_in answer) m.job m.trying k.2 fits.0.fits k.1
+        try_few z fits.0.began r v w k.0 (attempt_in answer) m.job m.trying k.2 fits.0.fits k.1
     few_at stage.Closing fits is = frame_few (closings.asks m.closing r.stock) is
     few_at stage.Ended fits is = cc
 
@@ -54,7 +54,7 @@ module _ (z : Sizes) (u : View) (ps : List Place) (m : Write) (r : Room) (qs : L
     makes_at stage.Opening fits is = let k = map_some Frame (openings.asks m.opening qs) (Attempt (Change a)) is in let no = k.2 in absurd (cc)
     makes_at stage.Trying fits is =
         let k = map_some Attempt (tries.asks m.trying r) (Attempt (Change a)) is in
-        try_makes z fits.0.opened r v a m.job m.trying fits.0.fits (k.1 ∙ ap Some (same_attempt k.0 (Change a) k.2))
+        try_makes z fits.0.began r v a m.job m.trying fits.0.fits (k.1 ∙ ap Some (same_attempt k.0 (Change a) k.2))
     makes_at stage.Closing fits is = let k = map_some Frame (closings.asks m.closing r.stock) (Attempt (Change a)) is in let no = k.2 in absurd (cc)
     makes_at stage.Ended fits is = cc
 
@@ -64,7 +64,7 @@ module _ (z : Sizes) (u : View) (ps : List Place) (m : Write) (r : Room) (qs : L
   module _ (a : AttemptAsked) where
     key_at : (s : Stage) → StageFits z u ps s m r qs v → asks_at s m r qs ≡ Some (Attempt a) → key_by m.trying r ≡ (key_of m.job r).items
     key_at stage.Opening fits is = let k = map_some Frame (openings.asks m.opening qs) (Attempt a) is in let no = k.2 in absurd (cc)
-    key_at stage.Trying fits is = try_key z fits.0.opened r v m.job m.trying fits.0.fits
+    key_at stage.Trying fits is = try_key z fits.0.began r v m.job m.trying fits.0.fits
     key_at stage.Closing fits is = let k = map_some Frame (closings.asks m.closing r.stock) (Attempt a) is in let no = k.2 in absurd (cc)
     key_at stage.Ended fits is = cc
 

@@ -1,10 +1,10 @@
 -- An attempt of an insert or of a removal: of the row of a room, or of its leaf that goes.
-use Rattle.std.specs.Prelude.{◌≡◌, ℕ, Option, Bool}
+use Rattle.std.specs.Prelude.{◌≡◌, ◌<◌, ℕ, Option, Bool}
 use Rattle.std.specs.Option.{option_map}
 use Rattle.arrayvec.specs.ArrayVec.{ArrayVec}
 use Rattle.art_attempt.specs.Inserting as inserts
-use Rattle.art_attempt.specs.Inserting.{HasEntered, IsExhausted, IsFull, IsOverlap, IsPresent}
-use Rattle.art_attempt.specs.Trying.{IsKey, StillTries}
+use Rattle.art_attempt.specs.Inserting.{HasEntered, IsExhausted, IsFull, IsOverlap, IsPresent, IsTooLarge}
+use Rattle.art_attempt.specs.Trying.{HasSpent, IsKey, StillTries}
 use Rattle.art_attempt.specs.declared.asked.Asked.{Asked}
 use Rattle.art_attempt.specs.declared.inserting.Entered.{Entered}
 use Rattle.art_attempt.specs.declared.inserting.Entered.TheVariants as entered
@@ -16,13 +16,12 @@ use Rattle.art_change.specs.declared.tries.Tried.{Tried}
 use Rattle.art_change.specs.declared.tries.Tried.TheVariants.{New, Present, Gone, Absent, Full, Exhausted, Overlaps, TooMany, Anew}
 use Rattle.art_change.specs.declared.tries.Trying.{Trying}
 use Rattle.art_change.specs.declared.tries.Trying.TheVariants.{Inserting, Erasing}
-use Rattle.art_decide.specs.Plans.{IsTooMuch}
 use Rattle.art_erase.specs.Erasing as erases
 use Rattle.art_erase.specs.Erasing.{HasErased, IsAbsent}
-use Rattle.art_erase.specs.Refused as refused
 use Rattle.art_erase.specs.declared.erasing.Erased.{Erased}
 use Rattle.art_erase.specs.declared.erasing.Erased.TheVariants as erased
 use Rattle.art_erase.specs.declared.erasing.Erasing.{Erasing as Erasure}
+use Rattle.art_find.specs.declared.asked.Answer.{Answer as CellAnswer}
 use Rattle.art_frame.specs.Stocks.{HasStock}
 use Rattle.art_step.specs.declared.deeds.Deed.{Deed}
 use Rattle.art_step.specs.declared.views.Sizes.{Sizes}
@@ -103,9 +102,10 @@ pub record SameKey (job : Job) (r s : Room) : Type 0 where
 abbrev pub HasHand : Sizes → Job → View → Room → Type 0
 HasHand z job v r = HasStock z (key_of job r).items (value_of job r) v r.stock
 
--- but for steps, what is in hand and what reading changes, the pass is as it was
+-- but for steps, which are few, what is in hand and what reading changes, the pass is as it was
 pub record EndsSo (z : Sizes) (u : View) (job : Job) (r : Room) (v : View) : Type 0 where
   pub still : StillTries u v
+  pub spent : HasSpent z u 25800 v
   pub has : HasHand z job v r
 
 -- ---- what it knows
@@ -120,22 +120,30 @@ abbrev pub InsertEnds : Sizes → View → Insertion → Room → Tried → View
 InsertEnds z u m r New v = HasEntered z u r v
 InsertEnds z u m r (Present stands) v = IsPresent z u r stands v
 InsertEnds z u m r (Full pool) v = EndsSo z u Insert r v × IsFull z u m.stand r pool v
-InsertEnds z u m r (Exhausted c) v = EndsSo z u Insert r v × IsExhausted u r c v
-InsertEnds z u m r Overlaps v = EndsSo z u Insert r v × IsOverlap z r
-InsertEnds z u m r TooMany v = EndsSo z u Insert r v × ((made : ℕ) × IsTooMuch m.stand r.desk r.row made)
-InsertEnds z u m r Anew v = EndsSo z u Insert r v
+InsertEnds z u m r (Exhausted c) v = EndsSo z u Insert r v × IsExhausted z u m.stand r c v
+InsertEnds z u m r Overlaps v = EndsSo z u Insert r v × IsOverlap z u m.stand r v
+InsertEnds z u m r TooMany v = EndsSo z u Insert r v × IsTooLarge z u m.stand r v
+InsertEnds z u m r Anew v = EndsSo z u Insert r v × (u.failures < v.failures)
 InsertEnds z u m r e v = ⊥
 
 -- how a removal ended
 abbrev pub EraseEnds : Sizes → View → Erasure → Room → Tried → View → Type 0
 EraseEnds z u m r (Gone value) v = HasErased z u r value v
 EraseEnds z u m r Absent v = IsAbsent z u r v
-EraseEnds z u m r (Exhausted c) v = EndsSo z u Remove r v × erases.IsExhausted u r c v
-EraseEnds z u m r TooMany v = EndsSo z u Remove r v × refused.IsTooMuch m.way m.stand r
-EraseEnds z u m r Anew v = EndsSo z u Remove r v
+EraseEnds z u m r (Exhausted c) v = EndsSo z u Remove r v × erases.IsExhausted z u m.stand m.way m.lowering r c v
+EraseEnds z u m r TooMany v = EndsSo z u Remove r v × erases.IsTooLarge z u m.stand m.way m.lowering r v
+EraseEnds z u m r Anew v = EndsSo z u Remove r v × (u.failures < v.failures)
 EraseEnds z u m r e v = ⊥
 
 abbrev pub EndFits : Sizes → View → Job → Trying → Room → Tried → View → Type 0
 EndFits z u Insert (Inserting m) r e v = InsertEnds z u m r e v
 EndFits z u Remove (Erasing m) r e v = EraseEnds z u m r e v
 EndFits z u job t r e v = ⊥
+
+-- ---- why it is tried anew
+
+-- a version word was locked, obsolete or changed
+abbrev pub IsAnewBy : Trying → Trying → CellAnswer → Type 0
+IsAnewBy (Inserting m) (Inserting next) answer = inserts.IsAnewBy m.stage next.making answer
+IsAnewBy (Erasing m) (Erasing next) answer = erases.IsAnewBy m.stage next.making answer
+IsAnewBy t next answer = ⊥

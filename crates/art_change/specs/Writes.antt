@@ -1,8 +1,11 @@
 -- What a write asks, and what it knows between two of its steps: its opening, its attempts, its close.
-use Rattle.std.specs.Prelude.{◌≡◌, ℕ, ◌+◌, ◌<◌, ◌≤◌, ◌==◌, true, false, List, [], length, Option, Some, None, if◌then◌else◌}
+use Rattle.std.specs.Prelude.{◌≡◌, ◌⊎◌, ℕ, ◌+◌, ◌*◌, ◌<◌, ◌≤◌, ◌==◌, true, false, List, [], length, Option, Some, None, if◌then◌else◌}
 use Rattle.arrayvec.specs.ArrayVec.{ArrayVec}
 use Rattle.std.specs.Option.{option_map}
 use Rattle.art_attempt.specs.Inserting.{present, tries_left}
+use Rattle.art_attempt.specs.Asking.{cell_in}
+use Rattle.art_attempt.specs.Trying.{IsLimited, StillTries}
+use Rattle.art_attempt.specs.declared.asked.Answer.{Answer as AttemptAnswer}
 use Rattle.art_attempt.specs.declared.rooms.Room.{Room}
 use Rattle.art_change.specs.Tries as tries
 use Rattle.art_change.specs.Tries.{EndFits, EndsSo, HasHand, IsRoom, key_of, value_of}
@@ -125,7 +128,7 @@ told_by (Gone had) job.Remove k value = Some (removed (leaf_of k had))
 told_by Absent job.Remove k value = Some (absent (leaf_of k value))
 told_by o j k value = None
 
--- how it stands when the last attempt has ended, of a pass that had the view u when it was pinned; so many turns are left
+-- how it stands when the last attempt has ended, of a pass that had the view u when that began; so many turns are left
 abbrev pub HasOutcome : Sizes → View → Job → Trying → Room → Outcome → ℕ → View → Type 0
 HasOutcome z u j t r New left v = EndFits z u j t r tried.New v
 HasOutcome z u j t r (Present stands) left v = EndFits z u j t r (tried.Present stands) v
@@ -150,13 +153,29 @@ pub record IsOpening (z : Sizes) (u : View) (ps : List Place) (m : Write) (r : R
   pub going : openings.ended_at m.opening ≡ None
   pub free : u.held ≡ []
   pub has : HasHand z m.job u r
+  pub later : u.steps ≤ v.steps
   pub full : m.left ≡ m.turns
+  pub fresh : m.restarts ≡ 0
+
+-- the pass was pinned, and no step was taken back
+pub record WasOpened (z : Sizes) (u opened : View) (ps qs : List Place) : Type 0 where
+  pub frame : IsOpened z u opened ps qs
+  pub later : u.steps ≤ opened.steps
+
+-- an attempt began at the view v, of a pass that had the view u when it was pinned: each of the restarts before it was a failure at least,
+-- and in a table within its limits few steps were made for each
+pub record HasBegun (z : Sizes) (u : View) (restarts : ℕ) (v : View) : Type 0 where
+  pub base : StillTries u v
+  pub failed : u.failures + restarts ≤ v.failures
+  pub few : IsLimited z → v.steps + 30000 * u.failures ≤ u.steps + 30000 * v.failures
 
 -- the pass was pinned, and attempts go on; so many turns are left at least
 pub record IsTrying (z : Sizes) (u : View) (ps : List Place) (m : Write) (r : Room) (qs : List Place) (v : View) : Type 0 where
   pub opened : View
-  pub frame : IsOpened z u opened ps qs
-  pub fits : tries.Fits z opened m.job m.trying r v
+  pub began : View
+  pub frame : WasOpened z u opened ps qs
+  pub begun : HasBegun z opened m.restarts began
+  pub fits : tries.Fits z began m.job m.trying r v
   pub going : tries.ended_at m.trying ≡ None
   pub counted : opened.steps + m.turns ≤ v.steps + m.left
 
@@ -167,17 +186,21 @@ HasTurn m = tries.is_free m.trying ≡ true → 0 < m.left
 -- the last attempt has ended, when these numbers were in hand and those places waited
 pub record IsClosing (z : Sizes) (u : View) (ps : List Place) (m : Write) (r : Room) (qs : List Place) (v : View) : Type 0 where
   pub opened : View
+  pub began : View
   pub ended : View
   pub stock : Stock
   pub waiting : List Place
-  pub frame : IsOpened z u opened ps waiting
-  pub outcome : HasOutcome z opened m.job m.trying (record r { stock = stock }) m.outcome m.left ended
+  pub frame : WasOpened z u opened ps waiting
+  pub begun : HasBegun z opened m.restarts began
+  pub outcome : HasOutcome z began m.job m.trying (record r { stock = stock }) m.outcome m.left ended
+  pub later : ended.steps ≤ v.steps
   pub counted : opened.steps + m.turns ≤ ended.steps + m.left
-  pub fits : ClosingFits z (key_of m.job r).items (value_of m.job r) ended waiting (links_of (gone_by m.outcome r.change)) m.closing qs r.stock v
+  pub fits : ClosingFits z (key_of m.job r).items (value_of m.job r) ended waiting (links_of (gone_by m.outcome r.change))
+      m.closing qs r.stock v
 
 -- limbo was crowded, or the close has ended
 abbrev pub IsDone : Sizes → View → List Place → Outcome → Write → Room → List Place → View → Type 0
-IsDone z u ps (Crowded b) m r qs v = IsCrowded z u v ps qs b × (u.held ≡ []) × HasHand z m.job u r
+IsDone z u ps (Crowded b) m r qs v = IsCrowded z u v ps qs b × (u.held ≡ []) × HasHand z m.job u r × (m.restarts ≡ 0)
 IsDone z u ps o m r qs v = IsClosing z u ps m r qs v × (closings.is_ended m.closing ≡ true)
 
 abbrev pub StageFits : Sizes → View → List Place → Stage → Write → Room → List Place → View → Type 0
@@ -211,9 +234,28 @@ pub record IsWriter (z : Sizes) (u : View) (w : Writer) : Type 0 where
   pub sizes : w.room.sizes ≡ z
   pub ready : IsReady z u w.own (places_of w.limbo) w.room.stock
 
--- it ended so, with what its outcome came of: as a machine of this job has it that was run to its end
-abbrev pub HasGround : Sizes → View → Job → List Place → Outcome → Room → List Place → View → Type 0
-HasGround z u j ps o r qs v = (m : Write) × (m.job ≡ j) × IsDone z u ps o m r qs v
+-- it ended so, with what its outcome came of: as a machine of this job has it that was run to its end, with these turns and restarts
+pub record HasGround (z : Sizes) (u : View) (j : Job) (ps : List Place) (turns restarts : ℕ) (o : Outcome) (r : Room) (qs : List Place)
+    (v : View) : Type 0 where
+  pub machine : Write
+  pub job_is : machine.job ≡ j
+  pub turns_are : machine.turns ≡ turns
+  pub restarts_are : machine.restarts ≡ restarts
+  pub done : IsDone z u ps o machine r qs v
+
+-- so many steps were counted as there were turns, and in a table within its limits these are few beside the failures
+pub record UsedTurns (z : Sizes) (u : View) (turns : ℕ) (v : View) : Type 0 where
+  pub counted : u.steps + turns ≤ v.steps
+  pub few : IsLimited z → turns + 30000 * u.failures < 30000 * (v.failures + 1)
+
+-- each restart was a failure at least; and the turns were used, where that is the outcome
+pub record HasCounted (z : Sizes) (u : View) (turns restarts : ℕ) (o : Outcome) (v : View) : Type 0 where
+  pub failed : u.failures + restarts ≤ v.failures
+  pub busy : o ≡ Busy → UsedTurns z u turns v
+
+-- it did not try anew, or this answer to its attempt was why
+abbrev pub RestartsBy : Write → Write → AttemptAnswer → Type 0
+RestartsBy m next answer = (next.restarts ≡ m.restarts) ⊎ ((t : Trying) × tries.IsAnewBy m.trying t (cell_in answer))
 
 -- the pass is idle and holds nothing; limbo is as the code has it; it made the event of the outcome, or none
 pub record HasAnswered (z : Sizes) (u : View) (j : Job) (o : Outcome) (k : ArrayVec ℕ) (value : ℕ) (qs : List Place) (v : View)

@@ -5,7 +5,7 @@ ghost use Rattle.art_attempt.specs.declared.asked.Asked.TheVariants.{Change as c
 ghost use Rattle.art_change.specs.Asking.{Answers, IsAllowed};
 ghost use Rattle.art_change.specs.Tries.{IsRoom, SameKey, deed_at, key_of, value_of};
 ghost use Rattle.art_change.specs.Made.{IsMadeBy, key_by};
-ghost use Rattle.art_change.specs.Writes.{Fits, HasAnswered, HasGround, IsReady, ended_at, most_steps, steps_left};
+ghost use Rattle.art_change.specs.Writes.{Fits, HasAnswered, HasCounted, HasGround, IsReady, ended_at, most_steps, steps_left};
 ghost use Rattle.art_change.specs.declared.asked.Asked.TheVariants.{Attempt as attempt_asked};
 ghost use Rattle.art_epoch.specs.Limbo.{places_of};
 ghost use Rattle.art_epoch.specs.declared.limbo.Place.{Place};
@@ -53,6 +53,7 @@ pub fn step<S: EpochSteps>(steps: &mut S, write: &mut Write, room: &mut Room, li
         Fits (S.sizes steps.old) u ps write.old room.old (places_of limbo.old) (S.view steps.old) }
     ensures only { S.only steps.old steps.new }
     ensures job { write.new.job ≡ write.old.job }
+    ensures turns { write.new.turns ≡ write.old.turns }
     ensures key { SameKey write.old.job room.old room.new }
     ensures one { (S.view steps.new).steps ≤ (S.view steps.old).steps + 1 }
     ensures left { steps_left write.new room.new (places_of limbo.new) < steps_left write.old room.old (places_of limbo.old) }
@@ -84,8 +85,9 @@ pub(crate) fn write<S: EpochSteps>(
     ensures sizes { room.new.sizes ≡ room.old.sizes }
     ensures answered { HasAnswered (S.sizes steps.old) (S.view steps.old) job result.outcome (key_of job room.old) (value_of job room.old)
         (places_of limbo.new) (S.view steps.new) }
-    ensures grounds { HasGround (S.sizes steps.old) (S.view steps.old) job (places_of limbo.old) result.outcome room.new
-        (places_of limbo.new) (S.view steps.new) }
+    ensures grounds { HasGround (S.sizes steps.old) (S.view steps.old) job (places_of limbo.old) turns result.restarts result.outcome
+        room.new (places_of limbo.new) (S.view steps.new) }
+    ensures counted { HasCounted (S.sizes steps.old) (S.view steps.old) turns result.restarts result.outcome (S.view steps.new) }
     ensures ready { IsReady (S.sizes steps.old) (S.view steps.new) own (places_of limbo.new) room.new.stock }
     ensures steps { (S.view steps.new).steps ≤
         (S.view steps.old).steps + most_steps turns (S.sizes steps.old).passes (places_of limbo.old) }

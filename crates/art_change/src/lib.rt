@@ -28,7 +28,7 @@
 //! Each step may be made, and each answer keeps what the machine knows (`Fits`). When it has ended (`IsDone`), either limbo was
 //! crowded and nothing was pinned, or the frame was opened, the last attempt ended so (`HasOutcome`, with the grounds of each
 //! refusal), and the frame is closed: the pass is idle and has nothing in hand. `Busy` comes only where as many steps were made
-//! as turns were given.
+//! as turns were given, and these are few beside the failures that were met; each restart was a failure (`HasCounted`).
 #![tactic(auto)]
 
 mod asked;

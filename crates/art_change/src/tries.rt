@@ -1,11 +1,13 @@
 //! An attempt of an insert or of a removal.
 ghost use Rattle.std.specs.Prelude.{◌≡◌, ℕ, ◌-◌, ◌<◌, ◌≤◌, None, Some, true};
-ghost use Rattle.art_attempt.specs.Asking.{Answers, IsAllowed, steps_in};
+ghost use Rattle.art_attempt.specs.Asking.{Answers, IsAllowed, cell_in, steps_in};
 ghost use Rattle.art_attempt.specs.Inserting.{tries_left};
+ghost use Rattle.art_attempt.specs.Trying.{StillTries};
 ghost use Rattle.art_attempt.specs.declared.asked.Asked.{Asked as AskedStep};
 ghost use Rattle.art_attempt.specs.declared.rooms.Room.{Room as RoomOf};
-ghost use Rattle.art_change.specs.Tries.{EndsSo, Fits, IsRoom, SameKey, asks, deed_at, ended_at, is_free, of_entered, of_erased, steps_left};
+ghost use Rattle.art_change.specs.Tries.{EndsSo, Fits, HasHand, IsAnewBy, IsRoom, SameKey, asks, deed_at, ended_at, is_free, of_entered, of_erased, steps_left};
 ghost use Rattle.art_change.specs.declared.tries.Job.{Job as JobOf};
+ghost use Rattle.art_change.specs.declared.tries.Tried.TheVariants.{Anew as anew};
 ghost use Rattle.art_step.specs.declared.views.Sizes.{Sizes};
 ghost use Rattle.art_step.specs.declared.views.View.{View};
 
@@ -59,7 +61,8 @@ impl Trying {
     pub fn new(job: Job, room: &Room) -> Trying
         ensures going { ended_at result ≡ None }
         ensures few { (left : ℕ) → steps_left left result ≤ tries_left left }
-        ensures fits { (z : Sizes) (u v : View) → IsRoom z job room.now → EndsSo z u job room.now v → Fits z u job result room.now v }
+        ensures fits { (z : Sizes) (u : View) → IsRoom z job room.now → StillTries u u → HasHand z job u room.now →
+            Fits z u job result room.now u }
     {
         match job {
             Job::Insert => Trying::Inserting(Inserting::new(room)),
@@ -93,6 +96,7 @@ impl Trying {
             Fits z u job self.new room.new w }
         ensures left { (left : ℕ) → (is_free self.old ≡ true → 0 < left) →
             steps_left (left - steps_in answer) self.new < steps_left left self.old }
+        ensures anew { ended_at self.new ≡ Some anew → IsAnewBy self.old self.new (cell_in answer) }
     {
         match self {
             Trying::Inserting(inserting) => inserting.told(room, answer),

@@ -1,6 +1,6 @@
 //! What a pass keeps beside the table to change it.
 ghost use Rattle.std.specs.Prelude.{◌≡◌, ◌+◌, ◌≤◌};
-ghost use Rattle.art_change.specs.Writes.{HasAnswered, HasGround, most_steps};
+ghost use Rattle.art_change.specs.Writes.{HasAnswered, HasCounted, HasGround, most_steps};
 ghost use Rattle.art_change.specs.declared.tries.Job.TheVariants as jobs;
 ghost use Rattle.art_epoch.specs.Limbo.{places_of};
 ghost use Rattle.art_step.specs.declared.views.View.{View};
@@ -55,8 +55,9 @@ impl Writer {
         ensures answered { HasAnswered (S.sizes steps.old) (S.view steps.old) jobs.Insert result.outcome key.now value
             (places_of self.new.limbo) (S.view steps.new) }
         ensures row { (self.new.room.row.key ≡ key.now) × (self.new.room.row.value ≡ value) }
-        ensures grounds { HasGround (S.sizes steps.old) (S.view steps.old) jobs.Insert (places_of self.old.limbo) result.outcome
-            self.new.room (places_of self.new.limbo) (S.view steps.new) }
+        ensures grounds { HasGround (S.sizes steps.old) (S.view steps.old) jobs.Insert (places_of self.old.limbo) turns result.restarts
+            result.outcome self.new.room (places_of self.new.limbo) (S.view steps.new) }
+        ensures counted { HasCounted (S.sizes steps.old) (S.view steps.old) turns result.restarts result.outcome (S.view steps.new) }
         ensures may { IsWriter (S.sizes steps.old) (S.view steps.new) self.new }
         ensures steps { (S.view steps.new).steps ≤
             (S.view steps.old).steps + most_steps turns (S.sizes steps.old).passes (places_of self.old.limbo) }
@@ -74,8 +75,9 @@ impl Writer {
         ensures answered { HasAnswered (S.sizes steps.old) (S.view steps.old) jobs.Remove result.outcome key.now 0
             (places_of self.new.limbo) (S.view steps.new) }
         ensures key { self.new.room.gone.key ≡ key.now }
-        ensures grounds { HasGround (S.sizes steps.old) (S.view steps.old) jobs.Remove (places_of self.old.limbo) result.outcome
-            self.new.room (places_of self.new.limbo) (S.view steps.new) }
+        ensures grounds { HasGround (S.sizes steps.old) (S.view steps.old) jobs.Remove (places_of self.old.limbo) turns result.restarts
+            result.outcome self.new.room (places_of self.new.limbo) (S.view steps.new) }
+        ensures counted { HasCounted (S.sizes steps.old) (S.view steps.old) turns result.restarts result.outcome (S.view steps.new) }
         ensures may { IsWriter (S.sizes steps.old) (S.view steps.new) self.new }
         ensures steps { (S.view steps.new).steps ≤
             (S.view steps.old).steps + most_steps turns (S.sizes steps.old).passes (places_of self.old.limbo) }

@@ -1,22 +1,23 @@
 //! A write, step by step: its opening, its attempts, its close.
-ghost use Rattle.std.specs.Prelude.{◌≡◌, ℕ, ◌+◌, ◌-◌, ◌<◌, ◌≤◌, List, [], length, Some, None, true, false};
+ghost use Rattle.std.specs.Prelude.{◌≡◌, ◌⊎◌, ℕ, ◌+◌, ◌-◌, ◌<◌, ◌≤◌, List, [], length, Some, None, true, false};
 ghost use Rattle.art_attempt.specs.Asking.{Answers as AttemptAnswers, steps_in};
 ghost use Rattle.art_attempt.specs.Inserting.{tries_left};
 ghost use Rattle.art_attempt.specs.declared.asked.Asked.{Asked as AttemptAsked};
 ghost use Rattle.art_attempt.specs.declared.rooms.Room.{Room as RoomOf};
-ghost use Rattle.art_change.specs.Asking.{Answers};
-ghost use Rattle.art_change.specs.Tries.{EndFits, EndsSo, IsRoom, SameKey, asks as attempt_asks, key_of, value_of};
+ghost use Rattle.art_change.specs.Asking.{Answers, attempt_in};
+ghost use Rattle.art_change.specs.Tries.{EndFits, HasHand, IsRoom, SameKey, asks as attempt_asks, key_of, value_of};
 ghost use Rattle.art_change.specs.Tries as tries;
-ghost use Rattle.art_change.specs.Writes.{Fits, HasAnswered, HasOutcome, HasTurn, IsClosing, IsOpening, IsTrying, MayWrite};
+ghost use Rattle.art_change.specs.Writes.{Fits, HasAnswered, HasBegun, HasCounted, HasOutcome, HasTurn, IsClosing, IsOpening, IsTrying, MayWrite, RestartsBy, WasOpened};
 ghost use Rattle.art_change.specs.Writes.{asks, asks_at, deed_at, ended_at, ended_left, gone_by, left_at, most_steps, or_busy, outcome_of, steps_left};
 ghost use Rattle.art_change.specs.declared.asked.Asked.{Asked as AskedStep};
+ghost use Rattle.art_change.specs.declared.tries.Tried.TheVariants.{Anew as anew};
 ghost use Rattle.art_change.specs.declared.writes.Stage.TheVariants as stages;
 ghost use Rattle.art_epoch.specs.Asking.{Answers as FrameAnswers};
 ghost use Rattle.art_epoch.specs.Limbo.{places_of};
 ghost use Rattle.art_epoch.specs.declared.asked.Asked.{Asked as FrameAsked};
 ghost use Rattle.art_epoch.specs.declared.limbo.Place.{Place};
 ghost use Rattle.art_frame.specs.Closings.{asks as closing_asks, is_ended};
-ghost use Rattle.art_frame.specs.Openings.{IsOpened, asks as opening_asks};
+ghost use Rattle.art_frame.specs.Openings.{asks as opening_asks};
 ghost use Rattle.art_step.specs.declared.deeds.Deed.{Deed};
 ghost use Rattle.art_step.specs.declared.views.Sizes.{Sizes};
 ghost use Rattle.art_step.specs.declared.views.View.{View};
@@ -88,6 +89,7 @@ impl Write {
     /// By the pass `own`, in so many turns.
     pub fn new(job: Job, own: u32, turns: u32, room: &Room, limbo: &Limbo) -> Write
         ensures job { result.job ≡ job }
+        ensures turns { (result.turns ≡ turns) × (result.restarts ≡ 0) }
         ensures left { (z : Sizes) (u : View) → MayWrite z u own job (places_of limbo.now) room.now →
             steps_left result room.now (places_of limbo.now) ≤ most_steps turns z.passes (places_of limbo.now) }
         ensures fits { (z : Sizes) (u : View) → MayWrite z u own job (places_of limbo.now) room.now →
@@ -129,6 +131,8 @@ impl Write {
             Fits z u ps self.old room.old (places_of limbo.old) v × (asks self.old room.old (places_of limbo.old) ≡ Some asked) ×
             Answers z (deed_at self.old room.old) room.old.change asked answer v w }
         ensures job { self.new.job ≡ self.old.job }
+        ensures turns { self.new.turns ≡ self.old.turns }
+        ensures restarts { RestartsBy self.old self.new (attempt_in answer) }
         ensures key { SameKey self.old.job room.old room.new }
         ensures fits { (z : Sizes) (u v w : View) (ps : List Place) (asked : AskedStep) →
             Fits z u ps self.old room.old (places_of limbo.old) v → asks self.old room.old (places_of limbo.old) ≡ Some asked →
@@ -149,6 +153,8 @@ impl Write {
         ensures at { result ≡ ended_at self.now }
         ensures answered { IfSome result (λ o. (z : Sizes) (u v : View) (ps qs : List Place) (r : RoomOf) →
             Fits z u ps self.now r qs v → HasAnswered z u self.now.job o (key_of self.now.job r) (value_of self.now.job r) qs v) }
+        ensures counted { IfSome result (λ o. (z : Sizes) (u v : View) (ps qs : List Place) (r : RoomOf) →
+            Fits z u ps self.now r qs v → HasCounted z u self.now.turns self.now.restarts o v) }
     {
         match self.stage {
             Stage::Ended => Some(self.outcome),
@@ -206,10 +212,12 @@ impl Write {
     /// A step of the opening was made.
     fn open_told(&mut self, room: &Room, limbo: &mut Limbo, word: u64)
         requires stage { self.old.stage ≡ stages.Opening }
-        requires told { (z : Sizes) × (u : View) × (v : View) × (w : View) × (ps : List Place) × (asked : FrameAsked) × IsRoom z self.old.job room.now ×
-            IsOpening z u ps self.old room.now (places_of limbo.old) v ×
+        requires told { (z : Sizes) × (u : View) × (v : View) × (w : View) × (ps : List Place) × (asked : FrameAsked) ×
+            IsRoom z self.old.job room.now × IsOpening z u ps self.old room.now (places_of limbo.old) v ×
             (opening_asks self.old.opening (places_of limbo.old) ≡ Some asked) × FrameAnswers z asked word v w }
         ensures job { self.new.job ≡ self.old.job }
+        ensures turns { self.new.turns ≡ self.old.turns }
+        ensures restarts { self.new.restarts ≡ self.old.restarts }
         ensures left { steps_left self.new room.now (places_of limbo.new) < left_at stages.Opening self.old room.now (places_of limbo.old) }
         ensures fits { (z : Sizes) (u v w : View) (ps : List Place) (asked : FrameAsked) → IsRoom z self.old.job room.now →
             IsOpening z u ps self.old room.now (places_of limbo.old) v →
@@ -230,10 +238,12 @@ impl Write {
     /// An attempt begins, where turns are left.
     fn go_on(&mut self, room: &Room)
         ensures job { self.new.job ≡ self.old.job }
+        ensures turns { self.new.turns ≡ self.old.turns }
+        ensures restarts { self.new.restarts ≡ self.old.restarts }
         ensures left { (qs : List Place) → steps_left self.new room.now qs ≤ tries_left self.old.left + 7 }
-        ensures fits { (z : Sizes) (u opened v : View) (ps qs : List Place) → IsRoom z self.old.job room.now → IsOpened z u opened ps qs →
-            EndsSo z opened self.old.job room.now v → opened.steps + self.old.turns ≤ v.steps + self.old.left →
-            Fits z u ps self.new room.now qs v }
+        ensures fits { (z : Sizes) (u opened v : View) (ps qs : List Place) → IsRoom z self.old.job room.now → WasOpened z u opened ps qs →
+            HasBegun z opened self.old.restarts v → HasHand z self.old.job v room.now →
+            opened.steps + self.old.turns ≤ v.steps + self.old.left → Fits z u ps self.new room.now qs v }
     {
         if self.left == 0 {
             self.close(room, Outcome::Busy);
@@ -246,9 +256,12 @@ impl Write {
     /// The last attempt has ended so: the frame is closed.
     fn close(&mut self, room: &Room, outcome: Outcome)
         ensures job { self.new.job ≡ self.old.job }
+        ensures turns { self.new.turns ≡ self.old.turns }
+        ensures restarts { self.new.restarts ≡ self.old.restarts }
         ensures left { (qs : List Place) → steps_left self.new room.now qs ≤ 7 }
-        ensures fits { (z : Sizes) (u opened v : View) (ps qs : List Place) → IsRoom z self.old.job room.now → IsOpened z u opened ps qs →
-            HasOutcome z opened self.old.job self.old.trying room.now outcome self.old.left v →
+        ensures fits { (z : Sizes) (u opened began v : View) (ps qs : List Place) → IsRoom z self.old.job room.now →
+            WasOpened z u opened ps qs → HasBegun z opened self.old.restarts began →
+            HasOutcome z began self.old.job self.old.trying room.now outcome self.old.left v →
             opened.steps + self.old.turns ≤ v.steps + self.old.left → Fits z u ps self.new room.now qs v }
     {
         self.outcome = outcome;
@@ -260,10 +273,13 @@ impl Write {
     fn try_told(&mut self, room: &mut Room, answer: AttemptAnswer)
         requires stage { self.old.stage ≡ stages.Trying }
         requires turn { HasTurn self.old }
-        requires told { (z : Sizes) × (u : View) × (v : View) × (w : View) × (ps : List Place) × (qs : List Place) × (asked : AttemptAsked) ×
+        requires told { (z : Sizes) × (u : View) × (v : View) × (w : View) × (ps : List Place) × (qs : List Place) ×
+            (asked : AttemptAsked) ×
             IsRoom z self.old.job room.old × IsTrying z u ps self.old room.old qs v × (attempt_asks self.old.trying room.old ≡ Some asked) ×
             AttemptAnswers z (deed_at self.old room.old) room.old.change asked answer v w }
         ensures job { self.new.job ≡ self.old.job }
+        ensures turns { self.new.turns ≡ self.old.turns }
+        ensures restarts { RestartsBy self.old self.new answer }
         ensures key { SameKey self.old.job room.old room.new }
         ensures fits { (z : Sizes) (u v w : View) (ps qs : List Place) (asked : AttemptAsked) → IsRoom z self.old.job room.old →
             IsTrying z u ps self.old room.old qs v → attempt_asks self.old.trying room.old ≡ Some asked →
@@ -282,9 +298,11 @@ impl Write {
     fn turn(&mut self, room: &Room)
         requires stage { self.old.stage ≡ stages.Trying }
         ensures job { self.new.job ≡ self.old.job }
+        ensures turns { self.new.turns ≡ self.old.turns }
+        ensures restarts { self.new.restarts ≡ self.old.restarts }
         ensures left { (qs : List Place) → steps_left self.new room.now qs ≤ left_at stages.Trying self.old room.now qs }
-        ensures fits { (z : Sizes) (u v : View) (ps qs : List Place) → IsRoom z self.old.job room.now → IsTrying z u ps self.old room.now qs v →
-            Fits z u ps self.new room.now qs v }
+        ensures fits { (z : Sizes) (u v : View) (ps qs : List Place) → IsRoom z self.old.job room.now →
+            IsTrying z u ps self.old room.now qs v → Fits z u ps self.new room.now qs v }
     {
         if self.left == 0 {
             if self.trying.is_free() {
@@ -296,9 +314,12 @@ impl Write {
     /// An attempt ended so.
     fn tried(&mut self, room: &Room, tried: Tried)
         ensures job { self.new.job ≡ self.old.job }
+        ensures turns { self.new.turns ≡ self.old.turns }
+        ensures restarts { (self.new.restarts ≡ self.old.restarts) ⊎ (tried ≡ anew) }
         ensures left { (qs : List Place) → steps_left self.new room.now qs ≤ ended_left self.old.left tried + 7 }
-        ensures fits { (z : Sizes) (u opened v : View) (ps qs : List Place) → IsRoom z self.old.job room.now → IsOpened z u opened ps qs →
-            EndFits z opened self.old.job self.old.trying room.now tried v → opened.steps + self.old.turns ≤ v.steps + self.old.left →
+        ensures fits { (z : Sizes) (u opened began v : View) (ps qs : List Place) → IsRoom z self.old.job room.now →
+            WasOpened z u opened ps qs → HasBegun z opened self.old.restarts began →
+            EndFits z began self.old.job self.old.trying room.now tried v → opened.steps + self.old.turns ≤ v.steps + self.old.left →
             Fits z u ps self.new room.now qs v }
     {
         match outcome_of(self.left, tried) {
@@ -313,10 +334,12 @@ impl Write {
     /// A step of the close was made.
     fn close_told(&mut self, room: &mut Room, limbo: &mut Limbo, word: u64)
         requires stage { self.old.stage ≡ stages.Closing }
-        requires told { (z : Sizes) × (u : View) × (v : View) × (w : View) × (ps : List Place) × (asked : FrameAsked) × IsRoom z self.old.job room.old ×
-            IsClosing z u ps self.old room.old (places_of limbo.old) v × (closing_asks self.old.closing room.old.stock ≡ Some asked) ×
-            FrameAnswers z asked word v w }
+        requires told { (z : Sizes) × (u : View) × (v : View) × (w : View) × (ps : List Place) × (asked : FrameAsked) ×
+            IsRoom z self.old.job room.old × IsClosing z u ps self.old room.old (places_of limbo.old) v ×
+            (closing_asks self.old.closing room.old.stock ≡ Some asked) × FrameAnswers z asked word v w }
         ensures job { self.new.job ≡ self.old.job }
+        ensures turns { self.new.turns ≡ self.old.turns }
+        ensures restarts { self.new.restarts ≡ self.old.restarts }
         ensures key { SameKey self.old.job room.old room.new }
         ensures fits { (z : Sizes) (u v w : View) (ps : List Place) (asked : FrameAsked) → IsRoom z self.old.job room.old →
             IsClosing z u ps self.old room.old (places_of limbo.old) v → closing_asks self.old.closing room.old.stock ≡ Some asked →

@@ -3,9 +3,8 @@ ghost use Rattle.std.specs.Prelude.{◌≡◌};
 ghost use Rattle.art_change_uses.specs.Writes.{WritesFirst};
 
 use crate::clients::{finds, opened, puts, takes};
-use art_cell::{Link, Pool};
+use crate::numbers::account;
 use art_change::{Outcome, Writer};
-use art_epoch::Limbo;
 use art_find::Got;
 use art_key::{Schema, encode};
 use art_model::{Command, Reply, SortedRows, Tuple, Value};
@@ -109,29 +108,6 @@ fn agree(
     }
 }
 
-/// How many numbers of leaves are free.
-fn free_leaves(world: &World) -> u32
-    requires { world.now.sizes.leaves ≡ 1024 }
-{
-    let mut free = 0u32;
-    for index in 0..16 {
-        free = free.wrapping_add(world.free_word(Pool::Leaves, index).count_ones());
-    }
-    free
-}
-
-/// How many numbers of leaves wait in limbo.
-fn waiting_leaves(limbo: &Limbo) -> usize {
-    let mut waiting = 0usize;
-    for place in limbo.places() {
-        match place.link {
-            Link::Leaf(_) => waiting = waiting.wrapping_add(1),
-            Link::Node(_) => {}
-        }
-    }
-    waiting
-}
-
 #[test]
 fn drawn_commands_of_one_column_answer_as_a_map(rt: HostRuntime) -> Result<(), Fail> {
     let (mut world, mut writer) = opened(rt.alloc(), &SIZES, 0)?;
@@ -151,10 +127,7 @@ fn drawn_commands_of_one_column_answer_as_a_map(rt: HostRuntime) -> Result<(), F
             command,
         );
     }
-    let accounted = (free_leaves(&world) as usize)
-        .wrapping_add(rows.rows().len())
-        .wrapping_add(waiting_leaves(&writer.end()));
-    assert_eq!(rt; accounted, 1024);
+    account(&rt, rt.alloc(), &world, &writer.end(), rows.rows().len())?;
     Ok(())
 }
 
@@ -177,9 +150,6 @@ fn drawn_commands_of_three_columns_answer_as_a_map(rt: HostRuntime) -> Result<()
             command,
         );
     }
-    let accounted = (free_leaves(&world) as usize)
-        .wrapping_add(rows.rows().len())
-        .wrapping_add(waiting_leaves(&writer.end()));
-    assert_eq!(rt; accounted, 1024);
+    account(&rt, rt.alloc(), &world, &writer.end(), rows.rows().len())?;
     Ok(())
 }

@@ -1,5 +1,5 @@
-//! Inserts, removals and gets over a world of one thread: their steps, one after another, and their answers beside a map of rows. Nothing
-//! stands above this crate.
+//! Inserts, removals and gets over a world of one thread: their answers beside a map of rows. Their steps, one after another, are tested
+//! above (`art_trace_uses`), which takes one lemma from here.
 #![tactic(auto)]
 
 #[cfg(test)]
@@ -7,10 +7,8 @@ mod clients;
 #[cfg(test)]
 mod drawn;
 #[cfg(test)]
-mod expected;
-#[cfg(test)]
-mod lines;
+mod numbers;
 #[cfg(test)]
 mod rows;
 #[cfg(test)]
-mod traces;
+mod small_pools;

@@ -24,7 +24,7 @@ const SIZES: Sizes = Sizes {
 };
 
 /// The key of a number, as a schema of one column spells it.
-fn key_of(rt: &impl Abort, schema: &Schema, number: i128) -> Key {
+pub(crate) fn key_of(rt: &impl Abort, schema: &Schema, number: i128) -> Key {
     let mut tuple = Tuple::new();
     tuple.push(Value::Int(number));
     encode(schema, &tuple).expect(rt, "a number of the column")
@@ -56,12 +56,19 @@ fn root_kind(world: &World) -> u64 {
 }
 
 /// Rows with the numbers from `first` on before `end` are inserted: each is new, and found.
-fn fills(rt: &impl Abort, world: &mut World, writer: &mut Writer, first: u8, end: u8)
+pub(crate) fn fills(
+    rt: &impl Abort,
+    world: &mut World,
+    writer: &mut Writer,
+    schema: &str,
+    first: u16,
+    end: u16,
+)
     requires { WritesFirst world.old writer.old }
     ensures sizes { world.new.sizes ≡ world.old.sizes }
     ensures writes { WritesFirst world.new writer.new }
 {
-    let schema = Schema::parse("u8").expect(rt, "a schema");
+    let schema = Schema::parse(schema).expect(rt, "a schema");
     for number in first..end {
         let key = key_of(rt, &schema, i128::from(number));
         let value = u64::from(number);
@@ -71,12 +78,19 @@ fn fills(rt: &impl Abort, world: &mut World, writer: &mut Writer, first: u8, end
 }
 
 /// Rows with the numbers from `first` on before `end` are removed: each had its value, and is absent then.
-fn empties(rt: &impl Abort, world: &mut World, writer: &mut Writer, first: u8, end: u8)
+pub(crate) fn empties(
+    rt: &impl Abort,
+    world: &mut World,
+    writer: &mut Writer,
+    schema: &str,
+    first: u16,
+    end: u16,
+)
     requires { WritesFirst world.old writer.old }
     ensures sizes { world.new.sizes ≡ world.old.sizes }
     ensures writes { WritesFirst world.new writer.new }
 {
-    let schema = Schema::parse("u8").expect(rt, "a schema");
+    let schema = Schema::parse(schema).expect(rt, "a schema");
     for number in first..end {
         let key = key_of(rt, &schema, i128::from(number));
         let value = u64::from(number);
@@ -89,22 +103,22 @@ fn empties(rt: &impl Abort, world: &mut World, writer: &mut Writer, first: u8, e
 #[test]
 fn nodes_shrink_at_thirty_six_twelve_three_and_one(rt: HostRuntime) -> Result<(), Fail> {
     let (mut world, mut writer) = opened(rt.alloc(), &SIZES, 0)?;
-    fills(&rt, &mut world, &mut writer, 0, 60);
-    empties(&rt, &mut world, &mut writer, 0, 23);
+    fills(&rt, &mut world, &mut writer, "u8", 0, 60);
+    empties(&rt, &mut world, &mut writer, "u8", 0, 23);
     assert_eq!(rt; root_kind(&world), 5);
-    empties(&rt, &mut world, &mut writer, 23, 24);
+    empties(&rt, &mut world, &mut writer, "u8", 23, 24);
     assert_eq!(rt; root_kind(&world), 4);
-    empties(&rt, &mut world, &mut writer, 24, 47);
+    empties(&rt, &mut world, &mut writer, "u8", 24, 47);
     assert_eq!(rt; root_kind(&world), 4);
-    empties(&rt, &mut world, &mut writer, 47, 48);
+    empties(&rt, &mut world, &mut writer, "u8", 47, 48);
     assert_eq!(rt; root_kind(&world), 3);
-    empties(&rt, &mut world, &mut writer, 48, 56);
+    empties(&rt, &mut world, &mut writer, "u8", 48, 56);
     assert_eq!(rt; root_kind(&world), 3);
-    empties(&rt, &mut world, &mut writer, 56, 57);
+    empties(&rt, &mut world, &mut writer, "u8", 56, 57);
     assert_eq!(rt; root_kind(&world), 2);
-    empties(&rt, &mut world, &mut writer, 57, 59);
+    empties(&rt, &mut world, &mut writer, "u8", 57, 59);
     assert_eq!(rt; root_kind(&world), 1);
-    empties(&rt, &mut world, &mut writer, 59, 60);
+    empties(&rt, &mut world, &mut writer, "u8", 59, 60);
     assert_eq!(rt; world.word(Cell::Anchor, 1), 0);
     assert_eq!(rt; writer.end().room() > 60, true);
     Ok(())
@@ -113,17 +127,17 @@ fn nodes_shrink_at_thirty_six_twelve_three_and_one(rt: HostRuntime) -> Result<()
 #[test]
 fn nodes_grow_at_five_seventeen_and_forty_nine(rt: HostRuntime) -> Result<(), Fail> {
     let (mut world, mut writer) = opened(rt.alloc(), &SIZES, 0)?;
-    fills(&rt, &mut world, &mut writer, 0, 4);
+    fills(&rt, &mut world, &mut writer, "u8", 0, 4);
     assert_eq!(rt; root_kind(&world), 2);
-    fills(&rt, &mut world, &mut writer, 4, 5);
+    fills(&rt, &mut world, &mut writer, "u8", 4, 5);
     assert_eq!(rt; root_kind(&world), 3);
-    fills(&rt, &mut world, &mut writer, 5, 16);
+    fills(&rt, &mut world, &mut writer, "u8", 5, 16);
     assert_eq!(rt; root_kind(&world), 3);
-    fills(&rt, &mut world, &mut writer, 16, 17);
+    fills(&rt, &mut world, &mut writer, "u8", 16, 17);
     assert_eq!(rt; root_kind(&world), 4);
-    fills(&rt, &mut world, &mut writer, 17, 48);
+    fills(&rt, &mut world, &mut writer, "u8", 17, 48);
     assert_eq!(rt; root_kind(&world), 4);
-    fills(&rt, &mut world, &mut writer, 48, 200);
+    fills(&rt, &mut world, &mut writer, "u8", 48, 200);
     assert_eq!(rt; root_kind(&world), 5);
     assert_eq!(rt; world.free_word(Pool::Leaves, 3), 0xffff_ffff_ffff_ff00);
     assert_eq!(rt; writer.end().room(), 64);
@@ -142,7 +156,7 @@ const FEW: Sizes = Sizes {
 #[test]
 fn a_third_row_finds_two_leaves_full(rt: HostRuntime) -> Result<(), Fail> {
     let (mut world, mut writer) = opened(rt.alloc(), &FEW, 0)?;
-    fills(&rt, &mut world, &mut writer, 0, 2);
+    fills(&rt, &mut world, &mut writer, "u8", 0, 2);
     let schema = Schema::parse("u8").expect(&rt, "a schema");
     let third = key_of(&rt, &schema, 2);
     assert_eq!(rt;
@@ -166,7 +180,7 @@ const NO_NODE16: Sizes = Sizes {
 #[test]
 fn a_full_node4_finds_no_node16(rt: HostRuntime) -> Result<(), Fail> {
     let (mut world, mut writer) = opened(rt.alloc(), &NO_NODE16, 0)?;
-    fills(&rt, &mut world, &mut writer, 0, 4);
+    fills(&rt, &mut world, &mut writer, "u8", 0, 4);
     let schema = Schema::parse("u8").expect(&rt, "a schema");
     let fifth = key_of(&rt, &schema, 4);
     assert_eq!(rt;
@@ -199,7 +213,7 @@ fn the_anchor_at_the_end_of_its_counter_is_exhausted(rt: HostRuntime) -> Result<
 #[test]
 fn a_node_at_the_end_of_its_counter_is_exhausted(rt: HostRuntime) -> Result<(), Fail> {
     let (mut world, mut writer) = opened(rt.alloc(), &SIZES, LAST - 2)?;
-    fills(&rt, &mut world, &mut writer, 0, 3);
+    fills(&rt, &mut world, &mut writer, "u8", 0, 3);
     let node = Node {
         layout: Layout::Node4,
         number: 0,
@@ -208,6 +222,10 @@ fn a_node_at_the_end_of_its_counter_is_exhausted(rt: HostRuntime) -> Result<(), 
     let fourth = key_of(&rt, &schema, 3);
     let told = puts(&mut world, &mut writer, &fourth, 3);
     assert_eq!(rt; told, Outcome::Exhausted(Cell::Node(node)));
+    let third = key_of(&rt, &schema, 2);
+    let told = takes(&mut world, &mut writer, &third);
+    assert_eq!(rt; told, Outcome::Exhausted(Cell::Node(node)));
+    assert_eq!(rt; finds(&mut world, &writer, &third), Got::Found(2));
     assert_eq!(rt; world.free_word(Pool::Leaves, 0), u64::MAX << 3);
     assert_eq!(rt; writer.end().room(), 64);
     Ok(())

@@ -30,11 +30,26 @@ use Rattle.art_plan.specs.declared.sites.Site.{Site}
 use Rattle.art_remove.specs.Removals.{HasPair, IsTooLong, joined}
 use Rattle.art_remove.specs.declared.leaves.OldLeaf.{OldLeaf}
 use Rattle.art_step.specs.declared.views.Sizes.{Sizes}
+use Rattle.art_step.specs.declared.views.Stamp.{Stamp}
 use Rattle.art_step.specs.declared.views.View.{View}
 
 -- the leaf was found there
 abbrev pub HasFound : Stand → OldLeaf → Type 0
 HasFound t old = t.verdict ≡ Found old.number old.value
+
+-- ---- which cells are locked
+
+-- the stamp is that of the cell that names the leaf
+abbrev pub IsNodeAt : Stand → Stamp → Type 0
+IsNodeAt t x = x ≡ t.stamp
+
+-- it is that, or that of the cell above
+abbrev pub IsEitherAt : Stand → Stamp → Type 0
+IsEitherAt t x = IsNodeAt t x ⊎ ((a : Above) × (t.above ≡ Some a) × (x ≡ a.stamp))
+
+-- it is one of these, or that of the lower node
+abbrev pub IsAnyAt : Stand → Lower → Stamp → Type 0
+IsAnyAt t lower x = IsEitherAt t x ⊎ (x ≡ lower.stamp)
 
 -- ---- the leaf alone
 

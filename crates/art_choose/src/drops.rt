@@ -1,9 +1,10 @@
 //! The leaf goes alone.
 ghost use Rattle.std.specs.Prelude.{◌≡◌, ◌≢◌, None, true, false};
 ghost use Rattle.art_choose.specs.Losses.{loss_at};
-ghost use Rattle.art_choose.specs.Plans.{DropsTooMuch, HasFound, PlansDrop};
+ghost use Rattle.art_choose.specs.Plans.{DropsTooMuch, HasFound, IsNodeAt, PlansDrop};
 ghost use Rattle.art_choose.specs.Seen.{IsSeen};
 ghost use Rattle.art_choose.specs.declared.losses.Loss.TheVariants as losses;
+ghost use Rattle.art_decide.specs.Plans.{LocksOnly};
 ghost use Rattle.art_plan.specs.Changes.{targets};
 ghost use Rattle.art_remove.specs.Removals.{removed};
 ghost use Rattle.art_step.specs.declared.views.Sizes.{Sizes};
@@ -27,6 +28,7 @@ pub fn plan_drop(
     requires seen { (z : Sizes) × IsSeen z old.now.key.items stand.now desk.now }
     ensures planned { result ≡ true → PlansDrop stand.now desk.now old.now change.new }
     ensures targets { result ≡ true → targets change.new ≡ 1 }
+    ensures locks { result ≡ true → LocksOnly (IsNodeAt stand.now) change.new }
     ensures deed { change.new.deed ≡ removed old.now }
     ensures leaf { change.new.leaf ≡ None }
     ensures refused { result ≡ false → DropsTooMuch stand.now desk.now }

@@ -2,8 +2,9 @@
 ghost use Rattle.std.specs.Prelude.{◌≡◌, ◌≢◌, None, true, false};
 ghost use Rattle.art_cell.specs.Leaves.{prefix_read};
 ghost use Rattle.art_cell.specs.declared.cells.Link.TheVariants.{Node as node_link};
-ghost use Rattle.art_choose.specs.Plans.{ArePartsOf, HasFound, HasOther, MayNotMerge, PlansMergeNode};
+ghost use Rattle.art_choose.specs.Plans.{ArePartsOf, HasFound, HasOther, IsAnyAt, MayNotMerge, PlansMergeNode};
 ghost use Rattle.art_choose.specs.Seen.{AreSeen, IsLowerSeen};
+ghost use Rattle.art_decide.specs.Plans.{LocksOnly};
 ghost use Rattle.art_place.specs.Desks.{node_of};
 ghost use Rattle.art_plan.specs.Changes.{targets};
 ghost use Rattle.art_remove.specs.Removals.{removed};
@@ -46,6 +47,7 @@ pub fn plan_merge_node(
     requires seen { (z : Sizes) × AreSeen z old.now.key.items stand.now desk.now × IsLowerSeen z lower.now reads.now }
     ensures planned { result ≡ true → PlansMergeNode stand.now desk.now lower.now reads.now old.now change.new }
     ensures targets { result ≡ true → targets change.new ≡ 3 }
+    ensures locks { result ≡ true → LocksOnly (IsAnyAt stand.now lower.now) change.new }
     ensures deed { change.new.deed ≡ removed old.now }
     ensures leaf { change.new.leaf ≡ None }
     ensures refused { result ≡ false → MayNotMerge stand.now desk.now lower.now reads.now }

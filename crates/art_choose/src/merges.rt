@@ -1,8 +1,9 @@
 //! The leaf goes, and the node that names it gives way to its one other child.
 ghost use Rattle.std.specs.Prelude.{◌≡◌, ℕ, None, true, false};
 ghost use Rattle.art_cell.specs.declared.cells.Link.TheVariants.{Leaf as leaf_link};
-ghost use Rattle.art_choose.specs.Plans.{HasFound, HasOther, PlansMerge, PutsTooMuch};
+ghost use Rattle.art_choose.specs.Plans.{HasFound, HasOther, IsEitherAt, PlansMerge, PutsTooMuch};
 ghost use Rattle.art_choose.specs.Seen.{AreSeen};
+ghost use Rattle.art_decide.specs.Plans.{LocksOnly};
 ghost use Rattle.art_plan.specs.Changes.{targets};
 ghost use Rattle.art_remove.specs.Removals.{removed};
 ghost use Rattle.art_step.specs.declared.views.Sizes.{Sizes};
@@ -28,6 +29,7 @@ pub fn plan_merge_leaf(
     requires seen { (z : Sizes) × AreSeen z old.now.key.items stand.now desk.now }
     ensures planned { result ≡ true → PlansMerge stand.now desk.now old.now change.new }
     ensures targets { result ≡ true → targets change.new ≡ 2 }
+    ensures locks { result ≡ true → LocksOnly (IsEitherAt stand.now) change.new }
     ensures deed { change.new.deed ≡ removed old.now }
     ensures leaf { change.new.leaf ≡ None }
     ensures refused { result ≡ false → PutsTooMuch stand.now desk.now (leaf_link other) }

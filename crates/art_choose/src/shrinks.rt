@@ -2,9 +2,10 @@
 ghost use Rattle.std.specs.Prelude.{◌≡◌, None, true, false};
 ghost use Rattle.art_cell.specs.declared.layouts.Layout.{Layout};
 ghost use Rattle.art_choose.specs.Losses.{loss_at};
-ghost use Rattle.art_choose.specs.Plans.{HasFound, PlansShrink, ShrinksTooMuch};
+ghost use Rattle.art_choose.specs.Plans.{HasFound, IsEitherAt, PlansShrink, ShrinksTooMuch};
 ghost use Rattle.art_choose.specs.Seen.{AreSeen};
 ghost use Rattle.art_choose.specs.declared.losses.Loss.TheVariants as losses;
+ghost use Rattle.art_decide.specs.Plans.{LocksOnly};
 ghost use Rattle.art_plan.specs.Changes.{targets};
 ghost use Rattle.art_remove.specs.Removals.{removed};
 ghost use Rattle.art_step.specs.declared.views.Sizes.{Sizes};
@@ -30,6 +31,7 @@ pub fn plan_shrink(
     requires seen { (z : Sizes) × AreSeen z old.now.key.items stand.now desk.now }
     ensures planned { result ≡ true → PlansShrink stand.now desk.now old.now made change.new }
     ensures targets { result ≡ true → targets change.new ≡ 2 }
+    ensures locks { result ≡ true → LocksOnly (IsEitherAt stand.now) change.new }
     ensures deed { change.new.deed ≡ removed old.now }
     ensures leaf { change.new.leaf ≡ None }
     ensures refused { result ≡ false → ShrinksTooMuch stand.now desk.now made }

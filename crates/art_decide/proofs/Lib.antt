@@ -3,6 +3,7 @@ pub mod ChildSites
 pub mod EmptyTrees
 pub mod FreeBytes
 pub mod FullNodes
+pub mod LockedCells
 pub mod OtherLeaves
 pub mod OtherPrefixes
 pub mod PrefixBytes

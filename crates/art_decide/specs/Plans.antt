@@ -1,5 +1,5 @@
 -- What the plan of an insert is, by where its key stands.
-use Rattle.std.specs.Prelude.{◌≡◌, ◌+◌, ℕ, Bool, true, false, List, drop, Option, Some, None, ⊤}
+use Rattle.std.specs.Prelude.{◌≡◌, ◌+◌, ◌⊎◌, ℕ, Bool, true, false, List, drop, Option, Some, None, ⊤}
 use Rattle.art_cell.specs.Children.{child_word}
 use Rattle.art_cell.specs.Reads.{word_of}
 use Rattle.art_cell.specs.Words.{prefix_of}
@@ -21,8 +21,9 @@ use Rattle.art_place.specs.Findings.{IsStanding}
 use Rattle.art_place.specs.declared.desks.Desk.{Desk}
 use Rattle.art_place.specs.declared.findings.Above.{Above}
 use Rattle.art_place.specs.declared.findings.Stand.{Stand}
-use Rattle.art_plan.specs.Changes.{IsPlanned}
+use Rattle.art_plan.specs.Changes.{IsPlanned, target_at}
 use Rattle.art_plan.specs.declared.changes.Change.{Change}
+use Rattle.art_plan.specs.declared.changes.Target.{Target}
 use Rattle.art_plan.specs.declared.sites.Site.{Site}
 use Rattle.art_plan.specs.declared.sites.Site.TheVariants.{Root, Slot}
 use Rattle.art_step.specs.declared.views.Sizes.{Sizes}
@@ -50,6 +51,16 @@ HasNeeded z u found made = (layout : Layout) → (needs_of found).node ≡ Some 
 abbrev pub PlansInsert : Stand → Desk → NewLeaf → ℕ → Change → Type 0
 PlansInsert t desk new made c = (z : Sizes) (u : View) → IsSeen z new.key.items t desk → IsStanding z new.key.items t desk u →
     IsInHand z u new → HasNeeded z u t.verdict made → IsPlanned z u c
+
+-- ---- which cells are locked
+
+-- the stamp is that of the cell where the key stands, or of the cell above where that is written too
+abbrev pub IsLockedAt : Stand → Stamp → Type 0
+IsLockedAt t x = (x ≡ t.stamp) ⊎ ((a : Above) × (t.above ≡ Some a) × ((needs_of t.verdict).above ≡ true) × (x ≡ a.stamp))
+
+-- each cell that the change locks is under such a stamp
+abbrev pub LocksOnly : (Stamp → Type 0) → Change → Type 0
+LocksOnly so c = (i : ℕ) (x : Target) → target_at c i ≡ Some x → so x.stamp
 
 -- ---- where there are too many words
 

@@ -1,7 +1,7 @@
 //! The leaf comes beside what stands on the key's way: another leaf, or a node with another prefix.
 ghost use Rattle.std.specs.Prelude.{◌≡◌, ◌<◌, ℕ, true, false, Some};
 ghost use Rattle.art_cell.specs.declared.cells.Node.{Node as NodeOf};
-ghost use Rattle.art_decide.specs.Plans.{IsTooMuch, PlansInsert};
+ghost use Rattle.art_decide.specs.Plans.{IsLockedAt, IsTooMuch, LocksOnly, PlansInsert};
 ghost use Rattle.art_decide.specs.Seen.{IsSeen};
 ghost use Rattle.art_find.specs.declared.verdicts.Verdict.TheVariants as verdicts;
 ghost use Rattle.art_insert.specs.Puts.{inserted};
@@ -29,6 +29,7 @@ pub(crate) fn beside_leaf(
     requires seen { (z : Sizes) × IsSeen z new.now.key.items stand.now desk.now }
     ensures planned { result ≡ true → PlansInsert stand.now desk.now new.now made change.new }
     ensures targets { result ≡ true → 0 < targets change.new }
+    ensures locks { result ≡ true → LocksOnly (IsLockedAt stand.now) change.new }
     ensures deed { change.new.deed ≡ inserted new.now }
     ensures leaf { change.new.leaf ≡ Some new.now.number }
     ensures refused { result ≡ false → IsTooMuch stand.now desk.now new.now made }
@@ -58,6 +59,7 @@ pub(crate) fn beside_node(
     requires seen { (z : Sizes) × IsSeen z new.now.key.items stand.now desk.now }
     ensures planned { result ≡ true → PlansInsert stand.now desk.now new.now made change.new }
     ensures targets { result ≡ true → 0 < targets change.new }
+    ensures locks { result ≡ true → LocksOnly (IsLockedAt stand.now) change.new }
     ensures deed { change.new.deed ≡ inserted new.now }
     ensures leaf { change.new.leaf ≡ Some new.now.number }
     ensures refused { result ≡ false → IsTooMuch stand.now desk.now new.now made }

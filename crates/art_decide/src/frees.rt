@@ -2,7 +2,7 @@
 ghost use Rattle.std.specs.Prelude.{◌≡◌, ◌<◌, ℕ, true, false, Some};
 ghost use Rattle.art_cell.specs.declared.cells.Node.{Node as NodeOf};
 ghost use Rattle.art_decide.specs.Needs.{needs_of};
-ghost use Rattle.art_decide.specs.Plans.{IsTooMuch, PlansInsert};
+ghost use Rattle.art_decide.specs.Plans.{IsLockedAt, IsTooMuch, LocksOnly, PlansInsert};
 ghost use Rattle.art_decide.specs.Seen.{IsSeen};
 ghost use Rattle.art_find.specs.declared.verdicts.Verdict.TheVariants as verdicts;
 ghost use Rattle.art_insert.specs.Puts.{inserted};
@@ -22,6 +22,7 @@ pub(crate) fn to_anchor(change: &mut Change, stand: &Stand, new: &NewLeaf) -> bo
     requires { stand.now.verdict ≡ verdicts.Empty }
     ensures planned { result ≡ true → (desk : DeskOf) (made : ℕ) → PlansInsert stand.now desk new.now made change.new }
     ensures targets { result ≡ true → 0 < targets change.new }
+    ensures locks { result ≡ true → LocksOnly (IsLockedAt stand.now) change.new }
     ensures deed { change.new.deed ≡ inserted new.now }
     ensures leaf { change.new.leaf ≡ Some new.now.number }
     ensures refused { result ≡ false → (desk : DeskOf) (made : ℕ) → IsTooMuch stand.now desk new.now made }
@@ -42,6 +43,7 @@ pub(crate) fn to_byte(
     requires seen { (z : Sizes) × IsSeen z new.now.key.items stand.now desk.now }
     ensures planned { result ≡ true → (made : ℕ) → PlansInsert stand.now desk.now new.now made change.new }
     ensures targets { result ≡ true → 0 < targets change.new }
+    ensures locks { result ≡ true → LocksOnly (IsLockedAt stand.now) change.new }
     ensures deed { change.new.deed ≡ inserted new.now }
     ensures leaf { change.new.leaf ≡ Some new.now.number }
     ensures refused { result ≡ false → (made : ℕ) → IsTooMuch stand.now desk.now new.now made }
@@ -66,6 +68,7 @@ pub(crate) fn to_larger(
     requires seen { (z : Sizes) × IsSeen z new.now.key.items stand.now desk.now }
     ensures planned { result ≡ true → PlansInsert stand.now desk.now new.now made change.new }
     ensures targets { result ≡ true → 0 < targets change.new }
+    ensures locks { result ≡ true → LocksOnly (IsLockedAt stand.now) change.new }
     ensures deed { change.new.deed ≡ inserted new.now }
     ensures leaf { change.new.leaf ≡ Some new.now.number }
     ensures refused { result ≡ false → IsTooMuch stand.now desk.now new.now made }

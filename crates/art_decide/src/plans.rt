@@ -1,6 +1,6 @@
 //! The plan of an insert.
 ghost use Rattle.std.specs.Prelude.{◌≡◌, ◌<◌, true, false, Some};
-ghost use Rattle.art_decide.specs.Plans.{Comes, IsTooMuch, PlansInsert};
+ghost use Rattle.art_decide.specs.Plans.{Comes, IsLockedAt, IsTooMuch, LocksOnly, PlansInsert};
 ghost use Rattle.art_decide.specs.Seen.{IsSeen};
 ghost use Rattle.art_insert.specs.Puts.{inserted};
 ghost use Rattle.art_plan.specs.Changes.{targets};
@@ -28,6 +28,7 @@ pub fn plan_insert(
     requires seen { (z : Sizes) × IsSeen z new.now.key.items stand.now desk.now }
     ensures planned { result ≡ true → PlansInsert stand.now desk.now new.now made change.new }
     ensures targets { result ≡ true → 0 < targets change.new }
+    ensures locks { result ≡ true → LocksOnly (IsLockedAt stand.now) change.new }
     ensures deed { change.new.deed ≡ inserted new.now }
     ensures leaf { change.new.leaf ≡ Some new.now.number }
     ensures refused { result ≡ false → IsTooMuch stand.now desk.now new.now made }

@@ -1,5 +1,5 @@
--- What was chosen stays so while cells are read on.
-use Rattle.std.proofs.Common.{◌≡◌, ◌≢◌, ℕ, List, Option, Some, None, refl, sym, ap, ◌∙◌, subst}
+-- Why a way may be chosen; and what was chosen stays so while cells are read on.
+use Rattle.std.proofs.Common.{◌≡◌, ◌≢◌, ◌⊎◌, ◌≤◌, ℕ, true, false, List, Option, Some, None, inl, inr, ⊎_elim, refl, sym, ap, ◌∙◌, subst, arith}
 use Rattle.std.specs.Option.{unwrap_or}
 use Rattle.std.proofs.lemmas.Option.{same_Some}
 use Rattle.art_cell.specs.Reads.{word_read}
@@ -7,14 +7,20 @@ use Rattle.art_cell.specs.declared.cells.Cell.{Cell}
 use Rattle.art_cell.specs.declared.cells.Cell.TheVariants as cell
 use Rattle.art_cell.specs.declared.cells.Link.{Link}
 use Rattle.art_cell.specs.declared.cells.Node.{Node}
+use Rattle.art_cell.specs.declared.layouts.Layout.{Layout}
+use Rattle.art_cell.specs.declared.layouts.Pool.{Pool}
+use Rattle.art_cell.specs.declared.layouts.Pool.TheVariants.{Leaves}
 use Rattle.art_choose.specs.Losses.{loss_at, loss_of}
 use Rattle.art_choose.specs.Plans.{HasOther}
 use Rattle.art_choose.specs.Seen.{IsSeen}
+use Rattle.art_choose.specs.declared.losses.Loss.{Loss}
 use Rattle.art_choose.specs.declared.losses.Loss.TheVariants as loss
-use Rattle.art_erase.specs.Erasing.{IsChosen, IsNeverSeen, LeavesOther}
+use Rattle.art_attempt.specs.Trying.{StillTries}
+use Rattle.art_erase.specs.Erasing.{HasNoSmaller, IsChosen, IsNeverSeen, LeavesOther, wants_of}
 use Rattle.art_erase.specs.declared.erasing.Way.{Way}
 use Rattle.art_erase.specs.declared.erasing.Way.TheVariants as way
 use Rattle.art_frame.specs.declared.stocks.Stock.{Stock}
+use Rattle.art_gather.specs.Supplying.{HasNone}
 use Rattle.art_gather.specs.Vouching.{KnowsHere}
 use Rattle.art_place.specs.Desks.{node_of}
 use Rattle.art_place.specs.Kept.{StaysRead}
@@ -22,8 +28,9 @@ use Rattle.art_place.specs.Rereadings.{AreKnown}
 use Rattle.art_place.specs.declared.desks.Desk.{Desk}
 use Rattle.art_place.specs.declared.findings.Stand.{Stand}
 use Rattle.art_remove.specs.declared.leaves.OldLeaf.{OldLeaf}
-use Rattle.art_step.specs.Views.{size_of}
+use Rattle.art_step.specs.Views.{pool_of_layout, size_of}
 use Rattle.art_step.specs.declared.views.Sizes.{Sizes}
+use Rattle.art_step.specs.declared.views.View.{View}
 
 -- ---- what goes with the leaf
 
@@ -56,16 +63,36 @@ module _ (t : Stand) (desk now : Desk) where
     never_same : (z : Sizes) (old : OldLeaf) → IsNeverSeen z t desk old → IsNeverSeen z t now old
     never_same z old never later is seen = never later (is ∙ same) seen
 
-  pub chosen_stays : (z : Sizes) (w : Way) (old : OldLeaf) (s : Stock) → StaysRead (node_of desk) (node_of now) → (KnowsHere t desk → node_of now ≡ node_of desk) → IsChosen z w t desk old s → IsChosen z w t now old s
-  chosen_stays z way.Stays old s stays node other = λ merges. other (sym (loss_stays stays other) ∙ merges)
-  chosen_stays z (way.Shrinks layout) old s stays node c =
+  pub chosen_stays : (z : Sizes) (w : Way) (old : OldLeaf) (s : Stock) (u v : View) → StaysRead (node_of desk) (node_of now) → (KnowsHere t desk → node_of now ≡ node_of desk) → IsChosen z w t desk old s u v → IsChosen z w t now old s u v
+  chosen_stays z way.Stays old s u v stays node c =
+      let kept : (l : Loss) → l ≢ loss.Merges → loss_at t desk ≡ l → loss_at t now ≡ l = λ l other is. loss_stays stays (λ merges. other (sym is ∙ merges)) ∙ is in
+      ⊎_elim
+      (λ (is : loss_at t desk ≡ loss.Leaf). inl (kept loss.Leaf (λ no. cc) is))
+      (λ (more : HasNoSmaller z t desk u v ⊎ (KnowsHere t desk × (loss_at t desk ≢ loss.Merges))). inr (⊎_elim
+      (λ (k : HasNoSmaller z t desk u v). inl (record { layout = k.layout; shrinks = kept (loss.Shrinks k.layout) (λ no. cc) k.shrinks; none = k.none }))
+      (λ (k : KnowsHere t desk × (loss_at t desk ≢ loss.Merges)). inr (knows_same (node k.0) k.0, λ merges. k.1 (sym (loss_same (node k.0)) ∙ merges)))
+      more)) c
+  chosen_stays z (way.Shrinks layout) old s u v stays node c =
       let other : loss_at t desk ≢ loss.Merges = λ merges. let no : loss.Shrinks layout ≡ loss.Merges = sym c.0 ∙ merges in cc in
       (loss_stays stays other ∙ c.0, c.1)
-  chosen_stays z (way.Merges other) old s stays node c =
+  chosen_stays z (way.Merges other) old s u v stays node c =
       let same = node c.0 in
       (knows_same same c.0, (c.1.0, leaves_same same z old c.1.0 _ c.1.1))
-  chosen_stays z (way.Lowers byte n) old s stays node c = absurd c
-  chosen_stays z way.Torn old s stays node c = let same = node c.0 in (knows_same same c.0, never_same same z old c.1)
+  chosen_stays z (way.Lowers byte n) old s u v stays node c = absurd c
+  chosen_stays z way.Torn old s u v stays node c = let same = node c.0 in (knows_same same c.0, never_same same z old c.1)
+
+-- ---- where no smaller node was found
+
+pub no_smaller : (z : Sizes) (t : Stand) (layout : Layout) (desk : Desk) (u early v : View) (pool : Pool) → loss_at t desk ≡ loss.Shrinks layout → StillTries u early
+    → HasNone z (wants_of z layout) pool early v → HasNoSmaller z t desk u v
+no_smaller z t layout desk u early v pool shrinks base none =
+    let is : pool ≡ pool_of_layout layout = ⊎_elim
+    (λ (k : (pool ≡ Leaves) × (false ≡ true)). let no : false ≡ true = k.1 in cc)
+    (λ (k : (other : Layout) × (Some layout ≡ Some other) × (pool ≡ pool_of_layout other)). k.2 ∙ ap pool_of_layout (sym (same_Some layout k.0 k.1)))
+    none.wanted in
+    let after : u.steps ≤ none.since = (let later = base.later.steps in let since = none.after in omega (arith, later, since)) in
+    let found : HasNone z (wants_of z layout) pool u v = record { wanted = none.wanted; since = none.since; after = after; none = none.none } in
+    record { layout = layout; shrinks = shrinks; none = subst (λ (p : Pool). HasNone z (wants_of z layout) p u v) is found }
 
 -- ---- which child the node keeps
 

@@ -1,16 +1,20 @@
 -- The place of the key is sought, and checked.
-use Rattle.std.proofs.Common.{◌≡◌, ℕ, ◌≤◌, true, false, List, Option, Some, None, refl, sym, ap, ◌∙◌, subst, arith}
+use Rattle.std.proofs.Common.{◌≡◌, ℕ, ◌+◌, ◌<◌, ◌≤◌, length, true, false, List, Option, Some, None, refl, sym, ap, ◌∙◌, subst, arith}
 use Rattle.std.specs.Prelude.{IfSome}
 use Rattle.std.proofs.lemmas.Option.{same_Some}
-use Rattle.art_attempt.proofs.Finds.{StandsThere, check_failed, check_passed, not_settling, settle_failed, settle_passed, stands_there, tells_nothing, undecided}
-use Rattle.art_attempt.proofs.Tries.{event_since, rest_told, still_reads, stock_reads}
+use Rattle.art_attempt.proofs.Finds.{StandsThere, check_failed, check_off, check_passed, not_settling, settle_failed, settle_off, settle_passed}
+use Rattle.art_attempt.proofs.Finds.{stands_there, tells_nothing, undecided}
+use Rattle.art_attempt.proofs.Steps.{cell_fails}
+use Rattle.art_attempt.proofs.Tries.{event_since, later_then, rest_told, still_later, still_reads, stock_reads}
 use Rattle.art_attempt.specs.Asking.{MayAsk}
-use Rattle.art_erase.specs.Erasing.{EndsSo, IsAbsent, IsFinding, absent, absent_of, asks_place, check_by, check_of, finding_asks}
+use Rattle.art_attempt.specs.Trying.{HasSpent, IsLater}
+use Rattle.art_erase.specs.Erasing.{EndsSo, EndsWithin, IsAbsent, IsFinding, absent, absent_of, asks_place, check_by, check_of, finding_asks}
 use Rattle.art_erase.specs.declared.erasing.Erasing.{Erasing}
 use Rattle.art_attempt.specs.declared.rooms.Room.{Room}
 use Rattle.art_find.proofs.Allowed.{allowed}
+use Rattle.art_find.proofs.Counting.{few_steps}
 use Rattle.art_find.proofs.Stages.{reads_on, tells_free}
-use Rattle.art_find.specs.Asking.{Answers, IsAllowed}
+use Rattle.art_find.specs.Asking.{Answers, IsAllowed, goes_on}
 use Rattle.art_find.specs.Descents.{answer_at, asks}
 use Rattle.art_find.specs.Verdicts.{value_of}
 use Rattle.art_find.specs.declared.asked.Answer.{Answer}
@@ -41,6 +45,18 @@ no_place m o a nowhere is = sym (ap (λ (t : Option Stand). asks_place t o) nowh
 
 pub at_place : (m : Finding) (o : Option Asked) (a : Asked) (t : Stand) → stand_at m ≡ Some t → asks_place (stand_at m) o ≡ Some a → check_of t ≡ a
 at_place m o a t at is = same_Some {A = Asked} (check_of t) a (sym (ap (λ (s : Option Stand). asks_place s o) at) ∙ is)
+
+-- ---- few steps
+
+pub within_more : (z : Sizes) (u : View) (n more : ℕ) (r : Room) (v : View) → n ≤ more → EndsWithin z u n r v → EndsWithin z u more r v
+within_more z u n more r v fewer so = record {
+  still = so.still;
+  spent = λ limited. (let spent = so.spent limited in omega (arith, spent, fewer));
+  has = so.has;
+}
+
+pub within_so : (z : Sizes) (u : View) (n : ℕ) (r : Room) (v : View) → n ≤ 25800 → EndsWithin z u n r v → EndsSo z u r v
+within_so z u n r v fewer so = within_more z u n 25800 r v fewer so
 
 -- ---- the place is checked
 
@@ -80,14 +96,39 @@ place_failed z d Overlaps t r v w row is = settle_failed z d t.stamp r v w row i
 place_failed z d Torn t r v w row is = settle_failed z d t.stamp r v w row is
 place_failed z d Absent t r v w row is = settle_failed z d t.stamp r v w row is
 
-module _ (z : Sizes) (u : View) (m : Erasing) (r : Room) (v w : View) (f : IsFinding z u m r v) (later : v.steps ≤ w.steps) where
-  past : f.early.steps ≤ w.steps
-  past = let before = f.later in omega arith
+-- so it does not go on
+place_off : (z : Sizes) (d : Deed) (found : Verdict) (t : Stand) (r : Answer) (v w : View) → Answers z d (check_by found t) r v w → passed r ≡ false → goes_on r ≡ false
+place_off z d (Found l value) t r v w row is = check_off z d t.stamp r v w row is
+place_off z d Empty t r v w row is = settle_off z d t.stamp r v w row is
+place_off z d (OtherLeaf l at byte) t r v w row is = settle_off z d t.stamp r v w row is
+place_off z d (OtherPrefix n header at) t r v w row is = settle_off z d t.stamp r v w row is
+place_off z d (Free n header) t r v w row is = settle_off z d t.stamp r v w row is
+place_off z d Overlaps t r v w row is = settle_off z d t.stamp r v w row is
+place_off z d Torn t r v w row is = settle_off z d t.stamp r v w row is
+place_off z d Absent t r v w row is = settle_off z d t.stamp r v w row is
+
+-- until a place is settled few steps were made
+finding_few : (z : Sizes) (u : View) (m : Erasing) (r : Room) (v : View) → length r.gone.key.items ≤ 64 → IsFinding z u m r v → HasSpent z u 4300 v
+finding_few z u m r v short f limited =
+    let few = few_steps z r.gone.key.items (absent_of r.gone) m.finding.descent.depth m.finding.descent.stage f.early v short f.going f.fits.descent in
+    let spent = f.spent limited in
+    omega (arith, few, spent)
+
+module _ (z : Sizes) (u : View) (m : Erasing) (r : Room) (v w : View) (short : length r.gone.key.items ≤ 64) (f : IsFinding z u m r v) (later : IsLater v w) (one : w.steps ≤ v.steps + 1) where
+  past : IsLater f.early w
+  past = later_then f.early v w f.later later
+
+  finding_spent : HasSpent z u 4301 w
+  finding_spent limited =
+      let spent = finding_few z u m r v short f limited in
+      let more = later.failures in
+      omega (arith, spent, one, more)
 
   -- the attempt ends, and nothing was told
-  pub ends_reading : OnlyReads f.early w → EndsSo z u r w
+  pub ends_reading : OnlyReads f.early w → EndsWithin z u 4301 r w
   ends_reading only = record {
     still = still_reads u f.early f.base w past only;
+    spent = finding_spent;
     has = stock_reads z r.gone.key.items 0 f.early w r.stock only f.has;
   }
 
@@ -95,8 +136,14 @@ module _ (z : Sizes) (u : View) (m : Erasing) (r : Room) (v w : View) (f : IsFin
     only_then : OnlyReads v w → OnlyReads f.early w
     only_then only = (reads_on f.early v w only s.reads).only
 
-    pub fails_there : passed a ≡ false → EndsSo z u r w
-    fails_there off = ends_reading (only_then (place_failed z (absent r.gone) t.verdict t a v w row off))
+    pub not_on : passed a ≡ false → goes_on a ≡ false
+    not_on off = place_off z (absent r.gone) t.verdict t a v w row off
+
+    pub fails_there : passed a ≡ false → EndsSo z u r w × (u.failures < w.failures)
+    fails_there off =
+        let more = cell_fails z (absent r.gone) (check_of t) a v w row (not_on off) in
+        let before = (still_later u f.early f.base v f.later).failures in
+        (within_so z u 4301 r w (omega arith) (ends_reading (only_then (place_failed z (absent r.gone) t.verdict t a v w row off))), omega (arith, more, before))
 
     module _ (on : passed a ≡ true) where
       unchanged : check.Unchanged z v w t.stamp (told_by t.verdict (absent r.gone))
@@ -111,12 +158,12 @@ module _ (z : Sizes) (u : View) (m : Erasing) (r : Room) (v w : View) (f : IsFin
             event = event_since u f.early f.base w (absent r.gone) k.0;
             rest = rest_told u f.early f.base w k.1;
             free = tells_free f.early w k.1 f.base.free;
-            later = let before = f.base.later in let more = past in omega arith;
+            later = still_later u f.early f.base w past;
             has = stock_same z r.gone.key.items 0 f.early w r.stock (ap (λ (o : Rest). o.hand) k.1) f.has;
           }
 
       -- a leaf has it
-      pub found_there : told_by t.verdict (absent r.gone) ≡ None → EndsSo z u r w
+      pub found_there : told_by t.verdict (absent r.gone) ≡ None → EndsWithin z u 4301 r w
       found_there is = ends_reading (only_then (passed_rest z v w t.stamp (subst (λ (o : Option Deed). check.Unchanged z v w t.stamp o) is unchanged)))
 
       pub stands_still : IsStanding z r.gone.key.items t r.desk w

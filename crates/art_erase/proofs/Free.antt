@@ -1,12 +1,13 @@
 -- As long as nothing is held, an attempt may be given up with nothing told.
-use Rattle.std.proofs.Common.{◌≡◌, List, true, None, sym, ap, ◌∙◌, arith}
-use Rattle.art_attempt.proofs.Free.{begun_locking, locking_none}
+use Rattle.std.proofs.Common.{◌≡◌, ◌≤◌, length, List, true, None, sym, ap, ◌∙◌, arith}
+use Rattle.art_attempt.proofs.Free.{begun_locking, begun_made, locking_none}
+use Rattle.art_attempt.proofs.Tries.{later_first, still_later}
 use Rattle.art_attempt.specs.Inserting.{is_begun}
 use Rattle.art_attempt.specs.Trying.{StillTries}
 use Rattle.art_attempt.specs.declared.rooms.Room.{Room}
-use Rattle.art_erase.proofs.Finds.{ends_reading}
-use Rattle.art_erase.proofs.Vouched.{lower_so, reading_so, supplies_so}
-use Rattle.art_erase.specs.Erasing.{EndsSo, HasMade, HasVouched, IsFinding, StageFits, erased_at, free_at, goes}
+use Rattle.art_erase.proofs.Finds.{ends_reading, within_so}
+use Rattle.art_erase.proofs.Vouched.{lower_so, reading_so, supplies_so, vouched_ends}
+use Rattle.art_erase.specs.Erasing.{EndsSo, HasMade, HasVouched, IsFinding, IsReadingOn, StageFits, erased_at, free_at, goes}
 use Rattle.art_erase.specs.declared.erasing.Erasing.{Erasing}
 use Rattle.art_erase.specs.declared.erasing.Stage.{Stage}
 use Rattle.art_erase.specs.declared.erasing.Stage.TheVariants as stage
@@ -16,6 +17,7 @@ use Rattle.art_gather.specs.Vouching as vouching
 use Rattle.art_gather.specs.Vouching.{IsVouching}
 use Rattle.art_gather.specs.declared.vouching.Vouching.{Vouching}
 use Rattle.art_gather.specs.declared.vouching.Vouching.TheVariants as vouches
+use Rattle.art_place.specs.declared.rereadings.Rereading.{Rereading}
 use Rattle.art_step.specs.Shows.{Rest, rest_of}
 use Rattle.art_step.specs.declared.views.Holding.{Holding}
 use Rattle.art_step.specs.declared.views.Sizes.{Sizes}
@@ -30,13 +32,13 @@ vouching_goes z r m vouches.CheckHere u v is fits = fits.0
 vouching_goes z r m (vouches.Ended e) u v is fits = cc
 
 module _ (z : Sizes) (u : View) (m : Erasing) (r : Room) (v : View) where
-  finding_so : IsFinding z u m r v → EndsSo z u r v
-  finding_so f =
+  finding_so : length r.gone.key.items ≤ 64 → IsFinding z u m r v → EndsSo z u r v
+  finding_so short f =
       let reads = still_reading z r.gone.key.items _ m.finding.descent.depth m.finding.descent.stage f.early v f.going f.fits.descent in
-      ends_reading z u m r v v f (omega arith) reads.only
+      within_so z u 4301 r v (omega arith) (ends_reading z u m r v v short f (later_first v) (omega arith) reads.only)
 
   vouching_so : HasVouched z u m r v → vouching.ended_at m.vouching ≡ None → EndsSo z u r v
-  vouching_so h going = reading_so z u h.early h.base r v h.later h.has (vouching_goes z r m m.vouching h.early v going h.fits.stage).reads
+  vouching_so h going = within_so z u 25400 r v (omega arith) (vouched_ends z u m r v h (vouching_goes z r m m.vouching h.early v going h.fits.stage).reads)
 
   making_so : HasMade z u m r v → is_begun m.making ≡ true → EndsSo z u r v
   making_so h is =
@@ -48,18 +50,27 @@ module _ (z : Sizes) (u : View) (m : Erasing) (r : Room) (v : View) where
             ∙ (ap (λ (o : Rest). record o { hand = u.hand; committed = u.committed }) p.same.rest ∙ base.rest);
         free = free;
         pinned = λ zero. base.pinned (sym (ap (λ (o : Rest). o.pin) p.same.rest) ∙ zero);
-        later = let a = base.later in let b = h.later in omega (arith, a, b);
+        later = still_later u h.early base v h.later;
       } in
       record {
         still = still;
+        spent = λ limited.
+            let spent = h.spent limited in
+            let steps = h.fits.steps in
+            let most = begun_made m.making is in
+            let more = h.later.failures in
+            omega (arith, spent, steps, most, more);
         has = stock_same z r.gone.key.items 0 h.early v r.stock (ap (λ (o : Rest). o.hand) p.same.rest) h.has;
       }
 
-  pub free_so : (s : Stage) → free_at s m.making ≡ true → erased_at s ≡ None → StageFits z u s m r v → EndsSo z u r v
-  free_so stage.Finding is going fits = finding_so fits
-  free_so (stage.Supplying layout) is going fits = supplies_so z u layout m r v fits.0
-  free_so (stage.Reading q) is going fits = let f = fits.0 in reading_so z u f.early f.base r v f.later f.has f.reads.reads
-  free_so stage.Vouching is going fits = vouching_so fits.0 fits.1
-  free_so stage.Lowering is going fits = lower_so z u m r v fits.0
-  free_so stage.Making is going fits = making_so fits.0 is
-  free_so (stage.Ended e) is going fits = cc
+  reading_ends : (q : Rereading) → IsReadingOn z u m q r v → EndsSo z u r v
+  reading_ends q f = reading_so z u f.early f.base r v f.later f.has f.reads.reads 25800 (λ limited. let spent = f.spent limited in omega (arith, spent))
+
+  pub free_so : length r.gone.key.items ≤ 64 → (s : Stage) → free_at s m.making ≡ true → erased_at s ≡ None → StageFits z u s m r v → EndsSo z u r v
+  free_so short stage.Finding is going fits = finding_so short fits
+  free_so short (stage.Supplying layout) is going fits = within_so z u 24800 r v (omega arith) (supplies_so z u layout m r v fits.0)
+  free_so short (stage.Reading q) is going fits = reading_ends q fits.0
+  free_so short stage.Vouching is going fits = vouching_so fits.0 fits.1
+  free_so short stage.Lowering is going fits = within_so z u 25400 r v (omega arith) (lower_so z u m r v fits.0)
+  free_so short stage.Making is going fits = making_so fits.0 is
+  free_so short (stage.Ended e) is going fits = cc

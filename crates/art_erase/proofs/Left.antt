@@ -9,6 +9,7 @@ use Rattle.art_erase.specs.declared.erasing.Stage.{Stage}
 use Rattle.art_erase.specs.declared.erasing.Stage.TheVariants as stage
 use Rattle.art_make.specs.Making.{ended_at, fault_of, most_steps}
 use Rattle.art_make.specs.declared.making.Making.{Making}
+use Rattle.art_step.specs.declared.faults.Changed.{Changed}
 use Rattle.art_step.specs.declared.faults.UpgradeFault.{UpgradeFault}
 use Rattle.art_step.specs.declared.faults.UpgradeFault.TheVariants as fault
 
@@ -36,6 +37,12 @@ free_less left n s m some one is =
     let all = tries_some left some in
     let then = tries_few (left - n) in
     omega arith
+
+-- it is tried anew where the change was given up for a cell that was changed
+pub anew_fault : (value : ℕ) (r : Result ⊤ UpgradeFault) → erased_so value r ≡ erased.Anew → (e : Changed) × (r ≡ Err (fault.Changed e))
+anew_fault value (Ok done) is = absurd (cc)
+anew_fault value (Err (fault.Exhausted c)) is = absurd (cc)
+anew_fault value (Err (fault.Changed e)) is = (e, refl)
 
 module _ (left n value : ℕ) (m then : Making) (begun : is_begun m ≡ true → 0 < left) (few : most_steps m < 306) (stays : is_last (fault_of m) ≡ true → is_last (fault_of then) ≡ true) (some : is_last (fault_of then) ≡ false → 0 < n) where
   -- the change has ended

@@ -1,20 +1,22 @@
 -- The cells are vouched for, with a lower node or without, and the change is made.
-use Rattle.std.proofs.Common.{◌≡◌, ◌<◌, ◌≤◌, ℕ, Bool, true, false, nat_lt, List, Option, Some, None, refl, sym, ap, ◌∙◌, subst, arith}
+use Rattle.std.proofs.Common.{◌≡◌, ◌<◌, ℕ, Bool, true, false, nat_lt, List, Option, Some, None, inl, inr, refl, sym, ap, ◌∙◌, subst, arith, ⊎_elim}
 use Rattle.std.specs.Prelude.{Ok, Err, Result, ⊤, if◌then◌else◌}
-use Rattle.std.proofs.lemmas.Bool.{ltb-true}
+use Rattle.std.proofs.lemmas.Bool.{cases_Bool, ltb-true}
 use Rattle.std.proofs.lemmas.Option.{same_Some}
 use Rattle.art_attempt.proofs.Enters.{vouched_as}
-use Rattle.art_attempt.proofs.Tries.{event_since, limbo_committed, rest_committed, standing_takes, still_fails, still_reads, still_takes, stock_fails, stock_reads}
+use Rattle.art_attempt.proofs.Spent.{few_looks}
+use Rattle.art_attempt.proofs.Tries.{checked_since, event_since, limbo_committed, rest_committed, standing_takes, still_fails, still_later, still_reads}
+use Rattle.art_attempt.proofs.Tries.{still_takes, stock_fails, stock_reads}
 use Rattle.std.specs.Option.{unwrap_or}
 use Rattle.art_attempt.specs.Rooms.{number_for, spent_by}
-use Rattle.art_attempt.specs.Trying.{StillTries}
+use Rattle.art_attempt.specs.Trying.{HasSpent, IsLater, StillTries}
 use Rattle.art_attempt.specs.declared.rooms.Room.{Room}
 use Rattle.art_cell.specs.declared.cells.Link.TheVariants.{Node as node}
 use Rattle.art_cell.specs.declared.cells.Node.{Node}
 use Rattle.art_cell.specs.declared.layouts.Layout.{Layout}
 use Rattle.art_cell.specs.declared.layouts.Layout.TheVariants.{Node4}
 use Rattle.art_choose.specs.Losses.{loss_at}
-use Rattle.art_choose.specs.Plans.{HasOther, HasSmaller}
+use Rattle.art_choose.specs.Plans.{HasOther, HasSmaller, IsAnyAt, IsEitherAt, IsNodeAt, MayNotMerge}
 use Rattle.art_choose.specs.declared.losses.Loss.{Loss}
 use Rattle.art_choose.specs.declared.losses.Loss.TheVariants as loss
 use Rattle.art_choose.specs.declared.lowers.Lower.{Lower}
@@ -22,16 +24,24 @@ use Rattle.art_commit.specs.CommitLaws.{HasNode}
 use Rattle.art_choose.specs.Seen.{AreSeen, IsLowerSeen, IsSeen, StillKnown}
 use Rattle.art_erase.specs.declared.erasing.Way.{Way}
 use Rattle.art_erase.specs.declared.erasing.Way.TheVariants as way
-use Rattle.art_lower.proofs.LowerSeen.{ends_known}
-use Rattle.art_erase.specs.Erasing.{LeavesOther, EndFits, EndsSo, HasErased, HasLower, HasMade, HasSupplies, HasNumbers, HasVouched, IsLost, given_up, goes}
+use Rattle.art_decide.specs.Plans.{LocksOnly}
+use Rattle.art_erase.proofs.Joins.{JoinsMany, joins_many}
+use Rattle.art_lower.proofs.LowerSeen.{ended_fits, ends_known, ends_seen}
+use Rattle.art_erase.proofs.Finds.{within_so}
+use Rattle.art_erase.specs.Erasing.{EndFits, EndsSo, EndsWithin, HasErased, HasLower, HasMade, HasNumbers, HasSupplies, HasVouched}
+use Rattle.art_erase.specs.Erasing.{IsChecked, IsLockedBy, IsLost, LeavesOther, given_up, goes, wants_of}
 use Rattle.art_erase.specs.declared.erasing.Erasing.{Erasing}
+use Rattle.art_find.proofs.Counting.{Counted, answers_count}
+use Rattle.art_find.specs.Asking.{Answers as CellAnswers, goes_on}
 use Rattle.art_find.specs.Descents.{IsReading}
+use Rattle.art_find.specs.declared.asked.Answer.{Answer as CellAnswer}
 use Rattle.art_find.specs.declared.asked.Asked.{Asked}
 use Rattle.art_find.specs.declared.asked.Asked.TheVariants.{Read}
 use Rattle.art_frame.proofs.Stocked.{linked_are_in, stock_commits}
 use Rattle.art_frame.specs.Stocks.{IsIn, node_in}
 use Rattle.art_gather.specs.Vouching as vouching
-use Rattle.art_gather.specs.Vouching.{IsVouched, IsVouching, written_above}
+use Rattle.art_gather.proofs.Vouches.{was_vouched}
+use Rattle.art_gather.specs.Vouching.{CheckedSince, IsVouched, IsVouching, written_above}
 use Rattle.art_gather.specs.declared.vouching.Vouched.{Vouched}
 use Rattle.art_gather.specs.declared.vouching.Vouched.TheVariants.{Unchanged, Changed}
 use Rattle.art_gather.specs.declared.vouching.Vouching.{Vouching}
@@ -48,8 +58,10 @@ use Rattle.art_place.specs.Findings.{IsStanding}
 use Rattle.art_place.specs.Rereadings.{reads_next}
 use Rattle.art_place.specs.declared.rereadings.Rereading.{Rereading}
 use Rattle.art_place.specs.declared.desks.Desk.{Desk}
+use Rattle.art_place.specs.declared.findings.Above.{Above}
 use Rattle.art_place.specs.declared.findings.Stand.{Stand}
 use Rattle.art_plan.specs.Changes.{node_made}
+use Rattle.art_plan.specs.declared.changes.Change.{Change}
 use Rattle.art_remove.specs.Removals.{removed}
 use Rattle.art_step.specs.Events.{MakesEvent}
 use Rattle.art_step.specs.Views.{size_of}
@@ -63,25 +75,31 @@ use Rattle.art_step.specs.declared.views.View.{View}
 -- ---- where the leaf stands
 
 -- the cells are vouched for from now on
-pub begins_vouching : (z : Sizes) (u : View) (t : Stand) (r : Room) (v : View) → EndsSo z u r v → IsLost z t r v → IsVouching z r.gone.key.items t r.desk v v
-begins_vouching z u t r v so lost = record {
+pub begins_vouching : (z : Sizes) (u : View) (n : ℕ) (t : Stand) (r : Room) (v : View) → EndsWithin z u n r v → IsLost z t r v → IsVouching z r.gone.key.items t r.desk v v
+begins_vouching z u n t r v so lost = record {
   reads = record { only = refl; free = so.still.free; pinned = so.still.pinned };
+  later = omega arith;
   standing = lost.standing;
 }
 
 -- while a number was sought nothing was read
 module _ (z : Sizes) (u : View) (layout : Layout) (m : Erasing) (r : Room) (v : View) (h : HasSupplies z u layout m r v) where
-  pub supplies_so : EndsSo z u r v
-  supplies_so = record { still = still_takes u h.early h.base v h.fits.only.later h.fits.only.only; has = h.fits.only.has }
+  pub supplies_so : EndsWithin z u 24800 r v
+  supplies_so = record {
+    still = still_takes u h.early h.base v (record { steps = h.fits.only.later; failures = h.fits.only.failures }) h.fits.only.only;
+    spent = λ limited. (let spent = h.spent limited in let counted = h.fits.counted in let few = few_looks z (wants_of z layout) limited in omega (arith, spent, counted, few));
+    has = h.fits.only.has;
+  }
 
   pub supplies_lost : IsLost z m.stand r v
   supplies_lost = record { standing = standing_takes z r.gone.key.items m.stand r.desk h.early v h.fits.only.only h.lost.standing; found = h.lost.found }
 
 -- while the node was read on, nothing else happened
-module _ (z : Sizes) (u early : View) (base : StillTries u early) (r : Room) (v : View) (later : early.steps ≤ v.steps) (has : HasNumbers z early r) (reads : IsReading early v) where
-  pub reading_so : EndsSo z u r v
-  reading_so = record {
+module _ (z : Sizes) (u early : View) (base : StillTries u early) (r : Room) (v : View) (later : IsLater early v) (has : HasNumbers z early r) (reads : IsReading early v) where
+  pub reading_so : (n : ℕ) → HasSpent z u n v → EndsWithin z u n r v
+  reading_so n spent = record {
     still = still_reads u early base v later reads.only;
+    spent = spent;
     has = stock_reads z r.gone.key.items 0 early v r.stock reads.only has;
   }
 
@@ -95,6 +113,11 @@ reads_more x q a is = more_by (nat_lt q.place (size_of x.cell)) q.place (size_of
 
 -- ---- the cells
 
+-- no lower node takes the place of the cell
+abbrev pub NoLower : Way → Type 0
+NoLower (way.Lowers byte n) = ⊥
+NoLower w = ⊤
+
 module _ (z : Sizes) (u : View) (m : Erasing) (r : Room) (v : View) (h : HasVouched z u m r v) where
   abbrev StageOf : Vouching → Type 0
   StageOf s = vouching.StageFits z r.gone.key.items (goes m.way) m.stand s r.desk h.early v
@@ -102,26 +125,57 @@ module _ (z : Sizes) (u : View) (m : Erasing) (r : Room) (v : View) (h : HasVouc
   vouched_reads : (e : Vouched) → vouching.ended_at m.vouching ≡ Some e → StageOf (vouches.Ended e)
   vouched_reads e is = subst StageOf (vouched_as m.vouching e is) h.fits.stage
 
-  pub vouched_changed : vouching.ended_at m.vouching ≡ Some Changed → EndsSo z u r v
-  vouched_changed is = reading_so z u h.early h.base r v h.later h.has (vouched_reads Changed is)
+  pub vouched_ends : IsReading h.early v → EndsWithin z u 25400 r v
+  vouched_ends reads = reading_so z u h.early h.base r v h.later h.has reads 25400
+      (λ limited. let spent = h.spent limited in let steps = h.fits.steps in let more = h.later.failures in omega (arith, spent, steps, more))
+
+  pub vouched_changed : vouching.ended_at m.vouching ≡ Some Changed → EndsSo z u r v × (u.failures < v.failures)
+  vouched_changed is =
+      let more = h.fits.failures ∙ ap (λ (s : Vouching). vouching.failures_of s h.early.failures) (vouched_as m.vouching Changed is) in
+      let before = h.base.later.failures in
+      (within_so z u 25400 r v (omega arith) (vouched_ends (vouched_reads Changed is)), omega (arith, more, before))
 
   module _ (is : vouching.ended_at m.vouching ≡ Some Unchanged) where
-    pub vouched_so : EndsSo z u r v
-    vouched_so = reading_so z u h.early h.base r v h.later h.has (vouched_reads Unchanged is).0.reads
+    pub vouched_so : EndsWithin z u 25400 r v
+    vouched_so = vouched_ends (vouched_reads Unchanged is).0.reads
 
     pub vouched_standing : IsStanding z r.gone.key.items m.stand r.desk v
     vouched_standing = (vouched_reads Unchanged is).0.standing
 
-    vouched_is : IsVouched z r.gone.key.items (goes m.way) m.stand r.desk
+    vouched_is : IsVouched z r.gone.key.items (goes m.way) m.stand r.desk h.early v
     vouched_is = (vouched_reads Unchanged is).1
 
+    -- a cell that was vouched for was checked in this attempt
+    vouched_checked : (x : Stamp) → CheckedSince z r.gone.key.items m.stand r.desk h.early x v → IsChecked z u m.stand r x v
+    vouched_checked x checked = inl (checked_since u h.early h.base z r.gone.key.items m.stand r.desk x v checked)
+
+    node_checked : (x : Stamp) → IsNodeAt m.stand x → IsChecked z u m.stand r x v
+    node_checked x at = subst (λ (y : Stamp). IsChecked z u m.stand r y v) (sym at) (vouched_checked m.stand.stamp vouched_is.here)
+
+    either_checked : goes m.way ≡ true → (x : Stamp) → IsEitherAt m.stand x → IsChecked z u m.stand r x v
+    either_checked both x = ⊎_elim (node_checked x)
+        (λ (q : (a : Above) × (m.stand.above ≡ Some a) × (x ≡ a.stamp)).
+        subst (λ (y : Stamp). IsChecked z u m.stand r y v) (sym q.2)
+        (vouched_checked q.0.stamp (vouched_is.above q.0 (ap (λ (b : Bool). written_above b m.stand) both ∙ q.1))))
+
+    by_way : (w : Way) → m.way ≡ w → NoLower w → (x : Stamp) → IsLockedBy w m.stand m.lowering x → IsChecked z u m.stand r x v
+    by_way way.Stays at none x locked = node_checked x locked
+    by_way (way.Shrinks layout) at none x locked = either_checked (ap goes at) x locked
+    by_way (way.Merges other) at none x locked = either_checked (ap goes at) x locked
+    by_way (way.Lowers byte n) at none x locked = absurd none
+    by_way way.Torn at none x locked = absurd locked
+
+    pub vouched_each : (w : Way) → m.way ≡ w → NoLower w → (x : Stamp) → IsLockedBy m.way m.stand m.lowering x → IsChecked z u m.stand r x v
+    vouched_each w at none x locked = by_way m.way refl (subst NoLower (sym at) none) x locked
+
     pub seen_here : IsSeen z r.gone.key.items m.stand r.desk
-    seen_here = (vouched_is.here, vouched_is.whole)
+    seen_here = (was_vouched z r.gone.key.items m.stand r.desk h.early m.stand.stamp v vouched_is.here, vouched_is.whole)
 
     pub seen_both : goes m.way ≡ true → AreSeen z r.gone.key.items m.stand r.desk
     seen_both both = record {
       node = seen_here;
-      above = λ a at. let there = ap (λ (b : Bool). written_above b m.stand) both ∙ at in (vouched_is.above a there, vouched_is.all a there);
+      above = λ a at. let there = ap (λ (b : Bool). written_above b m.stand) both ∙ at in
+          (was_vouched z r.gone.key.items m.stand r.desk h.early a.stamp v (vouched_is.above a there), vouched_is.all a there);
     }
 
 -- ---- the lower node
@@ -148,9 +202,41 @@ lowering_reads z k t n (lowers.CheckLower x) desk lower u v fits = fits.0.vouchi
 lowering_reads z k t n (lowers.Ended (lowered.Unchanged x)) desk lower u v fits = fits.0.vouching.reads
 lowering_reads z k t n (lowers.Ended lowered.Changed) desk lower u v fits = fits
 
-pub lower_so : (z : Sizes) (u : View) (m : Erasing) (r : Room) (v : View) → HasLower z u m r v → EndsSo z u r v
+pub lower_so : (z : Sizes) (u : View) (m : Erasing) (r : Room) (v : View) → HasLower z u m r v → EndsWithin z u 25400 r v
 lower_so z u m r v h =
-    reading_so z u h.early h.base r v h.later h.has (lowering_reads z r.gone.key.items m.stand h.lower m.lowering r.desk r.lower h.early v h.fits.stage)
+    reading_so z u h.early h.base r v h.later h.has (lowering_reads z r.gone.key.items m.stand h.lower m.lowering r.desk r.lower h.early v h.fits.stage) 25400
+    (λ limited. let spent = h.spent limited in let steps = h.fits.steps in let more = h.later.failures in omega (arith, spent, steps, more))
+
+pub lower_changed : (z : Sizes) (u : View) (m : Erasing) (r : Room) (v : View) → HasLower z u m r v → lowering.ended_at m.lowering ≡ Some lowered.Changed → EndsSo z u r v × (u.failures < v.failures)
+lower_changed z u m r v h is =
+    let more = h.fits.failures ∙ ap (λ (s : Lowering). lowering.failures_of s h.early.failures) (lowered_as m.lowering lowered.Changed is) in
+    let before = h.base.later.failures in
+    (within_so z u 25400 r v (omega arith) (lower_so z u m r v h), omega (arith, more, before))
+
+-- a lowering that has not ended met no failure
+lower_failures : (t : Stand) (m : Lowering) (a : Asked) (n : ℕ) → lowering.asks t m ≡ Some a → lowering.failures_of m n ≡ n
+lower_failures t (lowers.Beginning q) a n is = refl
+lower_failures t (lowers.Named x) a n is = refl
+lower_failures t (lowers.Above x q) a n is = refl
+lower_failures t (lowers.Lower x q) a n is = refl
+lower_failures t (lowers.CheckAbove x) a n is = refl
+lower_failures t (lowers.CheckHere x) a n is = refl
+lower_failures t (lowers.CheckLower x) a n is = refl
+lower_failures t (lowers.Ended r) a n is = cc
+
+-- so where it ends as changed, it is the answer that does not go on
+pub lower_changed_by : (z : Sizes) (k : List ℕ) (t : Stand) (n : Node) (m m' : Lowering) (desk desk' : Desk) (lower lower' : List (Option ℕ)) (d : Deed) (a : Asked) (r : CellAnswer) (u v w : View)
+    → lowering.Fits z k t n m desk lower u v → lowering.Fits z k t n m' desk' lower' u w → lowering.asks t m ≡ Some a → CellAnswers z d a r v w
+    → lowering.ended_at m' ≡ Some lowered.Changed → goes_on r ≡ false
+lower_changed_by z k t n m m' desk desk' lower lower' d a r u v w before after is row ended = ⊎_elim
+    (λ (on : goes_on r ≡ true).
+    let step : Counted v w true = subst (Counted v w) on (answers_count z d a r v w row) in
+    let same = step.failures in
+    let old = before.failures ∙ lower_failures t m a u.failures is in
+    let new = after.failures ∙ ap (λ (s : Lowering). lowering.failures_of s u.failures) (lowered_as m' lowered.Changed ended) in
+    absurd (omega (arith, same, old, new)))
+    (λ (off : goes_on r ≡ false). off)
+    (cases_Bool (goes_on r))
 
 -- the lower node is the one that the way names
 abbrev KnowsLower : Sizes → Erasing → Room → View → View → Way → Type 0
@@ -168,6 +254,50 @@ module _ (z : Sizes) (u : View) (m : Erasing) (r : Room) (v : View) (h : HasLowe
 
   pub lower_known : AreSeen z r.gone.key.items m.stand r.desk × IsLowerSeen z child r.lower × IsStanding z r.gone.key.items m.stand r.desk v × StillKnown z v child r.lower
   lower_known = ends_known z r.gone.key.items m.stand child m.lowering r.desk r.lower h.early v ended knows_lower.1
+
+  lower_ended : lowering.StageFits z r.gone.key.items m.stand n (lowers.Ended (lowered.Unchanged x)) r.desk r.lower h.early v
+  lower_ended = (ended_fits z r.gone.key.items m.stand n m.lowering r.desk r.lower h.early v x ended knows_lower.1).stage
+
+  -- each cell that is locked was checked in this attempt
+  lower_vouched : (y : Stamp) → CheckedSince z r.gone.key.items m.stand r.desk h.early y v → IsChecked z u m.stand r y v
+  lower_vouched y checked = inl (checked_since u h.early h.base z r.gone.key.items m.stand r.desk y v checked)
+
+  either_lower : (y : Stamp) → IsEitherAt m.stand y → IsChecked z u m.stand r y v
+  either_lower y = ⊎_elim
+      (λ (at : IsNodeAt m.stand y). subst (λ (a : Stamp). IsChecked z u m.stand r a v) (sym at) (lower_vouched m.stand.stamp lower_ended.1.here))
+      (λ (q : (a : Above) × (m.stand.above ≡ Some a) × (y ≡ a.stamp)).
+      subst (λ (a : Stamp). IsChecked z u m.stand r a v) (sym q.2) (lower_vouched q.0.stamp (lower_ended.1.above q.0 q.1)))
+
+  lower_itself : IsChecked z u m.stand r x v
+  lower_itself = inr (record { early = h.early; base = h.base; lower = n; checked = lower_ended.2.was })
+
+  abbrev unchanged_in : Lowered → Stamp
+  unchanged_in (lowered.Unchanged y) = y
+  unchanged_in lowered.Changed = x
+
+  same_lower : (y : Stamp) → lowering.ended_at m.lowering ≡ Some (lowered.Unchanged y) → x ≡ y
+  same_lower y at = ap unchanged_in (same_Some {A = Lowered} (lowered.Unchanged x) (lowered.Unchanged y) (sym ended ∙ at))
+
+  lower_by : (y : Stamp) → IsLockedBy (way.Lowers byte n) m.stand m.lowering y → IsChecked z u m.stand r y v
+  lower_by y = ⊎_elim (either_lower y)
+      (λ (at : lowering.ended_at m.lowering ≡ Some (lowered.Unchanged y)). subst (λ (a : Stamp). IsChecked z u m.stand r a v) (same_lower y at) lower_itself)
+
+  pub lower_each : (y : Stamp) → IsLockedBy m.way m.stand m.lowering y → IsChecked z u m.stand r y v
+  lower_each y locked = lower_by y (subst (λ (w : Way). IsLockedBy w m.stand m.lowering y) is locked)
+
+  -- and a plan of it locks no others
+  pub lower_locks : (c : Change) → LocksOnly (IsAnyAt m.stand child) c → LocksOnly (IsLockedBy m.way m.stand m.lowering) c
+  lower_locks c only i target at = subst (λ (w : Way). IsLockedBy w m.stand m.lowering target.stamp) (sym is)
+      (⊎_elim
+      (λ (e : IsEitherAt m.stand target.stamp). inl e)
+      (λ (e : target.stamp ≡ x). inr (subst (λ (a : Stamp). lowering.ended_at m.lowering ≡ Some (lowered.Unchanged a)) (sym e) ended))
+      (only i target at))
+
+  -- where it is refused its words are too many
+  pub lower_many : MayNotMerge m.stand r.desk child r.lower → JoinsMany m.stand r.desk child r.lower
+  lower_many refused =
+      joins_many z r.gone.key.items m.stand child r.desk r.lower h.early v lower_ended.0
+      (ends_seen z r.gone.key.items m.stand n m.lowering r.desk r.lower h.early v x ended knows_lower.1) lower_ended.2.below.on.cell refused
 
   pub lower_other : HasOther m.stand r.desk r.gone byte (node n)
   lower_other = knows_lower.0 r.desk refl lower_known.0.node
@@ -208,20 +338,40 @@ module _ (z : Sizes) (u : View) (m : Erasing) (r : Room) (v : View) (h : HasMade
           once = done.once;
           rest = rest_committed u h.early h.base v r.change done over.free;
           free = over.free;
-          later = let a = h.base.later in let b = h.later in omega arith;
+          later = still_later u h.early h.base v h.later;
           has = stock_commits z r.gone.key.items 0 h.early v r.change r.stock done (linked_are_in r.change r.stock leaves nodes) h.has;
         }
 
     -- it was given up
-    pub change_given_up : (e : UpgradeFault) → made ≡ Err e → EndFits z u m.stand m.way r (given_up e) v
+    pub change_given_up : (e : UpgradeFault) → made ≡ Err e → EndFits z u m.stand m.way m.lowering r (given_up e) v
     change_given_up e err = by_fault e (over.failed e err)
       where
         so : (f : UpgradeFault) → HasFailed h.early r.change f v → EndsSo z u r v
         so f failed = record {
           still = still_fails u h.early h.base v h.later r.change f failed over.free;
+          spent = λ limited.
+              let spent = h.spent limited in
+              let steps = (ends_as z h.early v r.change m.making made h.fits is).1 in
+              let more = h.later.failures in
+              omega (arith, spent, steps, more);
           has = stock_fails z r.gone.key.items 0 h.early v r.stock r.change f failed h.has;
         }
 
-        by_fault : (f : UpgradeFault) → HasFailed h.early r.change f v → EndFits z u m.stand m.way r (given_up f) v
-        by_fault (fault.Changed c) failed = so (fault.Changed c) failed
-        by_fault (fault.Exhausted c) failed = (so (fault.Exhausted c) failed, record { early = h.early; deed = h.deed; failed = failed })
+        by_fault : (f : UpgradeFault) → HasFailed h.early r.change f v → EndFits z u m.stand m.way m.lowering r (given_up f) v
+        by_fault (fault.Changed c) failed =
+            let more = failed.fails.3 in
+            let before = h.base.later.failures in
+            (so (fault.Changed c) failed, omega (arith, more, before))
+        by_fault (fault.Exhausted c) failed =
+            let locked = h.locks.only failed.index failed.target failed.is in (
+              so (fault.Exhausted c) failed,
+              record {
+                early = h.early;
+                base = h.base;
+                later = h.later;
+                deed = h.deed;
+                failed = failed;
+                locked = locked;
+                checked = h.locks.each failed.target.stamp locked;
+              },
+            )

@@ -1,8 +1,8 @@
 -- What an attempt of a removal asks, and what it knows between two of its steps.
-use Rattle.std.specs.Prelude.{◌≡◌, ◌≢◌, ℕ, ◌<◌, ◌≤◌, ◌++◌, List, [], Option, Some, None, Bool, true, false, Result, Ok, Err, ⊤}
+use Rattle.std.specs.Prelude.{◌≡◌, ◌≢◌, ◌⊎◌, ℕ, ◌-◌, ◌<◌, ◌++◌, List, [], Option, Some, None, Bool, true, false, Result, Ok, Err, ⊤}
 use Rattle.std.specs.Option.{option_map}
 use Rattle.art_attempt.specs.Inserting.{is_begun, making_left, tries_left}
-use Rattle.art_attempt.specs.Trying.{IsKey, StillTries}
+use Rattle.art_attempt.specs.Trying.{HasChecked, HasSpent, IsKey, IsLater, StillTries}
 use Rattle.art_attempt.specs.declared.asked.Asked.{Asked}
 use Rattle.art_attempt.specs.declared.asked.Asked.TheVariants as asked
 use Rattle.art_attempt.specs.declared.rooms.Room.{Room}
@@ -12,9 +12,10 @@ use Rattle.art_cell.specs.declared.cells.Link.TheVariants.{Leaf as leaf, Node as
 use Rattle.art_cell.specs.declared.cells.Node.{Node as NodeOf}
 use Rattle.art_cell.specs.declared.layouts.Layout.{Layout}
 use Rattle.art_choose.specs.Losses.{loss_at}
-use Rattle.art_choose.specs.Plans.{HasFound, HasOther}
+use Rattle.art_choose.specs.Plans.{HasFound, HasOther, IsEitherAt, IsNodeAt}
 use Rattle.art_choose.specs.Seen.{IsSeen}
 use Rattle.art_choose.specs.declared.losses.Loss.TheVariants as loss
+use Rattle.art_decide.specs.Plans.{LocksOnly}
 use Rattle.art_erase.specs.Refused.{IsTooMuch}
 use Rattle.art_erase.specs.declared.erasing.Erased.{Erased}
 use Rattle.art_erase.specs.declared.erasing.Erased.TheVariants.{Gone, Absent, Exhausted, TooMany, Anew}
@@ -23,7 +24,9 @@ use Rattle.art_erase.specs.declared.erasing.Stage.{Stage}
 use Rattle.art_erase.specs.declared.erasing.Stage.TheVariants as stage
 use Rattle.art_erase.specs.declared.erasing.Way.{Way}
 use Rattle.art_erase.specs.declared.erasing.Way.TheVariants as way
+use Rattle.art_find.specs.Asking.{goes_on}
 use Rattle.art_find.specs.Descents as descents
+use Rattle.art_find.specs.declared.asked.Answer.{Answer as CellAnswer}
 use Rattle.art_find.specs.declared.asked.Asked.{Asked as CellAsked}
 use Rattle.art_find.specs.declared.asked.Asked.TheVariants as cells
 use Rattle.art_find.specs.declared.verdicts.Verdict.{Verdict}
@@ -36,8 +39,11 @@ use Rattle.art_gather.specs.Vouching.{IsVouching, KnowsHere}
 use Rattle.art_gather.specs.declared.asked.Asked.{Asked as SupplyAsked}
 use Rattle.art_gather.specs.declared.supplying.Wants.{Wants}
 use Rattle.art_lower.specs.Lowering as lowering
+use Rattle.art_lower.specs.Lowering.{CheckedBelow}
+use Rattle.art_lower.specs.declared.lowering.Lowered.TheVariants.{Unchanged}
+use Rattle.art_lower.specs.declared.lowering.Lowering.{Lowering}
 use Rattle.art_make.specs.Making as making
-use Rattle.art_make.specs.Making.{HasFailed}
+use Rattle.art_make.specs.Making.{HasFailed, fault_of}
 use Rattle.art_make.specs.declared.asked.Asked.{Asked as ChangeAsked}
 use Rattle.art_make.specs.declared.making.Making.{Making}
 use Rattle.art_model.specs.declared.commands.Answer.TheVariants as reply
@@ -54,14 +60,16 @@ use Rattle.art_remove.specs.declared.leaves.OldLeaf.{OldLeaf}
 use Rattle.art_step.specs.Events.{MakesEvent}
 use Rattle.art_step.specs.Shows.{rest_of}
 use Rattle.art_step.specs.Steps.Commit.{all_retired}
-use Rattle.art_step.specs.Views.{IsOnce, links_in_limbo, size_of}
+use Rattle.art_step.specs.Views.{IsOnce, links_in_limbo, pool_of_layout, size_of}
 use Rattle.art_step.specs.declared.deeds.Act.TheVariants.{Remove}
 use Rattle.art_step.specs.declared.deeds.Deed.{Deed}
 use Rattle.art_step.specs.declared.deeds.Deed.TheVariants.{Done}
+use Rattle.art_step.specs.declared.faults.Changed.{Changed}
 use Rattle.art_step.specs.declared.faults.UpgradeFault.{UpgradeFault}
 use Rattle.art_step.specs.declared.faults.UpgradeFault.TheVariants as fault
 use Rattle.art_step.specs.declared.views.Pin.{Pin}
 use Rattle.art_step.specs.declared.views.Sizes.{Sizes}
+use Rattle.art_step.specs.declared.views.Stamp.{Stamp}
 use Rattle.art_step.specs.declared.views.View.{View}
 
 -- ---- what it asks
@@ -155,13 +163,32 @@ LeavesOther z t desk old byte d =
 abbrev pub IsNeverSeen : Sizes → Stand → Desk → OldLeaf → Type 0
 IsNeverSeen z t desk old = (later : Desk) → node_of later ≡ node_of desk → IsSeen z old.key.items t later → ⊥
 
--- what is known of the way that was chosen
-abbrev pub IsChosen : Sizes → Way → Stand → Desk → OldLeaf → Stock → Type 0
-IsChosen z way.Stays t desk old s = loss_at t desk ≢ loss.Merges
-IsChosen z (way.Shrinks layout) t desk old s = (loss_at t desk ≡ loss.Shrinks layout) × ((i : ℕ) × (node_in s layout ≡ Some i))
-IsChosen z (way.Merges other) t desk old s = KnowsHere t desk × ((byte : ℕ) × LeavesOther z t desk old byte (leaf other))
-IsChosen z (way.Lowers byte n) t desk old s = ⊥
-IsChosen z way.Torn t desk old s = KnowsHere t desk × IsNeverSeen z t desk old
+-- a smaller node would do, and since the view u no free word of its pool gave a number
+pub record HasNoSmaller (z : Sizes) (t : Stand) (desk : Desk) (u v : View) : Type 0 where
+  pub layout : Layout
+  pub shrinks : loss_at t desk ≡ loss.Shrinks layout
+  pub none : supplying.HasNone z (wants_of z layout) (pool_of_layout layout) u v
+
+-- the leaf goes alone: its cell keeps its layout, or no smaller node was found; or all words of the node were read to tell that it stays
+abbrev pub MayStay : Sizes → Stand → Desk → View → View → Type 0
+MayStay z t desk u v =
+    (loss_at t desk ≡ loss.Leaf) ⊎ HasNoSmaller z t desk u v ⊎ (KnowsHere t desk × (loss_at t desk ≢ loss.Merges))
+
+-- what is known of the way that was chosen, of a pass that had the view u at the beginning
+abbrev pub IsChosen : Sizes → Way → Stand → Desk → OldLeaf → Stock → View → View → Type 0
+IsChosen z way.Stays t desk old s u v = MayStay z t desk u v
+IsChosen z (way.Shrinks layout) t desk old s u v = (loss_at t desk ≡ loss.Shrinks layout) × ((i : ℕ) × (node_in s layout ≡ Some i))
+IsChosen z (way.Merges other) t desk old s u v = KnowsHere t desk × ((byte : ℕ) × LeavesOther z t desk old byte (leaf other))
+IsChosen z (way.Lowers byte n) t desk old s u v = ⊥
+IsChosen z way.Torn t desk old s u v = KnowsHere t desk × IsNeverSeen z t desk old
+
+-- the stamp is that of a cell that is locked where the leaf goes this way
+abbrev pub IsLockedBy : Way → Stand → Lowering → Stamp → Type 0
+IsLockedBy way.Stays t l x = IsNodeAt t x
+IsLockedBy (way.Shrinks layout) t l x = IsEitherAt t x
+IsLockedBy (way.Merges other) t l x = IsEitherAt t x
+IsLockedBy (way.Lowers byte n) t l x = IsEitherAt t x ⊎ (lowering.ended_at l ≡ Some (Unchanged x))
+IsLockedBy way.Torn t l x = ⊥
 
 -- ---- what it knows, of a pass that had the view u at the beginning
 
@@ -169,10 +196,27 @@ IsChosen z way.Torn t desk old s = KnowsHere t desk × IsNeverSeen z t desk old
 abbrev pub HasNumbers : Sizes → View → Room → Type 0
 HasNumbers z v r = HasStock z r.gone.key.items 0 v r.stock
 
--- but for steps, what is in hand and what reading changes, the pass is as it was
-pub record EndsSo (z : Sizes) (u : View) (r : Room) (v : View) : Type 0 where
+-- but for steps, so many at most, what is in hand and what reading changes, the pass is as it was
+pub record EndsWithin (z : Sizes) (u : View) (n : ℕ) (r : Room) (v : View) : Type 0 where
   pub still : StillTries u v
+  pub spent : HasSpent z u n v
   pub has : HasNumbers z v r
+
+-- so an attempt ends, with few steps
+abbrev pub EndsSo : Sizes → View → Room → View → Type 0
+EndsSo z u r v = EndsWithin z u 25800 r v
+
+-- since the view u, and not after v, a check of the lower node succeeded, with the words as they are now
+pub record HasCheckedLower (z : Sizes) (u : View) (k : List ℕ) (t : Stand) (desk : Desk) (reads : List (Option ℕ)) (x : Stamp) (v : View)
+    : Type 0 where
+  pub early : View
+  pub base : StillTries u early
+  pub lower : NodeOf
+  pub checked : CheckedBelow z k t desk lower early x reads v
+
+-- so did one of the stamp, when the leaf stood there, or when it was that of the lower node
+abbrev pub IsChecked : Sizes → View → Stand → Room → Stamp → View → Type 0
+IsChecked z u t r x v = HasChecked z u r.gone.key.items t r.desk x v ⊎ HasCheckedLower z u r.gone.key.items t r.desk r.lower x v
 
 -- the leaf stands there
 pub record IsLost (z : Sizes) (t : Stand) (r : Room) (v : View) : Type 0 where
@@ -183,7 +227,8 @@ pub record IsLost (z : Sizes) (t : Stand) (r : Room) (v : View) : Type 0 where
 pub record IsFinding (z : Sizes) (u : View) (m : Erasing) (r : Room) (v : View) : Type 0 where
   pub early : View
   pub base : StillTries u early
-  pub later : early.steps ≤ v.steps
+  pub later : IsLater early v
+  pub spent : HasSpent z u (descents.most_steps m.finding.descent.depth m.finding.descent.stage) v
   pub has : HasNumbers z early r
   pub fits : FindingFits z r.gone.key.items (absent_of r.gone) m.finding r.desk early v
   pub going : descents.ended_at m.finding.descent.stage ≡ None
@@ -193,15 +238,21 @@ pub record IsFinding (z : Sizes) (u : View) (m : Erasing) (r : Room) (v : View) 
 pub record HasSupplies (z : Sizes) (u : View) (layout : Layout) (m : Erasing) (r : Room) (v : View) : Type 0 where
   pub early : View
   pub base : StillTries u early
+  pub spent : HasSpent z u 4301 early
   pub lost : IsLost z m.stand r early
   pub shrinks : loss_at m.stand r.desk ≡ loss.Shrinks layout
   pub fits : supplying.Fits z (wants_of z layout) r.gone.key.items 0 m.supplying r.stock early v
+
+-- at most so many steps were made, with one for each word of the node before this place
+abbrev pub reading_most : Rereading → ℕ
+reading_most q = 4567 - (266 - q.place)
 
 -- the words of the node are read, or all are known
 pub record IsReadingOn (z : Sizes) (u : View) (m : Erasing) (q : Rereading) (r : Room) (v : View) : Type 0 where
   pub early : View
   pub base : StillTries u early
-  pub later : early.steps ≤ v.steps
+  pub later : IsLater early v
+  pub spent : HasSpent z u (reading_most q) v
   pub has : HasNumbers z early r
   pub found : HasFound m.stand r.gone
   pub reads : IsVouching z r.gone.key.items m.stand r.desk early v
@@ -211,17 +262,19 @@ pub record IsReadingOn (z : Sizes) (u : View) (m : Erasing) (q : Rereading) (r :
 pub record HasVouched (z : Sizes) (u : View) (m : Erasing) (r : Room) (v : View) : Type 0 where
   pub early : View
   pub base : StillTries u early
-  pub later : early.steps ≤ v.steps
+  pub later : IsLater early v
+  pub spent : HasSpent z u 24800 early
   pub has : HasNumbers z early r
   pub found : HasFound m.stand r.gone
-  pub chosen : IsChosen z m.way m.stand r.desk r.gone r.stock
+  pub chosen : IsChosen z m.way m.stand r.desk r.gone r.stock u early
   pub fits : vouching.Fits z r.gone.key.items (goes m.way) m.stand m.vouching r.desk early v
 
 -- the same, with the lower node
 pub record HasLower (z : Sizes) (u : View) (m : Erasing) (r : Room) (v : View) : Type 0 where
   pub early : View
   pub base : StillTries u early
-  pub later : early.steps ≤ v.steps
+  pub later : IsLater early v
+  pub spent : HasSpent z u 24800 early
   pub has : HasNumbers z early r
   pub found : HasFound m.stand r.gone
   pub byte : ℕ
@@ -236,11 +289,18 @@ pub record IsRemoval (z : Sizes) (r : Room) (v : View) : Type 0 where
   pub leaf : r.change.leaf ≡ None
   pub deed : r.change.deed ≡ removed r.gone
 
+-- what the change locks by this way is known, and each cell that it locks was checked
+pub record HasLocks (z : Sizes) (u : View) (m : Erasing) (r : Room) (v : View) : Type 0 where
+  pub only : LocksOnly (IsLockedBy m.way m.stand m.lowering) r.change
+  pub each : (x : Stamp) → IsLockedBy m.way m.stand m.lowering x → IsChecked z u m.stand r x v
+
 -- the change is made
 pub record HasMade (z : Sizes) (u : View) (m : Erasing) (r : Room) (v : View) : Type 0 where
   pub early : View
   pub base : StillTries u early
-  pub later : early.steps ≤ v.steps
+  pub later : IsLater early v
+  pub spent : HasSpent z u 25400 early
+  pub locks : HasLocks z u m r early
   pub has : HasNumbers z early r
   pub leaf : r.change.leaf ≡ None
   pub deed : r.change.deed ≡ removed r.gone
@@ -286,7 +346,7 @@ pub record HasErased (z : Sizes) (u : View) (r : Room) (value : ℕ) (v : View) 
   pub rest :
       rest_of (record v { seen = u.seen; own = u.own; committed = u.committed; hand = u.hand; limbo = u.limbo }) ≡ rest_of u
   pub free : v.held ≡ []
-  pub later : u.steps ≤ v.steps
+  pub later : IsLater u v
   pub has : HasNumbers z v r
 
 -- no row has the key: one event
@@ -294,21 +354,37 @@ pub record IsAbsent (z : Sizes) (u : View) (r : Room) (v : View) : Type 0 where
   pub event : MakesEvent u v (absent r.gone)
   pub rest : rest_of (record v { seen = u.seen; own = u.own; committed = u.committed; hand = u.hand }) ≡ rest_of u
   pub free : v.held ≡ []
-  pub later : u.steps ≤ v.steps
+  pub later : IsLater u v
   pub has : HasNumbers z v r
 
--- a cell that the change locks has its counter at its end
-pub record IsExhausted (u : View) (r : Room) (c : CellOf) (v : View) : Type 0 where
+-- a cell that the change locks, under a stamp that was checked in this attempt, has its counter at its end
+pub record IsExhausted (z : Sizes) (u : View) (t : Stand) (w : Way) (l : Lowering) (r : Room) (c : CellOf) (v : View) : Type 0 where
   pub early : View
+  pub base : StillTries u early
+  pub later : IsLater early v
   pub deed : r.change.deed ≡ removed r.gone
   pub failed : HasFailed early r.change (fault.Exhausted c) v
+  pub locked : IsLockedBy w t l failed.target.stamp
+  pub checked : IsChecked z u t r failed.target.stamp early
 
-abbrev pub EndFits : Sizes → View → Stand → Way → Room → Erased → View → Type 0
-EndFits z u t w r (Gone value) v = HasErased z u r value v
-EndFits z u t w r Absent v = IsAbsent z u r v
-EndFits z u t w r (Exhausted c) v = EndsSo z u r v × IsExhausted u r c v
-EndFits z u t w r TooMany v = EndsSo z u r v × IsTooMuch w t r
-EndFits z u t w r Anew v = EndsSo z u r v
+-- each cell that the change locks was checked in this attempt, and its words are more than a change takes
+pub record IsTooLarge (z : Sizes) (u : View) (t : Stand) (w : Way) (l : Lowering) (r : Room) (v : View) : Type 0 where
+  pub each : (x : Stamp) → IsLockedBy w t l x → IsChecked z u t r x v
+  pub much : IsTooMuch w t r
+
+abbrev pub EndFits : Sizes → View → Stand → Way → Lowering → Room → Erased → View → Type 0
+EndFits z u t w l r (Gone value) v = HasErased z u r value v
+EndFits z u t w l r Absent v = IsAbsent z u r v
+EndFits z u t w l r (Exhausted c) v = EndsSo z u r v × IsExhausted z u t w l r c v
+EndFits z u t w l r TooMany v = EndsSo z u r v × IsTooLarge z u t w l r v
+EndFits z u t w l r Anew v = EndsSo z u r v × (u.failures < v.failures)
+
+-- ---- why it is tried anew
+
+-- a version word was locked, obsolete or changed: the last answer said so, or of the cells of the change one was changed
+abbrev pub IsAnewBy : Stage → Making → CellAnswer → Type 0
+IsAnewBy stage.Making m answer = (e : Changed) × (fault_of m ≡ Some (fault.Changed e))
+IsAnewBy s m answer = goes_on answer ≡ false
 
 -- ---- at each stage
 
@@ -319,7 +395,7 @@ StageFits z u (stage.Reading q) m r v = IsReadingOn z u m q r v × (q.place < si
 StageFits z u stage.Vouching m r v = HasVouched z u m r v × (vouching.ended_at m.vouching ≡ None)
 StageFits z u stage.Lowering m r v = HasLower z u m r v × (lowering.ended_at m.lowering ≡ None)
 StageFits z u stage.Making m r v = HasMade z u m r v × (making.ended_at m.making ≡ None)
-StageFits z u (stage.Ended e) m r v = EndFits z u m.stand m.way r e v
+StageFits z u (stage.Ended e) m r v = EndFits z u m.stand m.way m.lowering r e v
 
 -- the room is one of a key
 pub record IsRoom (z : Sizes) (r : Room) : Type 0 where

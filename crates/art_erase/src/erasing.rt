@@ -1,6 +1,6 @@
 //! One attempt of a removal, step by step: its stages, up to where the cells are vouched for.
-ghost use Rattle.std.specs.Prelude.{◌≡◌, ℕ, ◌-◌, ◌<◌, ◌≤◌, length, Some, None, true};
-ghost use Rattle.art_attempt.specs.Asking.{Answers, steps_in};
+ghost use Rattle.std.specs.Prelude.{◌≡◌, ◌≢◌, ℕ, ◌-◌, ◌<◌, ◌≤◌, length, Some, None, true, false};
+ghost use Rattle.art_attempt.specs.Asking.{Answers, cell_in, steps_in};
 ghost use Rattle.art_attempt.specs.Trying.{StillTries};
 ghost use Rattle.art_attempt.specs.declared.asked.Asked.{Asked as AskedStep};
 ghost use Rattle.art_cell.specs.declared.cells.Link.TheVariants.{Node as node_link};
@@ -8,11 +8,12 @@ ghost use Rattle.art_choose.specs.Losses.{loss_at};
 ghost use Rattle.art_choose.specs.Others.{NamesChild};
 ghost use Rattle.art_choose.specs.Plans.{HasFound};
 ghost use Rattle.art_choose.specs.declared.losses.Loss.TheVariants as losses;
-ghost use Rattle.art_erase.specs.Erasing.{EndsSo, Fits, HasSupplies, IsChosen, IsFinding, IsKept, IsLost, IsReadingOn, IsRoom, LeavesOther};
-ghost use Rattle.art_erase.specs.Erasing.{absent, asks, check_of, finding_asks, free_at, given_up, goes, is_free, reading_asks};
+ghost use Rattle.art_erase.specs.Erasing.{EndsSo, EndsWithin, Fits, HasSupplies, IsAnewBy, IsChosen, IsFinding, IsKept, IsLost, IsReadingOn, IsRoom, LeavesOther};
+ghost use Rattle.art_erase.specs.Erasing.{absent, asks, check_of, ended_at, finding_asks, free_at, given_up, goes, is_free, reading_asks};
 ghost use Rattle.art_erase.specs.Erasing.{steps_left, supply_asks, wants_of};
+ghost use Rattle.art_erase.specs.declared.erasing.Erased.TheVariants.{Anew as anew};
 ghost use Rattle.art_erase.specs.declared.erasing.Stage.TheVariants as stages;
-ghost use Rattle.art_find.specs.Asking.{Answers as CellAnswers};
+ghost use Rattle.art_find.specs.Asking.{Answers as CellAnswers, goes_on};
 ghost use Rattle.art_find.specs.declared.asked.Asked.{Asked as CellAskedStep};
 ghost use Rattle.art_frame.specs.Stocks.{HasStock};
 ghost use Rattle.art_gather.specs.Asking.{Answers as SupplyAnswers};
@@ -101,7 +102,7 @@ impl Erasing {
     ghost use Rattle.art_attempt.specs.Asking.{IsAllowed};
     ghost use Rattle.art_attempt.specs.declared.rooms.Room.{Room as RoomOf};
     ghost use Rattle.art_cell.specs.declared.layouts.Layout.{Layout as LayoutOf};
-    ghost use Rattle.art_erase.specs.Erasing.{HasLower, HasMade, HasVouched, asks_at, ended_at};
+    ghost use Rattle.art_erase.specs.Erasing.{HasLower, HasMade, HasVouched, asks_at};
     ghost use Rattle.art_gather.specs.Supplying.{ended_at as supplied_at};
     ghost use Rattle.art_gather.specs.Vouching.{ended_at as vouched_at};
     ghost use Rattle.art_lower.specs.Lowering.{ended_at as lowered_at};
@@ -112,8 +113,8 @@ impl Erasing {
     pub fn new(room: &Room) -> Erasing
         ensures going { ended_at result ≡ None }
         ensures free { is_free result ≡ true }
-        ensures fits { (z : SizesOf) (u v : View) → IsRoom z room.now → StillTries u v →
-            HasStock z room.now.gone.key.items 0 v room.now.stock → Fits z u result room.now v }
+        ensures fits { (z : SizesOf) (u : View) → IsRoom z room.now → StillTries u u →
+            HasStock z room.now.gone.key.items 0 u room.now.stock → Fits z u result room.now u }
     {
         let _ = room.sizes;
         Erasing {
@@ -158,6 +159,7 @@ impl Erasing {
             Fits z u self.new room.new w }
         ensures left { (left : ℕ) → (is_free self.old ≡ true → 0 < left) →
             steps_left (left - steps_in answer) self.new < steps_left left self.old }
+        ensures anew { ended_at self.new ≡ Some anew → IsAnewBy self.old.stage self.new.making (cell_in answer) }
     {
         match self.stage {
             Stage::Finding => self.find_told(room, cell_in(answer)),
@@ -265,6 +267,7 @@ impl Erasing {
             IsFinding z u self.old room.old v × (finding_asks self.old.finding ≡ Some asked) ×
             CellAnswers z (absent room.old.gone) asked answer v w }
         ensures kept { IsKept room.old room.new }
+        ensures anew { ended_at self.new ≡ Some anew → goes_on answer ≡ false }
         ensures free { is_free self.new ≡ true }
         ensures fits { (z : SizesOf) (u v w : View) (asked : CellAskedStep) → IsRoom z room.old → IsFinding z u self.old room.old v →
             finding_asks self.old.finding ≡ Some asked → CellAnswers z (absent room.old.gone) asked answer v w →
@@ -284,6 +287,7 @@ impl Erasing {
             IsFinding z u self.old room.old v × (finding_asks self.old.finding ≡ Some asked) ×
             CellAnswers z (absent room.old.gone) asked answer v w }
         ensures kept { IsKept room.old room.new }
+        ensures anew { ended_at self.new ≡ Some anew → goes_on answer ≡ false }
         ensures free { is_free self.new ≡ true }
         ensures fits { (z : SizesOf) (u v w : View) (asked : CellAskedStep) → IsRoom z room.old → IsFinding z u self.old room.old v →
             finding_asks self.old.finding ≡ Some asked → CellAnswers z (absent room.old.gone) asked answer v w →
@@ -302,6 +306,7 @@ impl Erasing {
         requires { (z : SizesOf) × (u : View) × (v : View) × (w : View) × IsRoom z room.old × IsFinding z u self.old room.old v ×
             (stand_at self.old.finding ≡ Some stand) × CellAnswers z (absent room.old.gone) (check_of stand) answer v w }
         ensures kept { IsKept room.old room.new }
+        ensures anew { ended_at self.new ≡ Some anew → goes_on answer ≡ false }
         ensures free { is_free self.new ≡ true }
         ensures fits { (z : SizesOf) (u v w : View) → IsRoom z room.old → IsFinding z u self.old room.old v →
             stand_at self.old.finding ≡ Some stand → CellAnswers z (absent room.old.gone) (check_of stand) answer v w →
@@ -324,11 +329,13 @@ impl Erasing {
 
     /// The leaf is there, and its place was checked: what goes with it says what comes next.
     fn choose(&mut self, room: &mut Room)
-        requires { (z : SizesOf) × (u : View) × (v : View) × IsRoom z room.old × EndsSo z u room.old v × IsLost z self.old.stand room.old v }
+        requires { (z : SizesOf) × (u : View) × (v : View) × IsRoom z room.old × EndsWithin z u 4301 room.old v ×
+            IsLost z self.old.stand room.old v }
         ensures kept { IsKept room.old room.new }
+        ensures not_anew { ended_at self.new ≢ Some anew }
         ensures free { is_free self.new ≡ true }
-        ensures fits { (z : SizesOf) (u v : View) → IsRoom z room.old → EndsSo z u room.old v → IsLost z self.old.stand room.old v →
-            Fits z u self.new room.new v }
+        ensures fits { (z : SizesOf) (u v : View) → IsRoom z room.old → EndsWithin z u 4301 room.old v →
+            IsLost z self.old.stand room.old v → Fits z u self.new room.new v }
     {
         match self.loss(&room.desk) {
             Loss::Leaf => self.vouch(room, Way::Stays),
@@ -346,11 +353,13 @@ impl Erasing {
 
     /// A smaller node would do: its number is sought.
     fn supply(&mut self, room: &mut Room, layout: Layout)
-        requires { (z : SizesOf) × (u : View) × (v : View) × IsRoom z room.old × EndsSo z u room.old v }
+        requires { (z : SizesOf) × (u : View) × (v : View) × IsRoom z room.old × EndsWithin z u 4301 room.old v }
         ensures kept { IsKept room.old room.new }
+        ensures not_anew { ended_at self.new ≢ Some anew }
         ensures free { is_free self.new ≡ true }
-        ensures fits { (z : SizesOf) (u v : View) → IsRoom z room.old → EndsSo z u room.old v → IsLost z self.old.stand room.old v →
-            loss_at self.old.stand room.old.desk ≡ losses.Shrinks layout → Fits z u self.new room.new v }
+        ensures fits { (z : SizesOf) (u v : View) → IsRoom z room.old → EndsWithin z u 4301 room.old v →
+            IsLost z self.old.stand room.old v → loss_at self.old.stand room.old.desk ≡ losses.Shrinks layout →
+            Fits z u self.new room.new v }
     {
         let wants = wants_of(room.sizes, layout);
         self.supplying = Supplying::new(&wants, &mut room.stock);
@@ -362,6 +371,7 @@ impl Erasing {
         requires { (z : SizesOf) × (u : View) × (v : View) × (w : View) × (asked : SupplyAsked) × IsRoom z room.old ×
             HasSupplies z u layout self.old room.old v × (supply_asks self.old room.old ≡ Some asked) × SupplyAnswers z asked word v w }
         ensures kept { IsKept room.old room.new }
+        ensures not_anew { ended_at self.new ≢ Some anew }
         ensures free { is_free self.new ≡ true }
         ensures fits { (z : SizesOf) (u v w : View) (asked : SupplyAsked) → IsRoom z room.old → HasSupplies z u layout self.old room.old v →
             supply_asks self.old room.old ≡ Some asked → SupplyAnswers z asked word v w → Fits z u self.new room.new w }
@@ -373,6 +383,7 @@ impl Erasing {
 
     /// It goes on; or the smaller node is in hand; or there is none, and the larger one stays.
     fn supply_on(&mut self, room: &Room, layout: Layout)
+        ensures not_anew { ended_at self.new ≢ Some anew }
         ensures free { is_free self.new ≡ true }
         ensures fits { (z : SizesOf) (u v : View) → IsRoom z room.now → HasSupplies z u layout self.old room.now v →
             Fits z u self.new room.now v }
@@ -389,6 +400,7 @@ impl Erasing {
         requires found { HasFound self.old.stand room.old.gone }
         requires more { rereading.place < size_of self.old.stand.stamp.cell }
         ensures kept { IsKept room.old room.new }
+        ensures not_anew { ended_at self.new ≢ Some anew }
         ensures free { is_free self.new ≡ true }
         ensures fits { (z : SizesOf) (u v w : View) (asked : CellAskedStep) → IsRoom z room.old →
             IsReadingOn z u self.old rereading room.old v → reading_asks self.old rereading ≡ Some asked →
@@ -402,6 +414,7 @@ impl Erasing {
     /// The node is read on, or all its words are known.
     fn read_on(&mut self, room: &Room, rereading: Rereading)
         requires { HasFound self.old.stand room.now.gone }
+        ensures not_anew { ended_at self.new ≢ Some anew }
         ensures free { is_free self.new ≡ true }
         ensures fits { (z : SizesOf) (u v : View) → IsRoom z room.now → IsReadingOn z u self.old rereading room.now v →
             Fits z u self.new room.now v }
@@ -415,9 +428,10 @@ impl Erasing {
     /// All words of the node are known: it goes, and gives way to its other child, or it keeps two.
     fn read_whole(&mut self, room: &Room)
         requires { HasFound self.old.stand room.now.gone }
+        ensures not_anew { ended_at self.new ≢ Some anew }
         ensures free { is_free self.new ≡ true }
-        ensures fits { (z : SizesOf) (u v : View) → IsRoom z room.now → EndsSo z u room.now v → IsLost z self.old.stand room.now v →
-            KnowsHere self.old.stand room.now.desk → Fits z u self.new room.now v }
+        ensures fits { (z : SizesOf) (u v : View) → IsRoom z room.now → EndsWithin z u 24800 room.now v →
+            IsLost z self.old.stand room.now v → KnowsHere self.old.stand room.now.desk → Fits z u self.new room.now v }
     {
         match self.loss(&room.desk) {
             Loss::Merges => self.merge(room),
@@ -428,10 +442,11 @@ impl Erasing {
     /// The node gives way to its other child.
     fn merge(&mut self, room: &Room)
         requires { HasFound self.old.stand room.now.gone }
+        ensures not_anew { ended_at self.new ≢ Some anew }
         ensures free { is_free self.new ≡ true }
-        ensures fits { (z : SizesOf) (u v : View) → IsRoom z room.now → EndsSo z u room.now v → IsLost z self.old.stand room.now v →
-            KnowsHere self.old.stand room.now.desk → loss_at self.old.stand room.now.desk ≡ losses.Merges →
-            Fits z u self.new room.now v }
+        ensures fits { (z : SizesOf) (u v : View) → IsRoom z room.now → EndsWithin z u 24800 room.now v →
+            IsLost z self.old.stand room.now v → KnowsHere self.old.stand room.now.desk →
+            loss_at self.old.stand room.now.desk ≡ losses.Merges → Fits z u self.new room.now v }
     {
         let Some((byte, link)) = other_child(&self.stand, &room.desk, &room.gone) else {
             self.vouch(room, Way::Torn);
@@ -445,9 +460,11 @@ impl Erasing {
 
     /// What becomes of the cell is known: what is written is vouched for.
     fn vouch(&mut self, room: &Room, way: Way)
+        ensures not_anew { ended_at self.new ≢ Some anew }
         ensures free { is_free self.new ≡ true }
-        ensures fits { (z : SizesOf) (u v : View) → IsRoom z room.now → EndsSo z u room.now v → IsLost z self.old.stand room.now v →
-            IsChosen z way self.old.stand room.now.desk room.now.gone room.now.stock → Fits z u self.new room.now v }
+        ensures fits { (z : SizesOf) (u v : View) → IsRoom z room.now → EndsWithin z u 24800 room.now v →
+            IsLost z self.old.stand room.now v → IsChosen z way self.old.stand room.now.desk room.now.gone room.now.stock u v →
+            Fits z u self.new room.now v }
     {
         self.way = way;
         self.vouching = Vouching::new(&self.stand, goes(way), &room.desk);
@@ -456,8 +473,9 @@ impl Erasing {
 
     /// The lower node is stamped and read, and all three cells are vouched for.
     fn lower(&mut self, byte: u8, node: Node)
+        ensures not_anew { ended_at self.new ≢ Some anew }
         ensures free { is_free self.new ≡ true }
-        ensures fits { (z : SizesOf) (u v : View) (r : RoomOf) → IsRoom z r → EndsSo z u r v → IsLost z self.old.stand r v →
+        ensures fits { (z : SizesOf) (u v : View) (r : RoomOf) → IsRoom z r → EndsWithin z u 24800 r v → IsLost z self.old.stand r v →
             KnowsHere self.old.stand r.desk → loss_at self.old.stand r.desk ≡ losses.Merges →
             NamesChild self.old.stand r.desk (node_link node) → LeavesOther z self.old.stand r.desk r.gone byte (node_link node) →
             Fits z u self.new r v }

@@ -33,8 +33,8 @@
 //!
 //! # What is proved
 //!
-//! Each step may be made, and each answer keeps what the machine knows (`Fits`). How it ends is said of the view with which the
-//! pass was pinned (`EndFits`), with the grounds of each refusal.
+//! Each step may be made, and each answer keeps what the machine knows (`Fits`). How it ends is said of the view with which it
+//! began (`EndFits`), with the grounds of each refusal.
 #![tactic(auto)]
 
 mod driver;

@@ -1,23 +1,28 @@
 //! How an attempt of a removal goes on once the cells were vouched for: the change is planned and made.
-ghost use Rattle.std.specs.Prelude.{◌≡◌, ℕ, ◌-◌, ◌<◌, Some, true, false};
+ghost use Rattle.std.specs.Prelude.{◌≡◌, ◌≢◌, ℕ, ◌-◌, ◌<◌, Some, true, false};
 ghost use Rattle.art_attempt.specs.Asking.{steps_of};
 ghost use Rattle.art_attempt.specs.Inserting.{is_begun, making_left};
-ghost use Rattle.art_erase.specs.Erasing.{EndsSo, Fits, HasLower, HasMade, HasVouched, IsKept, IsRemoval, IsRoom};
-ghost use Rattle.art_erase.specs.Erasing.{absent, erased_so, is_free, lower_asks, made_asks, steps_left, vouching_asks};
+ghost use Rattle.art_decide.specs.Plans.{LocksOnly};
+ghost use Rattle.art_erase.specs.Erasing.{EndsWithin, Fits, HasLower, HasMade, HasVouched, IsChecked, IsKept, IsLockedBy, IsRemoval, IsRoom};
+ghost use Rattle.art_erase.specs.Erasing.{absent, ended_at, erased_so, is_free, lower_asks, made_asks, steps_left, vouching_asks};
 ghost use Rattle.art_erase.specs.Refused.{IsTooMuch};
+ghost use Rattle.art_erase.specs.declared.erasing.Erased.TheVariants.{Anew as anew};
 ghost use Rattle.art_erase.specs.declared.erasing.Stage.TheVariants as stages;
 ghost use Rattle.art_erase.specs.declared.erasing.Way.TheVariants as ways;
-ghost use Rattle.art_find.specs.Asking.{Answers as CellAnswers};
+ghost use Rattle.art_find.specs.Asking.{Answers as CellAnswers, goes_on};
 ghost use Rattle.art_find.specs.declared.asked.Asked.{Asked as CellAskedStep};
 ghost use Rattle.art_gather.specs.Vouching.{ended_at as vouched_at};
 ghost use Rattle.art_gather.specs.declared.vouching.Vouched.TheVariants.{Unchanged as unchanged};
 ghost use Rattle.art_lower.specs.Lowering.{ended_at as lowered_at};
 ghost use Rattle.art_lower.specs.declared.lowering.Lowered.TheVariants.{Unchanged as lowered};
 ghost use Rattle.art_make.specs.Asking.{Answers as ChangeAnswers};
-ghost use Rattle.art_make.specs.Making.{ended_at as made_at};
+ghost use Rattle.art_make.specs.Making.{ended_at as made_at, fault_of};
 ghost use Rattle.art_make.specs.declared.asked.Asked.{Asked as ChangeAsked};
 ghost use Rattle.art_plan.specs.Changes.{targets};
+ghost use Rattle.art_step.specs.declared.faults.Changed.{Changed};
+ghost use Rattle.art_step.specs.declared.faults.UpgradeFault.TheVariants.{Changed as changed};
 ghost use Rattle.art_step.specs.declared.views.Sizes.{Sizes};
+ghost use Rattle.art_step.specs.declared.views.Stamp.{Stamp as StampOf};
 ghost use Rattle.art_step.specs.declared.views.View.{View};
 
 use crate::erasing::{Erased, Erasing, Stage, Way, given_up, goes};
@@ -38,6 +43,7 @@ impl Erasing {
             HasVouched z u self.old room.old v × (vouching_asks self.old ≡ Some asked) ×
             CellAnswers z (absent room.old.gone) asked answer v w }
         ensures kept { IsKept room.old room.new }
+        ensures anew { ended_at self.new ≡ Some anew → goes_on answer ≡ false }
         ensures free { is_free self.new ≡ true }
         ensures fits { (z : Sizes) (u v w : View) (asked : CellAskedStep) → IsRoom z room.old → HasVouched z u self.old room.old v →
             vouching_asks self.old ≡ Some asked → CellAnswers z (absent room.old.gone) asked answer v w →
@@ -57,6 +63,7 @@ impl Erasing {
         requires { (z : Sizes) × (u : View) × (v : View) × IsRoom z room.old × HasVouched z u self.old room.old v ×
             (vouched_at self.old.vouching ≡ Some unchanged) }
         ensures kept { IsKept room.old room.new }
+        ensures not_anew { ended_at self.new ≢ Some anew }
         ensures free { is_free self.new ≡ true }
         ensures fits { (z : Sizes) (u v : View) → IsRoom z room.old → HasVouched z u self.old room.old v →
             vouched_at self.old.vouching ≡ Some unchanged → Fits z u self.new room.new v }
@@ -75,6 +82,7 @@ impl Erasing {
         requires vouched { (z : Sizes) × (u : View) × (v : View) × IsRoom z room.old × HasVouched z u self.old room.old v ×
             (vouched_at self.old.vouching ≡ Some unchanged) }
         ensures kept { IsKept room.old room.new }
+        ensures not_anew { ended_at self.new ≢ Some anew }
         ensures free { is_free self.new ≡ true }
         ensures fits { (z : Sizes) (u v : View) → IsRoom z room.old → HasVouched z u self.old room.old v →
             vouched_at self.old.vouching ≡ Some unchanged → Fits z u self.new room.new v }
@@ -96,6 +104,7 @@ impl Erasing {
         requires vouched { (z : Sizes) × (u : View) × (v : View) × IsRoom z room.old × HasVouched z u self.old room.old v ×
             (vouched_at self.old.vouching ≡ Some unchanged) }
         ensures kept { IsKept room.old room.new }
+        ensures not_anew { ended_at self.new ≢ Some anew }
         ensures free { is_free self.new ≡ true }
         ensures fits { (z : Sizes) (u v : View) → IsRoom z room.old → HasVouched z u self.old room.old v →
             vouched_at self.old.vouching ≡ Some unchanged → Fits z u self.new room.new v }
@@ -118,6 +127,7 @@ impl Erasing {
         requires vouched { (z : Sizes) × (u : View) × (v : View) × IsRoom z room.old × HasVouched z u self.old room.old v ×
             (vouched_at self.old.vouching ≡ Some unchanged) }
         ensures kept { IsKept room.old room.new }
+        ensures not_anew { ended_at self.new ≢ Some anew }
         ensures free { is_free self.new ≡ true }
         ensures fits { (z : Sizes) (u v : View) → IsRoom z room.old → HasVouched z u self.old room.old v →
             vouched_at self.old.vouching ≡ Some unchanged → Fits z u self.new room.new v }
@@ -140,6 +150,7 @@ impl Erasing {
             HasLower z u self.old room.old v × (lower_asks self.old ≡ Some asked) ×
             CellAnswers z (absent room.old.gone) asked answer v w }
         ensures kept { IsKept room.old room.new }
+        ensures anew { ended_at self.new ≡ Some anew → goes_on answer ≡ false }
         ensures free { is_free self.new ≡ true }
         ensures fits { (z : Sizes) (u v w : View) (asked : CellAskedStep) → IsRoom z room.old → HasLower z u self.old room.old v →
             lower_asks self.old ≡ Some asked → CellAnswers z (absent room.old.gone) asked answer v w →
@@ -159,6 +170,7 @@ impl Erasing {
         requires { (z : Sizes) × (u : View) × (v : View) × IsRoom z room.old × HasLower z u self.old room.old v ×
             (lowered_at self.old.lowering ≡ Some (lowered stamp)) }
         ensures kept { IsKept room.old room.new }
+        ensures not_anew { ended_at self.new ≢ Some anew }
         ensures free { is_free self.new ≡ true }
         ensures fits { (z : Sizes) (u v : View) → IsRoom z room.old → HasLower z u self.old room.old v →
             lowered_at self.old.lowering ≡ Some (lowered stamp) → Fits z u self.new room.new v }
@@ -184,10 +196,13 @@ impl Erasing {
     /// The change is planned, and is made; or it is too much.
     fn begin(&mut self, room: &Room, planned: bool)
         requires { planned ≡ true → 0 < targets room.now.change }
+        ensures not_anew { ended_at self.new ≢ Some anew }
         ensures free { is_free self.new ≡ true }
-        ensures fits { (z : Sizes) (u v : View) → IsRoom z room.now → EndsSo z u room.now v →
-            (planned ≡ true → IsRemoval z room.now v) → (planned ≡ false → IsTooMuch self.old.way self.old.stand room.now) →
-            Fits z u self.new room.now v }
+        ensures fits { (z : Sizes) (u v : View) → IsRoom z room.now → EndsWithin z u 25400 room.now v →
+            (planned ≡ true → IsRemoval z room.now v) →
+            (planned ≡ true → LocksOnly (IsLockedBy self.old.way self.old.stand self.old.lowering) room.now.change) →
+            ((x : StampOf) → IsLockedBy self.old.way self.old.stand self.old.lowering x → IsChecked z u self.old.stand room.now x v) →
+            (planned ≡ false → IsTooMuch self.old.way self.old.stand room.now) → Fits z u self.new room.now v }
     {
         if !planned {
             self.stage = Stage::Ended(Erased::TooMany);
@@ -209,6 +224,7 @@ impl Erasing {
             Fits z u self.new room.new w }
         ensures left { (left : ℕ) → (is_begun self.old.making ≡ true → 0 < left) →
             steps_left (left - steps_of answer) self.new < making_left left self.old.making }
+        ensures anew { ended_at self.new ≡ Some anew → (e : Changed) × (fault_of self.new.making ≡ Some (changed e)) }
     {
         self.making.told(&room.change, answer);
         match self.making.ended() {
@@ -221,6 +237,7 @@ impl Erasing {
     fn made(&mut self, room: &mut Room, made: Result<(), UpgradeFault>)
         ensures kept { IsKept room.old room.new }
         ensures stage { self.new.stage ≡ stages.Ended (erased_so room.old.gone.value made) }
+        ensures making { self.new.making ≡ self.old.making }
         ensures fits { (z : Sizes) (u v : View) → IsRoom z room.old → HasMade z u self.old room.old v →
             made_at self.old.making ≡ Some made → Fits z u self.new room.new v }
     {

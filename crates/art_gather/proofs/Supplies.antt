@@ -88,6 +88,9 @@ module _ (z : Sizes) (k : List ℕ) (value : ℕ) (s : Stock) (u : View) (t : Ta
   later_sought : u.steps ≤ v.steps
   later_sought = let a = p.base.later in let b = p.seeks.some in omega arith
 
+  failures_sought : u.failures ≤ v.failures
+  failures_sought = let a = p.base.failures in let b = p.seeks.failed in omega arith
+
   soon_sought : IsSoon u v (steps_before z pool + search_steps z pool) (looks_before z pool + search_looks z pool)
   soon_sought =
       let words : t.words ≡ free_words (pool_size z pool) = p.seeks.words ∙ ap (λ (q : Pool). free_words (pool_size z q)) p.pool_is in
@@ -127,11 +130,12 @@ module _ (z : Sizes) (k : List ℕ) (value : ℕ) (s : Stock) (u : View) (t : Ta
   sought_on a is = record {
     only = only_sought;
     later = later_sought;
+    failures = failures_sought;
     has = stock_same z k value p.early v s (searching_hand z p.early v t.pool t.words t.search a p.seeks.search is) p.base.has;
   }
 
   pub sought_none : TookNone z p.early v t.pool → OnlySupplies z k value s u v
-  sought_none none = record { only = only_sought; later = later_sought; has = stock_same z k value p.early v s none.hand p.base.has }
+  sought_none none = record { only = only_sought; later = later_sought; failures = failures_sought; has = stock_same z k value p.early v s none.hand p.base.has }
 
   -- and each word of the pool was found to give none
   pub none_sought : (wants : Wants) → IsWanted wants pool → TookNone z p.early v t.pool → HasNone z wants pool u v
@@ -146,6 +150,7 @@ module _ (z : Sizes) (k : List ℕ) (value : ℕ) (s : Stock) (u : View) (t : Ta
   sought_leaf d is took none = record {
     only = only_sought;
     later = later_sought;
+    failures = failures_sought;
     has = stock_took_leaf z k value p.early v d s (subst (λ (q : Pool). TookLowest z p.early v q d) (p.pool_is ∙ is) took) none p.base.has;
   }
 
@@ -154,6 +159,7 @@ module _ (z : Sizes) (k : List ℕ) (value : ℕ) (s : Stock) (u : View) (t : Ta
   sought_node layout d is took none = record {
     only = only_sought;
     later = later_sought;
+    failures = failures_sought;
     has = stock_took_node z k value p.early v layout d s (subst (λ (q : Pool). TookLowest z p.early v q d) (p.pool_is ∙ is) took) none p.base.has;
   }
 
@@ -167,7 +173,7 @@ pub soon_first : (u : View) (most few : ℕ) → IsSoon u u most few
 soon_first u most few = record { steps = omega arith; counted = omega arith }
 
 pub begins_supplies : (z : Sizes) (k : List ℕ) (value : ℕ) (s : Stock) (u : View) → HasStock z k value u s → OnlySupplies z k value s u u
-begins_supplies z k value s u has = record { only = refl; later = omega arith; has = has }
+begins_supplies z k value s u has = record { only = refl; later = omega arith; failures = omega arith; has = has }
 
 -- a word was found
 module _ (z : Sizes) (k : List ℕ) (value : ℕ) (s : Stock) (u : View) (t t' : Taking) (pool : Pool) (v w : View) (p : IsSought z k value s u t pool v) where
@@ -245,6 +251,9 @@ module _ (z : Sizes) (wants : Wants) (k : List ℕ) (value : ℕ) (s : Stock) (u
     later_written : u.steps ≤ w.steps
     later_written = let a = ap (λ (t : View). t.steps) wrote.is in let b = f.only.later in omega arith
 
+    failures_written : u.failures ≤ w.failures
+    failures_written = let a = ap (λ (t : View). t.failures) wrote.is in let b = f.only.failures in omega arith
+
     module _ (p' : Packing) (packs : PackingFits z packing.leaf k value p' packing.early w) where
       -- few steps were made
       pub packed_soon : IsSoon u w (leaf_steps z) (leaf_looks z)
@@ -268,6 +277,7 @@ module _ (z : Sizes) (wants : Wants) (k : List ℕ) (value : ℕ) (s : Stock) (u
       packed_on = record {
         only = only_written;
         later = later_written;
+        failures = failures_written;
         has = subst (λ (b : Bool). HasStock z k value w (record s { written = b })) (sym packing.blank)
             (stock_packed z k value s packing.early w packing.leaf packing.is packing.base.has packs.only false (packed_none z w packing.leaf k value p'.place packs.packed));
       }
@@ -277,6 +287,7 @@ module _ (z : Sizes) (wants : Wants) (k : List ℕ) (value : ℕ) (s : Stock) (u
       packed_all is = record {
         only = only_written;
         later = later_written;
+        failures = failures_written;
         has = stock_packed z k value s packing.early w packing.leaf packing.is packing.base.has packs.only true (subst (IsPacked z w packing.leaf k value) is packs.packed);
       }
 

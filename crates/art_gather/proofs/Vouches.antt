@@ -15,7 +15,7 @@ use Rattle.art_find.specs.declared.asked.Answer.{Answer}
 use Rattle.art_find.specs.declared.asked.Answer.TheVariants.{Begun, Word, Checked}
 use Rattle.art_find.specs.declared.asked.Asked.{Asked}
 use Rattle.art_find.specs.declared.asked.Asked.TheVariants.{Read, Check}
-use Rattle.art_gather.specs.Vouching.{Fits, HasLeft, IsReadingHere, IsVouching, KnowsAbove, KnowsHere, VouchesAbove, after_check, word_in, written_above}
+use Rattle.art_gather.specs.Vouching.{CheckedSince, Fits, HasLeft, IsReadingHere, IsVouched, IsVouching, KnowsAbove, KnowsHere, VouchesAbove, after_check, word_in, written_above}
 use Rattle.art_gather.specs.declared.vouching.Vouched.TheVariants.{Unchanged}
 use Rattle.art_gather.specs.declared.vouching.Vouching.{Vouching}
 use Rattle.art_gather.specs.declared.vouching.Vouching.TheVariants.{CheckHere, Ended}
@@ -96,6 +96,40 @@ module _ (z : Sizes) (k : List ℕ) (t : Stand) (desk : Desk) (u v : View) (p : 
       let over = under_over z k t.above (above_of desk) v t.stamp.cell a p.standing.place.under at in
       subst (RereadingFits z v a.stamp r) is (begins (none_held v a.stamp.cell p.reads.free) over.stamp (subst (IsKept z v a.stamp) (sym is) over.kept))
 
+-- ---- a check that succeeded
+
+module _ (z : Sizes) (k : List ℕ) (t : Stand) (desk : Desk) (u : View) (x : Stamp) (v : View) (checked : CheckedSince z k t desk u x v) where
+  -- then all that was noted under the stamp held in a tree
+  pub was_vouched : WasVouched z k t desk x
+  was_vouched =
+      let passed = checked.passed in
+      record { view = checked.before; standing = checked.vouching.standing; tree = passed.vouched.0; shape = passed.vouched.1; holds = passed.vouched.2 }
+
+  -- and that it did stays so
+  pub checked_on : (w : View) → v.steps ≤ w.steps → CheckedSince z k t desk u x w
+  checked_on w more = let done = checked.done in record {
+    before = checked.before;
+    vouching = checked.vouching;
+    after = checked.after;
+    passed = checked.passed;
+    done = omega (arith, done, more);
+  }
+
+pub above_on_still : (z : Sizes) (k : List ℕ) (both : Bool) (t : Stand) (desk : Desk) (u v w : View) → v.steps ≤ w.steps → VouchesAbove z k both t desk u v → VouchesAbove z k both t desk u w
+above_on_still z k both t desk u v w more vouches a is = checked_on z k t desk u a.stamp v (vouches a is) w more
+
+pub vouched_still : (z : Sizes) (k : List ℕ) (both : Bool) (t : Stand) (desk : Desk) (u v w : View) → v.steps ≤ w.steps → IsVouched z k both t desk u v → IsVouched z k both t desk u w
+vouched_still z k both t desk u v w more both_are = record {
+  here = checked_on z k t desk u t.stamp v both_are.here w more;
+  whole = both_are.whole;
+  above = above_on_still z k both t desk u v w more both_are.above;
+  all = both_are.all;
+}
+
+-- it is a step
+pub passed_later : (z : Sizes) (v w : View) (x : Stamp) → check.Unchanged z v w x None → v.steps ≤ w.steps
+passed_later z v w x passed = let step = ap (λ (y : View). y.steps) passed.is in omega (arith, step)
+
 -- ---- a word was read
 
 -- the word that is read was not known
@@ -128,9 +162,13 @@ module _ (z : Sizes) (k : List ℕ) (t : Stand) (desk desk' : Desk) (u v w : Vie
   grows : Grows v w
   grows = read_grows v w x (word_fact i word) row.is
 
+  later_read : u.steps ≤ w.steps
+  later_read = let step = ap (λ (y : View). y.steps) row.is in let before = p.later in omega (arith, step, before)
+
   pub here_on : above_of desk' ≡ above_of desk → IsKept z w t.stamp (node_of desk') → IsVouching z k t desk' u w
   here_on same kept = record {
     reads = reads_on u v w (read_rest v w x (word_fact i word) row.is) p.reads;
+    later = later_read;
     standing = standing_stays z k t desk desk' v w grows (placed_node z k v w t.above desk desk' t.stamp grows same kept p.standing.place) p.standing;
   }
 
@@ -139,6 +177,7 @@ module _ (z : Sizes) (k : List ℕ) (t : Stand) (desk desk' : Desk) (u v w : Vie
       let over = under_over z k t.above (above_of desk) v t.stamp.cell a p.standing.place.under at in
       record {
         reads = reads_on u v w (read_rest v w x (word_fact i word) row.is) p.reads;
+        later = later_read;
         standing = standing_stays z k t desk desk' v w grows (placed_above z k v w t.above desk desk' t.stamp grows a over.node at over.is same kept p.standing.place) p.standing;
       }
 
@@ -150,11 +189,12 @@ module _ (z : Sizes) (k : List ℕ) (both : Bool) (t : Stand) (desk : Desk) (u v
     pub passed_on : IsVouching z k t desk u w
     passed_on = record {
       reads = reads_on u v w (passed_rest z v w x passed) p.reads;
+      later = let step = ap (λ (y : View). y.steps) passed.is in let before = p.later in omega (arith, step, before);
       standing = standing_grows z k t desk v w (passed_grows z v w x None passed) p.standing;
     }
 
-    pub was_vouched : WasVouched z k t desk x
-    was_vouched = record { view = v; standing = p.standing; tree = passed.vouched.0; shape = passed.vouched.1; holds = passed.vouched.2 }
+    pub checked_now : CheckedSince z k t desk u x w
+    checked_now = record { before = v; vouching = p; after = w; passed = passed; done = omega arith }
 
   module _ (left : ℕ) (some : 0 < left) (has : HasLeft u v left 532) where
     check_told : (d : Deed) (x : Stamp) (answer : Answer) (next : Vouching) → (check.Unchanged z v w x None → Fits z k both t next desk u w) → Answers z d (Check x) answer v w
@@ -178,20 +218,28 @@ module _ (z : Sizes) (k : List ℕ) (both : Bool) (t : Stand) (desk : Desk) (u v
             passed_on a.stamp passed,
             above,
             here,
-            (λ b other. subst (λ (y : Above). WasVouched z k t desk y.stamp) (same_Some {A = Above} a b (sym is ∙ other)) (was_vouched a.stamp passed)),
+            (λ b other. subst (λ (y : Above). CheckedSince z k t desk u y.stamp w) (same_Some {A = Above} a b (sym is ∙ other)) (checked_now a.stamp passed)),
           );
           failures = still.failures;
           steps = still.steps;
         })
         (subst (λ (q : Asked). Answers z d q answer v w) (sym at) row)
 
-    pub here_checked : (d : Deed) (asked : Asked) (answer : Answer) → KnowsAbove both t desk → KnowsHere t desk → VouchesAbove z k both t desk → Check t.stamp ≡ asked
+    pub here_checked : (d : Deed) (asked : Asked) (answer : Answer) → KnowsAbove both t desk → KnowsHere t desk → VouchesAbove z k both t desk u v → Check t.stamp ≡ asked
         → Answers z d asked answer v w → Fits z k both t (after_check answer (Ended Unchanged)) desk u w
     here_checked d asked answer above here vouches at row =
         check_told d t.stamp answer (Ended Unchanged)
         (λ passed. let still = passed_left z u v w t.stamp left 0 532 passed some has in
         record {
-          stage = (passed_on t.stamp passed, record { here = was_vouched t.stamp passed; whole = here; above = vouches; all = above });
+          stage = (
+            passed_on t.stamp passed,
+            record {
+              here = checked_now t.stamp passed;
+              whole = here;
+              above = above_on_still z k both t desk u v w (passed_later z v w t.stamp passed) vouches;
+              all = above;
+            },
+          );
           failures = still.failures;
           steps = still.steps;
         })

@@ -128,6 +128,7 @@ pub record HasNone (z : Sizes) (wants : Wants) (pool : Pool) (u v : View) : Type
 pub record OnlySupplies (z : Sizes) (k : List ℕ) (value : ℕ) (stock : Stock) (u v : View) : Type 0 where
   pub only : OnlyTakes u v
   pub later : u.steps ≤ v.steps
+  pub failures : u.failures ≤ v.failures
   pub has : HasStock z k value v stock
 
 -- a number of the pool is sought since a view that came later

@@ -1,7 +1,6 @@
 -- What a vouching knows between two of its steps.
 use Rattle.std.specs.Prelude.{◌≡◌, ℕ, ◌+◌, ◌-◌, ◌<◌, ◌≤◌, List, Bool, true, false, Option, Some, None, Ok, if◌then◌else◌}
 use Rattle.std.specs.Option.{option_map, option_and_then}
-use Rattle.art_decide.specs.Seen.{WasVouched}
 use Rattle.art_find.specs.Descents.{IsReading}
 use Rattle.art_find.specs.declared.asked.Answer.{Answer}
 use Rattle.art_find.specs.declared.asked.Answer.TheVariants as told
@@ -18,8 +17,10 @@ use Rattle.art_place.specs.declared.desks.Desk.{Desk}
 use Rattle.art_place.specs.declared.findings.Above.{Above as CellAbove}
 use Rattle.art_place.specs.declared.findings.Stand.{Stand}
 use Rattle.art_place.specs.declared.rereadings.Rereading.{Rereading}
+use Rattle.art_step.specs.Steps.Check as check
 use Rattle.art_step.specs.Views.{size_of}
 use Rattle.art_step.specs.declared.views.Sizes.{Sizes}
+use Rattle.art_step.specs.declared.views.Stamp.{Stamp}
 use Rattle.art_step.specs.declared.views.View.{View}
 
 -- ---- what it asks
@@ -85,10 +86,6 @@ written_above both t = if both then t.above else None
 abbrev pub KnowsAbove : Bool → Stand → Desk → Type 0
 KnowsAbove both t desk = (a : CellAbove) → written_above both t ≡ Some a → AreKnown (above_of desk) 1 (size_of a.stamp.cell)
 
--- and a check of it succeeded after that
-abbrev pub VouchesAbove : Sizes → List ℕ → Bool → Stand → Desk → Type 0
-VouchesAbove z k both t desk = (a : CellAbove) → written_above both t ≡ Some a → WasVouched z k t desk a.stamp
-
 -- all words of the cell where the key stands are known
 abbrev pub KnowsHere : Stand → Desk → Type 0
 KnowsHere t desk = AreKnown (node_of desk) 1 (size_of t.stamp.cell)
@@ -96,13 +93,26 @@ KnowsHere t desk = AreKnown (node_of desk) 1 (size_of t.stamp.cell)
 -- the pass only read, and the key stands where it stood
 pub record IsVouching (z : Sizes) (k : List ℕ) (t : Stand) (desk : Desk) (u v : View) : Type 0 where
   pub reads : IsReading u v
+  pub later : u.steps ≤ v.steps
   pub standing : IsStanding z k t desk v
 
+-- since the view u, and not after v, a check of the stamp succeeded, when the key stood there and the desk was as it is now
+pub record CheckedSince (z : Sizes) (k : List ℕ) (t : Stand) (desk : Desk) (u : View) (x : Stamp) (v : View) : Type 0 where
+  pub before : View
+  pub vouching : IsVouching z k t desk u before
+  pub after : View
+  pub passed : check.Unchanged z before after x None
+  pub done : after.steps ≤ v.steps
+
+-- a check of the cell above succeeded
+abbrev pub VouchesAbove : Sizes → List ℕ → Bool → Stand → Desk → View → View → Type 0
+VouchesAbove z k both t desk u v = (a : CellAbove) → written_above both t ≡ Some a → CheckedSince z k t desk u a.stamp v
+
 -- all words of the cell, and of the one above where both are vouched for, were known when a check of it succeeded
-pub record IsVouched (z : Sizes) (k : List ℕ) (both : Bool) (t : Stand) (desk : Desk) : Type 0 where
-  pub here : WasVouched z k t desk t.stamp
+pub record IsVouched (z : Sizes) (k : List ℕ) (both : Bool) (t : Stand) (desk : Desk) (u v : View) : Type 0 where
+  pub here : CheckedSince z k t desk u t.stamp v
   pub whole : KnowsHere t desk
-  pub above : VouchesAbove z k both t desk
+  pub above : VouchesAbove z k both t desk u v
   pub all : KnowsAbove both t desk
 
 -- words of the cell above are read
@@ -124,8 +134,8 @@ StageFits z k both t (Here r) desk u v = IsVouching z k t desk u v × KnowsAbove
 StageFits z k both t CheckAbove desk u v =
     IsVouching z k t desk u v × KnowsAbove both t desk × KnowsHere t desk × ((a : CellAbove) × (written_above both t ≡ Some a))
 StageFits z k both t CheckHere desk u v =
-    IsVouching z k t desk u v × KnowsAbove both t desk × KnowsHere t desk × VouchesAbove z k both t desk
-StageFits z k both t (Ended Unchanged) desk u v = IsVouching z k t desk u v × IsVouched z k both t desk
+    IsVouching z k t desk u v × KnowsAbove both t desk × KnowsHere t desk × VouchesAbove z k both t desk u v
+StageFits z k both t (Ended Unchanged) desk u v = IsVouching z k t desk u v × IsVouched z k both t desk u v
 StageFits z k both t (Ended Changed) desk u v = IsReading u v
 
 pub record Fits (z : Sizes) (k : List ℕ) (both : Bool) (t : Stand) (m : Vouching) (desk : Desk) (u v : View) : Type 0 where

@@ -29,7 +29,7 @@ module _ (z : Sizes) (u : View) (site : Site) (new : NewLeaf) (depth : ℕ) (bod
   k = new.key.items
 
   abbrev c : Change
-  c = change_of (kept (site_stamp site) ∷ []) (puts_of 0 writes) None body (Some new.number) [] (inserted new)
+  c = change_of (kept (site_stamp site) ∷ []) (puts_of 0 writes) writes None body (Some new.number) [] (inserted new)
 
   module _ (v : View) (ready : IsReady u c v) where
     add_may : commit.May z v (inserted new) [] (commit.coming v (leaf_linked c))
@@ -46,7 +46,7 @@ module _ (z : Sizes) (u : View) (site : Site) (new : NewLeaf) (depth : ℕ) (bod
         (λ h n i free is. let e = claims_made z u v c ready h n i free is in absurd (cc)) w.put w.at w.was (drop depth k, take-append-drop depth k))
 
   pub add_planned : HasMeaning site → IsPlanned z u c
-  add_planned meaning = one_planned z u (site_stamp site) (puts_of 0 writes) None body (Some new.number) [] (inserted new)
+  add_planned meaning = one_planned z u (site_stamp site) (puts_of 0 writes) writes None body (Some new.number) [] (inserted new)
       (may_target_site z u k depth None site knows.place) refl (λ m i. absurd i)
       (may_put_site z u c k depth None (Some (leaf new.number)) writes (names_there z (leaf new.number) knows.new_leaf.fits knows.new_leaf.number) site knows.place meaning (put_plan site (leaf new.number) writes plan) refl)
       (λ n e. absurd (cc))

@@ -48,7 +48,7 @@ module _ (z : Sizes) (u : View) (site : Site) (new : NewLeaf) (parting : Parting
   common = take parting.common (drop parting.depth k)
 
   abbrev c : Change
-  c = change_of (kept (site_stamp site) ∷ []) (puts_of 0 writes) (Some number) body (Some new.number) [] (inserted new)
+  c = change_of (kept (site_stamp site) ∷ []) (puts_of 0 writes) writes (Some number) body (Some new.number) [] (inserted new)
 
   module _ (plan : IsSitePlan site (child_word (node (node4 number))) writes) (inside : at < length k) (other-fits : FitsWord (leaf other)) (a-low : a < 256) (apart : a ≢ get_or k at 0)
       (layout : body.layout ≡ Node4) (forked : IsNodeOf Node4 (word_of body) common (two_of a (child_word (leaf other)) (get_or k at 0) (child_word (leaf new.number)))) where
@@ -83,7 +83,7 @@ module _ (z : Sizes) (u : View) (site : Site) (new : NewLeaf) (parting : Parting
         (two_there z a (child_word (leaf other)) (get_or k at 0) (child_word (leaf new.number)) (names_there z (leaf other) other-fits knows.there) (names_there z (leaf new.number) knows.new_leaf.fits knows.new_leaf.number))
 
     pub fork_leaf_planned : HasMeaning site → IsPlanned z u c
-    fork_leaf_planned meaning = one_planned z u (site_stamp site) (puts_of 0 writes) (Some number) body (Some new.number) [] (inserted new)
+    fork_leaf_planned meaning = one_planned z u (site_stamp site) (puts_of 0 writes) writes (Some number) body (Some new.number) [] (inserted new)
         (may_target_site z u k parting.depth (Some (leaf other)) site knows.place) refl (λ m i. absurd i)
         (may_put_site z u c k parting.depth (Some (leaf other)) (Some (node (node4 number))) writes (names_there z (node (node4 number)) knows.made.fits knows.made.number) site knows.place meaning (put_plan site (node (node4 number)) writes plan) refl)
         (may_make z u c (node4 number) made knows.made forked.body children)

@@ -1,5 +1,5 @@
 -- A leaf that comes with a larger node, which takes the place of a full one, is planned.
-use Rattle.std.proofs.Common.{◌≡◌, ◌⊎◌, ℕ, ◌<◌, ◌≤◌, true, List, [], ◌∷◌, ◌++◌, map, take, Option, Some, None, refl, sym, ap, ap₂, ◌∙◌, subst, inl, inr, ⊎_elim, arith}
+use Rattle.std.proofs.Common.{◌≡◌, ◌⊎◌, ℕ, ◌<◌, ◌≤◌, List, [], ◌∷◌, ◌++◌, map, take, Option, Some, None, refl, sym, ap, ap₂, ◌∙◌, subst, inl, inr, ⊎_elim, arith}
 use Rattle.art_cell.specs.Children.{child_word}
 use Rattle.art_cell.specs.Reads.{with_child, word_of}
 use Rattle.art_cell.specs.Words.{Words, child_of, prefix_len, prefix_of}
@@ -22,7 +22,7 @@ use Rattle.art_insert.specs.declared.leaves.NewLeaf.{NewLeaf}
 use Rattle.art_node.specs.Prefixes.{IsNodeOf}
 use Rattle.art_node.specs.Sizes.{larger}
 use Rattle.art_plan.specs.Changes.{IsPlanned, IsReady, leaf_linked, node_made}
-use Rattle.art_plan.specs.Seen.{kept, site_stamp}
+use Rattle.art_plan.specs.Seen.{gone, kept, site_stamp}
 use Rattle.art_plan.specs.declared.changes.Change.{Change}
 use Rattle.art_plan.specs.declared.changes.Target.{Target}
 use Rattle.art_plan.specs.declared.sites.Site.{Site}
@@ -57,11 +57,8 @@ module _ (z : Sizes) (u : View) (site : Site) (new : NewLeaf) (depth : ℕ) (bel
   abbrev w : Words
   w = word_of below.body.now
 
-  abbrev gone : Target
-  gone = record { stamp = below.stamp; obsolete = true }
-
   abbrev c : Change
-  c = change_of (kept (site_stamp site) ∷ gone ∷ []) (puts_of 0 writes) (Some number) body (Some new.number) (child_word (node n) ∷ []) (inserted new)
+  c = change_of (kept (site_stamp site) ∷ gone below.stamp ∷ []) (puts_of 0 writes) writes (Some number) body (Some new.number) (child_word (node n) ∷ []) (inserted new)
 
   module _ (plan : IsSitePlan site (child_word (node m)) writes) (crowded : IsCrowded below.body.now byte) (low : byte < 256) (layout : body.layout ≡ larger below.body.now.layout)
       (grown : IsNodeOf (larger below.body.now.layout) (word_of body) (prefix_of w) (with_child (child_of below.body.now.layout w) byte (child_word (leaf new.number)))) where
@@ -71,13 +68,13 @@ module _ (z : Sizes) (u : View) (site : Site) (new : NewLeaf) (depth : ℕ) (bel
     module _ (v : View) (ready : IsReady u c v) (s s' : Cells) (b : Before z v s s') where
       -- the words of the node that goes stay
       n_before : s (cell.Node n) ≡ w
-      n_before = whole_before z u v c ready s s' b 1 gone refl [] (λ ws. with_puts-other 1 0 writes ws (λ e. omega arith)) n below.body.now knows.there.read
+      n_before = whole_before z u v c ready s s' b 1 (gone below.stamp) refl [] (λ ws. with_puts-other 1 0 writes ws (λ e. omega arith)) n below.body.now knows.there.read
 
       n_same : s' (cell.Node n) ≡ s (cell.Node n)
       n_same =
-          let h = locked z u v c ready 1 gone refl in
+          let h = locked z u v c ready 1 (gone below.stamp) refl in
           subst (λ (d : Cell). s' d ≡ s d) knows.there.read.cell
-          (new_words z u v c ready s s' b 1 gone refl ∙ ap words_in (with_puts-other 1 0 writes h.0.old (λ e. omega arith)) ∙ sym (old_words z u v c ready s s' b 1 gone refl))
+          (new_words z u v c ready s s' b 1 (gone below.stamp) refl ∙ ap words_in (with_puts-other 1 0 writes h.0.old (λ e. omega arith)) ∙ sym (old_words z u v c ready s s' b 1 (gone below.stamp) refl))
 
       -- its prefix, and its children
       prefix_is : node_prefix (s (cell.Node n)) ≡ prefix_of w
@@ -107,13 +104,13 @@ module _ (z : Sizes) (u : View) (site : Site) (new : NewLeaf) (depth : ℕ) (bel
         site_written z u v c ready s s' b k depth (Some (node n)) (Some (node m)) writes site knows.there.place (put_plan site (node m) writes plan) refl (λ ws. refl) in
         let just = holds_just z u v c ready (λ d. (d ≡ cell.Node n) ⊎ ((d ≡ cell.Node m) ⊎ (d ≡ cell_of at.place)))
         (λ d. ⊎_elim
-        (λ (e : d ≡ cell.Node n). inl (1, gone, refl, e ∙ sym knows.there.read.cell))
+        (λ (e : d ≡ cell.Node n). inl (1, gone below.stamp, refl, e ∙ sym knows.there.read.cell))
         (⊎_elim (λ (e : d ≡ cell.Node m). inr (m, made, e)) (λ (e : d ≡ cell_of at.place). inl (0, kept (site_stamp site), refl, e ∙ at.cell_is))))
         (λ d. ⊎_elim
         (λ (t : IsTargetCell c d). ⊎_elim
         (λ (o : (t.0 ≡ 0) × (kept (site_stamp site) ≡ t.1)). inr (inr (t.3 ∙ ap (λ (y : Target). y.stamp.cell) (sym o.1) ∙ sym at.cell_is)))
-        (λ (o : (t.0 ≡ 1) × (gone ≡ t.1)). inl (t.3 ∙ ap (λ (y : Target). y.stamp.cell) (sym o.1) ∙ knows.there.read.cell))
-        (one_of_two (kept (site_stamp site)) gone t.0 t.1 t.2))
+        (λ (o : (t.0 ≡ 1) × (gone below.stamp ≡ t.1)). inl (t.3 ∙ ap (λ (y : Target). y.stamp.cell) (sym o.1) ∙ knows.there.read.cell))
+        (one_of_two (kept (site_stamp site)) (gone below.stamp) t.0 t.1 t.2))
         (λ (o : IsMadeCell c d). let same : Some o.0 ≡ Some m = sym o.1 ∙ made in inr (inl (o.2 ∙ (let is : o.0 ≡ m = cc in ap cell.Node is))))) in
         same_commits z v (inserted new) (node n ∷ []) (node n ∷ []) (leaf new.number ∷ node m ∷ []) (commit.coming v (leaf_linked c)) s s' (λ d. ((λ i. i), (λ i. i))) ((λ i. i), tt)
         (both_come z u v c ready new.number refl m made)
@@ -129,9 +126,9 @@ module _ (z : Sizes) (u : View) (site : Site) (new : NewLeaf) (depth : ℕ) (bel
     unlinks = one_unlinked (node n) knows.there.fits
 
     pub grow_planned : HasMeaning site → IsPlanned z u c
-    grow_planned meaning = two_planned z u (site_stamp site) gone n (puts_of 0 writes) (Some number) body (Some new.number) (child_word (node n) ∷ []) (inserted new)
+    grow_planned meaning = two_planned z u (site_stamp site) (gone below.stamp) n (puts_of 0 writes) writes (Some number) body (Some new.number) (child_word (node n) ∷ []) (inserted new)
         (may_target_site z u k depth (Some (node n)) site knows.there.place)
-        (may_target z u below.stamp n below.body.now knows.there.read gone refl) knows.there.read.cell knows.there.apart
+        (may_target z u below.stamp n below.body.now knows.there.read (gone below.stamp) refl) knows.there.read.cell knows.there.apart
         (ap (map child_word) unlinks)
         ((λ e. subst (Member (node n)) (sym unlinks) (inl refl)), (λ i. refl))
         (λ o i. ⊎_elim (λ (e : node o ≡ node n). let is : o ≡ n = cc in is) (λ (j : ⊥). absurd j) (subst (Member (node o)) unlinks i))

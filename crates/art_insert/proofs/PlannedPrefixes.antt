@@ -85,7 +85,7 @@ module _ (z : Sizes) (u : View) (site : Site) (new : NewLeaf) (parting : Parting
   w = word_of below.body.now
 
   abbrev c : Change
-  c = change_of (kept (site_stamp site) ∷ kept below.stamp ∷ []) (puts_of 0 writes ++ puts_of 1 others) (Some number) body (Some new.number) [] (inserted new)
+  c = change_of (kept (site_stamp site) ∷ kept below.stamp ∷ []) (puts_of 0 writes ++ puts_of 1 others) others (Some number) body (Some new.number) [] (inserted new)
 
   split : IsSplit q a p prefix parting.common
   split = split_is q a p prefix parting.common whole long
@@ -161,7 +161,7 @@ module _ (z : Sizes) (u : View) (site : Site) (new : NewLeaf) (parting : Parting
         (member_append put (puts_of 0 writes) (puts_of 1 others) m)
 
     pub fork_prefix_planned : HasMeaning site → IsPlanned z u c
-    fork_prefix_planned site_meaning = two_planned z u (site_stamp site) (kept below.stamp) n (puts_of 0 writes ++ puts_of 1 others) (Some number) body (Some new.number) [] (inserted new)
+    fork_prefix_planned site_meaning = two_planned z u (site_stamp site) (kept below.stamp) n (puts_of 0 writes ++ puts_of 1 others) others (Some number) body (Some new.number) [] (inserted new)
         (may_target_site z u k parting.depth (Some (node n)) site knows.there.place)
         (may_target z u below.stamp n below.body.now knows.there.read (kept below.stamp) refl) knows.there.read.cell knows.there.apart refl
         ((λ e. absurd (cc)), (λ i. absurd i))

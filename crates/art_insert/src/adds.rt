@@ -1,11 +1,12 @@
 //! A leaf comes to a free place.
-ghost use Rattle.std.specs.Prelude.{◌≡◌, ◌<◌, ℕ, true, false, Some};
+ghost use Rattle.std.specs.Prelude.{◌≡◌, ◌<◌, ◌∷◌, ℕ, [], true, false, Some};
 ghost use Rattle.art_cell.specs.Children.{child_word as word_of_link};
 ghost use Rattle.art_cell.specs.declared.cells.Link.TheVariants.{Leaf as leaf};
 ghost use Rattle.art_insert.specs.Cases.{IsAdd};
 ghost use Rattle.art_insert.specs.Puts.{inserted};
 ghost use Rattle.art_plan.specs.Changes.{IsPlanned, targets};
 ghost use Rattle.art_plan.specs.Puts.{IsFree, TakesMany};
+ghost use Rattle.art_plan.specs.Seen.{kept, site_stamp};
 ghost use Rattle.art_step.specs.declared.views.Sizes.{Sizes};
 ghost use Rattle.art_step.specs.declared.views.View.{View};
 
@@ -21,12 +22,13 @@ pub fn add(change: &mut Change, site: &Site, new: &NewLeaf) -> bool
     ensures planned { result ≡ true → (z : Sizes) (u : View) (depth : ℕ) → IsAdd z u site.now new.now depth
         → IsPlanned z u change.new }
     ensures targets { result ≡ true → targets change.new ≡ 1 }
+    ensures locks { result ≡ true → change.new.targets.items ≡ kept (site_stamp site.now) ∷ [] }
     ensures deed { change.new.deed ≡ inserted new.now }
     ensures leaf { change.new.leaf ≡ Some new.now.number }
     ensures refused { result ≡ false → TakesMany site.now (word_of_link (leaf new.now.number)) }
 {
-    let writes = added(site, child_word(Link::Leaf(new.number)));
+    added(site, child_word(Link::Leaf(new.number)), &mut change.writes);
     begin(change, new);
     lock(change, site.stamp(), false);
-    put(change, 0, writes.as_slice())
+    put(change, 0)
 }

@@ -1,5 +1,5 @@
 //! A node comes between a site and what stands there.
-ghost use Rattle.std.specs.Prelude.{◌≡◌, ◌≢◌, ◌+◌, ◌<◌, ◌≤◌, drop, length, slice_index, true, false, Some};
+ghost use Rattle.std.specs.Prelude.{◌≡◌, ◌≢◌, ◌+◌, ◌<◌, ◌≤◌, ◌∷◌, [], drop, length, slice_index, true, false, Some};
 ghost use Rattle.art_cell.specs.Bodies.{IsBody};
 ghost use Rattle.art_cell.specs.Children.{child_word as word_of_link};
 ghost use Rattle.art_cell.specs.Reads.{word_of};
@@ -8,6 +8,7 @@ ghost use Rattle.art_insert.specs.Cases.{IsForkLeaf, IsForkPrefix};
 ghost use Rattle.art_insert.specs.Puts.{inserted, node4};
 ghost use Rattle.art_plan.specs.Changes.{IsPlanned, targets};
 ghost use Rattle.art_plan.specs.Puts.{BothTakeMany, IsTaken, TakesMany};
+ghost use Rattle.art_plan.specs.Seen.{kept, site_stamp};
 ghost use Rattle.art_step.specs.declared.views.Sizes.{Sizes};
 ghost use Rattle.art_step.specs.declared.views.View.{View};
 
@@ -34,6 +35,7 @@ pub fn fork_leaf(
     ensures planned { result ≡ true → (z : Sizes) (u : View) → IsForkLeaf z u site.now new.now parting other byte made
         → IsPlanned z u change.new }
     ensures targets { result ≡ true → targets change.new ≡ 1 }
+    ensures locks { result ≡ true → change.new.targets.items ≡ kept (site_stamp site.now) ∷ [] }
     ensures deed { change.new.deed ≡ inserted new.now }
     ensures leaf { change.new.leaf ≡ Some new.now.number }
     ensures refused { result ≡ false → TakesMany site.now (word_of_link (node_link (node4 made))) }
@@ -42,16 +44,23 @@ pub fn fork_leaf(
     let at = parting.depth + parting.common;
     let old_leaf = child_word(Link::Leaf(other));
     let new_leaf = child_word(Link::Leaf(new.number));
-    let body = fork(&key[parting.depth..at], byte, old_leaf, key[at], new_leaf);
+    fork(
+        &mut change.body,
+        &key[parting.depth..at],
+        byte,
+        old_leaf,
+        key[at],
+        new_leaf,
+    );
     let new_node = child_word(Link::Node(Node {
         layout: Layout::Node4,
         number: made,
     }));
-    let writes = replaced(site, new_node);
+    replaced(site, new_node, &mut change.writes);
     begin(change, new);
     lock(change, site.stamp(), false);
-    make(change, made, body);
-    put(change, 0, writes.as_slice())
+    make(change, made);
+    put(change, 0)
 }
 
 /// The node below the site has this prefix, which parts from the key: a new Node4 has what both have in common as its prefix, the
@@ -74,6 +83,7 @@ pub fn fork_prefix(
     ensures planned { result ≡ true → (z : Sizes) (u : View) → IsForkPrefix z u site.now new.now parting below.now prefix.now made
         → IsPlanned z u change.new }
     ensures targets { result ≡ true → targets change.new ≡ 2 }
+    ensures locks { result ≡ true → change.new.targets.items ≡ kept (site_stamp site.now) ∷ kept below.now.stamp ∷ [] }
     ensures deed { change.new.deed ≡ inserted new.now }
     ensures leaf { change.new.leaf ≡ Some new.now.number }
     ensures refused { result ≡ false → BothTakeMany site.now (word_of_link (node_link (node4 made))) below.now.body.now
@@ -83,22 +93,24 @@ pub fn fork_prefix(
     let key = new.key.as_slice();
     let old_node = child_word(Link::Node(below.node));
     let new_leaf = child_word(Link::Leaf(new.number));
-    let body = fork(
+    fork(
+        &mut change.body,
         parts.front.as_slice(),
         parts.byte,
         old_node,
         key[parting.depth + parting.common],
         new_leaf,
     );
-    let shorter = plan_prefix(below.body, parts.rest.as_slice());
     let new_node = child_word(Link::Node(Node {
         layout: Layout::Node4,
         number: made,
     }));
-    let writes = replaced(site, new_node);
+    replaced(site, new_node, &mut change.writes);
     begin(change, new);
     lock(change, site.stamp(), false);
     lock(change, below.stamp, false);
-    make(change, made, body);
-    put(change, 0, writes.as_slice()) && put(change, 1, shorter.as_slice())
+    make(change, made);
+    let comes_between = put(change, 0);
+    plan_prefix(below.body, parts.rest.as_slice(), &mut change.writes);
+    comes_between && put(change, 1)
 }

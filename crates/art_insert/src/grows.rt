@@ -1,5 +1,5 @@
 //! A full node gives way to a larger one.
-ghost use Rattle.std.specs.Prelude.{◌≡◌, ◌<◌, ℕ, None, true, false, Some};
+ghost use Rattle.std.specs.Prelude.{◌≡◌, ◌<◌, ◌∷◌, ℕ, [], None, true, false, Some};
 ghost use Rattle.art_cell.specs.Bodies.{Becomes, IsFull};
 ghost use Rattle.art_cell.specs.Children.{child_word as word_of_link};
 ghost use Rattle.art_cell.specs.Reads.{IsBodyOf, with_child, word_of};
@@ -11,6 +11,7 @@ ghost use Rattle.art_node.specs.Prefixes.{IsNodeOf};
 ghost use Rattle.art_node.specs.Sizes.{larger};
 ghost use Rattle.art_plan.specs.Changes.{IsPlanned, targets};
 ghost use Rattle.art_plan.specs.Puts.{IsCrowded, IsTaken, TakesMany};
+ghost use Rattle.art_plan.specs.Seen.{gone, kept, site_stamp};
 ghost use Rattle.art_step.specs.declared.views.Sizes.{Sizes};
 ghost use Rattle.art_step.specs.declared.views.View.{View};
 
@@ -37,52 +38,53 @@ pub fn grow(
     ensures planned { result ≡ true → (z : Sizes) (u : View) (depth : ℕ)
         → IsGrow z u site.now new.now depth below.now byte (larger_node below.now.body.now made) → IsPlanned z u change.new }
     ensures targets { result ≡ true → targets change.new ≡ 2 }
+    ensures locks { result ≡ true → change.new.targets.items ≡ kept (site_stamp site.now) ∷ gone below.now.stamp ∷ [] }
     ensures deed { change.new.deed ≡ inserted new.now }
     ensures leaf { change.new.leaf ≡ Some new.now.number }
     ensures refused { result ≡ false → TakesMany site.now (word_of_link (node_link (larger_node below.now.body.now made))) }
 {
     let new_leaf = child_word(Link::Leaf(new.number));
-    let body = grown(below.body, byte, new_leaf);
+    grown(below.body, byte, new_leaf, &mut change.body);
     let new_node = child_word(Link::Node(Node {
-        layout: body.layout,
+        layout: change.body.layout,
         number: made,
     }));
-    let writes = replaced(site, new_node);
+    replaced(site, new_node, &mut change.writes);
     let old_node = child_word(Link::Node(below.node));
     begin(change, new);
     lock(change, site.stamp(), false);
     lock(change, below.stamp, true);
     unlink(change, old_node);
-    make(change, made, body);
-    put(change, 0, writes.as_slice())
+    make(change, made);
+    put(change, 0)
 }
 
-/// The next larger node, with this child too.
-fn grown(body: &Body, byte: u8, child: u64) -> Body
+/// Makes the second body the next larger node, with this child too.
+fn grown(body: &Body, byte: u8, child: u64, more: &mut Body)
     requires crowded { IsCrowded body.now byte }
     requires child { 0 < child }
-    ensures layout { result.layout ≡ larger body.now.layout }
-    ensures node { IsNodeOf (larger body.now.layout) (word_of result) (prefix_of (word_of body.now))
+    ensures layout { more.new.layout ≡ larger body.now.layout }
+    ensures node { IsNodeOf (larger body.now.layout) (word_of more.new) (prefix_of (word_of body.now))
         (with_child (child_of body.now.layout (word_of body.now)) byte child) }
 {
-    let larger = art_node::grow(body);
+    art_node::grow(body, more);
     match body.layout {
-        Layout::Node4 => with_more::<Node16>(larger, byte, child),
-        Layout::Node16 => with_more::<Node48>(larger, byte, child),
-        Layout::Node48 => with_more::<Node256>(larger, byte, child),
+        Layout::Node4 => with_more::<Node16>(more, byte, child),
+        Layout::Node16 => with_more::<Node48>(more, byte, child),
+        Layout::Node48 => with_more::<Node256>(more, byte, child),
         Layout::Node256 => unreachable!(),
     }
 }
 
-/// The node with this child too.
-fn with_more<K: NodeKind>(mut body: Body, byte: u8, child: u64) -> Body
-    requires body { IsBodyOf K.layout body }
-    requires free { child_of K.layout (word_of body) byte ≡ None }
-    requires room { IsFull K.layout (word_of body) → ⊥ }
+/// Gives the node, which has room, this child too.
+fn with_more<K: NodeKind>(body: &mut Body, byte: u8, child: u64)
+    requires body { IsBodyOf K.layout body.old }
+    requires free { child_of K.layout (word_of body.old) byte ≡ None }
+    requires room { IsFull K.layout (word_of body.old) → ⊥ }
     requires child { 0 < child }
-    ensures layout { result.layout ≡ body.layout }
-    ensures more { Becomes K.layout (word_of body) (word_of result) (with_child (child_of K.layout (word_of body)) byte child) }
+    ensures layout { body.new.layout ≡ body.old.layout }
+    ensures more { Becomes K.layout (word_of body.old) (word_of body.new)
+        (with_child (child_of K.layout (word_of body.old)) byte child) }
 {
-    K::add(&mut body, byte, child);
-    body
+    K::add(body, byte, child);
 }

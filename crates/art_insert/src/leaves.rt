@@ -27,7 +27,7 @@ pub struct Parting {
 
 /// Makes it the insert of the leaf, which locks, writes, makes and unlinks nothing yet.
 pub(crate) fn begin(change: &mut Change, leaf: &NewLeaf)
-    ensures { change.new ≡ change_of [] [] None change.old.body (Some leaf.now.number) [] (inserted leaf.now) }
+    ensures { change.new ≡ change_of [] [] change.old.writes.items None change.old.body (Some leaf.now.number) [] (inserted leaf.now) }
 {
     let key = Key::try_from(leaf.key.as_slice()).unwrap();
     let deed = Deed::Done(Act::Insert(key, leaf.value), Answer::Inserted);

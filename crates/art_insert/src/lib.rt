@@ -39,8 +39,8 @@
 //!
 //! Of each case (`planned`): where the pass knows what the case says (`specs/Cases.antt`), the change is a plan (`IsPlanned`).
 //! Its targets may be locked and are different cells, its words may be written, and once all of them are, in every tree that is
-//! as the pass knows it, they are a commit of the insert. What is about any change, and serves a removal as well, stands in
-//! `art_plan`.
+//! as the pass knows it, they are a commit of the insert. And it locks just the cells of the table's third column, in that order
+//! (`locks`). What is about any change, and serves a removal as well, stands in `art_plan`.
 #![tactic(auto)]
 
 mod adds;

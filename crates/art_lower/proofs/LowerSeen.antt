@@ -15,6 +15,7 @@ use Rattle.art_choose.specs.declared.lowers.Lower.{Lower}
 use Rattle.art_decide.proofs.SeenBodies.{seen_body, seen_prefix}
 use Rattle.art_decide.proofs.WholeCells.{IsWhole, above_is, read_whole}
 use Rattle.art_decide.specs.Bodies.{HasWords, IsFilled}
+use Rattle.art_gather.proofs.Vouches.{was_vouched}
 use Rattle.art_lower.specs.Lowering.{Fits, IsBelow, IsLowered, IsLowering, IsReadBelow, JoinsShort, KnowsLower, ended_at}
 use Rattle.art_lower.specs.declared.lowering.Lowered.{Lowered}
 use Rattle.art_lower.specs.declared.lowering.Lowered.TheVariants.{Unchanged}
@@ -31,7 +32,7 @@ use Rattle.art_step.specs.declared.views.Fact.TheVariants.{Starts}
 use Rattle.art_step.specs.declared.views.Sizes.{Sizes}
 use Rattle.art_step.specs.declared.views.Stamp.{Stamp}
 use Rattle.art_step.specs.declared.views.View.{View}
-use Rattle.art_tree.specs.Heaps.{heap_of}
+use Rattle.art_tree.specs.Heaps.{Cells, heap_of}
 use Rattle.art_tree.specs.Tree.{StandsAt}
 
 module _ (z : Sizes) (k : List ℕ) (t : Stand) (desk : Desk) (n : Node) (x : Stamp) (lower : List (Option ℕ)) where
@@ -44,7 +45,11 @@ module _ (z : Sizes) (k : List ℕ) (t : Stand) (desk : Desk) (n : Node) (x : St
       let one : n ≡ m = cc in
       subst (λ (p : Node). HasWords p lower body) one has
 
-  module _ (v : View) (seen : IsLowered z k t desk n x lower v) where
+  module _ (u v : View) (seen : IsLowered z k t desk n x lower u v) where
+    -- the tree of its check
+    abbrev tree : Cells
+    tree = seen.was.passed.vouched.0
+
     reads_whole : (body : Body) → HasWords n lower body → IsReadWhole z v x n body
     reads_whole body has =
         read_whole z v x lower (below_whole v seen.below seen.whole) n seen.below.on.cell body (below_filled body seen.below.on.cell has)
@@ -53,11 +58,12 @@ module _ (z : Sizes) (k : List ℕ) (t : Stand) (desk : Desk) (n : Node) (x : St
     reads_node body has =
         let was = seen.was in
         let cell_is = was.below.on.cell in
-        seen_body z was.view x lower (below_whole was.view was.below seen.whole) was.tree was.shape was.holds n cell_is body (below_filled body cell_is has)
+        let holds = was.passed.vouched in
+        seen_body z was.before x lower (below_whole was.before was.below seen.whole) tree holds.1 holds.2 n cell_is body (below_filled body cell_is has)
 
     -- in the tree that the check showed the lower node stands at its path, and has its prefix
-    joins_short : (u : View) → IsLowering z k t n desk u v → JoinsShort t desk n lower
-    joins_short u lowering here a upper body on is above has =
+    joins_short : IsLowering z k t n desk u v → JoinsShort t desk n lower
+    joins_short lowering here a upper body on is above has =
         let was = seen.was in
         let cell_is = was.below.on.cell in
         let parent = was.below.parent in
@@ -65,10 +71,11 @@ module _ (z : Sizes) (k : List ℕ) (t : Stand) (desk : Desk) (n : Node) (x : St
         let same : parent.here ≡ here = cc in
         let words : HasWords parent.here (node_of desk) upper = subst (λ (m : Node). HasWords m (node_of desk) upper) (sym same) above in
         let path : List ℕ = take a.depth k ++ prefix_of (word_of upper) ++ parent.byte ∷ [] in
-        let at : StandsAt (heap_of was.tree) (node n) path =
-        subst (λ (c : Cell). CellAt was.tree c path) cell_is (was.holds (note_of x (Starts path)) (was.below.led here a upper parent.byte on is above (parent.has upper words)) refl) in
-        let short = was.shape.tree.short n path at in
-        let prefix = ap length (seen_prefix z was.view x lower (below_whole was.view was.below seen.whole) was.tree was.shape was.holds n cell_is body (below_filled body cell_is has)) in
+        let holds = was.passed.vouched in
+        let at : StandsAt (heap_of tree) (node n) path =
+        subst (λ (c : Cell). CellAt tree c path) cell_is (holds.2 (note_of x (Starts path)) (was.below.led here a upper parent.byte on is above (parent.has upper words)) refl) in
+        let short = holds.1.tree.short n path at in
+        let prefix = ap length (seen_prefix z was.before x lower (below_whole was.before was.below seen.whole) tree holds.1 holds.2 n cell_is body (below_filled body cell_is has)) in
         let deep = (above_is z k t desk v lowering.vouching.standing here on a is).deep in
         let front = length-take-le a.depth k deep in
         omega (arith, short, prefix, front, length-append (take a.depth k ++ prefix_of (word_of upper)) (parent.byte ∷ []), length-append (take a.depth k) (prefix_of (word_of upper)))
@@ -77,9 +84,10 @@ module _ (z : Sizes) (k : List ℕ) (t : Stand) (desk : Desk) (n : Node) (x : St
     lower_known : (byte : ℕ) → IsLowerSeen z (record { stamp = x; node = n; byte = byte }) lower × StillKnown z v (record { stamp = x; node = n; byte = byte }) lower
     lower_known byte =
         let was = seen.was in
+        let holds = was.passed.vouched in
         let still : (w : View) → IsBelow z k t desk n x lower w → StillKnown z w (record { stamp = x; node = n; byte = byte }) lower =
         (λ w below. record { cell = below.on.cell; stamp = below.on.stamp; path = below.path; kept = below.on.kept }) in (
-          record { view = was.view; known = still was.view was.below; tree = was.tree; shape = was.shape; holds = was.holds; whole = seen.whole },
+          record { view = was.before; known = still was.before was.below; tree = tree; shape = holds.1; holds = holds.2; whole = seen.whole },
           still v seen.below,
         )
 
@@ -95,9 +103,9 @@ pub ends_seen : (z : Sizes) (k : List ℕ) (t : Stand) (n : Node) (m : Lowering)
 ends_seen z k t n m desk lower u v x is fits =
     let now = ended_fits z k t n m desk lower u v x is fits in
     record {
-      whole = reads_whole z k t desk n x lower v now.stage.2;
-      meaning = reads_node z k t desk n x lower v now.stage.2;
-      short = joins_short z k t desk n x lower v now.stage.2 u now.stage.0;
+      whole = reads_whole z k t desk n x lower u v now.stage.2;
+      meaning = reads_node z k t desk n x lower u v now.stage.2;
+      short = joins_short z k t desk n x lower u v now.stage.2 now.stage.0;
       third = now.stage.2.third;
     }
 
@@ -107,8 +115,11 @@ pub ends_known : (z : Sizes) (k : List ℕ) (t : Stand) (lower : Lower) (m : Low
 ends_known z k t lower m desk reads u v is fits =
     let now = ended_fits z k t lower.node m desk reads u v lower.stamp is fits in
     let both = now.stage.1 in
-    let known = lower_known z k t desk lower.node lower.stamp reads v now.stage.2 lower.byte in (
-      record { node = (both.here, both.whole); above = λ a at. (both.above a at, both.all a at) },
+    let known = lower_known z k t desk lower.node lower.stamp reads u v now.stage.2 lower.byte in (
+      record {
+        node = (was_vouched z k t desk u t.stamp v both.here, both.whole);
+        above = λ a at. (was_vouched z k t desk u a.stamp v (both.above a at), both.all a at);
+      },
       known.0,
       now.stage.0.vouching.standing,
       known.1,

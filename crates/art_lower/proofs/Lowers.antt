@@ -1,5 +1,5 @@
 -- The lower node is begun, words are read one after another, and then three cells are checked.
-use Rattle.std.proofs.Common.{◌≡◌, ℕ, ◌+◌, ◌<◌, arith, List, Option, Some, None, replicate, true, refl, sym, ap, ◌∙◌, subst}
+use Rattle.std.proofs.Common.{◌≡◌, ℕ, ◌+◌, ◌<◌, ◌≤◌, arith, List, Option, Some, None, replicate, true, refl, sym, ap, ◌∙◌, subst}
 use Rattle.std.specs.Prelude.{IfSome, Ok, Err, ⊤}
 use Rattle.std.specs.Option.{option_map, option_and_then}
 use Rattle.std.proofs.lemmas.Bool.{lt-ltb}
@@ -11,7 +11,6 @@ use Rattle.art_cell.specs.declared.cells.Cell.TheVariants as cell
 use Rattle.art_cell.specs.declared.cells.Node.{Node}
 use Rattle.art_decide.proofs.WholeCells.{above_is}
 use Rattle.art_decide.specs.Bodies.{HasWords}
-use Rattle.art_decide.specs.Seen.{WasVouched}
 use Rattle.art_find.proofs.Allowed.{none_held}
 use Rattle.art_find.proofs.Stages.{reads_on}
 use Rattle.art_find.specs.Asking.{Answers, IsAllowed}
@@ -19,8 +18,8 @@ use Rattle.art_find.specs.declared.asked.Answer.{Answer}
 use Rattle.art_find.specs.declared.asked.Answer.TheVariants.{Begun, Word, Checked}
 use Rattle.art_find.specs.declared.asked.Asked.{Asked}
 use Rattle.art_find.specs.declared.asked.Asked.TheVariants.{Begin, Check}
-use Rattle.art_gather.proofs.Vouches.{above_on, passed_left, was_vouched}
-use Rattle.art_gather.specs.Vouching.{HasLeft, IsReadingAbove, IsVouched, KnowsAbove, VouchesAbove, above_checks, above_reads, passed}
+use Rattle.art_gather.proofs.Vouches.{above_on, above_on_still, checked_now, passed_later, passed_left, vouched_still}
+use Rattle.art_gather.specs.Vouching.{CheckedSince, HasLeft, IsReadingAbove, IsVouched, KnowsAbove, VouchesAbove, above_checks, above_reads, passed}
 use Rattle.art_lower.proofs.LowerNames.{has_over, is_other, is_third, led_to, may_begin, parent, path_to}
 use Rattle.art_lower.specs.Lowering.{Fits, IsBelow, IsLed, IsLower, IsLowering, IsParent, IsThird, KnowsLower, StageFits, WouldLead, after_check, asks}
 use Rattle.art_lower.specs.declared.lowering.Lowered.TheVariants.{Unchanged}
@@ -96,10 +95,11 @@ module _ (z : Sizes) (k : List ℕ) (t : Stand) (n : Node) (desk : Desk) (lower 
 -- ---- what is known stays so
 
 module _ (z : Sizes) (k : List ℕ) (t : Stand) (n : Node) (v w : View) (grows : Grows v w) where
-  pub lowering_grows : (desk : Desk) (u : View) → OnlyReads v w → IsLowering z k t n desk u v → IsLowering z k t n desk u w
-  lowering_grows desk u only lowering = record {
+  pub lowering_grows : (desk : Desk) (u : View) → v.steps ≤ w.steps → OnlyReads v w → IsLowering z k t n desk u v → IsLowering z k t n desk u w
+  lowering_grows desk u later only lowering = record {
     vouching = record {
       reads = reads_on u v w only lowering.vouching.reads;
+      later = let before = lowering.vouching.later in omega (arith, before, later);
       standing = standing_grows z k t desk v w grows lowering.vouching.standing;
     };
     whole = lowering.whole;
@@ -146,7 +146,9 @@ module _ (z : Sizes) (k : List ℕ) (t : Stand) (n : Node) (v w : View) (grows :
 pub begun_on : (z : Sizes) (k : List ℕ) (t : Stand) (n : Node) (desk : Desk) (u v w : View) (x : Stamp) → IsLowering z k t n desk u v
     → begin.Outcome z v w (cell.Node n) (Ok x) → IsLowering z k t n desk u w × IsLower z n x (replicate 266 None) w
 begun_on z k t n desk u v w x lowering row = (
-  lowering_grows z k t n v w (begun_grows z v w (cell.Node n) x.version row.1 row.2) desk u (begun_rest z v w (cell.Node n) x.version row.2) lowering,
+  lowering_grows z k t n v w (begun_grows z v w (cell.Node n) x.version row.1 row.2) desk u
+      (let step = ap (λ (s : View). s.steps) (row.2 ∙ begun_clear z v (cell.Node n) x.version row.1) in omega (arith, step))
+      (begun_rest z v w (cell.Node n) x.version row.2) lowering,
   record {
     cell = ap (λ (a : Stamp). a.cell) row.0;
     stamp = begun_stamp z v w (cell.Node n) x row.0 row.1 row.2 (may_begin z k t n desk u v lowering).1;
@@ -177,7 +179,7 @@ passed_unchanged z d y (Checked (Err e)) v w is row = cc
 
 module _ (z : Sizes) (k : List ℕ) (t : Stand) (n : Node) (desk : Desk) (u v w : View) (lowering : IsLowering z k t n desk u v) (passed : check.Unchanged z v w t.stamp None) where
   pub named_on : IsLowering z k t n desk u w
-  named_on = lowering_grows z k t n v w (passed_grows z v w t.stamp None passed) desk u (passed_rest z v w t.stamp passed) lowering
+  named_on = lowering_grows z k t n v w (passed_grows z v w t.stamp None passed) desk u (passed_later z v w t.stamp passed) (passed_rest z v w t.stamp passed) lowering
 
   pub named_below : (x : Stamp) (lower : List (Option ℕ)) → IsLower z n x lower v → IsBelow z k t desk n x lower w
   named_below x lower on = record {
@@ -227,7 +229,7 @@ module _ (z : Sizes) (k : List ℕ) (t : Stand) (n : Node) (desk : Desk) (u v w 
   grown = read_grows v w x (word_fact i word) row.is
 
   pub lower_on : IsLowering z k t n desk u v → IsLowering z k t n desk u w
-  lower_on = lowering_grows z k t n v w grown desk u (read_rest v w x (word_fact i word) row.is)
+  lower_on = lowering_grows z k t n v w grown desk u (let step = ap (λ (s : View). s.steps) row.is in omega (arith, step)) (read_rest v w x (word_fact i word) row.is)
 
   pub lower_below : (lower lower' : List (Option ℕ)) → IsKept z w x lower' → IsBelow z k t desk n x lower v → IsBelow z k t desk n x lower' w
   lower_below = below_grows z k t n v w grown desk desk refl x
@@ -262,15 +264,15 @@ module _ (z : Sizes) (k : List ℕ) (t : Stand) (n : Node) (desk : Desk) (lower 
     still_left less fewer = passed_left z u v w y left less 535 passed fewer has
 
     still_lowering : IsLowering z k t n desk u w
-    still_lowering = lowering_grows z k t n v w (passed_grows z v w y None passed) desk u (passed_rest z v w y passed) lowering
+    still_lowering = lowering_grows z k t n v w (passed_grows z v w y None passed) desk u (passed_later z v w y passed) (passed_rest z v w y passed) lowering
 
     still_below : (x : Stamp) → IsBelow z k t desk n x lower v → IsBelow z k t desk n x lower w
     still_below x below =
         let grows = passed_grows z v w y None passed in
         below_grows z k t n v w grows desk desk refl x lower lower (kept_grows z v w x lower grows below.on.kept) below
 
-    vouched : WasVouched z k t desk y
-    vouched = was_vouched z k true t desk u v w lowering.vouching y passed
+    vouched : CheckedSince z k t desk u y w
+    vouched = checked_now z k true t desk u v w lowering.vouching y passed
 
   module _ (d : Deed) (x : Stamp) (asked : Asked) (answer : Answer) (below : IsBelow z k t desk n x lower v) (whole : KnowsLower x lower) where
     pub above_checked : (a : CellAbove) → 2 < left → t.above ≡ Some a → WouldLead k t desk n v → KnowsAbove true t desk → Check a.stamp ≡ asked → Answers z d asked answer v w
@@ -284,7 +286,7 @@ module _ (z : Sizes) (k : List ℕ) (t : Stand) (n : Node) (desk : Desk) (lower 
             is_third z k t n desk u v lowering w a is below.parent leads passed,
             above,
             whole,
-            (λ b other. subst (λ (c : CellAbove). WasVouched z k t desk c.stamp) (same_Some {A = CellAbove} a b (sym is ∙ other)) (vouched a.stamp passed)),
+            (λ b other. subst (λ (c : CellAbove). CheckedSince z k t desk u c.stamp w) (same_Some {A = CellAbove} a b (sym is ∙ other)) (vouched a.stamp passed)),
           );
           failures = (still_left a.stamp passed 2 fewer).failures;
           steps = (still_left a.stamp passed 2 fewer).steps;
@@ -292,7 +294,7 @@ module _ (z : Sizes) (k : List ℕ) (t : Stand) (n : Node) (desk : Desk) (lower 
         (subst (λ (q : Asked). Answers z d q answer v w) (sym at) row)
 
     module _ (third : IsThird t n) where
-      pub here_checked : 1 < left → KnowsAbove true t desk → VouchesAbove z k true t desk → Check t.stamp ≡ asked → Answers z d asked answer v w
+      pub here_checked : 1 < left → KnowsAbove true t desk → VouchesAbove z k true t desk u v → Check t.stamp ≡ asked → Answers z d asked answer v w
           → Fits z k t n (after_check answer (CheckLower x)) desk lower u w
       here_checked fewer above vouches at row =
           check_told d t.stamp answer (CheckLower x)
@@ -302,25 +304,30 @@ module _ (z : Sizes) (k : List ℕ) (t : Stand) (n : Node) (desk : Desk) (lower 
               still_below t.stamp passed x below,
               third,
               whole,
-              record { here = vouched t.stamp passed; whole = lowering.whole; above = vouches; all = above },
+              record {
+                here = vouched t.stamp passed;
+                whole = lowering.whole;
+                above = above_on_still z k true t desk u v w (passed_later z v w t.stamp passed) vouches;
+                all = above;
+              },
             );
             failures = (still_left t.stamp passed 1 fewer).failures;
             steps = (still_left t.stamp passed 1 fewer).steps;
           })
           (subst (λ (q : Asked). Answers z d q answer v w) (sym at) row)
 
-      pub lower_checked : IsVouched z k true t desk → Check x ≡ asked → Answers z d asked answer v w → Fits z k t n (after_check answer (Ended (Unchanged x))) desk lower u w
+      pub lower_checked : IsVouched z k true t desk u v → Check x ≡ asked → Answers z d asked answer v w → Fits z k t n (after_check answer (Ended (Unchanged x))) desk lower u w
       lower_checked both at row =
           check_told d x answer (Ended (Unchanged x))
           (λ passed. record {
             stage = (
               still_lowering x passed,
-              both,
+              vouched_still z k true t desk u v w (passed_later z v w x passed) both,
               record {
                 below = still_below x passed x below;
                 whole = whole;
                 third = third;
-                was = record { view = v; below = below; tree = passed.vouched.0; shape = passed.vouched.1; holds = passed.vouched.2 };
+                was = record { before = v; lowering = lowering; below = below; after = w; passed = passed; done = omega arith };
               },
             );
             failures = (still_left x passed 0 some).failures;

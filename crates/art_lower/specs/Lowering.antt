@@ -28,14 +28,13 @@ use Rattle.art_place.specs.declared.findings.Above.{Above as CellAbove}
 use Rattle.art_place.specs.declared.findings.Stand.{Stand}
 use Rattle.art_place.specs.declared.rereadings.Rereading.{Rereading}
 use Rattle.art_plan.specs.Seen.{IsReadWhole}
-use Rattle.art_step.specs.Knowledge.{HoldsAll, IsShape}
 use Rattle.art_step.specs.Shows.{HasStamp}
+use Rattle.art_step.specs.Steps.Check as check
 use Rattle.art_step.specs.Views.{Member, note_of, size_of}
 use Rattle.art_step.specs.declared.views.Fact.TheVariants.{Starts}
 use Rattle.art_step.specs.declared.views.Sizes.{Sizes}
 use Rattle.art_step.specs.declared.views.Stamp.{Stamp}
 use Rattle.art_step.specs.declared.views.View.{View}
-use Rattle.art_tree.specs.Heaps.{Cells}
 
 -- ---- what it asks
 
@@ -124,22 +123,6 @@ IsThird t n = (a : CellAbove) → t.above ≡ Some a → a.stamp.cell ≢ cell.N
 abbrev pub KnowsLower : Stamp → List (Option ℕ) → Type 0
 KnowsLower x lower = AreKnown lower 1 (size_of x.cell)
 
--- at some time all that was noted under its stamp held in a tree, when its path was noted and these words had been read of it
-pub record WasBelow (z : Sizes) (k : List ℕ) (t : Stand) (desk : Desk) (n : Node) (x : Stamp) (lower : List (Option ℕ)) : Type 0 where
-  pub view : View
-  pub below : IsBelow z k t desk n x lower view
-  pub tree : Cells
-  pub shape : IsShape z tree
-  pub holds : HoldsAll view x tree
-
--- the lower node is stamped, with its path and all its words, and is a third cell; a check of it succeeded after that
-pub record IsLowered (z : Sizes) (k : List ℕ) (t : Stand) (desk : Desk) (n : Node) (x : Stamp) (lower : List (Option ℕ)) (v : View)
-    : Type 0 where
-  pub below : IsBelow z k t desk n x lower v
-  pub whole : KnowsLower x lower
-  pub third : IsThird t n
-  pub was : WasBelow z k t desk n x lower
-
 -- ---- what it knows, of a pass that had the view u when it began
 
 -- the pass only read, and the key stands where it stood, in a node of which all words are known; one of them names the lower node
@@ -149,6 +132,24 @@ pub record IsLowering (z : Sizes) (k : List ℕ) (t : Stand) (n : Node) (desk : 
   pub here : Node
   pub is : t.stamp.cell ≡ cell.Node here
   pub named : NamesChild t desk (node n)
+
+-- since the view u, and not after v, a check of the lower node succeeded, when its path was noted and these words had been read of it
+pub record CheckedBelow (z : Sizes) (k : List ℕ) (t : Stand) (desk : Desk) (n : Node) (u : View) (x : Stamp) (lower : List (Option ℕ))
+    (v : View) : Type 0 where
+  pub before : View
+  pub lowering : IsLowering z k t n desk u before
+  pub below : IsBelow z k t desk n x lower before
+  pub after : View
+  pub passed : check.Unchanged z before after x None
+  pub done : after.steps ≤ v.steps
+
+-- the lower node is stamped, with its path and all its words, and is a third cell; a check of it succeeded after that
+pub record IsLowered (z : Sizes) (k : List ℕ) (t : Stand) (desk : Desk) (n : Node) (x : Stamp) (lower : List (Option ℕ)) (u v : View)
+    : Type 0 where
+  pub below : IsBelow z k t desk n x lower v
+  pub whole : KnowsLower x lower
+  pub third : IsThird t n
+  pub was : CheckedBelow z k t desk n u x lower v
 
 -- words of the lower node are read
 pub record IsReadingLower (z : Sizes) (x : Stamp) (lower : List (Option ℕ)) (v : View) (r : Rereading) : Type 0 where
@@ -166,11 +167,11 @@ StageFits z k t n (Lower x r) desk lower u v = IsLowering z k t n desk u v × Is
 StageFits z k t n (CheckAbove x) desk lower u v = IsLowering z k t n desk u v × IsBelow z k t desk n x lower v ×
     WouldLead k t desk n v × KnowsAbove true t desk × KnowsLower x lower
 StageFits z k t n (CheckHere x) desk lower u v = IsLowering z k t n desk u v × IsBelow z k t desk n x lower v ×
-    IsThird t n × KnowsAbove true t desk × KnowsLower x lower × VouchesAbove z k true t desk
+    IsThird t n × KnowsAbove true t desk × KnowsLower x lower × VouchesAbove z k true t desk u v
 StageFits z k t n (CheckLower x) desk lower u v = IsLowering z k t n desk u v × IsBelow z k t desk n x lower v ×
-    IsThird t n × KnowsLower x lower × IsVouched z k true t desk
+    IsThird t n × KnowsLower x lower × IsVouched z k true t desk u v
 StageFits z k t n (Ended (Unchanged x)) desk lower u v =
-    IsLowering z k t n desk u v × IsVouched z k true t desk × IsLowered z k t desk n x lower v
+    IsLowering z k t n desk u v × IsVouched z k true t desk u v × IsLowered z k t desk n x lower u v
 StageFits z k t n (Ended Changed) desk lower u v = IsReading u v
 
 -- of a lowering to the node n, of which these words were read

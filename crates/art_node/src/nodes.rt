@@ -1,5 +1,5 @@
 //! The operations on a node, by its layout.
-ghost use Rattle.std.specs.Prelude.{◌≡◌, ◌≢◌, ◌≤◌, ◌<◌, ◌↔◌, ℕ, Some, None, IsNone, IfSome};
+ghost use Rattle.std.specs.Prelude.{◌≡◌, ◌≢◌, ◌≤◌, ◌<◌, ◌↔◌, ℕ, Some, None, false, true};
 ghost use Rattle.art_cell.specs.Words.{Words, count_of, places, child_of, entries};
 ghost use Rattle.art_cell.specs.Bodies.{IsBody, IsFull, IsRelaid};
 ghost use Rattle.art_cell.specs.Reads.{Agrees, ProbeNeeds, ProbeTells, NextNeeds, NextTells, IsPlan, word_of, with_child, without_child};
@@ -40,37 +40,39 @@ pub fn at_least(layout: Layout, byte: u8, reads: &Reads) -> NextProbe
     art_node!(layout, at_least(byte, reads))
 }
 
-/// The words to write so that the byte, which has none, has this child. None where the node is full.
-pub fn plan_add(body: &Body, byte: u8, child: u64) -> Option<Writes>
+/// Makes the writes the words by which the byte, which has none, gets this child. False, with nothing changed, where the node is
+/// full.
+pub fn plan_add(body: &Body, byte: u8, child: u64, writes: &mut Writes) -> bool
     requires body { IsBody body.now.layout (word_of body.now) }
     requires free { child_of body.now.layout (word_of body.now) byte ≡ None }
     requires child { 0 < child }
-    ensures full { IsNone result ↔ IsFull body.now.layout (word_of body.now) }
-    ensures plan { IfSome result (λ writes. IsPlan body.now.layout (word_of body.now) writes.items
-        (with_child (child_of body.now.layout (word_of body.now)) byte child)) }
+    ensures full { (result ≡ false) ↔ IsFull body.now.layout (word_of body.now) }
+    ensures plan { result ≡ true → IsPlan body.now.layout (word_of body.now) writes.new.items
+        (with_child (child_of body.now.layout (word_of body.now)) byte child) }
+    ensures refused { result ≡ false → writes.new ≡ writes.old }
 {
-    art_node!(body.layout, plan_add(body, byte, child))
+    art_node!(body.layout, plan_add(body, byte, child, writes))
 }
 
-/// The words to write so that the byte, which has a child, has this one.
-pub fn plan_set(body: &Body, byte: u8, child: u64) -> Writes
+/// Makes the writes the words by which the byte, which has a child, gets this one.
+pub fn plan_set(body: &Body, byte: u8, child: u64, writes: &mut Writes)
     requires body { IsBody body.now.layout (word_of body.now) }
     requires there { (c : ℕ) × (child_of body.now.layout (word_of body.now) byte ≡ Some c) }
     requires child { 0 < child }
-    ensures { IsPlan body.now.layout (word_of body.now) result.items
+    ensures { IsPlan body.now.layout (word_of body.now) writes.new.items
         (with_child (child_of body.now.layout (word_of body.now)) byte child) }
 {
-    art_node!(body.layout, plan_set(body, byte, child))
+    art_node!(body.layout, plan_set(body, byte, child, writes));
 }
 
-/// The words to write so that the byte, which has a child, has none.
-pub fn plan_drop(body: &Body, byte: u8) -> Writes
+/// Makes the writes the words by which the byte, which has a child, has none.
+pub fn plan_drop(body: &Body, byte: u8, writes: &mut Writes)
     requires body { IsBody body.now.layout (word_of body.now) }
     requires there { (c : ℕ) × (child_of body.now.layout (word_of body.now) byte ≡ Some c) }
-    ensures { IsPlan body.now.layout (word_of body.now) result.items
+    ensures { IsPlan body.now.layout (word_of body.now) writes.new.items
         (without_child (child_of body.now.layout (word_of body.now)) byte) }
 {
-    art_node!(body.layout, plan_drop(body, byte))
+    art_node!(body.layout, plan_drop(body, byte, writes));
 }
 
 /// The children, in ascending order of their bytes.
@@ -81,33 +83,34 @@ pub fn list(body: &Body) -> Entries
     art_node!(body.layout, list(body))
 }
 
-/// The node in the next larger layout, with the children in ascending order of their bytes from place 0.
-pub fn grow(body: &Body) -> Body
+/// Writes the node in the next larger layout, with the children in ascending order of their bytes from place 0.
+pub fn grow(body: &Body, grown: &mut Body)
     requires body { IsBody body.now.layout (word_of body.now) }
     requires larger { body.now.layout ≢ Layout.Node256 }
-    ensures layout { result.layout ≡ larger body.now.layout }
-    ensures same { IsRelaid body.now.layout (larger body.now.layout) (word_of body.now) (word_of result) }
+    ensures layout { grown.new.layout ≡ larger body.now.layout }
+    ensures same { IsRelaid body.now.layout (larger body.now.layout) (word_of body.now) (word_of grown.new) }
 {
     match body.layout {
-        Layout::Node4 => relaid::<Node4, Node16>(body, Layout::Node16),
-        Layout::Node16 => relaid::<Node16, Node48>(body, Layout::Node48),
-        Layout::Node48 => relaid::<Node48, Node256>(body, Layout::Node256),
+        Layout::Node4 => relaid::<Node4, Node16>(body, Layout::Node16, grown),
+        Layout::Node16 => relaid::<Node16, Node48>(body, Layout::Node48, grown),
+        Layout::Node48 => relaid::<Node48, Node256>(body, Layout::Node256, grown),
         Layout::Node256 => unreachable!(),
     }
 }
 
-/// The node in the next smaller layout, which has places for its children, in ascending order of their bytes from place 0.
-pub fn shrink(body: &Body) -> Body
+/// Writes the node in the next smaller layout, which has places for its children, in ascending order of their bytes
+/// from place 0.
+pub fn shrink(body: &Body, shrunk: &mut Body)
     requires body { IsBody body.now.layout (word_of body.now) }
     requires smaller { body.now.layout ≢ Layout.Node4 }
     requires fits { count_of (word_of body.now) ≤ places (smaller body.now.layout) }
-    ensures layout { result.layout ≡ smaller body.now.layout }
-    ensures same { IsRelaid body.now.layout (smaller body.now.layout) (word_of body.now) (word_of result) }
+    ensures layout { shrunk.new.layout ≡ smaller body.now.layout }
+    ensures same { IsRelaid body.now.layout (smaller body.now.layout) (word_of body.now) (word_of shrunk.new) }
 {
     match body.layout {
         Layout::Node4 => unreachable!(),
-        Layout::Node16 => relaid::<Node16, Node4>(body, Layout::Node4),
-        Layout::Node48 => relaid::<Node48, Node16>(body, Layout::Node16),
-        Layout::Node256 => relaid::<Node256, Node48>(body, Layout::Node48),
+        Layout::Node16 => relaid::<Node16, Node4>(body, Layout::Node4, shrunk),
+        Layout::Node48 => relaid::<Node48, Node16>(body, Layout::Node16, shrunk),
+        Layout::Node256 => relaid::<Node256, Node48>(body, Layout::Node48, shrunk),
     }
 }

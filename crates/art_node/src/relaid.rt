@@ -15,31 +15,30 @@ const PREFIX: usize = 2;
 
 const PREFIX_END: usize = 10;
 
-/// The node in the layout `New`: its prefix, and its children in ascending order of their bytes.
-pub(crate) fn relaid<Old: NodeKind, New: NodeKind>(body: &Body, layout: Layout) -> Body
+/// Writes the node in the layout `New`: its prefix, and its children in ascending order of their bytes.
+pub(crate) fn relaid<Old: NodeKind, New: NodeKind>(body: &Body, layout: Layout, after: &mut Body)
     requires old { IsBodyOf Old.layout body.now }
     requires new { layout ≡ New.layout }
     requires fits { count_of (word_of body.now) ≤ places New.layout }
-    ensures layout { result.layout ≡ layout }
-    ensures relaid { IsRelaid Old.layout New.layout (word_of body.now) (word_of result) }
+    ensures layout { after.new.layout ≡ layout }
+    ensures relaid { IsRelaid Old.layout New.layout (word_of body.now) (word_of after.new) }
 {
     let children = Old::list(body);
-    let mut relaid = emptied(body, layout);
+    emptied(body, layout, after);
     for entry in children.as_slice() {
-        New::add(&mut relaid, entry.byte, entry.child);
+        New::add(after, entry.byte, entry.child);
     }
-    relaid
 }
 
-/// A node of the layout with the same prefix, and no child.
-fn emptied(body: &Body, layout: Layout) -> Body
-    ensures layout { result.layout ≡ layout }
-    ensures empty { IsEmpty (word_of body.now) (word_of result) }
+/// Writes a node of the layout with the same prefix, and no child.
+fn emptied(body: &Body, layout: Layout, after: &mut Body)
+    ensures layout { after.new.layout ≡ layout }
+    ensures empty { IsEmpty (word_of body.now) (word_of after.new) }
 {
-    let mut words = [0; 266];
-    words[HEADER] = 512 * (body.words[HEADER] / 512 % 128);
+    after.layout = layout;
+    after.words = [0; 266];
+    after.words[HEADER] = 512 * (body.words[HEADER] / 512 % 128);
     for place in PREFIX..PREFIX_END {
-        words[place] = body.words[place];
+        after.words[place] = body.words[place];
     }
-    Body { layout, words }
 }

@@ -34,7 +34,8 @@ fn grown(rt: &impl Abort) -> Body
         Layout::Node16,
         &[0, 1, 2, 3, 4, 5, 6, 7, 8, 9, 10, 11, 12, 13, 14, 15],
     );
-    let mut grown = grow(&body);
+    let mut grown = bare::<Node48>(Layout::Node48);
+    grow(&body, &mut grown);
     assert!(rt; list(&grown).as_slice() == list(&body).as_slice());
     assert!(rt; give::<Node48>(rt, &mut grown, 16, 129));
     grown
@@ -54,7 +55,8 @@ fn a_grown_node_takes_a_freed_place_again(rt: HostRuntime) {
 fn a_node_that_shrank_has_the_same_children(rt: HostRuntime) {
     let body = with_bytes::<Node16>(&rt, Layout::Node16, &[9, 1, 5]);
     assert!(rt; read_header(body.words[1]).count <= 4);
-    let small = shrink(&body);
+    let mut small = bare::<Node4>(Layout::Node4);
+    shrink(&body, &mut small);
     check_words(&rt, &small.words, 0, &[0, 3, 0]);
     check_words(
         &rt,

@@ -4,7 +4,7 @@ ghost use Rattle.art_cell.specs.declared.layouts.Layout.TheVariants as layouts;
 ghost use Rattle.art_cell.specs.Reads.{IsBodyOf};
 
 use crate::kinds::{check_words, child, empty, give};
-use art_cell::{Body, Layout, Write};
+use art_cell::{Body, Layout, Write, Writes};
 use art_node::{fork, plan_add, plan_drop, plan_prefix, plan_set};
 use art_node256::Node256;
 use std::process::Abort;
@@ -18,7 +18,8 @@ fn check_add(rt: &impl Abort, body: &Body, byte: u8, word: u64, wanted: &[Write]
     if let Some(_) = child::<Node256>(rt, body, byte) {
         panic!(rt; "a byte has a child already");
     }
-    let writes = plan_add(body, byte, word).expect(rt, "room");
+    let mut writes = Writes::new();
+    assert!(rt; plan_add(body, byte, word, &mut writes));
     assert_eq!(rt; writes.as_slice(), wanted);
 }
 
@@ -30,7 +31,9 @@ fn check_set(rt: &impl Abort, body: &Body, byte: u8, word: u64, wanted: &[Write]
     let Some(_) = child::<Node256>(rt, body, byte) else {
         panic!(rt; "a byte has no child");
     };
-    assert_eq!(rt; plan_set(body, byte, word).as_slice(), wanted);
+    let mut writes = Writes::new();
+    plan_set(body, byte, word, &mut writes);
+    assert_eq!(rt; writes.as_slice(), wanted);
 }
 
 /// The words to write for a child less.
@@ -40,7 +43,9 @@ fn check_drop(rt: &impl Abort, body: &Body, byte: u8, wanted: &[Write])
     let Some(_) = child::<Node256>(rt, body, byte) else {
         panic!(rt; "a byte has no child");
     };
-    assert_eq!(rt; plan_drop(body, byte).as_slice(), wanted);
+    let mut writes = Writes::new();
+    plan_drop(body, byte, &mut writes);
+    assert_eq!(rt; writes.as_slice(), wanted);
 }
 
 /// A word to write.
@@ -60,7 +65,8 @@ fn plans_write_the_words_that_differ(rt: HostRuntime) {
 
 #[test]
 fn a_fork_has_its_prefix_and_two_children(rt: HostRuntime) {
-    let forked = fork(b"abcdefghi".as_slice(), 7, 9, 3, 17);
+    let mut forked = empty::<Node256>(Layout::Node256);
+    fork(&mut forked, b"abcdefghi".as_slice(), 7, 9, 3, 17);
     check_words(
         &rt,
         &forked.words,
@@ -73,11 +79,12 @@ fn a_fork_has_its_prefix_and_two_children(rt: HostRuntime) {
         10,
         &[0x0307_0000_0000_0000, 17, 9, 0, 0],
     );
-    let shorter = plan_prefix(&forked, b"abcdefgh".as_slice());
-    assert_eq!(rt; shorter.as_slice(), [word(1, 4_098), word(3, 0)].as_slice());
-    let none = plan_prefix(&forked, b"".as_slice());
+    let mut writes = Writes::new();
+    plan_prefix(&forked, b"abcdefgh".as_slice(), &mut writes);
+    assert_eq!(rt; writes.as_slice(), [word(1, 4_098), word(3, 0)].as_slice());
+    plan_prefix(&forked, b"".as_slice(), &mut writes);
     assert_eq!(rt;
-        none.as_slice(),
+        writes.as_slice(),
         [word(1, 2), word(2, 0), word(3, 0)].as_slice()
     );
 }

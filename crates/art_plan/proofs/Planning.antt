@@ -13,6 +13,7 @@ use Rattle.art_cell.specs.declared.cells.Link.TheVariants.{Leaf as leaf, Node as
 use Rattle.art_cell.specs.declared.cells.Node.{Node}
 use Rattle.art_commit.specs.AnyChange.{SameMembers}
 use Rattle.art_commit.specs.CommitLaws.{HasNode}
+use Rattle.art_cell.specs.declared.writes.Write.{Write}
 use Rattle.art_plan.specs.Puts.{change_of}
 use Rattle.art_plan.specs.Changes.{IsPlanned, IsReady, MayMake, MayPut, MayTarget, leaf_linked, node_made, unlinked}
 use Rattle.art_plan.specs.Seen.{kept}
@@ -136,10 +137,10 @@ apart_from y n us other only m i e = other (e ∙ ap cell.Node (only m i))
 abbrev MayCommit : Sizes → View → Change → Type 0
 MayCommit z u c = (v : View) → IsReady u c v → commit.May z v c.deed (unlinked c) (commit.coming v (leaf_linked c))
 
-module _ (z : Sizes) (u : View) (x : Stamp) (ps : List Put) (made : Option ℕ) (body : Body) (l : Option ℕ) (us : List ℕ) (deed : Deed) where
+module _ (z : Sizes) (u : View) (x : Stamp) (ps : List Put) (ws : List Write) (made : Option ℕ) (body : Body) (l : Option ℕ) (us : List ℕ) (deed : Deed) where
   -- one cell is locked, and no node goes
   abbrev one_target : Change
-  one_target = change_of (kept x ∷ []) ps made body l us deed
+  one_target = change_of (kept x ∷ []) ps ws made body l us deed
 
   pub one_planned : MayTarget z u (kept x) → map child_word (links_of us) ≡ us → NoNodeGoes us
       → ((p : Put) → Member p ps → MayPut z one_target p) → ((n : Node) → node_made one_target ≡ Some n → MayMake z u one_target n) → MayCommit z u one_target → IsPlanned z u one_target
@@ -156,7 +157,7 @@ module _ (z : Sizes) (u : View) (x : Stamp) (ps : List Put) (made : Option ℕ) 
     may = may;
   }
 
-module _ (z : Sizes) (u : View) (x : Stamp) (w : Target) (n : Node) (ps : List Put) (made : Option ℕ) (body : Body) (l : Option ℕ) (us : List ℕ) (deed : Deed) where
+module _ (z : Sizes) (u : View) (x : Stamp) (w : Target) (n : Node) (ps : List Put) (ws : List Write) (made : Option ℕ) (body : Body) (l : Option ℕ) (us : List ℕ) (deed : Deed) where
   -- a target that is a node, which goes where it is to be obsolete
   goes_or_stays : w.stamp.cell ≡ cell.Node n → ((w.obsolete ≡ true) ↔ Member (node n) (links_of us)) → OnlyGoes n us → (w.obsolete ≡ true) ↔ IsNodeAmong w.stamp.cell (λ d. Member d (links_of us))
   goes_or_stays at goes only = (
@@ -166,7 +167,7 @@ module _ (z : Sizes) (u : View) (x : Stamp) (w : Target) (n : Node) (ps : List P
 
   -- two cells are locked, the lower of which is a node
   abbrev two_targets : Change
-  two_targets = change_of (kept x ∷ w ∷ []) ps made body l us deed
+  two_targets = change_of (kept x ∷ w ∷ []) ps ws made body l us deed
 
   pub two_planned : MayTarget z u (kept x) → MayTarget z u w → w.stamp.cell ≡ cell.Node n → x.cell ≢ cell.Node n → map child_word (links_of us) ≡ us
       → ((w.obsolete ≡ true) ↔ Member (node n) (links_of us)) → OnlyGoes n us
@@ -198,7 +199,7 @@ module _ (z : Sizes) (u : View) (x : Stamp) (w : Target) (n : Node) (ps : List P
   module _ (y : Stamp) where
     -- three cells are locked, the one in the middle a node, and the one below it stays
     abbrev three_targets : Change
-    three_targets = change_of (kept x ∷ w ∷ kept y ∷ []) ps made body l us deed
+    three_targets = change_of (kept x ∷ w ∷ kept y ∷ []) ps ws made body l us deed
 
     pub three_planned : MayTarget z u (kept x) → MayTarget z u w → MayTarget z u (kept y) → w.stamp.cell ≡ cell.Node n → x.cell ≢ cell.Node n → y.cell ≢ cell.Node n → x.cell ≢ y.cell → map child_word (links_of us) ≡ us
         → ((w.obsolete ≡ true) ↔ Member (node n) (links_of us)) → OnlyGoes n us

@@ -78,12 +78,13 @@ put_of i x = record { target = i; place = x.place; value = x.value }
 abbrev pub puts_of : ℕ → List Write → List Put
 puts_of i writes = map (put_of i) writes
 
--- the change that locks these targets, puts these words, makes the node with the body where a number is given, links the leaf where
--- one is given, unlinks what has these child words, and does the deed
-abbrev pub change_of : List Target → List Put → Option ℕ → Body → Option ℕ → List ℕ → Deed → Change
-change_of ts ps made body leaf us deed = record {
+-- the change that locks these targets, puts these words, has such words planned last, makes the node with the body where a number is
+-- given, links the leaf where one is given, unlinks what has these child words, and does the deed
+abbrev pub change_of : List Target → List Put → List Write → Option ℕ → Body → Option ℕ → List ℕ → Deed → Change
+change_of ts ps ws made body leaf us deed = record {
   targets = record { items = ts };
   puts = record { items = ps };
+  writes = record { items = ws };
   node = made;
   body = body;
   leaf = leaf;

@@ -1,5 +1,5 @@
 -- What a pass has read of the cells that a change writes, and where a child word stands in them.
-use Rattle.std.specs.Prelude.{◌≡◌, ◌≢◌, ℕ, ◌<◌, ◌≤◌, List, take, false, Option, Some}
+use Rattle.std.specs.Prelude.{◌≡◌, ◌≢◌, ℕ, ◌<◌, ◌≤◌, List, take, true, false, Option, Some}
 use Rattle.art_cell.specs.Reads.{word_of}
 use Rattle.art_cell.specs.Words.{size}
 use Rattle.art_cell.specs.declared.bodies.Body.{Body}
@@ -28,6 +28,10 @@ use Rattle.art_tree.specs.WordChanges.{FitsWord}
 -- the stamp's cell as a target, which stays in the tree
 abbrev pub kept : Stamp → Target
 kept x = record { stamp = x; obsolete = false }
+
+-- or as one that goes
+abbrev pub gone : Stamp → Target
+gone x = record { stamp = x; obsolete = true }
 
 -- the node may be locked under the stamp, and each of its words was noted: the body has them, and 0 elsewhere. A child word names
 -- what there is

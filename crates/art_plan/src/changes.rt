@@ -4,7 +4,7 @@ ghost use Rattle.art_cell.specs.Reads.{word_of};
 ghost use Rattle.art_plan.specs.Changes.{node_made, put_at, target_at};
 
 use arrayvec::ArrayVec;
-use art_cell::{Body, Cell, Node};
+use art_cell::{Body, Cell, Node, Writes};
 use art_step::{Deed, Stamp};
 
 /// A cell that a change locks under its stamp, and whether it becomes obsolete when it is released.
@@ -42,6 +42,8 @@ pub struct Change {
     pub targets: ArrayVec<Target, 3>,
     /// The words that they get, in the order in which they are written.
     pub puts: ArrayVec<Put, 32>,
+    /// Room for the words of one of them, from when they are planned until they are put.
+    pub writes: Writes,
     /// The number of the node that it makes, if it makes one; its layout and its words are those of the body.
     pub node: Option<u32>,
     pub body: Body,

@@ -9,6 +9,7 @@
 //! |---|---|
 //! | `targets` | the cells that it locks, from the top down, each by its stamp, and whether it is obsolete afterwards |
 //! | `puts` | the words that they get, one after another |
+//! | `writes` | room for the words of one of them, from when they are planned until they are put |
 //! | `node`, `body` | the node that it makes, if it makes one, with all its words |
 //! | `leaf` | the leaf that it links, if it links one |
 //! | `unlinked` | what goes: a leaf, a node |
@@ -28,7 +29,7 @@
 //! # The parts
 //!
 //! A change is filled in place, part by part: `begin` empties it, and `lock`, `put`, `make` and `unlink` give it what it
-//! locks, writes, makes and unlinks. `added`, `replaced` and `dropped` give the words by which a `Site`, where a child word
+//! locks, writes, makes and unlinks. `added`, `replaced` and `dropped` plan the words by which a `Site`, where a child word
 //! stands, gets a child, another one, or none: for a node by the plans of `art_node`, for the anchor its one word.
 //!
 //! The cases of an insert are planned in `art_insert`, those of a removal in `art_remove`. `art_make` makes a change that was

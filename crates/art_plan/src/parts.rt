@@ -3,7 +3,7 @@ ghost use Rattle.std.specs.Prelude.{◌≡◌, ◌+◌, ◌<◌, ◌≤◌, ◌�
 ghost use Rattle.art_plan.specs.Puts.{change_of, puts_of};
 
 use crate::{Change, Put, Target};
-use art_cell::{Body, Node, Write};
+use art_cell::{Body, Node};
 use art_step::{Deed, Stamp};
 
 /// The node at a site, which was read whole under a stamp.
@@ -16,7 +16,7 @@ pub struct Below<'a> {
 
 /// Makes it a change that does the deed and links this leaf, or none; it locks, writes, makes and unlinks nothing yet.
 pub fn begin(change: &mut Change, deed: Deed, leaf: Option<u32>)
-    ensures { change.new ≡ change_of [] [] None change.old.body leaf [] deed }
+    ensures { change.new ≡ change_of [] [] change.old.writes.items None change.old.body leaf [] deed }
 {
     change.targets.clear();
     change.puts.clear();
@@ -44,27 +44,28 @@ pub fn unlink(change: &mut Change, child: u64)
     change.unlinked.push(child);
 }
 
-/// Makes the node with this number and these words.
-pub fn make(change: &mut Change, number: u32, body: Body)
-    ensures { change.new ≡ record change.old { node = Some number; body = body } }
+/// Makes a node with this number, of which the body has all words.
+pub fn make(change: &mut Change, number: u32)
+    ensures { change.new ≡ record change.old { node = Some number } }
 {
     change.node = Some(number);
-    change.body = body;
 }
 
-/// Writes these words into the target with an index, after those of before. False, with nothing changed, where there is no room.
-pub fn put(change: &mut Change, target: usize, writes: &[Write]) -> bool
+/// Writes the words that were planned into the target with an index, after those of before. False, with nothing changed, where there
+/// is no room.
+pub fn put(change: &mut Change, target: usize) -> bool
     ensures put { result ≡ true → change.new ≡ record change.old {
-      puts = record { items = change.old.puts.items ++ puts_of target writes.now };
+      puts = record { items = change.old.puts.items ++ puts_of target change.old.writes.items };
     } }
     ensures kept { result ≡ false → change.new ≡ change.old }
-    ensures refused { result ≡ false → 32 < length change.old.puts.items + length writes.now }
+    ensures refused { result ≡ false → 32 < length change.old.puts.items + length change.old.writes.items }
 {
-    if change.puts.len() + writes.len() > 32 {
+    let Change { puts, writes, .. } = change;
+    if puts.len() + writes.len() > 32 {
         return false;
     }
-    for write in writes {
-        change.puts.push(Put {
+    for write in writes.as_slice() {
+        puts.push(Put {
             target,
             place: write.place,
             value: write.value,

@@ -27,54 +27,50 @@ impl Site<'_> {
     }
 }
 
-/// The words to write so that the site, which is free, has this child.
-pub fn added(site: &Site, child: u64) -> Writes
+/// Makes the writes the words by which the site, which is free, gets this child.
+pub fn added(site: &Site, child: u64, writes: &mut Writes)
     requires free { IsFree site.now }
     requires child { 0 < child }
-    ensures { IsSitePlan site.now child result.items }
+    ensures { IsSitePlan site.now child writes.new.items }
 {
     match *site {
-        Site::Root(_) => root_word(child),
+        Site::Root(_) => root_word(child, writes),
         Site::Slot(_, body, byte) => {
-            let Some(writes) = plan_add(body, byte, child) else {
-                unreachable!();
-            };
-            writes
+            plan_add(body, byte, child, writes);
         }
     }
 }
 
-/// The words to write so that the site, which has a child, has this one.
-pub fn replaced(site: &Site, child: u64) -> Writes
+/// Makes the writes the words by which the site, which has a child, gets this one.
+pub fn replaced(site: &Site, child: u64, writes: &mut Writes)
     requires taken { IsTaken site.now }
     requires child { 0 < child }
-    ensures { IsSitePlan site.now child result.items }
+    ensures { IsSitePlan site.now child writes.new.items }
 {
     match *site {
-        Site::Root(_) => root_word(child),
-        Site::Slot(_, body, byte) => plan_set(body, byte, child),
+        Site::Root(_) => root_word(child, writes),
+        Site::Slot(_, body, byte) => plan_set(body, byte, child, writes),
     }
 }
 
-/// The words to write so that the site, which has a child, has none.
-pub fn dropped(site: &Site) -> Writes
+/// Makes the writes the words by which the site, which has a child, loses it.
+pub fn dropped(site: &Site, writes: &mut Writes)
     requires { IsTaken site.now }
-    ensures { IsDropPlan site.now result.items }
+    ensures { IsDropPlan site.now writes.new.items }
 {
     match *site {
-        Site::Root(_) => root_word(0),
-        Site::Slot(_, body, byte) => plan_drop(body, byte),
+        Site::Root(_) => root_word(0, writes),
+        Site::Slot(_, body, byte) => plan_drop(body, byte, writes),
     }
 }
 
 /// The child word of the anchor.
-fn root_word(child: u64) -> Writes
-    ensures { result.items ≡ record { place = 1; value = child } ∷ [] }
+fn root_word(child: u64, writes: &mut Writes)
+    ensures { writes.new.items ≡ record { place = 1; value = child } ∷ [] }
 {
-    let mut writes = Writes::new();
+    writes.clear();
     writes.push(Write {
         place: 1,
         value: child,
     });
-    writes
 }

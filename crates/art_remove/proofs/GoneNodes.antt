@@ -21,9 +21,8 @@ use Rattle.art_plan.proofs.Planning.{OnlyGoes}
 use Rattle.art_plan.proofs.ReadyCells.{same_words}
 use Rattle.art_plan.proofs.SiteWords.{whole_before}
 use Rattle.art_plan.specs.Changes.{IsReady, target_at, with_puts}
-use Rattle.art_plan.specs.Seen.{IsReadWhole}
+use Rattle.art_plan.specs.Seen.{IsReadWhole, gone}
 use Rattle.art_plan.specs.declared.changes.Change.{Change}
-use Rattle.art_plan.specs.declared.changes.Target.{Target}
 use Rattle.art_remove.proofs.FewChildren.{no_third}
 use Rattle.art_remove.specs.Removals.{HasPair}
 use Rattle.art_step.proofs.Shows.{child_on}
@@ -38,10 +37,6 @@ use Rattle.art_tree.specs.Heaps.{Cells, heap_of, node_prefix}
 use Rattle.art_tree.specs.Tree.{child_at_place}
 use Rattle.art_tree.specs.Tree as tree
 use Rattle.art_tree.specs.WordChanges.{FitsWord}
-
--- the stamp's cell as a target that goes
-abbrev pub gone : Stamp → Target
-gone x = record { stamp = x; obsolete = true }
 
 -- ---- its words
 

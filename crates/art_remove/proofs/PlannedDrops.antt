@@ -49,7 +49,7 @@ module _ (z : Sizes) (u : View) (old : OldLeaf) (depth : ℕ) (body : Body) (wri
   l = old.number
 
   abbrev c : Site → Change
-  c site = change_of (kept (site_stamp site) ∷ []) (puts_of 0 writes) None body None (child_word (leaf l) ∷ []) (removed old)
+  c site = change_of (kept (site_stamp site) ∷ []) (puts_of 0 writes) writes None body None (child_word (leaf l) ∷ []) (removed old)
 
   module _ (v : View) (s s' : Cells) (b : Before z v s s') where
     abbrev written : (site : Site) → IsReady u (c site) v → SiteFits z u site k depth (Some (leaf l)) → IsDropPlan site writes → IsWrittenAt s s' (site_stamp site) (take depth k) (Some (leaf l)) None
@@ -93,7 +93,7 @@ module _ (z : Sizes) (u : View) (old : OldLeaf) (depth : ℕ) (body : Body) (wri
     unlinks = one_unlinked (leaf l) knows.old_leaf.fits
 
     pub drop_planned : IsPlanned z u (c site)
-    drop_planned = one_planned z u (site_stamp site) (puts_of 0 writes) None body None (child_word (leaf l) ∷ []) (removed old)
+    drop_planned = one_planned z u (site_stamp site) (puts_of 0 writes) writes None body None (child_word (leaf l) ∷ []) (removed old)
         (may_target_site z u k depth (Some (leaf l)) site knows.place)
         (ap (map child_word) unlinks)
         (λ m i. let gone = subst (λ (ds : List Link). Member (node m) ds) unlinks i in ⊎_elim (λ (e : node m ≡ leaf l). absurd (cc)) (λ (j : ⊥). absurd j) gone)

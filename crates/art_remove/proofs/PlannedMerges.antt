@@ -25,13 +25,13 @@ use Rattle.art_plan.proofs.ReadyCells.{IsMadeCell, IsTargetCell, claims_made, ho
 use Rattle.art_plan.proofs.SiteWords.{HasMeaning, IsWrittenAt, children_read, may_put_site, may_put_whole, may_target, may_target_site, put_plan, site_written, whole_after, whole_before}
 use Rattle.art_plan.specs.Changes.{IsPlanned, IsReady, MayPut, leaf_linked, with_puts}
 use Rattle.art_plan.specs.Puts.{IsSitePlan, change_of, puts_of}
-use Rattle.art_plan.specs.Seen.{kept, site_stamp}
+use Rattle.art_plan.specs.Seen.{gone, kept, site_stamp}
 use Rattle.art_plan.specs.declared.changes.Change.{Change}
 use Rattle.art_plan.specs.declared.changes.Put.{Put}
 use Rattle.art_plan.specs.declared.changes.Target.{Target}
 use Rattle.art_plan.specs.declared.parts.Below.{Below}
 use Rattle.art_plan.specs.declared.sites.Site.{Site}
-use Rattle.art_remove.proofs.GoneNodes.{both_once, both_same, both_unlinked, both_words, fits_there, gone, gone_child, gone_no_third, gone_prefix, gone_same, node_goes, only_goes}
+use Rattle.art_remove.proofs.GoneNodes.{both_once, both_same, both_unlinked, both_words, fits_there, gone_child, gone_no_third, gone_prefix, gone_same, node_goes, only_goes}
 use Rattle.art_remove.specs.Cases.{HasRow, IsMergeLeaf, IsMergeNode}
 use Rattle.art_remove.specs.Removals.{joined, removed}
 use Rattle.art_remove.specs.declared.leaves.OldLeaf.{OldLeaf}
@@ -60,7 +60,7 @@ module _ (z : Sizes) (u : View) (site : Site) (old : OldLeaf) (depth : ℕ) (bel
   n = below.node
 
   abbrev c : Change
-  c = change_of (kept (site_stamp site) ∷ gone below.stamp ∷ []) (puts_of 0 writes) None body None (both_words l n) (removed old)
+  c = change_of (kept (site_stamp site) ∷ gone below.stamp ∷ []) (puts_of 0 writes) writes None body None (both_words l n) (removed old)
 
   none_put : (ws : List ℕ) → with_puts 1 c.puts.items ws ≡ ws
   none_put ws = with_puts-other 1 0 writes ws (λ e. omega arith)
@@ -96,7 +96,7 @@ module _ (z : Sizes) (u : View) (site : Site) (old : OldLeaf) (depth : ℕ) (bel
   leaf_unlinks = both_unlinked l n knows.old_leaf.fits knows.there.fits
 
   pub merge_leaf_planned : HasMeaning site → IsPlanned z u c
-  merge_leaf_planned meaning = two_planned z u (site_stamp site) (gone below.stamp) n (puts_of 0 writes) None body None (both_words l n) (removed old)
+  merge_leaf_planned meaning = two_planned z u (site_stamp site) (gone below.stamp) n (puts_of 0 writes) writes None body None (both_words l n) (removed old)
       (may_target_site z u k depth (Some (node n)) site knows.there.place)
       (may_target z u below.stamp n below.body.now knows.there.read (gone below.stamp) refl) knows.there.read.cell knows.there.apart
       (ap (map child_word) leaf_unlinks)
@@ -126,7 +126,7 @@ module _ (z : Sizes) (u : View) (site : Site) (old : OldLeaf) (depth : ℕ) (bel
   w = word_of lower.body.now
 
   abbrev change : Change
-  change = change_of (kept (site_stamp site) ∷ gone below.stamp ∷ kept lower.stamp ∷ []) (puts_of 0 writes ++ puts_of 2 others) None body None (both_words number upper) (removed old)
+  change = change_of (kept (site_stamp site) ∷ gone below.stamp ∷ kept lower.stamp ∷ []) (puts_of 0 writes ++ puts_of 2 others) others None body None (both_words number upper) (removed old)
 
   -- the puts of each target
   first_puts : (ws : List ℕ) → with_puts 0 change.puts.items ws ≡ with_puts 0 (puts_of 0 writes) ws
@@ -195,7 +195,7 @@ module _ (z : Sizes) (u : View) (site : Site) (old : OldLeaf) (depth : ℕ) (bel
       (member_append put (puts_of 0 writes) (puts_of 2 others) m)
 
   pub merge_node_planned : HasMeaning site → IsPlanned z u change
-  merge_node_planned site_meaning = three_planned z u (site_stamp site) (gone below.stamp) upper (puts_of 0 writes ++ puts_of 2 others) None body None (both_words number upper) (removed old) lower.stamp
+  merge_node_planned site_meaning = three_planned z u (site_stamp site) (gone below.stamp) upper (puts_of 0 writes ++ puts_of 2 others) others None body None (both_words number upper) (removed old) lower.stamp
       (may_target_site z u key depth (Some (node upper)) site knows.there.place)
       (may_target z u below.stamp upper below.body.now knows.there.read (gone below.stamp) refl)
       (may_target z u lower.stamp o lower.body.now knows.read (kept lower.stamp) refl) knows.there.read.cell knows.there.apart

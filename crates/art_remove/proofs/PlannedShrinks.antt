@@ -24,13 +24,13 @@ use Rattle.art_plan.proofs.ReadyCells.{IsMadeCell, IsTargetCell, holds_just, nod
 use Rattle.art_plan.proofs.SiteWords.{HasMeaning, IsWrittenAt, children_read, may_put_site, may_target, may_target_site, names_there, put_plan, site_written}
 use Rattle.art_plan.specs.Changes.{IsPlanned, IsReady, leaf_linked, node_made, with_puts}
 use Rattle.art_plan.specs.Puts.{IsSitePlan, change_of, puts_of}
-use Rattle.art_plan.specs.Seen.{kept, site_stamp}
+use Rattle.art_plan.specs.Seen.{gone, kept, site_stamp}
 use Rattle.art_plan.specs.declared.changes.Change.{Change}
 use Rattle.art_plan.specs.declared.changes.Target.{Target}
 use Rattle.art_plan.specs.declared.parts.Below.{Below}
 use Rattle.art_plan.specs.declared.sites.Site.{Site}
 use Rattle.art_remove.proofs.FewChildren.{two_kept}
-use Rattle.art_remove.proofs.GoneNodes.{both_once, both_same, both_unlinked, both_words, gone, gone_child, gone_children, gone_prefix, gone_same, gone_words, node_goes, only_goes}
+use Rattle.art_remove.proofs.GoneNodes.{both_once, both_same, both_unlinked, both_words, gone_child, gone_children, gone_prefix, gone_same, gone_words, node_goes, only_goes}
 use Rattle.art_remove.specs.Cases.{HasRow, IsShrink}
 use Rattle.art_remove.specs.Removals.{IsSparse, removed, smaller_node}
 use Rattle.art_remove.specs.declared.leaves.OldLeaf.{OldLeaf}
@@ -64,7 +64,7 @@ module _ (z : Sizes) (u : View) (site : Site) (old : OldLeaf) (depth : ℕ) (bel
   w = word_of below.body.now
 
   abbrev c : Change
-  c = change_of (kept (site_stamp site) ∷ gone below.stamp ∷ []) (puts_of 0 writes) (Some number) body None (both_words l n) (removed old)
+  c = change_of (kept (site_stamp site) ∷ gone below.stamp ∷ []) (puts_of 0 writes) writes (Some number) body None (both_words l n) (removed old)
 
   none_put : (ws : List ℕ) → with_puts 1 c.puts.items ws ≡ ws
   none_put ws = with_puts-other 1 0 writes ws (λ e. omega arith)
@@ -120,7 +120,7 @@ module _ (z : Sizes) (u : View) (site : Site) (old : OldLeaf) (depth : ℕ) (bel
     unlinks = both_unlinked l n knows.old_leaf.fits knows.there.fits
 
     pub shrink_planned : HasMeaning site → IsPlanned z u c
-    shrink_planned meaning = two_planned z u (site_stamp site) (gone below.stamp) n (puts_of 0 writes) (Some number) body None (both_words l n) (removed old)
+    shrink_planned meaning = two_planned z u (site_stamp site) (gone below.stamp) n (puts_of 0 writes) writes (Some number) body None (both_words l n) (removed old)
         (may_target_site z u k depth (Some (node n)) site knows.there.place)
         (may_target z u below.stamp n below.body.now knows.there.read (gone below.stamp) refl) knows.there.read.cell knows.there.apart
         (ap (map child_word) unlinks)

@@ -1,7 +1,8 @@
 //! A leaf goes, and its place stays free.
-ghost use Rattle.std.specs.Prelude.{◌≡◌, ℕ, None, true, false};
+ghost use Rattle.std.specs.Prelude.{◌≡◌, ◌∷◌, ℕ, [], None, true, false};
 ghost use Rattle.art_plan.specs.Changes.{IsPlanned, targets};
 ghost use Rattle.art_plan.specs.Puts.{DropTakesMany, IsTaken};
+ghost use Rattle.art_plan.specs.Seen.{kept, site_stamp};
 ghost use Rattle.art_remove.specs.Cases.{IsDrop};
 ghost use Rattle.art_remove.specs.Removals.{KeepsTwo, removed};
 ghost use Rattle.art_step.specs.declared.views.Sizes.{Sizes};
@@ -20,14 +21,15 @@ pub fn drop(change: &mut Change, site: &Site, old: &OldLeaf) -> bool
     ensures planned { result ≡ true → (z : Sizes) (u : View) (depth : ℕ) → IsDrop z u site.now old.now depth
         → IsPlanned z u change.new }
     ensures targets { result ≡ true → targets change.new ≡ 1 }
+    ensures locks { result ≡ true → change.new.targets.items ≡ kept (site_stamp site.now) ∷ [] }
     ensures deed { change.new.deed ≡ removed old.now }
     ensures leaf { change.new.leaf ≡ None }
     ensures refused { result ≡ false → DropTakesMany site.now }
 {
     let old_leaf = child_word(Link::Leaf(old.number));
-    let writes = dropped(site);
+    dropped(site, &mut change.writes);
     begin(change, old);
     lock(change, site.stamp(), false);
     unlink(change, old_leaf);
-    put(change, 0, writes.as_slice())
+    put(change, 0)
 }

@@ -18,7 +18,7 @@ pub struct OldLeaf {
 
 /// Makes it the removal of the leaf's key, which locks, writes, makes and unlinks nothing yet.
 pub(crate) fn begin(change: &mut Change, leaf: &OldLeaf)
-    ensures { change.new ≡ change_of [] [] None change.old.body None [] (removed leaf.now) }
+    ensures { change.new ≡ change_of [] [] change.old.writes.items None change.old.body None [] (removed leaf.now) }
 {
     let key = Key::try_from(leaf.key.as_slice()).unwrap();
     let deed = Deed::Done(Act::Remove(key), Answer::Removed(leaf.value));

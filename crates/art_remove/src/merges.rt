@@ -1,11 +1,12 @@
 //! A node that one child is left of gives way to that child.
-ghost use Rattle.std.specs.Prelude.{◌≡◌, ◌⊎◌, ℕ, None, true, false};
+ghost use Rattle.std.specs.Prelude.{◌≡◌, ◌⊎◌, ◌∷◌, ℕ, [], None, true, false};
 ghost use Rattle.art_cell.specs.Bodies.{IsBody};
 ghost use Rattle.art_cell.specs.Children.{child_word as word_of_link};
 ghost use Rattle.art_cell.specs.Reads.{word_of};
 ghost use Rattle.art_cell.specs.declared.cells.Link.TheVariants.{Leaf as leaf_link, Node as node_link};
 ghost use Rattle.art_plan.specs.Changes.{IsPlanned, targets};
 ghost use Rattle.art_plan.specs.Puts.{BothTakeMany, IsTaken, TakesMany};
+ghost use Rattle.art_plan.specs.Seen.{gone, kept, site_stamp};
 ghost use Rattle.art_remove.specs.Cases.{IsMergeLeaf, IsMergeNode};
 ghost use Rattle.art_remove.specs.Removals.{IsTooLong, joined, removed};
 ghost use Rattle.art_step.specs.declared.views.Sizes.{Sizes};
@@ -30,19 +31,20 @@ pub fn merge_leaf(
     ensures planned { result ≡ true → (z : Sizes) (u : View) (depth byte beside : ℕ)
         → IsMergeLeaf z u site.now old.now depth below.now byte beside other → IsPlanned z u change.new }
     ensures targets { result ≡ true → targets change.new ≡ 2 }
+    ensures locks { result ≡ true → change.new.targets.items ≡ kept (site_stamp site.now) ∷ gone below.now.stamp ∷ [] }
     ensures deed { change.new.deed ≡ removed old.now }
     ensures leaf { change.new.leaf ≡ None }
     ensures refused { result ≡ false → TakesMany site.now (word_of_link (leaf_link other)) }
 {
     let old_leaf = child_word(Link::Leaf(old.number));
     let old_node = child_word(Link::Node(below.node));
-    let writes = replaced(site, child_word(Link::Leaf(other)));
+    replaced(site, child_word(Link::Leaf(other)), &mut change.writes);
     begin(change, old);
     lock(change, site.stamp(), false);
     lock(change, below.stamp, true);
     unlink(change, old_leaf);
     unlink(change, old_node);
-    put(change, 0, writes.as_slice())
+    put(change, 0)
 }
 
 /// The leaf goes from the node below the site, which has one other child, a node: that one takes its place, and has the node's
@@ -61,6 +63,8 @@ pub fn merge_node(
     ensures planned { result ≡ true → (z : Sizes) (u : View) (depth byte : ℕ)
         → IsMergeNode z u site.now old.now depth below.now byte lower.now parts.now → IsPlanned z u change.new }
     ensures targets { result ≡ true → targets change.new ≡ 3 }
+    ensures locks { result ≡ true →
+        change.new.targets.items ≡ kept (site_stamp site.now) ∷ gone below.now.stamp ∷ kept lower.now.stamp ∷ [] }
     ensures deed { change.new.deed ≡ removed old.now }
     ensures leaf { change.new.leaf ≡ None }
     ensures refused { result ≡ false → IsTooLong parts.now
@@ -71,14 +75,15 @@ pub fn merge_node(
         return false;
     }
     let prefix = join(parts.front.as_slice(), parts.byte, parts.rest.as_slice());
-    let longer = plan_prefix(lower.body, prefix.as_slice());
     let old_leaf = child_word(Link::Leaf(old.number));
     let old_node = child_word(Link::Node(below.node));
-    let writes = replaced(site, child_word(Link::Node(lower.node)));
     lock(change, site.stamp(), false);
     lock(change, below.stamp, true);
     lock(change, lower.stamp, false);
     unlink(change, old_leaf);
     unlink(change, old_node);
-    put(change, 0, writes.as_slice()) && put(change, 2, longer.as_slice())
+    replaced(site, child_word(Link::Node(lower.node)), &mut change.writes);
+    let takes_its_place = put(change, 0);
+    plan_prefix(lower.body, prefix.as_slice(), &mut change.writes);
+    takes_its_place && put(change, 2)
 }

@@ -1,5 +1,5 @@
 //! A node that few children are left of gives way to a smaller one.
-ghost use Rattle.std.specs.Prelude.{◌≡◌, ℕ, Some, None, true, false};
+ghost use Rattle.std.specs.Prelude.{◌≡◌, ◌∷◌, ℕ, [], Some, None, true, false};
 ghost use Rattle.art_cell.specs.Bodies.{Becomes, IsBody};
 ghost use Rattle.art_cell.specs.Children.{child_word as word_of_link};
 ghost use Rattle.art_cell.specs.Reads.{IsBodyOf, without_child, word_of};
@@ -9,6 +9,7 @@ ghost use Rattle.art_node.specs.Prefixes.{IsNodeOf};
 ghost use Rattle.art_node.specs.Sizes.{smaller};
 ghost use Rattle.art_plan.specs.Changes.{IsPlanned, targets};
 ghost use Rattle.art_plan.specs.Puts.{HasChild, IsTaken, TakesMany};
+ghost use Rattle.art_plan.specs.Seen.{gone, kept, site_stamp};
 ghost use Rattle.art_remove.specs.Cases.{IsShrink};
 ghost use Rattle.art_remove.specs.Removals.{IsSparse, removed, smaller_node};
 ghost use Rattle.art_step.specs.declared.views.Sizes.{Sizes};
@@ -38,16 +39,17 @@ pub fn shrink(
     ensures planned { result ≡ true → (z : Sizes) (u : View) (depth : ℕ)
         → IsShrink z u site.now old.now depth below.now byte (smaller_node below.now.body.now made) → IsPlanned z u change.new }
     ensures targets { result ≡ true → targets change.new ≡ 2 }
+    ensures locks { result ≡ true → change.new.targets.items ≡ kept (site_stamp site.now) ∷ gone below.now.stamp ∷ [] }
     ensures deed { change.new.deed ≡ removed old.now }
     ensures leaf { change.new.leaf ≡ None }
     ensures refused { result ≡ false → TakesMany site.now (word_of_link (node_link (smaller_node below.now.body.now made))) }
 {
-    let body = shrunk(below.body, byte);
+    shrunk(below.body, byte, &mut change.body);
     let new_node = child_word(Link::Node(Node {
-        layout: body.layout,
+        layout: change.body.layout,
         number: made,
     }));
-    let writes = replaced(site, new_node);
+    replaced(site, new_node, &mut change.writes);
     let old_leaf = child_word(Link::Leaf(old.number));
     let old_node = child_word(Link::Node(below.node));
     begin(change, old);
@@ -55,42 +57,33 @@ pub fn shrink(
     lock(change, below.stamp, true);
     unlink(change, old_leaf);
     unlink(change, old_node);
-    make(change, made, body);
-    put(change, 0, writes.as_slice())
+    make(change, made);
+    put(change, 0)
 }
 
-/// The next smaller node, without the child of the byte.
-fn shrunk(body: &Body, byte: u8) -> Body
+/// Makes the second body the next smaller node, without the child of the byte.
+fn shrunk(body: &Body, byte: u8, less: &mut Body)
     requires sparse { IsSparse body.now byte }
-    ensures layout { result.layout ≡ smaller body.now.layout }
-    ensures node { IsNodeOf (smaller body.now.layout) (word_of result) (prefix_of (word_of body.now))
+    ensures layout { less.new.layout ≡ smaller body.now.layout }
+    ensures node { IsNodeOf (smaller body.now.layout) (word_of less.new) (prefix_of (word_of body.now))
         (without_child (child_of body.now.layout (word_of body.now)) byte) }
 {
-    art_node::shrink(&without(body, byte))
+    let mut same_layout = *body;
+    take(&mut same_layout, byte);
+    art_node::shrink(&same_layout, less);
 }
 
-/// The node without the child of the byte.
-fn without(body: &Body, byte: u8) -> Body
-    requires { HasChild body.now byte }
-    ensures layout { result.layout ≡ body.now.layout }
-    ensures less { Becomes body.now.layout (word_of body.now) (word_of result)
-        (without_child (child_of body.now.layout (word_of body.now)) byte) }
+/// Takes the child of the byte away.
+fn take(body: &mut Body, byte: u8)
+    requires { HasChild body.old byte }
+    ensures layout { body.new.layout ≡ body.old.layout }
+    ensures less { Becomes body.old.layout (word_of body.old) (word_of body.new)
+        (without_child (child_of body.old.layout (word_of body.old)) byte) }
 {
     match body.layout {
-        Layout::Node4 => with_less::<Node4>(*body, byte),
-        Layout::Node16 => with_less::<Node16>(*body, byte),
-        Layout::Node48 => with_less::<Node48>(*body, byte),
-        Layout::Node256 => with_less::<Node256>(*body, byte),
+        Layout::Node4 => Node4::take(body, byte),
+        Layout::Node16 => Node16::take(body, byte),
+        Layout::Node48 => Node48::take(body, byte),
+        Layout::Node256 => Node256::take(body, byte),
     }
-}
-
-/// The same, of a node of this kind.
-fn with_less<K: NodeKind>(mut body: Body, byte: u8) -> Body
-    requires body { IsBodyOf K.layout body }
-    requires there { (c : ℕ) × (child_of K.layout (word_of body) byte ≡ Some c) }
-    ensures layout { result.layout ≡ body.layout }
-    ensures less { Becomes K.layout (word_of body) (word_of result) (without_child (child_of K.layout (word_of body)) byte) }
-{
-    K::take(&mut body, byte);
-    body
 }

@@ -6,7 +6,7 @@ ghost use Rattle.art_cell.specs.Reads.{word_of, IsBodyOf, SameOutside, with_chil
 ghost use Rattle.art_sorted.specs.Sorted.{layout_of};
 
 use crate::Sorted;
-use crate::lists::{list, position};
+use crate::lists::{Children, listed, position};
 use crate::writes::write;
 use art_cell::{Body, Entry};
 
@@ -22,7 +22,7 @@ pub fn add(sorted: Sorted, body: &mut Body, byte: u8, child: u64) -> bool
     ensures layout { body.new.layout ≡ body.old.layout }
     ensures outside { SameOutside (layout_of sorted) (word_of body.old) (word_of body.new) }
 {
-    let mut children = list(sorted, body);
+    let mut children: Children = listed(sorted, body);
     if children.len() == sorted.positions() {
         return false;
     }
@@ -42,7 +42,7 @@ pub fn set(sorted: Sorted, body: &mut Body, byte: u8, child: u64)
     ensures layout { body.new.layout ≡ body.old.layout }
     ensures outside { SameOutside (layout_of sorted) (word_of body.old) (word_of body.new) }
 {
-    let index = position(&list(sorted, body), byte);
+    let index = position(&listed(sorted, body), byte);
     body.words[sorted.first_child() + index] = child;
 }
 
@@ -55,7 +55,7 @@ pub fn take(sorted: Sorted, body: &mut Body, byte: u8)
     ensures layout { body.new.layout ≡ body.old.layout }
     ensures outside { SameOutside (layout_of sorted) (word_of body.old) (word_of body.new) }
 {
-    let mut children = list(sorted, body);
+    let mut children: Children = listed(sorted, body);
     let index = position(&children, byte);
     children.remove(index);
     write(sorted, body, &children);

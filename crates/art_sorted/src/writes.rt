@@ -5,12 +5,12 @@ ghost use Rattle.art_cell.specs.Reads.{word_of};
 ghost use Rattle.art_sorted.specs.Sorted.{layout_of, entry_or_none, Holds};
 
 use crate::Sorted;
-use crate::lists::entry_or_none;
+use crate::lists::{Children, entry_or_none};
 use crate::searches::{FIRST_KEYS, HEADER};
-use art_cell::{Body, Entries};
+use art_cell::Body;
 
 /// The bytes of eight positions from one on, packed in a word.
-fn key_word(list: &Entries, from: usize) -> u64
+fn key_word(list: &Children, from: usize) -> u64
     requires { from < 256 }
     ensures { (i : ℕ) → i < 8 → byte_of result i ≡ (entry_or_none list.now.items (from + i)).byte }
 {
@@ -22,7 +22,7 @@ fn key_word(list: &Entries, from: usize) -> u64
 }
 
 /// Writes the words of key bytes.
-fn write_keys(sorted: Sorted, body: &mut Body, list: &Entries)
+fn write_keys(sorted: Sorted, body: &mut Body, list: &Children)
     ensures keys { (i : ℕ) → i < 8 * (first_child (layout_of sorted) - 10) →
         key_byte (word_of body.new) i ≡ (entry_or_none list.now.items i).byte }
     ensures before { (p : ℕ) → p < 10 → word_of body.new p ≡ word_of body.old p }
@@ -36,7 +36,7 @@ fn write_keys(sorted: Sorted, body: &mut Body, list: &Entries)
 }
 
 /// Writes the child words.
-fn write_children(sorted: Sorted, body: &mut Body, list: &Entries)
+fn write_children(sorted: Sorted, body: &mut Body, list: &Children)
     ensures children { (i : ℕ) → i < places (layout_of sorted) →
         word_of body.new (first_child (layout_of sorted) + i) ≡ (entry_or_none list.now.items i).child }
     ensures before { (p : ℕ) → p < first_child (layout_of sorted) → word_of body.new p ≡ word_of body.old p }
@@ -51,7 +51,7 @@ fn write_children(sorted: Sorted, body: &mut Body, list: &Entries)
 }
 
 /// Writes the count, the key bytes and the children of a node, and leaves its prefix.
-pub(crate) fn write(sorted: Sorted, body: &mut Body, list: &Entries)
+pub(crate) fn write(sorted: Sorted, body: &mut Body, list: &Children)
     requires { length list.now.items ≤ places (layout_of sorted) }
     ensures holds { Holds (layout_of sorted) (word_of body.old) list.now.items (word_of body.new) }
     ensures fits { ((p : ℕ) → word_of body.old p < 2 ^ 64) → (p : ℕ) → word_of body.new p < 2 ^ 64 }

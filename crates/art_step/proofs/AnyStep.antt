@@ -4,12 +4,12 @@ use Rattle.std.specs.Prelude.{Some}
 use Rattle.art_step.specs.declared.views.Sizes.{Sizes}
 use Rattle.art_step.specs.declared.views.View.{View}
 use Rattle.art_step.specs.Sound.{IsSound}
-use Rattle.art_step.specs.Steps.{OfAKind, StepLaw, IsBegin, IsRead, IsReadLeaf, IsUnchanged, IsChanged, IsUpgrade, IsClaim, IsCommit, IsRelease, IsWrite, IsWriteLeaf, IsTake, IsGive, IsFreed, IsEpoch, IsPin, IsAdvance, IsWatch}
+use Rattle.art_step.specs.Steps.{OfAKind, StepLaw, IsBegin, IsRead, IsReadLeaf, IsUnchanged, IsChanged, IsUpgrade, IsClaim, IsCommit, IsRelease, IsWrite, IsWriteLeaf, IsTake, IsGive, IsFreed, IsEpoch, IsPin, IsAdvance, IsWatch, IsAnchor}
 use Rattle.art_step.specs.Views.{Memory, Views}
 use Rattle.art_step.proofs.StepCommits.{commit_law}
 use Rattle.art_step.proofs.StepEpochs.{advance_law, epoch_law, pin_law, watch_law}
 use Rattle.art_step.proofs.StepLocks.{claim_law, release_law, upgrade_law}
-use Rattle.art_step.proofs.StepNotes.{begin_law, fail_law, pass_law, read_law, read_leaf_law}
+use Rattle.art_step.proofs.StepNotes.{anchor_law, begin_law, fail_law, pass_law, read_law, read_leaf_law}
 use Rattle.art_step.proofs.StepNumbers.{free_law, give_law, take_law}
 use Rattle.art_step.proofs.StepWrites.{write_law, write_leaf_law}
 
@@ -33,6 +33,7 @@ module _ (z : Sizes) (p : ℕ) (v : View) (m : Memory) (f : Views) (n : Memory) 
   kind_sound (IsPin k) = pin_law z p v m f n g at r k
   kind_sound (IsAdvance k) = advance_law z p v m f n g at r k
   kind_sound (IsWatch k) = watch_law z p v m f n g at r k
+  kind_sound (IsAnchor k) = anchor_law z p v m f n g at r k
 
 pub step_law : StepLaw
 step_law z p m f n g step = kind_sound z p step.view m f n g step.before step.sound step.kind

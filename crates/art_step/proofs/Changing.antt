@@ -28,7 +28,7 @@ use Rattle.art_step.specs.Steps.Write as write
 use Rattle.art_step.specs.Steps.Release as release
 use Rattle.art_step.specs.Steps.Commit as commit
 use Rattle.art_step.specs.Steps.Commit.{coming, AllNew, AreStanding, all_retired, RetiresPinned, UnlocksFirst}
-use Rattle.art_step.specs.Sound.{IsOneHistory, HoldsEach, Holder, Keeps, OneHolder, IsSound, Whereabouts, InTree, InHandOf, InLimboOf}
+use Rattle.art_step.specs.Sound.{IsOneHistory, HoldsEach, Holder, Keeps, OneHolder, IsSound, InTree, InHandOf, InLimboOf}
 use Rattle.art_step.specs.Steps.{OfAKind, IsUpgrade, IsClaim, IsCommit, IsRelease, IsWrite, IsWriteLeaf}
 use Rattle.art_step.specs.Steps.Write.{with_word, with_leaf_word}
 use Rattle.art_step.specs.Steps.Release.{Drops}

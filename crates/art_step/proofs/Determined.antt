@@ -13,7 +13,7 @@ use Rattle.art_step.specs.declared.deeds.Deed.{Deed}
 use Rattle.art_tree.specs.Heaps.{Cells}
 use Rattle.art_step.specs.Histories.{StartsWith, event, places, places_from}
 use Rattle.art_step.specs.Sound.{IsOneHistory, IsSound}
-use Rattle.art_step.specs.Steps.{OfAKind, OneStep, IsBegin, IsRead, IsReadLeaf, IsUnchanged, IsChanged, IsUpgrade, IsClaim, IsCommit, IsRelease, IsWrite, IsWriteLeaf, IsTake, IsGive, IsFreed, IsEpoch, IsPin, IsAdvance, IsWatch}
+use Rattle.art_step.specs.Steps.{OfAKind, OneStep, IsBegin, IsRead, IsReadLeaf, IsUnchanged, IsChanged, IsUpgrade, IsClaim, IsCommit, IsRelease, IsWrite, IsWriteLeaf, IsTake, IsGive, IsFreed, IsEpoch, IsPin, IsAdvance, IsWatch, IsAnchor}
 use Rattle.art_step.specs.Steps.Begin as begin
 use Rattle.art_step.specs.Steps.Check as check
 use Rattle.art_step.specs.Steps.Pin as pin
@@ -67,6 +67,7 @@ module _ (z : Sizes) (p : ℕ) (v : View) (m : Memory) (f : Views) (n : Memory) 
   kind_grows (IsPin k) = stays _ k.view (pinned_seen v k.word)
   kind_grows (IsAdvance k) = stays _ k.view refl
   kind_grows (IsWatch k) = stays _ k.view refl
+  kind_grows (IsAnchor k) = becomes _ k.view starts
 
 -- of any step of the pass p, whose view goes from v to w
 pub seen_grows : (z : Sizes) (p : ℕ) (v w : View) (m : Memory) (f : Views) (n : Memory) (g : Views) → OneStep z p m f n g → f p ≡ Some v → g p ≡ Some w → StartsWith w.seen v.seen
@@ -96,6 +97,7 @@ module _ (z : Sizes) (p : ℕ) (v : View) (m : Memory) (f : Views) (m' : Memory)
   kind_view (IsPin k) = (_, k.view)
   kind_view (IsAdvance k) = (_, k.view)
   kind_view (IsWatch k) = (_, k.view)
+  kind_view (IsAnchor k) = (_, k.view)
 
 pub step_view : (z : Sizes) (p : ℕ) (m : Memory) (f : Views) (m' : Memory) (g : Views) → OneStep z p m f m' g → (w : View) × SetsView f p w g
 step_view z p m f m' g t = kind_view z p t.view m f m' g t.sound.log t.sound.logical t.kind
@@ -143,6 +145,7 @@ module _ (z : Sizes) (p : ℕ) (v : View) (m : Memory) (f : Views) (m' : Memory)
   kind_counts (IsPin k) = keeps _ k.view (pinned_counts v k.word)
   kind_counts (IsAdvance k) = keeps _ k.view (refl, refl)
   kind_counts (IsWatch k) = keeps _ k.view (refl, refl)
+  kind_counts (IsAnchor k) = keeps _ k.view (refl, refl)
 
 step_counts : (z : Sizes) (p : ℕ) (v w : View) (m : Memory) (f : Views) (m' : Memory) (g : Views) → OneStep z p m f m' g → f p ≡ Some v → g p ≡ Some w → Counted v w
 step_counts z p v w m f m' g t at is = subst (λ (u : View). Counted u w) (same_Some t.view v (sym t.before ∙ at)) (kind_counts z p t.view m f m' g t.sound w is t.kind)

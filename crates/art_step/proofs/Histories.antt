@@ -6,7 +6,7 @@ use Rattle.art_step.specs.declared.views.Event.{Event}
 use Rattle.art_step.specs.declared.views.View.{View}
 use Rattle.art_step.specs.declared.deeds.Deed.{Deed}
 use Rattle.art_tree.specs.Rows.{ByteMap}
-use Rattle.art_step.specs.Histories.{event, IsAnswered, becomes, run, replay, IsLegalFrom, places_from, places}
+use Rattle.art_step.specs.Histories.{event, IsAnswered, becomes, run, replay, IsLegalFrom, places_from, places, StartsWith}
 use Rattle.art_step.specs.Sound.{IsOneHistory, IsSeenBy}
 use Rattle.art_step.specs.Views.{Views, SetsView}
 use Rattle.art_step.proofs.SetsView.{either_view, stranger_before}
@@ -40,16 +40,24 @@ pub replay_more : (log : List Event) (e : Event) → replay (log ++ e ∷ []) �
 replay_more log e = run_more empty log e
 
 module _ (f g : Views) (p : ℕ) (v w : View) (t : SetsView f p w g) (at : f p ≡ Some v) (log : List Event) (r : IsOneHistory log f) (pass : w.pass ≡ v.pass) where
-  -- the pass tells nothing
-  pub history_stays : w.seen ≡ v.seen → w.own ≡ v.own → IsOneHistory log g
-  history_stays seen own = record {
+  -- the pass makes no event, and sees a beginning of the history
+  sees_front : StartsWith log w.seen → places p w.seen ≡ v.own → w.own ≡ v.own → IsOneHistory log g
+  sees_front starts all own = record {
     legal = r.legal;
     tells = λ q u e. ⊎_elim
         (λ (a : (q ≡ p) × (u ≡ w)). let k = r.tells p v at in
-        subst (λ (x : ℕ × View). IsSeenBy log x.0 x.1) (λ i. (sym a.0 i, sym a.1 i)) record { pass = pass ∙ k.pass; starts = (k.starts.0, k.starts.1 ∙ ap (λ l. l ++ k.starts.0) (sym seen)); own = k.own ∙ sym own; all = ap (places p) seen ∙ (k.all ∙ sym own) })
+        subst (λ (x : ℕ × View). IsSeenBy log x.0 x.1) (λ i. (sym a.0 i, sym a.1 i)) record { pass = pass ∙ k.pass; starts = starts; own = k.own ∙ sym own; all = all ∙ sym own })
         (λ (a : (q ≢ p) × (f q ≡ Some u)). r.tells q u a.1) (either_view f g p w t q u e);
     strangers = λ q e. r.strangers q (stranger_before f g p w t q e).1;
   }
+
+  -- it sees what it had seen
+  pub history_stays : w.seen ≡ v.seen → w.own ≡ v.own → IsOneHistory log g
+  history_stays seen own = let k = r.tells p v at in sees_front (k.starts.0, k.starts.1 ∙ ap (λ l. l ++ k.starts.0) (sym seen)) (ap (places p) seen ∙ k.all) own
+
+  -- it sees all
+  pub history_seen : w.seen ≡ log → w.own ≡ v.own → IsOneHistory log g
+  history_seen seen own = sees_front ([], sym (append-nil log) ∙ ap (λ l. l ++ []) (sym seen)) (ap (places p) seen ∙ (r.tells p v at).own) own
 
   -- the pass makes an event
   pub history_grows : (what : Deed) → IsAnswered (replay log) what → w.seen ≡ log ++ event v.pass what ∷ [] → w.own ≡ v.own ++ length log ∷ [] → IsOneHistory (log ++ event v.pass what ∷ []) g

@@ -14,7 +14,7 @@ use Rattle.art_step.specs.declared.views.Sizes.{Sizes}
 use Rattle.art_step.specs.declared.views.View.{View}
 use Rattle.art_step.specs.Determined.{LimboLaw}
 use Rattle.art_step.specs.Sound.{IsSound}
-use Rattle.art_step.specs.Steps.{OfAKind, IsBegin, IsRead, IsReadLeaf, IsUnchanged, IsChanged, IsUpgrade, IsClaim, IsCommit, IsRelease, IsWrite, IsWriteLeaf, IsTake, IsGive, IsFreed, IsEpoch, IsPin, IsAdvance, IsWatch}
+use Rattle.art_step.specs.Steps.{OfAKind, IsBegin, IsRead, IsReadLeaf, IsUnchanged, IsChanged, IsUpgrade, IsClaim, IsCommit, IsRelease, IsWrite, IsWriteLeaf, IsTake, IsGive, IsFreed, IsEpoch, IsPin, IsAdvance, IsWatch, IsAnchor}
 use Rattle.art_step.specs.Steps.Begin as begin
 use Rattle.art_step.specs.Steps.Check as check
 use Rattle.art_step.specs.Steps.Epoch as epoch
@@ -99,6 +99,7 @@ module _ (z : Sizes) (p : ℕ) (v : View) (m : Memory) (f : Views) (m' : Memory)
   by_kind (IsPin k) = stays _ k.view (pinned_waits v k.word)
   by_kind (IsAdvance k) = stays _ k.view refl
   by_kind (IsWatch k) = stays _ k.view (same_links (watch.watched k.pass (m.pass_word k.pass)) (λ d. refl) v.limbo)
+  by_kind (IsAnchor k) = stays _ k.view refl
 
 pub limbo_law : LimboLaw
 limbo_law z p v w m f m' g t at is e back =

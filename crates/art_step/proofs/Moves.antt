@@ -22,10 +22,11 @@ use Rattle.art_step.specs.Steps.Read as read
 use Rattle.art_step.specs.Steps.Check as check
 use Rattle.art_step.specs.Events.{MakesEvent, SeesEvent}
 use Rattle.art_step.specs.Sound.{IsOneHistory, Whereabouts, InTree, IsFree, InHandOf, InLimboOf, Nowhere, IsSound}
-use Rattle.art_step.specs.Steps.{OfAKind, OneStep, IsBegin, IsRead, IsReadLeaf, IsUnchanged, IsChanged}
+use Rattle.art_step.specs.Steps.{OfAKind, OneStep, IsBegin, IsRead, IsReadLeaf, IsUnchanged, IsChanged, IsAnchor}
 use Rattle.art_step.specs.Views.{IsChildWord, note_of, SetsView}
 use Rattle.art_step.specs.Steps.Claim as claim
 use Rattle.art_step.specs.Steps.Check.{ArePaths, Without}
+use Rattle.art_step.specs.Steps.Anchor as anchor
 use Rattle.art_step.specs.Steps.Begin as begin
 use Rattle.art_tree.specs.Tree.{StandsAt, IsTree}
 use Rattle.art_step.specs.Views.{Member, Memory, Views, SetsView}
@@ -183,6 +184,14 @@ module _ (z : Sizes) (ws : List ℕ) (f : Views) (p : ℕ) (v : View) (r : IsSou
   -- the version word of a cell is found
   pub moves_begins : (c : Cell) (found : ℕ) → begin.May v c → found ≡ m.version c → Moves z ws f p v ws (λ v w. w ≡ begin.view_after z v c found) (FindsVersion c found)
   moves_begins c found may is = moved ws (λ v w. w ≡ begin.view_after z v c found) (FindsVersion c found) (begin.view_after z v c (m.version c)) (begun_pass z v c (m.version c)) (ap (begin.view_after z v c) (sym is)) (λ g t. IsBegin record { cell = c; may = may; words = refl; view = t })
+      (λ g t. record { found = is; same = refl })
+
+  -- that of the anchor is found, and all of the history is seen
+  pub moves_sees : (found : ℕ) → found ≡ m.version cell.Anchor → Moves z ws f p v ws (λ v w. anchor.Outcome v w × (w.seen ≡ r.log)) (FindsVersion cell.Anchor found)
+  moves_sees found is = let mine = r.history.tells p v at in
+      moved ws (λ v w. anchor.Outcome v w × (w.seen ≡ r.log)) (FindsVersion cell.Anchor found) (anchor.view_after v r.log) refl
+      (record { grows = mine.starts; legal = r.history.legal; own = ap (λ (q : ℕ). places q r.log) mine.pass ∙ mine.own; is = refl }, refl)
+      (λ g t. IsAnchor record { words = refl; view = t })
       (λ g t. record { found = is; same = refl })
 
   -- a word of the stamp's cell is read

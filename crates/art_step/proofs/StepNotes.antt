@@ -21,6 +21,7 @@ use Rattle.art_step.specs.Histories.{event, replay}
 use Rattle.art_step.specs.Knowledge.{Holds, HoldsAll}
 use Rattle.art_tree.specs.Rows.{HasRows}
 use Rattle.art_step.specs.Sound.{IsOneHistory, IsStampOf, Vouches, Vouched, IsSound}
+use Rattle.art_step.specs.Steps.Anchor as anchor
 use Rattle.art_step.specs.Steps.Begin as begin
 use Rattle.art_step.specs.Steps.Read as read
 use Rattle.art_step.specs.Steps.Check as check
@@ -30,7 +31,7 @@ use Rattle.art_step.specs.Steps.Begin.{stamp_of}
 use Rattle.art_step.specs.Steps.Begin.{first_notes}
 use Rattle.art_step.specs.Views.{Member, Memory, IsClear, IsLocked, Views, SetsView}
 use Rattle.art_step.proofs.Facts.{holds_all}
-use Rattle.art_step.proofs.Histories.{replay_more, history_stays, history_grows}
+use Rattle.art_step.proofs.Histories.{replay_more, history_stays, history_seen, history_grows}
 use Rattle.art_step.proofs.SoundParts.{numbers_turn, IsNewStamp, unstamped_turn, formed_turn, holder_same}
 use Rattle.art_step.proofs.SetsView.{each_view, member_append}
 
@@ -102,6 +103,10 @@ module _ (z : Sizes) (m : Memory) (f g : Views) (p : ℕ) (v : View) (at : f p �
       → SetsView f p (noting v v.seen v.own steps failures xs ys checked found) g → StampsCome xs → NotesCome ys → NotesGo xs ys → IsSound z m g
   quiet {steps} {failures} {xs} {ys} {checked} {found} t stamps come go =
       notes t r.log (history_stays f g p v (noting v v.seen v.own steps failures xs ys checked found) t at r.log r.history refl refl refl) r.shows.rows stamps come go
+
+  -- all of the history is seen
+  sees : SetsView f p (anchor.view_after v r.log) g → IsSound z m g
+  sees t = notes t r.log (history_seen f g p v (anchor.view_after v r.log) t at r.log r.history refl refl refl) r.shows.rows (λ a i. inl i) (λ y i. inl i) mine.noted
 
   -- what holds now may be noted
   holds_now : (y : Note) → IsStampOf m y.stamp → Holds s y.stamp.cell y.fact → IsFresh y
@@ -180,6 +185,10 @@ module _ (z : Sizes) (m : Memory) (f g : Views) (p : ℕ) (v : View) (at : f p �
 -- where no word changes
 unchanged : (z : Sizes) (m n : Memory) (g : Views) → n ≡ m → IsSound z m g → IsSound z n g
 unchanged z m n g same sound = subst (λ (k : Memory). IsSound z k g) (sym same) sound
+
+-- the anchor alone is looked at
+pub anchor_law : anchor.Law
+anchor_law z p v m f n g at r row = unchanged z m n g row.words (sees z m f g p v at r row.view)
 
 -- the version word of a cell is found
 pub begin_law : begin.Law

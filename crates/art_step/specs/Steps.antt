@@ -11,6 +11,7 @@ use Rattle.art_tree.specs.Heaps.{Cells}
 use Rattle.art_step.specs.Effects.{FindsVersion, Instant}
 use Rattle.art_step.specs.Sound.{IsSound}
 use Rattle.art_step.specs.Steps.Advance as advance
+use Rattle.art_step.specs.Steps.Anchor as anchor
 use Rattle.art_step.specs.Steps.Begin as begin
 use Rattle.art_step.specs.Steps.Check as check
 use Rattle.art_step.specs.Steps.Claim as claim
@@ -26,6 +27,7 @@ use Rattle.art_step.specs.Steps.Watch as watch
 use Rattle.art_step.specs.Steps.Write as write
 use Rattle.art_step.specs.Views.{Memory, Views}
 pub mod Advance
+pub mod Anchor
 pub mod Begin
 pub mod Check
 pub mod Claim
@@ -61,6 +63,7 @@ pub data OfAKind (z : Sizes) (p : ℕ) (v : View) (m : Memory) (f : Views) (m' :
   IsPin : pin.Step z p v m f m' f' → OfAKind z p v m f m' f' log s
   IsAdvance : advance.Step z p v m f m' f' → OfAKind z p v m f m' f' log s
   IsWatch : watch.Step z p v m f m' f' → OfAKind z p v m f m' f' log s
+  IsAnchor : anchor.Step z p v m f m' f' log → OfAKind z p v m f m' f' log s
 
 -- one step of the pass p, before which all was sound
 pub record OneStep (z : Sizes) (p : ℕ) (m : Memory) (f : Views) (m' : Memory) (f' : Views) : Type 0 where

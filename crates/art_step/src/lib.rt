@@ -35,6 +35,10 @@
 //! somewhere else before it is stamped; so the check of the parent, made after, says that the child's cell stood there when
 //! its stamp was taken, and gives the stamp its path.
 //!
+//! A pass sees the history as far as it went when it made its last event. To see all of it without an event, it looks at the
+//! anchor alone (`specs/Steps/Anchor.antt`): it loads that cell's version word, and gains no stamp. No trait has a call for
+//! it: a carrier of threads makes it where one pass learns what another has seen.
+//!
 //! # Changes
 //!
 //! `upgrade` locks a stamped cell whose path is known, if its word is unchanged; `claim` locks a node whose number is in hand.
@@ -104,8 +108,8 @@
 //!
 //! A page in `specs/Steps` with the same names in the same order (`May`, `view_after`, `Step`, `Outcome`, `Law`), a case of
 //! `OfAKind` in `specs/Steps.antt`, a file of its law in `proofs`, a lemma there that makes the view after it (as those of
-//! `Moves.antt` and `EpochMoves.antt`), lines in `AnyStep.antt` and in `Determined.antt`, and a call of one of the two
-//! traits. What happens to words at it is said with the words of `specs/Effects.antt`.
+//! `Moves.antt` and `EpochMoves.antt`), lines in `AnyStep.antt`, `Determined.antt` and `LimboWaits.antt`, and a call of
+//! one of the two traits. What happens to words at it is said with the words of `specs/Effects.antt`.
 //!
 //! # Letters
 //!
@@ -146,9 +150,9 @@ pub use step_kinds::StepKind;
 pub use step_laws::{
     advancing_is_sound, beginning_is_sound, checking_is_sound, claiming_is_sound,
     committing_is_sound, giving_is_sound, hidden_is_determined, limbo_waits_for_pins,
-    noting_the_epoch_is_sound, opening_is_sound, pinning_is_sound, reading_is_sound,
-    releasing_is_sound, stepping_is_sound, steps_keep_their_pass, taking_is_sound,
-    upgrading_is_sound, watching_is_sound, writing_is_sound,
+    looking_at_the_anchor_is_sound, noting_the_epoch_is_sound, opening_is_sound, pinning_is_sound,
+    reading_is_sound, releasing_is_sound, stepping_is_sound, steps_keep_their_pass,
+    taking_is_sound, upgrading_is_sound, watching_is_sound, writing_is_sound,
 };
 pub use steps::Steps;
 pub use versions::Version;

@@ -1,7 +1,7 @@
 //! The kinds of step, by name.
 use std::fmt;
 
-/// What kind a step is. Each has a page in `specs/Steps`, but for a look of the anchor alone, which does not exist yet.
+/// What kind a step is. Each has a page in `specs/Steps`.
 #[derive(Clone, Copy, Debug, PartialEq, Eq)]
 pub enum StepKind {
     /// The version word of the anchor or of a node is found.
@@ -32,7 +32,7 @@ pub enum StepKind {
     Advance,
     /// The word of another pass is found, and places in limbo may be marked for it.
     Watch,
-    /// The anchor alone is looked at.
+    /// The anchor alone is looked at, and all of the history is seen.
     Anchor,
 }
 

@@ -2,6 +2,7 @@
 //! nothing to do.
 ghost use Rattle.art_step.specs.Determined.{CountLaw, HistoryGrows, HistoryLaw, LimboLaw, LogicalLaw, PassLaw, SeenLaw};
 ghost use Rattle.art_step.specs.Steps.Advance as advance;
+ghost use Rattle.art_step.specs.Steps.Anchor as anchor;
 ghost use Rattle.art_step.specs.Steps.Begin as begin;
 ghost use Rattle.art_step.specs.Steps.Claim as claim;
 ghost use Rattle.art_step.specs.Steps.Commit as commit;
@@ -102,6 +103,11 @@ pub fn advancing_is_sound()
 /// The word of another pass is found.
 pub fn watching_is_sound()
     ensures { watch.Law }
+{}
+
+/// The anchor alone is looked at: its version word is found, and all of the history is seen.
+pub fn looking_at_the_anchor_is_sound()
+    ensures { anchor.Law }
 {}
 
 /// A step of any of these kinds.

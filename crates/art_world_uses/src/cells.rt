@@ -1,5 +1,5 @@
 //! Words that were read, and words that differ.
-use art_cell::{Body, Layout, Reads, Write, changes};
+use art_cell::{Body, Layout, Reads, Write, Writes, changes};
 use std::test::*;
 
 fn empty() -> Body {
@@ -39,7 +39,8 @@ fn words_that_differ_are_written_in_ascending_place(rt: HostRuntime) {
     let mut after = empty();
     after.words[11] = 9;
     after.words[1] = 1;
-    let writes = changes(&before, &after);
+    let mut writes = Writes::new();
+    changes(&before, &after, &mut writes);
     let expected = [
         Write { place: 1, value: 1 },
         Write {
@@ -48,5 +49,6 @@ fn words_that_differ_are_written_in_ascending_place(rt: HostRuntime) {
         },
     ];
     assert_eq!(rt; writes.as_slice(), expected.as_slice());
-    assert!(rt; changes(&before, &before).is_empty());
+    changes(&before, &before, &mut writes);
+    assert!(rt; writes.is_empty());
 }

@@ -3,7 +3,7 @@ use Rattle.std.specs.Prelude.{IfSome}
 use Rattle.art_change.proofs.Ready.{ends_with, ready_again, ready_may}
 use Rattle.art_change.proofs.driver.write.Goals as goal
 use Rattle.art_change.specs.Tries.{SameKey, key_of, value_of}
-use Rattle.art_change.specs.Writes.{Fits, HasAnswered, HasGround}
+use Rattle.art_change.specs.Writes.{Fits, HasAnswered, HasCounted}
 use Rattle.art_change.specs.declared.tries.Job.{Job as JobOf}
 use Rattle.art_change.specs.declared.writes.Outcome.{Outcome as OutcomeOf}
 use Rattle.art_attempt.specs.declared.rooms.Room.{Room as RoomOf}
@@ -22,6 +22,7 @@ loop-outcome-init g c =
       only = g.met.S.Steps.only_same c.args.steps.now;
       sizes = refl;
       job = c.new-write.ensures.job;
+      turns = c.new-write.ensures.turns.0;
       key = record { key = refl; value = refl };
       fits = c.new-write.ensures.fits z u may;
       steps = let few = c.new-write.ensures.left z u may in omega (arith, few);
@@ -64,8 +65,29 @@ returns-in-Some-clause-grounds g c =
     let u = g.S.Steps.view c.args.steps.now in
     let l = c.loop-outcome in
     let ps = places_of c.args.limbo.now in
-    subst (λ (j : JobOf). HasGround z u j ps c.in-Some.outcome l.room (places_of l.limbo) (g.S.Steps.view l.steps)) l.invariant.job
-    (ends_with z u ps l.write l.room (places_of l.limbo) (g.S.Steps.view l.steps) c.in-Some.outcome (sym c.ended.ensures.at ∙ c.in-Some.is) l.invariant.fits)
+    let v = g.S.Steps.view l.steps in
+    let k = ends_with z u ps l.write l.room (places_of l.limbo) v c.in-Some.outcome (sym c.ended.ensures.at ∙ c.in-Some.is) l.invariant.fits in
+    record {
+      machine = k.machine;
+      job_is = k.job_is ∙ l.invariant.job;
+      turns_are = k.turns_are ∙ l.invariant.turns;
+      restarts_are = k.restarts_are ∙ sym c.restarts-restarts.ensures;
+      done = k.done;
+    }
+
+pub returns-in-Some-clause-counted : goal.returns-in-Some-clause-counted
+returns-in-Some-clause-counted g c =
+    let z = g.S.Steps.sizes c.args.steps.now in
+    let u = g.S.Steps.view c.args.steps.now in
+    let l = c.loop-outcome in
+    let i = l.invariant in
+    let v = g.S.Steps.view l.steps in
+    let qs = places_of l.limbo in
+    let told = subst (λ (a : Option OutcomeOf). IfSome a (λ (o : OutcomeOf). (y : Sizes) (u v : View) (ps qs : List Place) (r : RoomOf) → Fits y u ps l.write r qs v
+    → HasCounted y u l.write.turns l.write.restarts o v)) c.in-Some.is c.ended.ensures.counted
+    z u v (places_of c.args.limbo.now) qs l.room i.fits in
+    let here = subst (λ (n : ℕ). HasCounted z u n l.write.restarts c.in-Some.outcome v) i.turns told in
+    subst (λ (n : ℕ). HasCounted z u c.args.turns n c.in-Some.outcome v) (sym c.restarts-restarts.ensures) here
 
 pub returns-in-Some-clause-steps : goal.returns-in-Some-clause-steps
 returns-in-Some-clause-steps g c = let few = c.loop-outcome.invariant.steps in omega (arith, few)
@@ -99,6 +121,7 @@ loop-outcome-preserved g c =
       only = g.met.S.Steps.only_then c.args.steps.now l.steps c.step.new.steps i.only c.step.ensures.only;
       sizes = g.met.S.Steps.only_sizes l.steps c.step.new.steps c.step.ensures.only ∙ i.sizes;
       job = c.step.ensures.job ∙ i.job;
+      turns = c.step.ensures.turns ∙ i.turns;
       key = let same = subst (λ (j : JobOf). SameKey j l.room c.step.new.room) i.job c.step.ensures.key in record { key = same.key ∙ i.key.key; value = same.value ∙ i.key.value };
       fits = subst (λ (z : Sizes). Fits z u ps c.step.new.write c.step.new.room (places_of c.step.new.limbo) w) i.sizes
           (c.step.ensures.fits u ps (subst (λ (z : Sizes). Fits z u ps l.write l.room (places_of l.limbo) (g.S.Steps.view l.steps)) (sym i.sizes) i.fits));

@@ -10,6 +10,7 @@ invariant-loop-outcome g l = record {
   only : g.S.Steps.only l.fn.steps l.steps;
   sizes : g.S.Steps.sizes l.steps ≡ g.S.Steps.sizes l.fn.steps;
   job : l.write.job ≡ l.fn.job;
+  turns : l.write.turns ≡ l.fn.turns;
   key : SameKey l.fn.job l.fn.room l.room;
   fits : Fits (g.S.Steps.sizes l.fn.steps) (g.S.Steps.view l.fn.steps) (places_of l.fn.limbo) l.write l.room (places_of l.limbo) (g.S.Steps.view l.steps);
   steps : (g.S.Steps.view l.steps).steps + steps_left l.write l.room (places_of l.limbo) ≤ (g.S.Steps.view l.fn.steps).steps + most_steps l.fn.turns (g.S.Steps.sizes l.fn.steps).passes (places_of l.fn.limbo);

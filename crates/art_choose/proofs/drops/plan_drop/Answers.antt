@@ -1,11 +1,14 @@
-use Rattle.std.proofs.Common.{◌<◌, ℕ, ◌-◌, List, Option, get_or, subst, sym}
+use Rattle.std.proofs.Common.{◌<◌, ◌-◌, ◌≡◌, ◌∙◌, ℕ, List, Option, get_or, subst, sym, ap}
 use Rattle.art_choose.proofs.FoundLeaves.{drop_knows, drop_refused, found_deep, found_taken}
 use Rattle.art_choose.proofs.LeftChildren.{keeps_two}
-use Rattle.art_decide.proofs.ChildSites.{site_named}
+use Rattle.art_choose.specs.Plans.{IsNodeAt}
+use Rattle.art_decide.proofs.ChildSites.{site_named, stamp_in}
+use Rattle.art_decide.proofs.LockedCells.{one_locked}
 use Rattle.art_decide.proofs.WholeCells.{kept_within}
 use Rattle.art_decide.specs.Bodies.{AreWithin, IsFilled}
 use Rattle.art_place.specs.Desks.{node_of}
 use Rattle.art_plan.specs.Puts.{IsTaken}
+use Rattle.art_plan.specs.Seen.{kept, site_stamp}
 use Rattle.art_plan.specs.declared.sites.Site.{Site}
 use Rattle.art_remove.specs.Cases.{IsDrop}
 use Rattle.art_remove.specs.Removals.{KeepsTwo}
@@ -49,3 +52,9 @@ returns-clause-refused c = λ refused.
     let is = site_named t.stamp _ c.as_slice.result.now old.key.items t.depth c.site_at-site.result c.site_at-site.ensures.site c.as_slice.ensures.value in
     let filled = subst (λ (reads : List (Option ℕ)). IsFilled t.stamp.cell reads c.fill.new.body) c.node.ensures c.fill.ensures in
     drop_refused c.requires.seen.0 t c.args.desk.now old c.requires.found _ filled c.site_at-site.result is (c.drop.ensures.refused refused)
+
+pub returns-clause-locks : goal.returns-clause-locks
+returns-clause-locks c = λ done.
+    let t = c.args.stand.now in
+    let upper : site_stamp c.site_at-site.result ≡ t.stamp = ap site_stamp c.site_at-site.ensures.site ∙ stamp_in t.stamp _ _ in
+    one_locked (IsNodeAt t) c.drop.new.change (kept (site_stamp c.site_at-site.result)) upper (c.drop.ensures.locks done)

@@ -1,9 +1,12 @@
-use Rattle.std.proofs.Common.{◌<◌, ℕ, ◌-◌, List, Option, get_or, inl, rules, subst, sym}
+use Rattle.std.proofs.Common.{◌<◌, ◌-◌, ◌≡◌, ◌∙◌, ℕ, List, Option, get_or, inl, rules, subst, sym, ap, inr, refl}
 use Rattle.art_choose.proofs.LowerNodes.{lower_bytes, lower_meaning, merge_node_knows, merge_refused, node_bytes}
+use Rattle.art_choose.specs.Plans.{IsAnyAt}
 use Rattle.art_decide.proofs.AboveSites.{above_deep, above_taken}
-use Rattle.art_decide.proofs.ChildSites.{site_named}
+use Rattle.art_decide.proofs.ChildSites.{site_named, stamp_in}
+use Rattle.art_decide.proofs.LockedCells.{three_locked}
 use Rattle.art_decide.specs.Bodies.{IsFilled}
 use Rattle.art_plan.specs.Puts.{IsTaken}
+use Rattle.art_plan.specs.Seen.{gone, kept, site_stamp}
 use Rattle.art_choose.proofs.lowers.plan_merge_node.Goals as goal
 
 pub site_at-site-requires-clause-some : goal.site_at-site-requires-clause-some
@@ -53,3 +56,12 @@ returns-else-merge_node-clause-refused c = λ refused.
     let upper = subst (λ (reads : List (Option ℕ)). IsFilled a.stamp.cell reads c.fill-2.new.body) c.above.ensures c.fill-2.ensures in
     merge_refused c.args.stand.now c.args.desk.now old a c.in-Some.is _ upper c.site_at-site.result is c.args.lower.now c.args.reads.now c.requires.seen.2.known.cell
     c.parts_of-parts.result c.parts_of-parts.ensures c.fill-3.new.body c.fill-3.ensures (c.merge_node.ensures.refused refused)
+
+pub returns-then-merge_node-clause-locks : goal.returns-then-merge_node-clause-locks
+returns-then-merge_node-clause-locks c = λ apart.
+    let t = c.args.stand.now in
+    let a = c.in-Some.above in
+    let lower = c.args.lower.now in
+    let upper : site_stamp c.site_at-site.result ≡ a.stamp = ap site_stamp c.site_at-site.ensures.site ∙ stamp_in a.stamp _ _ in
+    three_locked (IsAnyAt t lower) c.merge_node.new.change (kept (site_stamp c.site_at-site.result)) (inl (inr (a, c.in-Some.is, upper))) (gone t.stamp) (inl (inl refl)) (kept lower.stamp) (inr refl)
+    (c.merge_node.ensures.locks c.if-merge_node.true)

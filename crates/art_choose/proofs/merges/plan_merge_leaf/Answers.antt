@@ -1,12 +1,15 @@
-use Rattle.std.proofs.Common.{◌<◌, ℕ, ◌-◌, List, Option, get_or, subst, sym}
+use Rattle.std.proofs.Common.{◌<◌, ◌-◌, ◌≡◌, ◌∙◌, ℕ, List, Option, get_or, subst, sym, ap, inl, inr, refl}
 use Rattle.art_cell.specs.declared.cells.Link.TheVariants.{Leaf as leaf}
 use Rattle.art_choose.proofs.OtherChildren.{merge_leaf_knows, other_refused}
+use Rattle.art_choose.specs.Plans.{IsEitherAt}
 use Rattle.art_decide.proofs.AboveSites.{above_deep, above_taken}
-use Rattle.art_decide.proofs.ChildSites.{site_named}
+use Rattle.art_decide.proofs.ChildSites.{site_named, stamp_in}
+use Rattle.art_decide.proofs.LockedCells.{two_locked}
 use Rattle.art_decide.proofs.WholeCells.{above_kept, kept_within}
 use Rattle.art_decide.specs.Bodies.{AreWithin, IsFilled}
 use Rattle.art_place.specs.Desks.{above_of, node_of}
 use Rattle.art_plan.specs.Puts.{IsTaken}
+use Rattle.art_plan.specs.Seen.{gone, kept, site_stamp}
 use Rattle.art_choose.proofs.merges.plan_merge_leaf.Goals as goal
 
 pub fill-requires : goal.fill-requires
@@ -55,3 +58,10 @@ returns-clause-refused c = λ refused.
     let is = site_named a.stamp _ c.as_slice-key.result.now old.key.items a.depth c.site_at-site.result c.site_at-site.ensures.site c.as_slice-key.ensures.value in
     let upper = subst (λ (reads : List (Option ℕ)). IsFilled a.stamp.cell reads c.fill-2.new.body) c.above.ensures c.fill-2.ensures in
     other_refused c.args.stand.now c.args.desk.now old a c.in-Some.is _ upper c.site_at-site.result is (leaf c.args.other) (c.merge_leaf.ensures.refused refused)
+
+pub returns-clause-locks : goal.returns-clause-locks
+returns-clause-locks c = λ done.
+    let t = c.args.stand.now in
+    let a = c.in-Some.above in
+    let upper : site_stamp c.site_at-site.result ≡ a.stamp = ap site_stamp c.site_at-site.ensures.site ∙ stamp_in a.stamp _ _ in
+    two_locked (IsEitherAt t) c.merge_leaf.new.change (kept (site_stamp c.site_at-site.result)) (inr (a, c.in-Some.is, upper)) (gone t.stamp) (inl refl) (c.merge_leaf.ensures.locks done)

@@ -1,12 +1,15 @@
-use Rattle.std.proofs.Common.{◌<◌, ◌≤◌, ℕ, ◌-◌, List, Option, length, get_or, subst, sym, ap, ◌∙◌, arith}
+use Rattle.std.proofs.Common.{◌<◌, ◌≤◌, ◌-◌, ◌∙◌, ◌≡◌, ℕ, List, Option, length, get_or, subst, sym, ap, arith, inl, inr, refl}
 use Rattle.art_choose.proofs.FoundLeaves.{found_deep}
 use Rattle.art_choose.proofs.SmallerNodes.{node_sparse, shrink_knows, shrink_refused}
+use Rattle.art_choose.specs.Plans.{IsEitherAt}
 use Rattle.art_decide.proofs.AboveSites.{above_deep, above_taken}
-use Rattle.art_decide.proofs.ChildSites.{site_named}
+use Rattle.art_decide.proofs.ChildSites.{site_named, stamp_in}
+use Rattle.art_decide.proofs.LockedCells.{two_locked}
 use Rattle.art_decide.proofs.WholeCells.{above_kept, kept_within}
 use Rattle.art_decide.specs.Bodies.{AreWithin, IsFilled}
 use Rattle.art_place.specs.Desks.{above_of, node_of}
 use Rattle.art_plan.specs.Puts.{IsTaken}
+use Rattle.art_plan.specs.Seen.{gone, kept, site_stamp}
 use Rattle.art_remove.specs.Removals.{IsSparse}
 use Rattle.art_choose.proofs.shrinks.plan_shrink.Goals as goal
 
@@ -78,3 +81,10 @@ byte_at-byte-requires c =
     let some = found_deep c.requires.seen.0 c.args.stand.now c.args.desk.now c.args.old.now c.requires.found c.requires.seen.1.node c.in-Node.node c.in-Node.is in
     let deep : c.args.stand.now.depth ≤ length c.as_slice-key.result.now = subst (λ (bytes : List ℕ). c.args.stand.now.depth ≤ length bytes) (sym c.as_slice-key.ensures.value) c.requires.seen.1.node.0.standing.deep in
     omega (arith, some, deep)
+
+pub returns-clause-locks : goal.returns-clause-locks
+returns-clause-locks c = λ done.
+    let t = c.args.stand.now in
+    let a = c.in-Some.above in
+    let upper : site_stamp c.site_at-site.result ≡ a.stamp = ap site_stamp c.site_at-site.ensures.site ∙ stamp_in a.stamp _ _ in
+    two_locked (IsEitherAt t) c.shrink.new.change (kept (site_stamp c.site_at-site.result)) (inr (a, c.in-Some.is, upper)) (gone t.stamp) (inl refl) (c.shrink.ensures.locks done)

@@ -1,11 +1,14 @@
-use Rattle.std.proofs.Common.{◌≡◌, ◌+◌, ◌-◌, ℕ, List, Option, get_or, subst, sym, ap, ◌∙◌, arith}
-use Rattle.art_decide.specs.Bodies.{AreWithin, IsFilled}
-use Rattle.art_decide.proofs.ChildSites.{site_named}
+use Rattle.std.proofs.Common.{◌≡◌, ◌+◌, ◌-◌, ◌∙◌, ℕ, List, Option, get_or, subst, sym, ap, arith, inl}
+use Rattle.art_decide.proofs.ChildSites.{site_named, stamp_in}
+use Rattle.art_decide.proofs.LockedCells.{one_locked}
 use Rattle.art_decide.proofs.OtherLeaves.{leaf_apart, leaf_behind, leaf_deep, leaf_inside, leaf_knows, leaf_refused, leaf_taken}
 use Rattle.art_decide.proofs.WholeCells.{kept_within}
+use Rattle.art_decide.specs.Bodies.{AreWithin, IsFilled}
+use Rattle.art_decide.specs.Plans.{IsLockedAt}
 use Rattle.art_insert.specs.Cases.{IsForkLeaf}
-use Rattle.art_plan.specs.Puts.{IsTaken}
 use Rattle.art_place.specs.Desks.{node_of}
+use Rattle.art_plan.specs.Puts.{IsTaken}
+use Rattle.art_plan.specs.Seen.{kept, site_stamp}
 use Rattle.art_plan.specs.declared.sites.Site.{Site}
 use Rattle.art_decide.proofs.forks.beside_leaf.Goals as goal
 
@@ -63,3 +66,8 @@ fill-requires c =
     let t = c.args.stand.now in
     let old = c.requires.seen.1.vouched in
     subst (AreWithin t.stamp.cell) (sym c.node.ensures) (kept_within c.requires.seen.0 old.view t.stamp (node_of c.args.desk.now) old.standing.place.kept)
+
+pub returns-clause-locks : goal.returns-clause-locks
+returns-clause-locks c = λ done.
+    let upper : site_stamp c.site_at-site.result ≡ c.args.stand.now.stamp = ap site_stamp c.site_at-site.ensures.site ∙ stamp_in c.args.stand.now.stamp _ _ in
+    one_locked (IsLockedAt c.args.stand.now) c.fork_leaf.new.change (kept (site_stamp c.site_at-site.result)) (inl upper) (c.fork_leaf.ensures.locks done)

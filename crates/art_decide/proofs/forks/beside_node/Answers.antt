@@ -1,14 +1,17 @@
-use Rattle.std.proofs.Common.{◌≡◌, ℕ, List, Option, subst, sym, ap, ◌∙◌}
+use Rattle.std.proofs.Common.{◌≡◌, ◌∙◌, ℕ, List, Option, subst, sym, ap, inl, inr, refl}
 use Rattle.art_cell.specs.Leaves.{prefix_read}
 use Rattle.art_cell.specs.Reads.{Agrees, word_of}
 use Rattle.art_cell.specs.Words.{prefix_of}
-use Rattle.art_decide.specs.Bodies.{AreWithin, IsFilled}
 use Rattle.art_decide.proofs.AboveSites.{above_deep, above_taken}
-use Rattle.art_decide.proofs.ChildSites.{site_named}
+use Rattle.art_decide.proofs.ChildSites.{site_named, stamp_in}
+use Rattle.art_decide.proofs.LockedCells.{two_locked}
 use Rattle.art_decide.proofs.OtherPrefixes.{prefix_apart, prefix_inside, prefix_knows, prefix_meaning, prefix_on, prefix_refused, prefix_there, prefix_within, prefix_writes}
 use Rattle.art_decide.proofs.WholeCells.{above_kept, filled_agrees, kept_within}
-use Rattle.art_plan.specs.Puts.{IsTaken}
+use Rattle.art_decide.specs.Bodies.{AreWithin, IsFilled}
+use Rattle.art_decide.specs.Plans.{IsLockedAt}
 use Rattle.art_place.specs.Desks.{above_of, node_of}
+use Rattle.art_plan.specs.Puts.{IsTaken}
+use Rattle.art_plan.specs.Seen.{kept, site_stamp}
 use Rattle.art_decide.proofs.forks.beside_node.Goals as goal
 use Rattle.art_decide.proofs.forks.beside_node.Goals.{After-as_slice-2}
 
@@ -118,3 +121,13 @@ fill-requires-2 c =
     subst (AreWithin a.stamp.cell) (sym c.above.ensures)
     (kept_within z old.view a.stamp (above_of desk)
     (above_kept z key t desk old.view old.standing n (prefix_on z key t desk n c.in-OtherPrefix.field-1 c.in-OtherPrefix.at c.in-OtherPrefix.is c.requires.seen.1) a c.in-Some.is))
+
+-- ---- the cells that are locked
+
+pub returns-clause-locks : goal.returns-clause-locks
+returns-clause-locks c = λ done.
+    let t = c.args.stand.now in
+    let a = c.in-Some.above in
+    let upper : site_stamp c.site_at-site.result ≡ a.stamp = ap site_stamp c.site_at-site.ensures.site ∙ stamp_in a.stamp _ _ in
+    let writes = prefix_writes c.requires.seen.0 c.args.new.now.key.items t c.args.desk.now c.in-OtherPrefix.node c.in-OtherPrefix.field-1 c.in-OtherPrefix.at c.in-OtherPrefix.is in
+    two_locked (IsLockedAt t) c.fork_prefix.new.change (kept (site_stamp c.site_at-site.result)) (inr (a, c.in-Some.is, writes, upper)) (kept t.stamp) (inl refl) (c.fork_prefix.ensures.locks done)

@@ -1,10 +1,13 @@
-use Rattle.std.proofs.Common.{◌<◌, ◌+◌, ℕ, List, Option, get_or, subst, sym}
-use Rattle.art_decide.specs.Bodies.{AreWithin, IsFilled}
+use Rattle.std.proofs.Common.{◌<◌, ◌+◌, ℕ, List, Option, get_or, subst, sym, ap, inl}
 use Rattle.art_decide.proofs.FreeBytes.{byte_knows, byte_refused, byte_room, slot_named}
+use Rattle.art_decide.proofs.LockedCells.{one_locked}
 use Rattle.art_decide.proofs.WholeCells.{kept_within}
+use Rattle.art_decide.specs.Bodies.{AreWithin, IsFilled}
+use Rattle.art_decide.specs.Plans.{IsLockedAt}
 use Rattle.art_insert.specs.Cases.{IsAdd}
-use Rattle.art_plan.specs.Puts.{IsFree}
 use Rattle.art_place.specs.Desks.{node_of}
+use Rattle.art_plan.specs.Puts.{IsFree}
+use Rattle.art_plan.specs.Seen.{kept, site_stamp}
 use Rattle.art_plan.specs.declared.sites.Site.{Site}
 use Rattle.art_decide.proofs.frees.to_byte.Goals as goal
 
@@ -39,3 +42,7 @@ fill-requires c =
     let t = c.args.stand.now in
     let old = c.requires.seen.1.vouched in
     subst (AreWithin t.stamp.cell) (sym c.node.ensures) (kept_within c.requires.seen.0 old.view t.stamp (node_of c.args.desk.now) old.standing.place.kept)
+
+pub returns-clause-locks : goal.returns-clause-locks
+returns-clause-locks c = λ done.
+    one_locked (IsLockedAt c.args.stand.now) c.add.new.change (kept (site_stamp c.slot_at-site.result)) (inl (ap site_stamp c.slot_at-site.ensures.slot)) (c.add.ensures.locks done)

@@ -1,12 +1,15 @@
-use Rattle.std.proofs.Common.{◌<◌, ℕ, List, Option, get_or, subst, sym, ap, ◌∙◌}
-use Rattle.art_decide.specs.Bodies.{AreWithin, IsFilled}
+use Rattle.std.proofs.Common.{◌<◌, ◌∙◌, ◌≡◌, ℕ, List, Option, get_or, subst, sym, ap, inl, inr, refl}
 use Rattle.art_decide.proofs.AboveSites.{above_deep, above_taken}
-use Rattle.art_decide.proofs.ChildSites.{site_named}
+use Rattle.art_decide.proofs.ChildSites.{site_named, stamp_in}
 use Rattle.art_decide.proofs.FreeBytes.{byte_crowded, free_on}
 use Rattle.art_decide.proofs.FullNodes.{full_knows, full_refused}
+use Rattle.art_decide.proofs.LockedCells.{two_locked}
 use Rattle.art_decide.proofs.WholeCells.{above_kept, kept_within}
-use Rattle.art_plan.specs.Puts.{IsCrowded, IsTaken}
+use Rattle.art_decide.specs.Bodies.{AreWithin, IsFilled}
+use Rattle.art_decide.specs.Plans.{IsLockedAt}
 use Rattle.art_place.specs.Desks.{above_of, node_of}
+use Rattle.art_plan.specs.Puts.{IsCrowded, IsTaken}
+use Rattle.art_plan.specs.Seen.{gone, kept, site_stamp}
 use Rattle.art_decide.proofs.frees.to_larger.Goals as goal
 
 pub site_at-site-requires-clause-some : goal.site_at-site-requires-clause-some
@@ -81,3 +84,10 @@ fill-requires-2 c =
     let old = c.requires.seen.1.vouched in
     subst (AreWithin a.stamp.cell) (sym c.above.ensures)
     (kept_within z old.view a.stamp (above_of desk) (above_kept z key t desk old.view old.standing n (free_on z key t desk n c.in-Free.field-1 c.in-Free.is c.requires.seen.1) a c.in-Some.is))
+
+pub returns-clause-locks : goal.returns-clause-locks
+returns-clause-locks c = λ done.
+    let t = c.args.stand.now in
+    let a = c.in-Some.above in
+    let upper : site_stamp c.site_at-site.result ≡ a.stamp = ap site_stamp c.site_at-site.ensures.site ∙ stamp_in a.stamp _ _ in
+    two_locked (IsLockedAt t) c.grow.new.change (kept (site_stamp c.site_at-site.result)) (inr (a, c.in-Some.is, c.requires.full, upper)) (gone t.stamp) (inl refl) (c.grow.ensures.locks done)

@@ -9,7 +9,6 @@ use Rattle.art_find.specs.declared.descents.Stage.TheVariants.{Bytes, Length}
 use Rattle.art_find.proofs.Allowed.{allowed}
 use Rattle.art_find.proofs.Going.{went_on}
 use Rattle.art_find.proofs.Stages.{bytes_first, leaf_on, leaf_still, leaf_word}
-use Rattle.art_path.specs.declared.compared.Compared.TheVariants.{Same}
 use Rattle.art_find.proofs.straight.leaf_count.Goals as goal
 
 pub read_leaf-bytes-requires-clause-may : goal.read_leaf-bytes-requires-clause-may

@@ -1,11 +1,10 @@
-use Rattle.std.proofs.Common.{◌≡◌, false, [], ◌∷◌, ◌+◌, ◌-◌, ℕ, List, Some, ap, ap₂, arith, drop, take, subst, sym, ◌∙◌}
+use Rattle.std.proofs.Common.{◌≡◌, false, [], ◌∷◌, ◌+◌, ◌-◌, ℕ, Some, ap, arith, drop, take, subst, sym, ◌∙◌}
 use Rattle.art_cell.specs.Children.{child_word}
 use Rattle.art_cell.specs.Reads.{word_of}
 use Rattle.art_cell.specs.declared.cells.Link.TheVariants.{Leaf as leaf}
-use Rattle.art_cell.specs.declared.writes.Write.{Write}
 use Rattle.art_insert.specs.Puts.{inserted}
 use Rattle.art_plan.specs.Puts.{IsSitePlan, change_of, puts_of}
-use Rattle.art_plan.proofs.MadeChanges.{put_deed, put_leaf, taken_meaning, with_made, with_more_puts, with_target}
+use Rattle.art_plan.proofs.MadeChanges.{put_deed, put_leaf, taken_meaning, with_made, with_puts_of, with_target}
 use Rattle.art_insert.proofs.ForkNodes.{between, fork_node}
 use Rattle.art_insert.proofs.PlannedForks.{fork_leaf_planned}
 use Rattle.art_plan.specs.Changes.{IsPlanned}
@@ -13,32 +12,39 @@ use Rattle.art_plan.specs.Seen.{kept, site_stamp}
 use Rattle.art_plan.specs.declared.changes.Change.{Change}
 use Rattle.art_step.specs.declared.views.Stamp.{Stamp}
 use Rattle.art_insert.proofs.forks.fork_leaf.Goals as goal
+use Rattle.art_insert.proofs.forks.fork_leaf.Goals.{After-put}
+
+-- all but the words are filled in
+filled : (c : After-put) → c.make.new.change ≡ change_of (kept (site_stamp c.args.site.now) ∷ []) [] c.replaced.new.writes.items (Some c.args.made) c.fork.new.forked (Some c.args.new.now.number) [] (inserted c.args.new.now)
+filled c =
+    c.make.ensures
+    ∙ ap (with_made c.args.made) (c.lock.ensures ∙ ap (with_target c.stamp.result false) c.begin.ensures)
+    ∙ ap (λ (x : Stamp). change_of (kept x ∷ []) [] c.replaced.new.writes.items (Some c.args.made) c.fork.new.forked (Some c.args.new.now.number) [] (inserted c.args.new.now)) c.stamp.ensures
 
 pub returns-clause-planned : goal.returns-clause-planned
 returns-clause-planned c = λ done z u knows.
     let site = c.args.site.now in
     let new = c.args.new.now in
     let parting = c.args.parting in
-    let body = c.fork-body.result in
-    let writes = c.replaced-writes.result.items in
+    let body = c.fork.new.forked in
+    let writes = c.replaced.new.writes.items in
     let key = c.as_slice-key.result.now in
     let forked = fork_node (word_of body) (take (parting.depth + parting.common - parting.depth) (drop parting.depth key)) (take parting.common (drop parting.depth new.key.items)) key new.key.items (parting.depth + parting.common) c.args.byte
     c.child_word-old_leaf.result c.child_word-new_leaf.result (child_word (leaf c.args.other)) (child_word (leaf new.number))
-    (between key new.key.items parting.depth parting.common c.as_slice-key.ensures.value) c.as_slice-key.ensures.value c.child_word-old_leaf.ensures c.child_word-new_leaf.ensures c.fork-body.ensures.node in
-    let is : c.put.new.change ≡ change_of (kept (site_stamp site) ∷ []) (puts_of 0 writes) (Some c.args.made) body (Some new.number) [] (inserted new) =
-    c.put.ensures.put done
-    ∙ ap (with_more_puts 0 c.as_slice.result.now) (c.make.ensures ∙ ap (with_made c.args.made body) (c.lock.ensures ∙ ap (with_target c.stamp.result false) c.begin.ensures))
-    ∙ ap₂ (λ (x : Stamp) (ws : List Write). change_of (kept x ∷ []) (puts_of 0 ws) (Some c.args.made) body (Some new.number) [] (inserted new)) c.stamp.ensures c.as_slice.ensures.value in
+    (between key new.key.items parting.depth parting.common c.as_slice-key.ensures.value) c.as_slice-key.ensures.value c.child_word-old_leaf.ensures c.child_word-new_leaf.ensures c.fork.ensures.node in
+    let is : c.put.new.change ≡ change_of (kept (site_stamp site) ∷ []) (puts_of 0 writes) writes (Some c.args.made) body (Some new.number) [] (inserted new) =
+    c.put.ensures.put done ∙ ap (with_puts_of 0) (filled c) in
     subst (IsPlanned z u) (sym is)
-    (fork_leaf_planned z u site new parting c.args.other c.args.byte c.args.made body writes knows (subst (λ (w : ℕ). IsSitePlan site w writes) c.child_word-new_node.ensures c.replaced-writes.ensures)
-    c.requires.inside (omega (arith, c.ranges.other.fits)) (omega (arith, c.ranges.byte.fits)) c.requires.apart c.fork-body.ensures.layout forked (taken_meaning site c.requires.taken))
+    (fork_leaf_planned z u site new parting c.args.other c.args.byte c.args.made body writes knows (subst (λ (w : ℕ). IsSitePlan site w writes) c.child_word-new_node.ensures c.replaced.ensures)
+    c.requires.inside (omega (arith, c.ranges.other.fits)) (omega (arith, c.ranges.byte.fits)) c.requires.apart c.fork.ensures.layout forked (taken_meaning site c.requires.taken))
 
 pub returns-clause-deed : goal.returns-clause-deed
 returns-clause-deed c =
-    put_deed c.make.new.change c.put.new.change 0 c.as_slice.result.now c.put.result (record { put = c.put.ensures.put; same = c.put.ensures.kept })
-    ∙ ap (λ (ch : Change). ch.deed) (c.make.ensures ∙ ap (with_made c.args.made c.fork-body.result) (c.lock.ensures ∙ ap (with_target c.stamp.result false) c.begin.ensures))
+    put_deed c.make.new.change c.put.new.change 0 c.put.result (record { put = c.put.ensures.put; same = c.put.ensures.kept }) ∙ ap (λ (ch : Change). ch.deed) (filled c)
 
 pub returns-clause-leaf : goal.returns-clause-leaf
 returns-clause-leaf c =
-    put_leaf c.make.new.change c.put.new.change 0 c.as_slice.result.now c.put.result (record { put = c.put.ensures.put; same = c.put.ensures.kept })
-    ∙ ap (λ (ch : Change). ch.leaf) (c.make.ensures ∙ ap (with_made c.args.made c.fork-body.result) (c.lock.ensures ∙ ap (with_target c.stamp.result false) c.begin.ensures))
+    put_leaf c.make.new.change c.put.new.change 0 c.put.result (record { put = c.put.ensures.put; same = c.put.ensures.kept }) ∙ ap (λ (ch : Change). ch.leaf) (filled c)
+
+pub returns-clause-locks : goal.returns-clause-locks
+returns-clause-locks c = λ done. ap (λ (ch : Change). ch.targets.items) (c.put.ensures.put done) ∙ ap (λ (ch : Change). ch.targets.items) (filled c)

@@ -6,29 +6,29 @@ use Rattle.art_node.proofs.prefixes.fork.Goals as goal
 
 pub add-requires-clause-free : goal.add-requires-clause-free
 add-requires-clause-free c =
-    let node = has_none c.no_node.result.layout (word_of c.no_node.result) (word_of c.with_prefix-forked.result) c.args.prefix.now c.no_node.ensures.layout c.with_prefix-forked.ensures.node c.no_node.ensures.none in
+    let node = has_none c.clear.new.body.layout (word_of c.clear.new.body) (word_of c.set_prefix.new.body) c.args.prefix.now c.clear.ensures.layout c.set_prefix.ensures.node c.clear.ensures.none in
     node.children c.args.one (omega (arith, c.ranges.one.fits))
 
 pub add-requires-2-clause-body : goal.add-requires-2-clause-body
 add-requires-2-clause-body c =
-    let w = word_of c.with_prefix-forked.result in
-    let node = has_none c.no_node.result.layout (word_of c.no_node.result) w c.args.prefix.now c.no_node.ensures.layout c.with_prefix-forked.ensures.node c.no_node.ensures.none in
+    let w = word_of c.set_prefix.new.body in
+    let node = has_none c.clear.new.body.layout (word_of c.clear.new.body) w c.args.prefix.now c.clear.ensures.layout c.set_prefix.ensures.node c.clear.ensures.none in
     let first = c.add.ensures.added (true_from c.add.result (λ refused. room_for_one w c.args.prefix.now node (c.add.ensures.full.0 refused))) in
-    record { layout = c.add.ensures.layout ∙ c.with_prefix-forked.ensures.layout ∙ c.no_node.ensures.layout; meaning = first.body }
+    record { layout = c.add.ensures.layout ∙ c.set_prefix.ensures.layout ∙ c.clear.ensures.layout; meaning = first.body }
 
 pub add-requires-2-clause-free : goal.add-requires-2-clause-free
 add-requires-2-clause-free c =
-    let w = word_of c.with_prefix-forked.result in
-    let node = has_none c.no_node.result.layout (word_of c.no_node.result) w c.args.prefix.now c.no_node.ensures.layout c.with_prefix-forked.ensures.node c.no_node.ensures.none in
+    let w = word_of c.set_prefix.new.body in
+    let node = has_none c.clear.new.body.layout (word_of c.clear.new.body) w c.args.prefix.now c.clear.ensures.layout c.set_prefix.ensures.node c.clear.ensures.none in
     let first = c.add.ensures.added (true_from c.add.result (λ refused. room_for_one w c.args.prefix.now node (c.add.ensures.full.0 refused))) in
     still_free w c.args.prefix.now node c.args.one c.args.one_child (word_of c.add.new.body) (omega (arith, c.ranges.one.fits)) first c.args.other (omega (arith, c.ranges.other.fits)) c.requires.apart
 
 pub returns-clause-node : goal.returns-clause-node
 returns-clause-node c =
-    let w = word_of c.with_prefix-forked.result in
+    let w = word_of c.set_prefix.new.body in
     let p = c.args.prefix.now in
     let small = c.ranges.one.fits in
-    let node = has_none c.no_node.result.layout (word_of c.no_node.result) w p c.no_node.ensures.layout c.with_prefix-forked.ensures.node c.no_node.ensures.none in
+    let node = has_none c.clear.new.body.layout (word_of c.clear.new.body) w p c.clear.ensures.layout c.set_prefix.ensures.node c.clear.ensures.none in
     let first = c.add.ensures.added (true_from c.add.result (λ refused. room_for_one w p node (c.add.ensures.full.0 refused))) in
     let second = c.add-2.ensures.added (true_from c.add-2.result (λ refused. room_for_another w p node c.args.one c.args.one_child (word_of c.add.new.body) (omega (arith, small)) first (c.add-2.ensures.full.0 refused))) in
     has_two w p node c.args.one c.args.one_child (word_of c.add.new.body) (omega (arith, small)) first c.args.other c.args.other_child (word_of c.add-2.new.body) c.requires.apart second

@@ -10,10 +10,10 @@ pub returns : goal.returns
 returns c =
     let k = c.args.body.now.layout in
     let w = word_of c.args.body.now in
-    let after = word_of c.with_prefix.result in
-    let same : written w c.changes.result.items ≡ after = ap (written w) c.changes.ensures ∙ (λ i p. written-changes k w after (omega (arith, past_prefix k)) c.with_prefix.ensures.outside p i) in
+    let after = word_of c.set_prefix.new.body in
+    let same : written w c.changes.new.writes.items ≡ after = ap (written w) c.changes.ensures ∙ (λ i p. written-changes k w after (omega (arith, past_prefix k)) c.set_prefix.ensures.outside p i) in
     record {
-      node = subst (λ (x : Words). IsNodeOf k x c.args.prefix.now (child_of k w)) (sym same) c.with_prefix.ensures.node;
+      node = subst (λ (x : Words). IsNodeOf k x c.args.prefix.now (child_of k w)) (sym same) c.set_prefix.ensures.node;
       exact = c.changes.ensures ∙ ap (changes k w) (sym same);
-      outside = subst (SameOutside k w) (sym same) c.with_prefix.ensures.outside;
+      outside = subst (SameOutside k w) (sym same) c.set_prefix.ensures.outside;
     }

@@ -5,6 +5,6 @@ use Rattle.art_node.proofs.relaid.relaid.Given as goal
 
 abbrev pub invariant-loop-entry : goal.invariant-loop-entry
 invariant-loop-entry g l = record {
-  layout : l.relaid.layout ≡ g.New.NodeKind.layout;
-  copied : Copied g.Old.NodeKind.layout g.New.NodeKind.layout (word_of l.body) (word_of l.relaid) l.entry-index;
+  layout : l.after.layout ≡ g.New.NodeKind.layout;
+  copied : Copied g.Old.NodeKind.layout g.New.NodeKind.layout (word_of l.body) (word_of l.after) l.entry-index;
 }

@@ -1,14 +1,12 @@
 use Rattle.std.proofs.Common.{◌≡◌, true, false, [], ◌∷◌, ℕ, List, None, ap, arith, length, subst, sym, ◌∙◌}
 use Rattle.art_cell.specs.Children.{child_word}
 use Rattle.art_cell.specs.declared.cells.Link.TheVariants.{Leaf as leaf}
-use Rattle.art_cell.specs.declared.writes.Write.{Write}
-use Rattle.art_plan.proofs.MadeChanges.{put_deed, taken_meaning, with_more_puts, with_target, with_unlinked}
+use Rattle.art_plan.proofs.MadeChanges.{put_deed, taken_meaning, with_puts_of, with_target, with_unlinked}
 use Rattle.art_plan.specs.Changes.{IsPlanned}
 use Rattle.art_plan.specs.Puts.{IsSitePlan, change_of, puts_of}
-use Rattle.art_plan.specs.Seen.{kept, site_stamp}
+use Rattle.art_plan.specs.Seen.{gone, kept, site_stamp}
 use Rattle.art_plan.specs.declared.changes.Change.{Change}
-use Rattle.art_plan.specs.declared.changes.Put.{Put}
-use Rattle.art_remove.proofs.GoneNodes.{both_words, gone, words_are}
+use Rattle.art_remove.proofs.GoneNodes.{both_words, words_are}
 use Rattle.art_remove.proofs.PlannedMerges.{merge_leaf_planned}
 use Rattle.art_remove.specs.Removals.{removed}
 use Rattle.art_step.specs.declared.views.Stamp.{Stamp}
@@ -16,20 +14,20 @@ use Rattle.art_remove.proofs.merges.merge_leaf.Goals as goal
 use Rattle.art_remove.proofs.merges.merge_leaf.Goals.{After-put}
 
 -- the child word is that of the other leaf
-site_plan : (c : After-put) → IsSitePlan c.args.site.now (child_word (leaf c.args.other)) c.replaced-writes.result.items
-site_plan c = subst (λ (w : ℕ). IsSitePlan c.args.site.now w c.replaced-writes.result.items) c.child_word.ensures c.replaced-writes.ensures
+site_plan : (c : After-put) → IsSitePlan c.args.site.now (child_word (leaf c.args.other)) c.replaced.new.writes.items
+site_plan c = subst (λ (w : ℕ). IsSitePlan c.args.site.now w c.replaced.new.writes.items) c.child_word.ensures c.replaced.ensures
 
 -- all but the words are filled in
 filled : (c : After-put) → c.unlink-2.new.change
-    ≡ change_of (kept (site_stamp c.args.site.now) ∷ gone c.args.below.now.stamp ∷ []) [] None c.args.change.now.body None (both_words c.args.old.now.number c.args.below.now.node) (removed c.args.old.now)
+    ≡ change_of (kept (site_stamp c.args.site.now) ∷ gone c.args.below.now.stamp ∷ []) [] c.replaced.new.writes.items None c.args.change.now.body None (both_words c.args.old.now.number c.args.below.now.node) (removed c.args.old.now)
 filled c =
     let body = c.args.change.now.body in
     let upper = c.lock.ensures ∙ ap (with_target c.stamp.result false) c.begin.ensures in
     let both = c.lock-2.ensures ∙ ap (with_target c.args.below.now.stamp true) upper in
     c.unlink-2.ensures
     ∙ ap (with_unlinked c.child_word-old_node.result) (c.unlink.ensures ∙ ap (with_unlinked c.child_word-old_leaf.result) both)
-    ∙ ap (λ (x : Stamp). change_of (kept x ∷ gone c.args.below.now.stamp ∷ []) [] None body None (c.child_word-old_leaf.result ∷ c.child_word-old_node.result ∷ []) (removed c.args.old.now)) c.stamp.ensures
-    ∙ ap (λ (us : List ℕ). change_of (kept (site_stamp c.args.site.now) ∷ gone c.args.below.now.stamp ∷ []) [] None body None us (removed c.args.old.now))
+    ∙ ap (λ (x : Stamp). change_of (kept x ∷ gone c.args.below.now.stamp ∷ []) [] c.replaced.new.writes.items None body None (c.child_word-old_leaf.result ∷ c.child_word-old_node.result ∷ []) (removed c.args.old.now)) c.stamp.ensures
+    ∙ ap (λ (us : List ℕ). change_of (kept (site_stamp c.args.site.now) ∷ gone c.args.below.now.stamp ∷ []) [] c.replaced.new.writes.items None body None us (removed c.args.old.now))
     (words_are c.args.old.now.number c.args.below.now.node c.child_word-old_leaf.result c.child_word-old_node.result c.child_word-old_leaf.ensures c.child_word-old_node.ensures)
 
 pub returns-clause-planned : goal.returns-clause-planned
@@ -38,22 +36,24 @@ returns-clause-planned c = λ done z u depth byte beside knows.
     let old = c.args.old.now in
     let below = c.args.below.now in
     let body = c.args.change.now.body in
-    let writes = c.replaced-writes.result.items in
+    let writes = c.replaced.new.writes.items in
     let us = both_words old.number below.node in
     let ts = kept (site_stamp site) ∷ gone below.stamp ∷ [] in
-    let is : c.put.new.change ≡ change_of ts (puts_of 0 writes) None body None us (removed old) =
-    c.put.ensures.put done
-    ∙ ap (with_more_puts 0 c.as_slice.result.now) (filled c)
-    ∙ ap (λ (ws : List Write). change_of ts (puts_of 0 ws) None body None us (removed old)) c.as_slice.ensures.value in
+    let is : c.put.new.change ≡ change_of ts (puts_of 0 writes) writes None body None us (removed old) =
+    c.put.ensures.put done ∙ ap (with_puts_of 0) (filled c) in
     subst (IsPlanned z u) (sym is) (merge_leaf_planned z u site old depth below byte beside c.args.other body writes knows (site_plan c) (taken_meaning site c.requires))
 
 pub returns-clause-deed : goal.returns-clause-deed
 returns-clause-deed c =
-    put_deed c.unlink-2.new.change c.put.new.change 0 c.as_slice.result.now c.put.result (record { put = c.put.ensures.put; same = c.put.ensures.kept })
+    put_deed c.unlink-2.new.change c.put.new.change 0 c.put.result (record { put = c.put.ensures.put; same = c.put.ensures.kept })
     ∙ ap (λ (ch : Change). ch.deed) (filled c)
 
 pub returns-clause-refused : goal.returns-clause-refused
 returns-clause-refused c = λ refused.
-    let empty : c.unlink-2.new.change.puts.items ≡ [] = ap (λ (ch : Change). ch.puts.items) (filled c) in
     let many = c.put.ensures.refused refused in
-    (c.replaced-writes.result.items, site_plan c, (let e = ap (λ (ps : List Put). length ps) empty in let f = ap (λ (ws : List Write). length ws) c.as_slice.ensures.value in omega (arith, many, e, f)))
+    let had : length c.unlink-2.new.change.puts.items ≡ 0 = ap (λ (ch : Change). length ch.puts.items) (filled c) in
+    let more : length c.unlink-2.new.change.writes.items ≡ length c.replaced.new.writes.items = ap (λ (ch : Change). length ch.writes.items) (filled c) in
+    (c.replaced.new.writes.items, site_plan c, omega (arith, many, had, more))
+
+pub returns-clause-locks : goal.returns-clause-locks
+returns-clause-locks c = λ done. ap (λ (ch : Change). ch.targets.items) (c.put.ensures.put done) ∙ ap (λ (ch : Change). ch.targets.items) (filled c)

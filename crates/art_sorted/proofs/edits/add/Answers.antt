@@ -5,6 +5,6 @@ use Rattle.art_sorted.proofs.edits.add.Goals as goal
 
 pub returns-clause-added : goal.returns-clause-added
 returns-clause-added c _ =
-    added c.args.sorted (word_of c.args.body.now) (word_of c.write.new.body) c.list-children.result.items c.insert.new.self.items c.position-index.result c.args.byte c.args.child
-    c.list-children.ensures c.requires.body.meaning c.requires.free (omega arith) c.requires.child c.position-index.ensures (λ e. omega (arith, e)) (c.write.ensures.fits c.requires.body.meaning.words)
+    added c.args.sorted (word_of c.args.body.now) (word_of c.write.new.body) c.listed-children.result.items c.insert.new.self.items c.position-index.result c.args.byte c.args.child
+    c.listed-children.ensures c.requires.body.meaning c.requires.free (omega arith) c.requires.child c.position-index.ensures (λ e. omega (arith, e)) (c.write.ensures.fits c.requires.body.meaning.words)
     c.insert.ensures.items c.write.ensures.holds

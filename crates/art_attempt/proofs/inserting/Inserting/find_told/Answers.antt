@@ -7,6 +7,15 @@ use Rattle.art_find.specs.Descents.{asks}
 use Rattle.art_find.specs.declared.asked.Asked.{Asked}
 use Rattle.art_place.specs.declared.findings.Stand.{Stand}
 
+pub settled-requires : goal.settled-requires
+settled-requires c =
+    let m = c.args.self.now in
+    let t = c.in-Some.stand in
+    let q = c.requires.told in
+    let at = sym c.stand.ensures.at ∙ c.in-Some.is in
+    let check : check_of t ≡ q.4 = same_Some {A = Asked} (check_of t) q.4 (sym (ap (λ (o : Option Stand). asks_place o (asks m.finding.descent.stage)) at) ∙ q.7) in
+    (q.0, q.1, q.2, q.3, q.5, q.6, at, subst (λ (a : Asked). Answers q.0 (deed_at m c.args.room.now) a c.args.answer q.2 q.3) (sym check) q.8)
+
 pub returns-in-Some-clause-fits : goal.returns-in-Some-clause-fits
 returns-in-Some-clause-fits c z u v w asked room f is row =
     let m = c.args.self.now in

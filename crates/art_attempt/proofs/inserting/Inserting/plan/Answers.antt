@@ -1,5 +1,6 @@
-use Rattle.std.proofs.Common.{◌∙◌, ap, sym, subst, arith}
-use Rattle.art_attempt.proofs.Enters.{leaf_ready, node_ready, vouched_seen, vouched_so, vouched_standing}
+use Rattle.std.proofs.Common.{◌∙◌, ap, sym, subst}
+use Rattle.art_attempt.proofs.Enters.{leaf_ready, node_ready, vouched_each, vouched_seen, vouched_so, vouched_spent, vouched_standing}
+use Rattle.art_attempt.proofs.Tries.{later_first}
 use Rattle.art_attempt.proofs.inserting.Inserting.plan.Goals as goal
 use Rattle.art_attempt.specs.Rooms.{number_for}
 use Rattle.art_decide.specs.Plans.{HasNeeded}
@@ -15,7 +16,15 @@ returns-then-not-plan_insert-clause-fits c z u v room h is =
     let so = vouched_so z u c.args.self.now c.args.room.now v h is in
     record {
       room = record { sizes = room.sizes; key = room.key };
-      stage = (record { still = so.still; has = so.has }, (c.number_for-made.result, c.plan_insert.ensures.refused c.if-not-plan_insert.true));
+      stage = (
+        record { still = so.still; spent = so.spent; has = so.has },
+        record {
+          seen = vouched_seen z u c.args.self.now c.args.room.now v h is;
+          each = vouched_each z u c.args.self.now c.args.room.now v h is;
+          made = c.number_for-made.result;
+          much = c.plan_insert.ensures.refused c.if-not-plan_insert.true;
+        },
+      );
     }
 
 pub returns-clause-fits : goal.returns-clause-fits
@@ -34,7 +43,9 @@ returns-clause-fits c z u v room h is =
         record {
           early = v;
           base = so.still;
-          later = omega arith;
+          later = later_first v;
+          spent = vouched_spent z u m r v h;
+          locks = record { only = c.plan_insert.ensures.locks c.if-not-plan_insert.false; each = vouched_each z u m r v h is };
           has = so.has;
           leaf = c.plan_insert.ensures.leaf ∙ sym at;
           deed = c.plan_insert.ensures.deed;

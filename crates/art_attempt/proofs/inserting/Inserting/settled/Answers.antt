@@ -1,6 +1,6 @@
 use Rattle.std.proofs.Common.{◌∙◌, sym}
-use Rattle.art_attempt.proofs.Finds.{comes_there, deed_there, ends_so, ends_there, fails_there, stands_still, stands_there}
-use Rattle.art_attempt.proofs.Steps.{cell_later}
+use Rattle.art_attempt.proofs.Finds.{comes_there, deed_there, ends_so, ends_there, fails_there, finding_spent, place_checked, place_off, stands_still, stands_there}
+use Rattle.art_attempt.proofs.Steps.{cell_later, cell_step}
 use Rattle.art_attempt.proofs.inserting.Inserting.settled.Goals as goal
 use Rattle.art_attempt.specs.Inserting.{check_of, deed_at, present_of}
 
@@ -10,10 +10,11 @@ returns-then-not-passed-clause-fits c z u v w room f at row =
     let r = c.args.room.now in
     let d = deed_at m r in
     let later = cell_later z d (check_of c.args.stand) c.args.answer v w row in
+    let step = cell_step z d (check_of c.args.stand) c.args.answer v w row in
     let s = stands_there z r.row.key.items (present_of r.row) m.finding r.desk f.early v f.fits f.exact c.args.stand at in
     record {
       room = room;
-      stage = fails_there z u m r v w f later c.args.stand s d c.args.answer row (sym c.passed.ensures ∙ c.if-not-passed.true);
+      stage = fails_there z u m r v w room.key.short f later step c.args.stand s d c.args.answer row (sym c.passed.ensures ∙ c.if-not-passed.true);
     }
 
 pub returns-in-Some-clause-fits : goal.returns-in-Some-clause-fits
@@ -22,10 +23,11 @@ returns-in-Some-clause-fits c z u v w room f at row =
     let r = c.args.room.now in
     let d = deed_at m r in
     let later = cell_later z d (check_of c.args.stand) c.args.answer v w row in
+    let step = cell_step z d (check_of c.args.stand) c.args.answer v w row in
     let s = stands_there z r.row.key.items (present_of r.row) m.finding r.desk f.early v f.fits f.exact c.args.stand at in
     record {
       room = room;
-      stage = ends_there z u m r v w f later c.args.stand s d c.args.answer c.in-Some.entered _ (deed_there m r c.args.stand at) row (sym c.passed.ensures ∙ c.if-not-passed.false)
+      stage = ends_there z u m r v w room.key.short f later step c.args.stand s d c.args.answer c.in-Some.entered (deed_there m r c.args.stand at) row (sym c.passed.ensures ∙ c.if-not-passed.false)
           (sym c.entered_by.ensures ∙ c.in-Some.is);
     }
 
@@ -36,10 +38,22 @@ returns-in-None-clause-fits c z u v w room f at row =
     let d = deed_at m r in
     let t = c.args.stand in
     let later = cell_later z d (check_of t) c.args.answer v w row in
+    let step = cell_step z d (check_of t) c.args.answer v w row in
     let s = stands_there z r.row.key.items (present_of r.row) m.finding r.desk f.early v f.fits f.exact t at in
     let on = sym c.passed.ensures ∙ c.if-not-passed.false in
     let none = sym c.entered_by.ensures ∙ c.in-None.is in
-    let so = ends_so z u m r v w f later t s d c.args.answer row on none in
+    let so = ends_so z u m r v w room.key.short f later step t s d c.args.answer row on none in
     c.supply.ensures.fits z u w room so.still
-    (record { standing = stands_still z u m r v w f later t s d c.args.answer row on none; comes = comes_there z u m r v w f later t s d c.args.answer row on none })
+    (finding_spent z u m r v w room.key.short f later step)
+    (record {
+      standing = stands_still z u m r v w room.key.short f later step t s d c.args.answer row on none;
+      checked = place_checked z u m r v w room.key.short f later step t s d c.args.answer row on none;
+      comes = comes_there z u m r v w room.key.short f later step t s d c.args.answer row on none;
+    })
     so.has
+
+pub returns-then-not-passed-clause-anew : goal.returns-then-not-passed-clause-anew
+returns-then-not-passed-clause-anew c is =
+    let q = c.requires in
+    let t = c.args.stand in
+    place_off q.0 (deed_at c.args.self.now c.args.room.now) t.verdict t c.args.answer q.2 q.3 q.7 (sym c.passed.ensures ∙ c.if-not-passed.true)

@@ -7,7 +7,7 @@ use Rattle.art_gather.specs.declared.supplying.Wants.{Wants}
 use Rattle.art_step.specs.declared.views.Sizes.{Sizes as SizesOf}
 
 pub returns-clause-fits : goal.returns-clause-fits
-returns-clause-fits c z u v room still place has =
+returns-clause-fits c z u v room still spent place has =
     let m = c.args.self.now in
     let r = c.args.room.now in
     let k = r.row.key.items in
@@ -17,6 +17,7 @@ returns-clause-fits c z u v room still place has =
     c.supply_on.ensures.fits z u v (record { sizes = room.sizes; key = room.key }) (record {
       early = v;
       base = still;
-      place = record { standing = place.standing; comes = place.comes };
+      spent = spent;
+      place = record { standing = place.standing; checked = place.checked; comes = place.comes };
       fits = subst (λ (x : Wants). SupplyFits x.sizes x k value c.new-self.result c.new-self.new.stock v v) same fits;
     })

@@ -16,6 +16,7 @@ returns-clause-fits c z u v w asked room h is row =
     c.supply_on.ensures.fits z u w (record { sizes = room.sizes; key = room.key }) (record {
       early = h.early;
       base = h.base;
-      place = record { standing = h.place.standing; comes = h.place.comes };
+      spent = h.spent;
+      place = record { standing = h.place.standing; checked = h.place.checked; comes = h.place.comes };
       fits = subst (λ (x : Wants). SupplyFits z x k value c.told.new.self c.told.new.stock h.early w) (sym same) fits;
     })

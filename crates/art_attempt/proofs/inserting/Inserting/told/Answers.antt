@@ -92,3 +92,13 @@ returns-in-Making-clause-left c left begun =
     let less = c.make_told.ensures.left left (λ is. begun (ap (λ (s : StageOf). free_at s m.making) c.in-Making.is ∙ is)) in
     subst (λ (s : StageOf). steps_left (left - steps_in c.args.answer) c.make_told.new.self < left_at left s m.making) (sym c.in-Making.is)
     (subst (λ (n : ℕ). steps_left (left - n) c.make_told.new.self < making_left left m.making) (sym count) less)
+
+pub supply_told-requires : goal.supply_told-requires
+supply_told-requires c =
+    let m = c.args.self.now in
+    let r = c.args.room.now in
+    let q = c.requires in
+    let stage = subst (λ (s : StageOf). StageFits q.0 q.1 s m r q.2) c.in-Supplying.is q.5.stage in
+    let at = sym (ap (λ (s : StageOf). asks_at s m r) c.in-Supplying.is) ∙ q.6 in
+    let k = supply_told q.0 (deed_at m r) r.change q.2 q.3 (supply_asks m r) q.4 c.args.answer at q.7 in
+    (q.0, q.1, q.2, q.3, k.0, q.5.room, stage.0, k.1, subst (λ (x : ℕ). SupplyAnswers q.0 k.0 x q.2 q.3) (sym c.word_in.ensures) k.2)

@@ -1,5 +1,6 @@
-use Rattle.std.proofs.Common.{subst, arith}
-use Rattle.art_attempt.proofs.Enters.{supplies_so, vouching_begins}
+use Rattle.std.proofs.Common.{subst}
+use Rattle.art_attempt.proofs.Enters.{supplies_so, supplies_spent, vouching_begins}
+use Rattle.art_attempt.proofs.Tries.{later_first}
 use Rattle.art_attempt.proofs.inserting.Inserting.vouch.Goals as goal
 use Rattle.art_decide.specs.declared.needs.Needs.{Needs}
 use Rattle.art_gather.specs.Vouching.{Fits as VouchingFits}
@@ -16,7 +17,8 @@ returns-clause-fits c z u v room h all =
         record {
           early = v;
           base = so.still;
-          later = omega arith;
+          later = later_first v;
+          spent = supplies_spent z u m r v h;
           has = so.has;
           all = all;
           comes = h.place.comes;

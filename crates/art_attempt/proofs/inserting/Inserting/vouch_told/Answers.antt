@@ -1,6 +1,7 @@
-use Rattle.std.proofs.Common.{◌∙◌, ap, sym, subst, Some, arith}
-use Rattle.art_attempt.proofs.Enters.{vouched_changed}
+use Rattle.std.proofs.Common.{◌∙◌, ap, sym, subst, Some}
+use Rattle.art_attempt.proofs.Enters.{changed_by, vouched_changed}
 use Rattle.art_attempt.proofs.Steps.{cell_later}
+use Rattle.art_attempt.proofs.Tries.{later_then}
 use Rattle.art_attempt.proofs.inserting.Inserting.vouch_told.Goals as goal
 use Rattle.art_attempt.specs.Inserting.{HasVouched, StageFits, deed_at}
 use Rattle.art_attempt.specs.declared.inserting.Inserting.{Inserting}
@@ -19,14 +20,14 @@ plan-requires c =
     let k = r.row.key.items in
     let d = deed_at m r in
     let one = cell_later q.0 d q.4 c.args.answer q.2 q.3 q.8 in
-    let before = h.later in
     let next : Inserting = record m { vouching = c.told.new.self } in
     let then : Room = record r { desk = c.told.new.desk } in
     let fits = c.told.ensures.fits q.0 k d h.early q.2 q.3 q.4 (subst (λ (n : Needs). VouchFits q.0 k n.above m.stand m.vouching r.desk h.early q.2) (sym c.needed-both.ensures) h.fits) q.7 q.8 in
     let vouched : HasVouched q.0 q.1 next then q.3 = record {
       early = h.early;
       base = h.base;
-      later = omega (arith, one, before);
+      later = later_then h.early q.2 q.3 h.later one;
+      spent = h.spent;
       has = h.has;
       all = h.all;
       comes = h.comes;
@@ -42,14 +43,14 @@ returns-in-None-clause-fits c z u v w asked room g is row =
     let k = r.row.key.items in
     let d = deed_at m r in
     let one = cell_later z d asked c.args.answer v w row in
-    let before = h.later in
     let next : Inserting = record m { vouching = c.told.new.self } in
     let then : Room = record r { desk = c.told.new.desk } in
     let fits = c.told.ensures.fits z k d h.early v w asked (subst (λ (n : Needs). VouchFits z k n.above m.stand m.vouching r.desk h.early v) (sym c.needed-both.ensures) h.fits) is row in
     let vouched : HasVouched z u next then w = record {
       early = h.early;
       base = h.base;
-      later = omega (arith, one, before);
+      later = later_then h.early v w h.later one;
+      spent = h.spent;
       has = h.has;
       all = h.all;
       comes = h.comes;
@@ -68,21 +69,21 @@ returns-in-Some-Changed-clause-fits c z u v w asked room g is row =
     let k = r.row.key.items in
     let d = deed_at m r in
     let one = cell_later z d asked c.args.answer v w row in
-    let before = h.later in
     let next : Inserting = record m { vouching = c.told.new.self } in
     let then : Room = record r { desk = c.told.new.desk } in
     let fits = c.told.ensures.fits z k d h.early v w asked (subst (λ (n : Needs). VouchFits z k n.above m.stand m.vouching r.desk h.early v) (sym c.needed-both.ensures) h.fits) is row in
     let vouched : HasVouched z u next then w = record {
       early = h.early;
       base = h.base;
-      later = omega (arith, one, before);
+      later = later_then h.early v w h.later one;
+      spent = h.spent;
       has = h.has;
       all = h.all;
       comes = h.comes;
       fits = subst (λ (n : Needs). VouchFits z k n.above m.stand c.told.new.self c.told.new.desk h.early w) c.needed-both.ensures fits;
     } in
     let so = vouched_changed z u next then w vouched (sym c.ended.ensures.at ∙ (c.in-Some-Changed.is ∙ ap (λ (e : Vouched). Some e) c.in-Some-Changed.field-0-is)) in
-    record { room = record { sizes = room.sizes; key = room.key }; stage = record { still = so.still; has = so.has } }
+    record { room = record { sizes = room.sizes; key = room.key }; stage = (record { still = so.0.still; spent = so.0.spent; has = so.0.has }, so.1) }
 
 pub returns-in-Some-Unchanged-clause-fits : goal.returns-in-Some-Unchanged-clause-fits
 returns-in-Some-Unchanged-clause-fits c z u v w asked room g is row =
@@ -92,14 +93,14 @@ returns-in-Some-Unchanged-clause-fits c z u v w asked room g is row =
     let k = r.row.key.items in
     let d = deed_at m r in
     let one = cell_later z d asked c.args.answer v w row in
-    let before = h.later in
     let next : Inserting = record m { vouching = c.told.new.self } in
     let then : Room = record r { desk = c.told.new.desk } in
     let fits = c.told.ensures.fits z k d h.early v w asked (subst (λ (n : Needs). VouchFits z k n.above m.stand m.vouching r.desk h.early v) (sym c.needed-both.ensures) h.fits) is row in
     let vouched : HasVouched z u next then w = record {
       early = h.early;
       base = h.base;
-      later = omega (arith, one, before);
+      later = later_then h.early v w h.later one;
+      spent = h.spent;
       has = h.has;
       all = h.all;
       comes = h.comes;
@@ -107,3 +108,17 @@ returns-in-Some-Unchanged-clause-fits c z u v w asked room g is row =
     } in
     c.plan.ensures.fits z u w (record { sizes = room.sizes; key = room.key }) vouched
     (sym c.ended.ensures.at ∙ (c.in-Some-Unchanged.is ∙ ap (λ (e : Vouched). Some e) c.in-Some-Unchanged.field-0-is))
+
+pub returns-in-Some-Changed-clause-anew : goal.returns-in-Some-Changed-clause-anew
+returns-in-Some-Changed-clause-anew c anew =
+    let q = c.requires.told in
+    let m = c.args.self.now in
+    let r = c.args.room.now in
+    let h = q.6 in
+    let k = r.row.key.items in
+    let d = deed_at m r in
+    let both = c.needed-both.result.above in
+    let before = subst (λ (n : Needs). VouchFits q.0 k n.above m.stand m.vouching r.desk h.early q.2) (sym c.needed-both.ensures) h.fits in
+    let after = c.told.ensures.fits q.0 k d h.early q.2 q.3 q.4 before q.7 q.8 in
+    changed_by q.0 k both m.stand m.vouching c.told.new.self r.desk c.told.new.desk d q.4 c.args.answer h.early q.2 q.3 before after q.7 q.8
+    (sym c.ended.ensures.at ∙ (c.in-Some-Changed.is ∙ ap (λ (e : Vouched). Some e) c.in-Some-Changed.field-0-is))

@@ -4,4 +4,4 @@ use Rattle.art_cell.proofs.node_kinds.NodeKind.plan_drop.Goals as goal
 
 pub returns : goal.returns
 returns g c =
-    plan_of _ c.args.body.now.layout (word_of c.args.body.now) (word_of c.take.new.body) c.changes.result.items _ c.requires.body.layout c.take.ensures.outside c.changes.ensures c.take.ensures.taken
+    plan_of _ c.args.body.now.layout (word_of c.args.body.now) (word_of c.take.new.body) c.changes.new.writes.items _ c.requires.body.layout c.take.ensures.outside c.changes.ensures c.take.ensures.taken

@@ -4,4 +4,4 @@ use Rattle.art_cell.proofs.node_kinds.NodeKind.plan_set.Goals as goal
 
 pub returns : goal.returns
 returns g c =
-    plan_of _ c.args.body.now.layout (word_of c.args.body.now) (word_of c.set.new.body) c.changes.result.items _ c.requires.body.layout c.set.ensures.outside c.changes.ensures c.set.ensures.set
+    plan_of _ c.args.body.now.layout (word_of c.args.body.now) (word_of c.set.new.body) c.changes.new.writes.items _ c.requires.body.layout c.set.ensures.outside c.changes.ensures c.set.ensures.set

@@ -1,9 +1,10 @@
-use Rattle.std.proofs.Common.{◌≡◌, Some, subst}
-use Rattle.art_attempt.specs.Asking.{Answers}
-use Rattle.art_change.proofs.EitherKind.{erases_on, inserts_on}
+use Rattle.std.proofs.Common.{◌≡◌, Some, sym, subst}
+use Rattle.art_attempt.specs.Asking.{Answers, cell_in}
+use Rattle.art_change.proofs.EitherKind.{erase_anew, erases_on, insert_anew, inserts_on}
 use Rattle.art_change.proofs.tries.Trying.told.Goals as goal
-use Rattle.art_change.specs.Tries.{Fits, asks, deed_at}
+use Rattle.art_change.specs.Tries.{Fits, IsAnewBy, asks, deed_at}
 use Rattle.art_change.specs.declared.tries.Trying.{Trying as TryingOf}
+use Rattle.art_change.specs.declared.tries.Trying.TheVariants.{Inserting, Erasing}
 
 pub returns-in-Inserting-clause-fits : goal.returns-in-Inserting-clause-fits
 returns-in-Inserting-clause-fits c z u v w job asked fits is row =
@@ -20,3 +21,11 @@ returns-in-Erasing-clause-fits c z u v w job asked fits is row =
     let i = subst (λ (t : TryingOf). asks t r ≡ Some asked) c.in-Erasing.is is in
     let a = subst (λ (t : TryingOf). Answers z (deed_at t r) r.change asked c.args.answer v w) c.in-Erasing.is row in
     erases_on z u r v c.told-in-Erasing.new.room w c.in-Erasing.erasing c.told-in-Erasing.new.self job f (λ g. c.told-in-Erasing.ensures.fits z u v w asked g i a)
+
+pub returns-in-Inserting-clause-anew : goal.returns-in-Inserting-clause-anew
+returns-in-Inserting-clause-anew c is =
+    subst (λ (t : TryingOf). IsAnewBy t (Inserting c.told.new.self) (cell_in c.args.answer)) (sym c.in-Inserting.is) (c.told.ensures.anew (insert_anew c.told.new.self is))
+
+pub returns-in-Erasing-clause-anew : goal.returns-in-Erasing-clause-anew
+returns-in-Erasing-clause-anew c is =
+    subst (λ (t : TryingOf). IsAnewBy t (Erasing c.told-in-Erasing.new.self) (cell_in c.args.answer)) (sym c.in-Erasing.is) (c.told-in-Erasing.ensures.anew (erase_anew c.told-in-Erasing.new.self is))

@@ -6,6 +6,7 @@ use Rattle.art_change.specs.declared.writes.Write.{Write}
 use Rattle.art_change.specs.declared.writes.Stage.{Stage as StageOf}
 use Rattle.art_change.specs.declared.writes.Stage.TheVariants.{Closing, Ended}
 use Rattle.art_attempt.specs.declared.rooms.Room.{Room as RoomOf}
+use Rattle.art_epoch.proofs.Counting.{answers_count}
 use Rattle.art_epoch.specs.Limbo.{places_of}
 use Rattle.art_change.specs.Tries.{key_of, value_of}
 use Rattle.art_frame.specs.Closings.{ClosingFits}
@@ -16,23 +17,28 @@ returns-then-ended-clause-fits c z u v w ps asked room k is row =
     let m = c.args.self.now in
     let r = c.args.room.now in
     let words = c.gone_by.ensures.words in
+    let one = answers_count z asked c.args.word v w row in
+    let before = k.later in
     let fits = c.told.ensures.fits z (key_of m.job r).items (value_of m.job r) k.ended v w k.waiting asked
     (subst (λ (ws : List ℕ). ClosingFits z (key_of m.job r).items (value_of m.job r) k.ended k.waiting (links_of ws) m.closing (places_of c.args.limbo.now) r.stock v) (sym words) k.fits) is row in
     let next : Write = record m { stage = Ended; closing = c.told.new.self } in
     let then : RoomOf = record r { stock = c.told.new.stock } in
     let closing : IsClosing z u ps next then (places_of c.told.new.limbo) w = record {
       opened = k.opened;
+      began = k.began;
       ended = k.ended;
       stock = k.stock;
       waiting = k.waiting;
       frame = k.frame;
+      begun = k.begun;
       outcome = k.outcome;
+      later = omega (arith, one, before);
       counted = k.counted;
       fits = subst (λ (ws : List ℕ). ClosingFits z (key_of m.job r).items (value_of m.job r) k.ended k.waiting (links_of ws) c.told.new.self (places_of c.told.new.limbo) c.told.new.stock w) words fits;
     } in
     record {
       room = record { sizes = room.sizes; key = room.key };
-      stage = done_by z u k.opened k.ended ps m.job m.trying (record r { stock = k.stock }) m.outcome m.left next then (places_of c.told.new.limbo) w k.outcome (closing, sym c.ended.ensures.at ∙ c.if-ended.true);
+      stage = done_by z u k.began k.ended ps m.job m.trying (record r { stock = k.stock }) m.outcome m.left next then (places_of c.told.new.limbo) w k.outcome (closing, sym c.ended.ensures.at ∙ c.if-ended.true);
     }
 
 pub returns-else-ended-clause-fits : goal.returns-else-ended-clause-fits
@@ -40,17 +46,22 @@ returns-else-ended-clause-fits c z u v w ps asked room k is row =
     let m = c.args.self.now in
     let r = c.args.room.now in
     let words = c.gone_by.ensures.words in
+    let one = answers_count z asked c.args.word v w row in
+    let before = k.later in
     let fits = c.told.ensures.fits z (key_of m.job r).items (value_of m.job r) k.ended v w k.waiting asked
     (subst (λ (ws : List ℕ). ClosingFits z (key_of m.job r).items (value_of m.job r) k.ended k.waiting (links_of ws) m.closing (places_of c.args.limbo.now) r.stock v) (sym words) k.fits) is row in
     let next : Write = record m { closing = c.told.new.self } in
     let then : RoomOf = record r { stock = c.told.new.stock } in
     let closing : IsClosing z u ps next then (places_of c.told.new.limbo) w = record {
       opened = k.opened;
+      began = k.began;
       ended = k.ended;
       stock = k.stock;
       waiting = k.waiting;
       frame = k.frame;
+      begun = k.begun;
       outcome = k.outcome;
+      later = omega (arith, one, before);
       counted = k.counted;
       fits = subst (λ (ws : List ℕ). ClosingFits z (key_of m.job r).items (value_of m.job r) k.ended k.waiting (links_of ws) c.told.new.self (places_of c.told.new.limbo) c.told.new.stock w) words fits;
     } in

@@ -1,5 +1,6 @@
 use Rattle.std.proofs.Common.{refl, subst}
 use Rattle.art_change.proofs.Answered.{answered}
+use Rattle.art_change.proofs.Counted.{write_counted}
 use Rattle.art_change.proofs.writes.Write.ended.Goals as goal
 use Rattle.art_change.specs.Writes.{StageFits}
 use Rattle.art_change.specs.declared.writes.Stage.{Stage as StageOf}
@@ -8,3 +9,8 @@ pub returns-in-Ended-clause-answered : goal.returns-in-Ended-clause-answered
 returns-in-Ended-clause-answered c z u v ps qs r fits =
     let m = c.args.self.now in
     answered z u ps m r qs v m.outcome refl (subst (λ (s : StageOf). StageFits z u ps s m r qs v) c.in-Ended.is fits.stage)
+
+pub returns-in-Ended-clause-counted : goal.returns-in-Ended-clause-counted
+returns-in-Ended-clause-counted c z u v ps qs r fits =
+    let m = c.args.self.now in
+    write_counted z u ps m r qs v m.outcome refl (subst (λ (s : StageOf). StageFits z u ps s m r qs v) c.in-Ended.is fits.stage)

@@ -1,11 +1,12 @@
-use Rattle.std.proofs.Common.{◌<◌, sym, subst, Option, arith}
+use Rattle.std.proofs.Common.{◌∙◌, ◌<◌, sym, subst, Option, arith}
 use Rattle.std.specs.Prelude.{IfSome}
-use Rattle.art_change.proofs.Frames.{opened_so}
+use Rattle.art_change.proofs.Frames.{opened_begun, opened_has}
 use Rattle.art_change.proofs.writes.Write.open_told.Goals as goal
-use Rattle.art_change.specs.Writes.{left_at}
+use Rattle.art_change.specs.Writes.{IsOpening, StageFits, left_at}
 use Rattle.art_change.specs.declared.writes.Write.{Write}
 use Rattle.art_change.specs.declared.writes.Stage.{Stage as StageOf}
 use Rattle.art_change.specs.declared.writes.Stage.TheVariants.{Opening}
+use Rattle.art_epoch.proofs.Counting.{answers_count}
 use Rattle.art_epoch.specs.Limbo.{places_of}
 use Rattle.art_frame.specs.Openings.{HasEnded}
 use Rattle.art_frame.specs.declared.openings.Opened.{Opened}
@@ -17,14 +18,19 @@ returns-in-Some-Pinned-clause-fits c z u v w ps asked room o is row =
     let fits = c.told.ensures.fits z u v w ps asked o.opening is row in
     let opened = subst (λ (a : Option Opened). IfSome a (HasEnded z u w ps qs)) c.in-Some-Pinned.is (c.ended.ensures.opened z u w ps qs fits) in
     let frame = subst (HasEnded z u w ps qs) c.in-Some-Pinned.field-0-is opened in
-    c.go_on.ensures.fits z u w w ps qs room frame (opened_so z u w ps qs frame o.free c.args.self.now.job r o.has) (let full = o.full in omega (arith, full))
+    let m = c.args.self.now in
+    let one = answers_count z asked c.args.word v w row in
+    let before = o.later in
+    c.go_on.ensures.fits z u w w ps qs room (record { frame = frame; later = omega (arith, one, before) })
+    (opened_begun z u w ps qs frame o.free m.restarts o.fresh) (opened_has z u w ps qs frame o.free m.job r o.has)
+    (let full = o.full in omega (arith, full))
 
 pub returns-in-Some-Crowded-clause-fits : goal.returns-in-Some-Crowded-clause-fits
 returns-in-Some-Crowded-clause-fits c z u v w ps asked room o is row =
     let qs = places_of c.told.new.limbo in
     let fits = c.told.ensures.fits z u v w ps asked o.opening is row in
     let ended = subst (λ (a : Option Opened). IfSome a (HasEnded z u w ps qs)) c.in-Some-Crowded.is (c.ended.ensures.opened z u w ps qs fits) in
-    record { room = room; stage = (subst (HasEnded z u w ps qs) c.in-Some-Crowded.field-0-is ended, o.free, o.has) }
+    record { room = room; stage = (subst (HasEnded z u w ps qs) c.in-Some-Crowded.field-0-is ended, o.free, o.has, o.fresh) }
 
 pub returns-in-None-clause-left : goal.returns-in-None-clause-left
 returns-in-None-clause-left c =
@@ -40,3 +46,22 @@ returns-in-Some-Pinned-clause-left c =
     let fewer = c.told.ensures.left in
     let few = c.go_on.ensures.left (places_of c.told.new.limbo) in
     omega (arith, fewer, few)
+
+pub returns-in-None-clause-fits : goal.returns-in-None-clause-fits
+returns-in-None-clause-fits c z u v w ps asked room o is row =
+    let m = c.args.self.now in
+    let r = c.args.room.now in
+    let qs = places_of c.told.new.limbo in
+    let one = answers_count z asked c.args.word v w row in
+    let before = o.later in
+    let next : Write = record m { opening = c.told.new.self } in
+    let opening : IsOpening z u ps next r qs w = record {
+      opening = c.told.ensures.fits z u v w ps asked o.opening is row;
+      going = sym c.ended.ensures.at ∙ c.in-None.is;
+      free = o.free;
+      has = o.has;
+      later = omega (arith, one, before);
+      full = o.full;
+      fresh = o.fresh;
+    } in
+    record { room = room; stage = subst (λ (s : StageOf). StageFits z u ps s next r qs w) (sym c.requires.stage) opening }

@@ -1,10 +1,10 @@
-use Rattle.std.proofs.Common.{◌∙◌, ℕ, ◌<◌, ap, sym, subst}
+use Rattle.std.proofs.Common.{◌∙◌, ℕ, ◌<◌, inl, ap, sym, subst}
 use Rattle.art_change.proofs.Parts.{attempt_told, frame_told}
 use Rattle.art_change.proofs.writes.Write.told.Goals as goal
 use Rattle.art_attempt.specs.Asking.{Answers as AttemptAnswers}
 use Rattle.art_change.specs.Tries.{asks as attempt_asks}
 use Rattle.art_attempt.specs.declared.asked.Answer.{Answer as AttemptAnswer}
-use Rattle.art_change.specs.Writes.{StageFits, asks_at, deed_at, left_at, steps_left}
+use Rattle.art_change.specs.Writes.{RestartsBy, StageFits, asks_at, deed_at, left_at, steps_left}
 use Rattle.art_change.specs.declared.writes.Stage.{Stage as StageOf}
 use Rattle.art_epoch.specs.Asking.{Answers as FrameAnswers}
 use Rattle.art_epoch.specs.Limbo.{places_of}
@@ -87,3 +87,13 @@ returns-in-Ended-clause-left c =
     let q = c.requires in
     let at = sym (ap (λ (s : StageOf). asks_at s m r (places_of c.args.limbo.now)) c.in-Ended.is) ∙ q.7 in
     absurd (cc)
+
+pub returns-in-Opening-clause-restarts : goal.returns-in-Opening-clause-restarts
+returns-in-Opening-clause-restarts c = inl c.open_told.ensures.restarts
+
+pub returns-in-Trying-clause-restarts : goal.returns-in-Trying-clause-restarts
+returns-in-Trying-clause-restarts c =
+    subst (λ (a : AttemptAnswer). RestartsBy c.args.self.now c.try_told.new.self a) c.attempt_in.ensures c.try_told.ensures.restarts
+
+pub returns-in-Closing-clause-restarts : goal.returns-in-Closing-clause-restarts
+returns-in-Closing-clause-restarts c = inl c.close_told.ensures.restarts

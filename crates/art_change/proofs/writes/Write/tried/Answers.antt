@@ -1,18 +1,21 @@
-use Rattle.std.proofs.Common.{◌∙◌, sym, arith}
-use Rattle.art_change.proofs.Frames.{anew_ends, anew_left, tried_ends}
+use Rattle.std.proofs.Common.{◌∙◌, inl, inr, sym, arith}
+use Rattle.art_change.proofs.Frames.{anew_ends, anew_left, begun_again, none_anew, tried_ends}
 use Rattle.art_change.proofs.writes.Write.tried.Goals as goal
 
 pub returns-in-Some-clause-fits : goal.returns-in-Some-clause-fits
-returns-in-Some-clause-fits c z u opened v ps qs room frame fits counted =
+returns-in-Some-clause-fits c z u opened began v ps qs room frame begun fits counted =
     let m = c.args.self.now in
-    c.close.ensures.fits z u opened v ps qs room frame
-    (tried_ends z opened m.job m.trying c.args.room.now m.left v c.args.tried c.in-Some.outcome fits (sym c.outcome_of.ensures ∙ c.in-Some.is)) counted
+    c.close.ensures.fits z u opened began v ps qs room frame begun
+    (tried_ends z began m.job m.trying c.args.room.now m.left v c.args.tried c.in-Some.outcome fits (sym c.outcome_of.ensures ∙ c.in-Some.is)) counted
 
 pub returns-in-None-clause-fits : goal.returns-in-None-clause-fits
-returns-in-None-clause-fits c z u opened v ps qs room frame fits counted =
+returns-in-None-clause-fits c z u opened began v ps qs room frame begun fits counted =
     let m = c.args.self.now in
+    let r = c.args.room.now in
+    let anew = anew_ends z began m.job m.trying r m.left v c.args.tried fits (sym c.outcome_of.ensures ∙ c.in-None.is) in
+    let more = c.saturating_add-self.ensures in
     c.go_on.ensures.fits z u opened v ps qs room frame
-    (anew_ends z opened m.job m.trying c.args.room.now m.left v c.args.tried fits (sym c.outcome_of.ensures ∙ c.in-None.is)) counted
+    (begun_again z opened began v m.restarts c.saturating_add-self.result m.job r begun anew.0 anew.1 (omega (arith, more))) anew.0.has counted
 
 pub returns-in-Some-clause-left : goal.returns-in-Some-clause-left
 returns-in-Some-clause-left c qs = let few = c.close.ensures.left qs in omega (arith, few)
@@ -22,3 +25,9 @@ returns-in-None-clause-left c qs =
     let few = c.go_on.ensures.left qs in
     let same = anew_left c.args.self.now.left c.args.tried (sym c.outcome_of.ensures ∙ c.in-None.is) in
     omega (arith, few, same)
+
+pub returns-in-Some-clause-restarts : goal.returns-in-Some-clause-restarts
+returns-in-Some-clause-restarts c = inl c.close.ensures.restarts
+
+pub returns-in-None-clause-restarts : goal.returns-in-None-clause-restarts
+returns-in-None-clause-restarts c = inr (none_anew c.args.self.now.left c.args.tried (sym c.outcome_of.ensures ∙ c.in-None.is))

@@ -1,20 +1,24 @@
-use Rattle.std.proofs.Common.{◌∙◌, ℕ, ◌+◌, ◌-◌, ◌<◌, ◌≤◌, ap, sym, subst, arith}
+use Rattle.std.proofs.Common.{◌≡◌, ◌∙◌, ℕ, ◌+◌, ◌-◌, ◌<◌, ◌≤◌, Some, inl, inr, ap, sym, subst, arith, ⊎_elim}
 use Rattle.art_change.proofs.Frames.{still_counted}
 use Rattle.art_change.proofs.EitherKind.{ended_steps, ends_as, try_counts, try_room}
 use Rattle.art_change.specs.Tries.{steps_left}
+use Rattle.art_change.specs.declared.tries.Tried.{Tried}
+use Rattle.art_change.specs.declared.tries.Tried.TheVariants.{Anew}
 use Rattle.art_change.proofs.writes.Write.try_told.Goals as goal
 
 pub returns-in-None-clause-fits : goal.returns-in-None-clause-fits
 returns-in-None-clause-fits c z u v w ps qs asked room t is row =
     let m = c.args.self.now in
     let r = c.args.room.now in
-    let fits = c.told.ensures.fits z t.opened v w m.job asked t.fits is row in
-    let made = try_counts z t.opened r v w asked c.args.answer m.job m.trying row t.fits is in
+    let fits = c.told.ensures.fits z t.began v w m.job asked t.fits is row in
+    let made = try_counts z t.began r v w asked c.args.answer m.job m.trying row t.fits is in
     let left = c.saturating_sub-self.ensures ∙ ap (λ (n : ℕ). m.left - n) c.steps_in.ensures in
     let counted = still_counted (t.opened.steps + m.turns) v.steps w.steps m.left _ t.counted made in
-    c.turn.ensures.fits z u w ps qs (try_room z t.opened c.told.new.room w m.job c.told.new.self fits) (record {
+    c.turn.ensures.fits z u w ps qs (try_room z t.began c.told.new.room w m.job c.told.new.self fits) (record {
       opened = t.opened;
+      began = t.began;
       frame = t.frame;
+      begun = t.begun;
       fits = fits;
       going = sym c.ended.ensures.at ∙ c.in-None.is;
       counted = subst (λ (n : ℕ). t.opened.steps + m.turns ≤ w.steps + n) (sym left) counted;
@@ -24,12 +28,12 @@ pub returns-in-Some-clause-fits : goal.returns-in-Some-clause-fits
 returns-in-Some-clause-fits c z u v w ps qs asked room t is row =
     let m = c.args.self.now in
     let r = c.args.room.now in
-    let fits = c.told.ensures.fits z t.opened v w m.job asked t.fits is row in
-    let made = try_counts z t.opened r v w asked c.args.answer m.job m.trying row t.fits is in
+    let fits = c.told.ensures.fits z t.began v w m.job asked t.fits is row in
+    let made = try_counts z t.began r v w asked c.args.answer m.job m.trying row t.fits is in
     let left = c.saturating_sub-self.ensures ∙ ap (λ (n : ℕ). m.left - n) c.steps_in.ensures in
     let counted = still_counted (t.opened.steps + m.turns) v.steps w.steps m.left _ t.counted made in
-    c.tried.ensures.fits z u t.opened w ps qs (try_room z t.opened c.told.new.room w m.job c.told.new.self fits) t.frame
-    (ends_as z t.opened c.told.new.room w m.job c.told.new.self c.in-Some.tried fits (sym c.ended.ensures.at ∙ c.in-Some.is))
+    c.tried.ensures.fits z u t.opened t.began w ps qs (try_room z t.began c.told.new.room w m.job c.told.new.self fits) t.frame t.begun
+    (ends_as z t.began c.told.new.room w m.job c.told.new.self c.in-Some.tried fits (sym c.ended.ensures.at ∙ c.in-Some.is))
     (subst (λ (n : ℕ). t.opened.steps + m.turns ≤ w.steps + n) (sym left) counted)
 
 pub returns-in-None-clause-left : goal.returns-in-None-clause-left
@@ -49,3 +53,12 @@ returns-in-Some-clause-left c qs =
     let same = ended_steps c.saturating_sub-self.result t c.in-Some.tried (sym c.ended.ensures.at ∙ c.in-Some.is) in
     let few = c.tried.ensures.left qs in
     omega (arith, less, few, same)
+
+pub returns-in-None-clause-restarts : goal.returns-in-None-clause-restarts
+returns-in-None-clause-restarts c = inl c.turn.ensures.restarts
+
+pub returns-in-Some-clause-restarts : goal.returns-in-Some-clause-restarts
+returns-in-Some-clause-restarts c = ⊎_elim
+    (λ (same : c.tried.new.self.restarts ≡ c.args.self.now.restarts). inl same)
+    (λ (anew : c.in-Some.tried ≡ Anew). inr (c.told.new.self, c.told.ensures.anew (sym c.ended.ensures.at ∙ (c.in-Some.is ∙ ap (λ (e : Tried). Some e) anew))))
+    c.tried.ensures.restarts

@@ -1,4 +1,6 @@
-use Rattle.std.proofs.Common.{arith}
+use Rattle.std.proofs.Common.{◌∙◌, inl, sym, arith}
+use Rattle.art_attempt.proofs.Tries.{later_first}
+use Rattle.art_erase.proofs.Finds.{within_more}
 use Rattle.art_erase.proofs.Vouched.{begins_vouching}
 use Rattle.art_erase.proofs.erasing.Erasing.choose.Goals as goal
 use Rattle.art_gather.proofs.Vouches.{here_begins}
@@ -10,13 +12,20 @@ pub returns-in-Merges-clause-fits : goal.returns-in-Merges-clause-fits
 returns-in-Merges-clause-fits c z u v room so lost =
     let m = c.args.self.now in
     let r = c.args.room.now in
-    let p = begins_vouching z u m.stand r v so lost in
+    let p = begins_vouching z u 4301 m.stand r v so lost in
     c.read_on.ensures.fits z u v room (record {
       early = v;
       base = so.still;
-      later = omega arith;
+      later = later_first v;
+      spent = λ limited. (let spent = so.spent limited in omega (arith, spent));
       has = so.has;
       found = lost.found;
       reads = p;
       fits = here_begins z r.gone.key.items m.stand r.desk v v p c.new.result c.node.result.now c.node.ensures (c.new.ensures.fits z v m.stand.stamp);
     })
+
+pub returns-in-Leaf-clause-fits : goal.returns-in-Leaf-clause-fits
+returns-in-Leaf-clause-fits c z u v room so lost =
+    let m = c.args.self.now in
+    let r = c.args.room.now in
+    c.vouch.ensures.fits z u v room (within_more z u 4301 24800 r v (omega arith) so) lost (inl (sym c.loss.ensures ∙ c.in-Leaf.is))

@@ -1,8 +1,9 @@
 use Rattle.std.proofs.Common.{◌≡◌, ◌∙◌, ℕ, List, sym, subst, arith}
 use Rattle.art_attempt.proofs.Finds.{still_going, undecided, zero_going}
-use Rattle.art_attempt.proofs.Steps.{cell_later}
+use Rattle.art_attempt.proofs.Steps.{cell_fails, cell_later, cell_step}
+use Rattle.art_attempt.proofs.Tries.{later_then, still_later}
 use Rattle.art_attempt.specs.declared.rooms.Room.{Room}
-use Rattle.art_erase.proofs.Finds.{ends_reading, no_place}
+use Rattle.art_erase.proofs.Finds.{ends_reading, no_place, within_so}
 use Rattle.art_erase.proofs.erasing.Erasing.find_on.Goals as goal
 use Rattle.art_erase.specs.Erasing.{IsFinding, StageFits, absent, absent_of}
 use Rattle.art_erase.specs.declared.erasing.Erasing.{Erasing}
@@ -23,8 +24,10 @@ returns-then-not-on-clause-fits c z u v w asked room f is row =
     let now = c.told-on.new.self.descent in
     let going = zero_going now.depth now.stage (c.told-on.ensures.anew c.if-not-on.true) in
     let reads = still_reading z c.as_slice.result.now what now.depth now.stage f.early w going fits.descent in
-    let so = ends_reading z u m r v w f (cell_later z d asked c.args.answer v w row) reads.only in
-    record { room = record { sizes = room.sizes; key = room.key }; stage = record { still = so.still; has = so.has } }
+    let so = within_so z u 4301 r w (omega arith) (ends_reading z u m r v w room.key.short f (cell_later z d asked c.args.answer v w row) (cell_step z d asked c.args.answer v w row) reads.only) in
+    let more = cell_fails z d asked c.args.answer v w row (sym c.told-on.ensures.on ∙ c.if-not-on.true) in
+    let before = (still_later u f.early f.base v f.later).failures in
+    record { room = record { sizes = room.sizes; key = room.key }; stage = (record { still = so.still; spent = so.spent; has = so.has }, omega (arith, more, before)) }
 
 pub returns-else-not-on-clause-fits : goal.returns-else-not-on-clause-fits
 returns-else-not-on-clause-fits c z u v w asked room f is row =
@@ -38,13 +41,15 @@ returns-else-not-on-clause-fits c z u v w asked room f is row =
     let fits = c.told-on.ensures.fits z what f.early v w asked (subst (λ (k : List ℕ). FindingFits z k what m.finding r.desk f.early v) (sym slice) f.fits) at row in
     let on = sym c.told-on.ensures.on ∙ c.if-not-on.false in
     let one = cell_later z d asked c.args.answer v w row in
-    let before = f.later in
+    let step = cell_step z d asked c.args.answer v w row in
+    let further = c.told-on.ensures.steps c.if-not-on.false in
     let next : Erasing = record m { finding = c.told-on.new.self } in
     let then : Room = record r { desk = c.told-on.new.desk } in
     let found : IsFinding z u next then w = record {
       early = f.early;
       base = f.base;
-      later = omega (arith, one, before);
+      later = later_then f.early v w f.later one;
+      spent = λ limited. (let spent = f.spent limited in let more = one.failures in omega (arith, spent, step, further, more));
       has = f.has;
       fits = subst (λ (k : List ℕ). FindingFits z k what c.told-on.new.self c.told-on.new.desk f.early w) slice fits;
       going = still_going z d asked c.args.answer v w m.finding.descent c.told-on.new.self.descent c.told-on.ensures.stays at row none f.going on;
@@ -54,3 +59,6 @@ returns-else-not-on-clause-fits c z u v w asked room f is row =
       room = record { sizes = room.sizes; key = room.key };
       stage = subst (λ (g : StageOf). StageFits z u g next then w) (sym c.requires.stage) found;
     }
+
+pub returns-then-not-on-clause-anew : goal.returns-then-not-on-clause-anew
+returns-then-not-on-clause-anew c is = sym c.told-on.ensures.on ∙ c.if-not-on.true

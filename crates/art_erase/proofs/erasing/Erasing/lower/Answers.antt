@@ -1,4 +1,5 @@
-use Rattle.std.proofs.Common.{refl, arith}
+use Rattle.std.proofs.Common.{refl}
+use Rattle.art_attempt.proofs.Tries.{later_first}
 use Rattle.art_erase.proofs.Chosen.{merges_node}
 use Rattle.art_erase.proofs.Vouched.{begins_vouching}
 use Rattle.art_erase.proofs.erasing.Erasing.lower.Goals as goal
@@ -13,7 +14,8 @@ returns-clause-fits c z u v r room so lost known merges named leaves =
         record {
           early = v;
           base = so.still;
-          later = omega arith;
+          later = later_first v;
+          spent = so.spent;
           has = so.has;
           found = lost.found;
           byte = c.args.byte;
@@ -21,7 +23,7 @@ returns-clause-fits c z u v r room so lost known merges named leaves =
           is = refl;
           leaves = leaves;
           fits = c.new-self.ensures.fits z r.gone.key.items m.stand r.desk r.lower v
-              (record { vouching = begins_vouching z u m.stand r v so lost; whole = known; here = at.0; is = at.1; named = named });
+              (record { vouching = begins_vouching z u 24800 m.stand r v so lost; whole = known; here = at.0; is = at.1; named = named });
         },
         c.new-self.ensures.going,
       );

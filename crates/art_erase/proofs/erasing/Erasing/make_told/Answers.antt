@@ -1,27 +1,35 @@
-use Rattle.std.proofs.Common.{◌∙◌, ◌-◌, ◌<◌, sym, subst, arith}
-use Rattle.art_attempt.proofs.Left.{going_less, last_stays, step_or_last, still_made}
+use Rattle.std.proofs.Common.{◌≡◌, ◌∙◌, ◌-◌, ◌<◌, Some, ap, sym, subst}
+use Rattle.std.specs.Prelude.{Result, ⊤}
+use Rattle.std.proofs.lemmas.Option.{same_Some}
+use Rattle.art_attempt.proofs.Left.{fault_ended, going_less, last_stays, step_or_last, still_made}
 use Rattle.art_attempt.proofs.Steps.{change_later}
-use Rattle.art_erase.proofs.Left.{ended_less}
+use Rattle.art_attempt.proofs.Tries.{later_then}
+use Rattle.art_erase.proofs.Left.{anew_fault, ended_less}
 use Rattle.art_erase.proofs.erasing.Erasing.make_told.Goals as goal
 use Rattle.art_attempt.specs.Asking.{steps_of}
 use Rattle.art_attempt.specs.Inserting.{making_left}
-use Rattle.art_erase.specs.Erasing.{HasMade, StageFits, left_at}
+use Rattle.art_erase.specs.Erasing.{HasMade, StageFits, erased_at, erased_so, left_at}
+use Rattle.art_erase.specs.declared.erasing.Erased.{Erased}
+use Rattle.art_erase.specs.declared.erasing.Erased.TheVariants.{Anew}
 use Rattle.art_erase.specs.declared.erasing.Erasing.{Erasing}
 use Rattle.art_erase.specs.declared.erasing.Stage.{Stage as StageOf}
 use Rattle.art_make.proofs.Told.{allowed, few_steps}
 use Rattle.art_make.specs.Making.{fault_of}
+use Rattle.art_step.specs.declared.faults.UpgradeFault.{UpgradeFault}
+use Rattle.art_step.specs.declared.faults.UpgradeFault.TheVariants.{Changed}
 
 pub returns-in-None-clause-fits : goal.returns-in-None-clause-fits
 returns-in-None-clause-fits c z u v w asked room h is row =
     let m = c.args.self.now in
     let r = c.args.room.now in
     let one = change_later z v w r.change asked c.args.answer (allowed z h.early v r.change m.making asked h.fits is) row in
-    let before = h.later in
     let next : Erasing = record m { making = c.told.new.self } in
     let made : HasMade z u next r w = record {
       early = h.early;
       base = h.base;
-      later = omega (arith, one, before);
+      later = later_then h.early v w h.later one;
+      spent = h.spent;
+      locks = record { only = h.locks.only; each = h.locks.each };
       has = h.has;
       leaf = h.leaf;
       deed = h.deed;
@@ -37,11 +45,12 @@ returns-in-Some-clause-fits c z u v w asked room h is row =
     let m = c.args.self.now in
     let r = c.args.room.now in
     let one = change_later z v w r.change asked c.args.answer (allowed z h.early v r.change m.making asked h.fits is) row in
-    let before = h.later in
     c.made.ensures.fits z u w room (record {
       early = h.early;
       base = h.base;
-      later = omega (arith, one, before);
+      later = later_then h.early v w h.later one;
+      spent = h.spent;
+      locks = record { only = h.locks.only; each = h.locks.each };
       has = h.has;
       leaf = h.leaf;
       deed = h.deed;
@@ -73,3 +82,11 @@ returns-in-Some-clause-left c left begun =
     subst (λ (s : StageOf). left_at (left - steps_of c.args.answer) s c.made.new.self.making < making_left left m.making) (sym c.made.ensures.stage)
     (ended_less left (steps_of c.args.answer) r.gone.value m.making next begun few (last_stays (fault_of m.making) (fault_of next) c.told.ensures.stays)
     (step_or_last c.args.answer (fault_of next) c.told.ensures.refused) c.in-Some.made (sym c.ended.ensures ∙ c.in-Some.is))
+
+pub returns-in-Some-clause-anew : goal.returns-in-Some-clause-anew
+returns-in-Some-clause-anew c anew =
+    let made = c.in-Some.made in
+    let value = c.args.room.now.gone.value in
+    let at : erased_so value made ≡ Anew = same_Some {A = Erased} (erased_so value made) Anew (sym (ap erased_at c.made.ensures.stage) ∙ anew) in
+    let why = anew_fault value made at in
+    (why.0, ap fault_of c.made.ensures.making ∙ fault_ended c.told.new.self (Changed why.0) (sym c.ended.ensures ∙ (c.in-Some.is ∙ ap (λ (r : Result ⊤ UpgradeFault). Some r) why.1)))

@@ -1,18 +1,20 @@
 use Rattle.std.proofs.Common.{refl, arith}
+use Rattle.art_attempt.proofs.Tries.{later_first}
 use Rattle.art_erase.proofs.erasing.Erasing.new.Goals as goal
 use Rattle.art_erase.specs.Erasing.{absent_of}
 
 pub returns-clause-fits : goal.returns-clause-fits
-returns-clause-fits c z u v room still has =
+returns-clause-fits c z u room still has =
     let r = c.args.room.now in
     record {
       room = room;
       stage = record {
-        early = v;
+        early = u;
         base = still;
-        later = omega arith;
+        later = later_first u;
+        spent = λ limited. omega arith;
         has = has;
-        fits = c.new.ensures.fits z r.gone.key.items (absent_of r.gone) r.desk v v (record { only = refl; free = still.free; pinned = still.pinned });
+        fits = c.new.ensures.fits z r.gone.key.items (absent_of r.gone) r.desk u u (record { only = refl; free = still.free; pinned = still.pinned });
         going = c.new.ensures.going;
         exact = c.new.ensures.exact;
       };

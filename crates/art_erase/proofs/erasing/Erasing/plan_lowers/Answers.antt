@@ -1,6 +1,6 @@
 use Rattle.std.proofs.Common.{sym, subst}
 use Rattle.art_attempt.specs.declared.rooms.Room.{Room}
-use Rattle.art_erase.proofs.Vouched.{lower_known, lower_other, lower_so}
+use Rattle.art_erase.proofs.Vouched.{lower_each, lower_known, lower_locks, lower_many, lower_other, lower_so}
 use Rattle.art_erase.proofs.erasing.Erasing.plan_lowers.Goals as goal
 use Rattle.art_erase.specs.Refused.{IsTooMuch}
 use Rattle.art_erase.specs.declared.erasing.Way.{Way as WayOf}
@@ -28,6 +28,9 @@ returns-clause-fits c z u v room h is =
       lower_body = c.plan_merge_node-planned.new.lower_body;
       change = c.plan_merge_node-planned.new.change;
     } in
-    c.begin.ensures.fits z u v (record { sizes = room.sizes; key = room.key }) (record { still = so.still; has = so.has })
+    c.begin.ensures.fits z u v (record { sizes = room.sizes; key = room.key }) (record { still = so.still; spent = so.spent; has = so.has })
     (λ done. record { planned = plan.planned done z v known.0 known.2 known.3; leaf = plan.leaf; deed = plan.deed })
-    (λ refused. subst (λ (way : WayOf). IsTooMuch way m.stand then) (sym c.in-Lowers.is) (c.args.stamp, plan.refused refused))
+    (λ done. lower_locks z u m r v h c.in-Lowers.byte c.in-Lowers.node c.in-Lowers.is c.args.stamp is then.change (plan.locks done))
+    (lower_each z u m r v h c.in-Lowers.byte c.in-Lowers.node c.in-Lowers.is c.args.stamp is)
+    (λ refused. let many = lower_many z u m r v h c.in-Lowers.byte c.in-Lowers.node c.in-Lowers.is c.args.stamp is (plan.refused refused) in
+    subst (λ (w : WayOf). IsTooMuch w m.stand then) (sym c.in-Lowers.is) (c.args.stamp, many.0, many.1, many.2))

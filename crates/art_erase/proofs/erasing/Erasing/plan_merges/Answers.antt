@@ -1,10 +1,12 @@
 use Rattle.std.proofs.Common.{sym, ap, subst}
 use Rattle.art_attempt.specs.declared.rooms.Room.{Room}
-use Rattle.art_erase.proofs.Vouched.{seen_both, vouched_so, vouched_standing}
+use Rattle.art_decide.specs.Plans.{LocksOnly}
+use Rattle.art_erase.proofs.Vouched.{seen_both, vouched_each, vouched_so, vouched_standing}
 use Rattle.art_erase.proofs.erasing.Erasing.plan_merges.Goals as goal
-use Rattle.art_erase.specs.Erasing.{goes}
+use Rattle.art_erase.specs.Erasing.{IsLockedBy, goes}
 use Rattle.art_erase.specs.Refused.{IsTooMuch}
 use Rattle.art_erase.specs.declared.erasing.Way.{Way as WayOf}
+use Rattle.art_erase.specs.declared.erasing.Way.TheVariants as way
 
 pub plan_merge_leaf-planned-requires-clause-seen : goal.plan_merge_leaf-planned-requires-clause-seen
 plan_merge_leaf-planned-requires-clause-seen c =
@@ -18,10 +20,12 @@ returns-clause-fits c z u v room h is =
     let so = vouched_so z u m r v h is in
     let plan = c.plan_merge_leaf-planned.ensures in
     let then : Room = record r { bodies = c.plan_merge_leaf-planned.new.bodies; change = c.plan_merge_leaf-planned.new.change } in
-    c.begin.ensures.fits z u v (record { sizes = room.sizes; key = room.key }) (record { still = so.still; has = so.has })
+    c.begin.ensures.fits z u v (record { sizes = room.sizes; key = room.key }) (record { still = so.still; spent = so.spent; has = so.has })
     (λ done. record {
       planned = plan.planned done z v (seen_both z u m r v h is (ap goes c.requires.way)) (vouched_standing z u m r v h is);
       leaf = plan.leaf;
       deed = plan.deed;
     })
-    (λ refused. subst (λ (way : WayOf). IsTooMuch way m.stand then) (sym c.requires.way) (plan.refused refused))
+    (λ done. subst (λ (w : WayOf). LocksOnly (IsLockedBy w m.stand m.lowering) then.change) (sym c.requires.way) (plan.locks done))
+    (vouched_each z u m r v h is (way.Merges c.args.other) c.requires.way tt)
+    (λ refused. subst (λ (w : WayOf). IsTooMuch w m.stand then) (sym c.requires.way) (plan.refused refused))

@@ -16,6 +16,7 @@ returns-clause-fits c z u v room so lost shrinks =
     c.supply_on.ensures.fits z u v (record { sizes = room.sizes; key = room.key }) (record {
       early = v;
       base = so.still;
+      spent = so.spent;
       lost = record { standing = lost.standing; found = lost.found };
       shrinks = shrinks;
       fits = subst (λ (x : Wants). SupplyFits x.sizes x k 0 c.new-self.result c.new-self.new.stock v v) same fits;

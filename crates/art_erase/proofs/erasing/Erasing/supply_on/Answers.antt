@@ -1,13 +1,12 @@
-use Rattle.std.proofs.Common.{◌≡◌, ◌≢◌, ◌∙◌, ap, refl, sym, subst, Some}
+use Rattle.std.proofs.Common.{◌∙◌, ap, inl, inr, refl, sym, subst, Some}
 use Rattle.art_attempt.proofs.Enters.{supplied_at}
-use Rattle.art_choose.specs.Losses.{loss_at}
-use Rattle.art_choose.specs.declared.losses.Loss.TheVariants.{Shrinks, Merges}
+use Rattle.art_erase.proofs.Chosen.{no_smaller}
 use Rattle.art_erase.proofs.Vouched.{supplies_lost, supplies_so}
 use Rattle.art_erase.proofs.erasing.Erasing.supply_on.Goals as goal
 use Rattle.art_erase.specs.Erasing.{wants_of}
 use Rattle.art_gather.specs.Supplying.{HasAll, StageFits as SupplyStage}
 use Rattle.art_gather.specs.declared.supplying.Supplied.{Supplied}
-use Rattle.art_gather.specs.declared.supplying.Supplied.TheVariants.{Ready}
+use Rattle.art_gather.specs.declared.supplying.Supplied.TheVariants.{Full, Ready}
 use Rattle.art_gather.specs.declared.supplying.Supplying.{Supplying}
 
 pub returns-in-Some-Ready-clause-fits : goal.returns-in-Some-Ready-clause-fits
@@ -25,5 +24,7 @@ returns-in-Some-Full-clause-fits c z u v room h =
     let m = c.args.self.now in
     let r = c.args.room.now in
     let layout = c.args.layout in
-    let other : loss_at m.stand r.desk ≢ Merges = λ merges. let no : Shrinks layout ≡ Merges = sym h.shrinks ∙ merges in cc in
-    c.vouch-in-Some-Full.ensures.fits z u v room (supplies_so z u layout m r v h) (supplies_lost z u layout m r v h) other
+    let is = sym c.ended.ensures.at ∙ (c.in-Some-Full.is ∙ ap (λ (s : Supplied). Some s) c.in-Some-Full.field-0-is) in
+    let none = subst (λ (s : Supplying). SupplyStage z (wants_of z layout) r.gone.key.items 0 s r.stock h.early v) (supplied_at m.supplying (Full c.in-Some-Full.field-0-0) is) h.fits.stage in
+    c.vouch-in-Some-Full.ensures.fits z u v room (supplies_so z u layout m r v h) (supplies_lost z u layout m r v h)
+    (inr (inl (no_smaller z m.stand layout r.desk u h.early v c.in-Some-Full.field-0-0 h.shrinks h.base none)))

@@ -15,6 +15,7 @@ returns-clause-fits c z u v w asked room h is row =
     c.supply_on.ensures.fits z u w (record { sizes = room.sizes; key = room.key }) (record {
       early = h.early;
       base = h.base;
+      spent = h.spent;
       lost = record { standing = h.lost.standing; found = h.lost.found };
       shrinks = h.shrinks;
       fits = subst (λ (x : Wants). SupplyFits z x k 0 c.told.new.self c.told.new.stock h.early w) (sym same) fits;

@@ -1,4 +1,5 @@
-use Rattle.std.proofs.Common.{Bool, subst, arith}
+use Rattle.std.proofs.Common.{Bool, subst}
+use Rattle.art_attempt.proofs.Tries.{later_first}
 use Rattle.art_erase.proofs.Vouched.{begins_vouching}
 use Rattle.art_erase.proofs.erasing.Erasing.vouch.Goals as goal
 use Rattle.art_gather.specs.Vouching.{Fits as VouchingFits}
@@ -7,14 +8,15 @@ pub returns-clause-fits : goal.returns-clause-fits
 returns-clause-fits c z u v room so lost chosen =
     let m = c.args.self.now in
     let r = c.args.room.now in
-    let fits = c.new-self.ensures.fits z r.gone.key.items v (begins_vouching z u m.stand r v so lost) in
+    let fits = c.new-self.ensures.fits z r.gone.key.items v (begins_vouching z u 24800 m.stand r v so lost) in
     record {
       room = room;
       stage = (
         record {
           early = v;
           base = so.still;
-          later = omega arith;
+          later = later_first v;
+          spent = so.spent;
           has = so.has;
           found = lost.found;
           chosen = chosen;

@@ -3,7 +3,6 @@ use Rattle.std.proofs.Common.{ap, sym, subst, ◌≡◌, ◌∙◌, Some, arith}
 use Rattle.std.specs.Prelude.{Ok, Err}
 use Rattle.art_make.specs.Asking.{Answers}
 use Rattle.art_make.specs.declared.asked.Answer.{Answer}
-use Rattle.art_make.specs.declared.asked.Answer.TheVariants.{Upgraded}
 use Rattle.art_make.specs.declared.asked.Asked.{Asked}
 use Rattle.art_make.specs.declared.asked.Asked.TheVariants.{Upgrade}
 use Rattle.art_plan.specs.Changes.{target_at}

@@ -1,0 +1,76 @@
+-- How many steps a write that has ended made, and how many failures it met.
+use Rattle.std.proofs.Common.{◌≡◌, true, List, ap, subst, arith}
+use Rattle.art_attempt.specs.declared.rooms.Room.{Room}
+use Rattle.art_change.proofs.Answered.{closed_at}
+use Rattle.art_change.proofs.EitherKind.{left_by}
+use Rattle.art_change.specs.Tries.{EndsSo, key_of, value_of}
+use Rattle.art_change.specs.Writes.{HasCounted, HasOutcome, IsClosing, IsDone, UsedTurns}
+use Rattle.art_change.specs.declared.writes.Outcome.{Outcome}
+use Rattle.art_change.specs.declared.writes.Outcome.TheVariants.{New, Present, Gone, Absent, Full, Exhausted, Overlaps, TooMany, Busy, Crowded}
+use Rattle.art_change.specs.declared.writes.Write.{Write}
+use Rattle.art_epoch.specs.declared.limbo.Place.{Place}
+use Rattle.art_frame.specs.Closings.{is_ended}
+use Rattle.art_step.specs.declared.views.Sizes.{Sizes}
+use Rattle.art_step.specs.declared.views.View.{View}
+
+module _ (z : Sizes) (u : View) (ps : List Place) (m : Write) (r : Room) (qs : List Place) (v : View) where
+  module _ (k : IsClosing z u ps m r qs v) (is : is_ended m.closing ≡ true) where
+    opened_failures : k.opened.failures ≡ u.failures
+    opened_failures = ap (λ (t : View). t.failures) k.frame.frame.is
+
+    closed_failures : v.failures ≡ k.ended.failures
+    closed_failures = ap (λ (t : View). t.failures) (closed_at z (key_of m.job r).items (value_of m.job r) k.ended v k.waiting qs m r m.closing is k.fits).is
+
+    used_turns : EndsSo z k.began m.job (record r { stock = k.stock }) k.ended → m.left ≡ 0 → UsedTurns z u m.turns v
+    used_turns so none =
+        let counted = k.counted in
+        let early = k.frame.later in
+        let late = k.later in record {
+          counted = omega (arith, counted, none, early, late);
+          few = λ limited.
+              let few = k.begun.few limited in
+              let spent = so.spent limited in
+              let first = opened_failures in
+              let last = closed_failures in
+              let more = so.still.later.failures in
+              omega (arith, counted, none, few, spent, first, last, more);
+        }
+
+    -- an outcome that says so came at the last turn
+    at_last : (o : Outcome) → HasOutcome z k.began m.job m.trying (record r { stock = k.stock }) o m.left k.ended → o ≡ Busy → UsedTurns z u m.turns v
+    at_last Busy h busy = used_turns h.0 h.1
+    at_last New h busy = cc
+    at_last (Present stands) h busy = cc
+    at_last (Gone value) h busy = cc
+    at_last Absent h busy = cc
+    at_last (Full pool) h busy = cc
+    at_last (Exhausted c) h busy = cc
+    at_last Overlaps h busy = cc
+    at_last TooMany h busy = cc
+    at_last (Crowded b) h busy = cc
+
+    closing_counted : HasCounted z u m.turns m.restarts m.outcome v
+    closing_counted = record {
+      failed =
+          let failed = k.begun.failed in
+          let more = (left_by z k.began (record r { stock = k.stock }) k.ended m.job m.trying m.outcome m.left k.outcome).later.failures in
+          let first = opened_failures in
+          let last = closed_failures in
+          omega (arith, failed, more, first, last);
+      busy = at_last m.outcome k.outcome;
+    }
+
+  pub write_counted : (o : Outcome) → m.outcome ≡ o → IsDone z u ps o m r qs v → HasCounted z u m.turns m.restarts o v
+  write_counted (Crowded b) is done = record {
+    failed = let none = done.3 in let same = ap (λ (t : View). t.failures) done.0.only in omega (arith, none, same);
+    busy = λ busy. absurd (cc);
+  }
+  write_counted New is done = subst (λ (o : Outcome). HasCounted z u m.turns m.restarts o v) is (closing_counted done.0 done.1)
+  write_counted (Present stands) is done = subst (λ (o : Outcome). HasCounted z u m.turns m.restarts o v) is (closing_counted done.0 done.1)
+  write_counted (Gone value) is done = subst (λ (o : Outcome). HasCounted z u m.turns m.restarts o v) is (closing_counted done.0 done.1)
+  write_counted Absent is done = subst (λ (o : Outcome). HasCounted z u m.turns m.restarts o v) is (closing_counted done.0 done.1)
+  write_counted (Full pool) is done = subst (λ (o : Outcome). HasCounted z u m.turns m.restarts o v) is (closing_counted done.0 done.1)
+  write_counted (Exhausted c) is done = subst (λ (o : Outcome). HasCounted z u m.turns m.restarts o v) is (closing_counted done.0 done.1)
+  write_counted Overlaps is done = subst (λ (o : Outcome). HasCounted z u m.turns m.restarts o v) is (closing_counted done.0 done.1)
+  write_counted TooMany is done = subst (λ (o : Outcome). HasCounted z u m.turns m.restarts o v) is (closing_counted done.0 done.1)
+  write_counted Busy is done = subst (λ (o : Outcome). HasCounted z u m.turns m.restarts o v) is (closing_counted done.0 done.1)

@@ -1,0 +1,11 @@
+pub mod CellTurns
+pub mod Closed
+pub mod Ended
+pub mod EpochTurns
+pub mod Lists
+pub mod Marking
+pub mod Moving
+pub mod Opened
+pub mod Seated
+pub mod Stamps
+pub mod Turning

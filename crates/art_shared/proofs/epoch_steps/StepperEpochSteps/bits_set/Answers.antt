@@ -1,0 +1,31 @@
+-- The number is one that there is, and not free; once its bit is set, it is.
+use Rattle.std.proofs.Common.{◌≡◌, ◌∙◌, ◌+◌, ◌*◌, ◌/◌, ◌%◌, ◌^◌, ℕ, ap, ap₂}
+use Rattle.art_step.specs.Tokens.{link_of_number}
+use Rattle.art_step.specs.Views.{free_bit, free_index, pool_of}
+use Rattle.art_step.specs.WordPlaces.{first_free_word}
+use Rattle.art_step.proofs.NumberMoves.{bit_whole}
+use Rattle.art_step.proofs.WordPlaces.{has_free_word}
+use Rattle.art_shared.specs.Stepper.{known_by, sizes_of}
+use Rattle.art_shared.proofs.EpochTurns.{free_low, turns_give}
+use Rattle.art_shared.proofs.Stamps.{number_there}
+use Rattle.art_shared.proofs.epoch_steps.StepperEpochSteps.bits_set.Goals as goal
+
+pub word_at-at-requires : goal.word_at-at-requires
+word_at-at-requires c =
+    let s = c.args.self.now in
+    let d = link_of_number c.args.number in
+    rw (c.first_free_word-first.ensures, c.pool.ensures, c.number.ensures) (free_low (sizes_of s) (pool_of d) (free_index d) (has_free_word (sizes_of s) d (number_there s d c.requires.may)))
+
+pub add-requires-clause-place : goal.add-requires-clause-place
+add-requires-clause-place c =
+    let s = c.args.self.now in
+    let d = link_of_number c.args.number in
+    rw (c.word_at-at.ensures, c.first_free_word-first.ensures, c.pool.ensures, c.number.ensures) (free_low (sizes_of s) (pool_of d) (free_index d) (has_free_word (sizes_of s) d (number_there s d c.requires.may)))
+
+pub add-requires-clause-may : goal.add-requires-clause-may
+add-requires-clause-may c =
+    let s = c.args.self.now in
+    let d = link_of_number c.args.number in
+    let bit : 1 * 2 ^ (c.number-2.result % 64) % 18446744073709551616 ≡ 2 ^ free_bit d = bit_whole c.number-2.result ∙ ap (λ (n : ℕ). 2 ^ (n % 64)) c.number-2.ensures in
+    let first = c.first_free_word-first.ensures ∙ ap (first_free_word (sizes_of s)) c.pool.ensures in
+    rw c.spend-freed.ensures (turns_give (sizes_of s) (known_by s) d _ _ bit (c.word_at-at.ensures ∙ ap₂ (λ (a b : ℕ). a + b / 64) first c.number.ensures) c.requires.may)

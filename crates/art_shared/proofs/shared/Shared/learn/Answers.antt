@@ -1,0 +1,13 @@
+-- The history of the mark is one that the seat was told.
+use Rattle.std.proofs.Common.{sym, subst}
+use Rattle.art_step.specs.Views.{Member}
+use Rattle.art_shared.specs.declared.law.Known.{Known}
+use Rattle.art_shared.specs.Marks.{history_of}
+use Rattle.art_shared.specs.Tables.{known_to}
+use Rattle.art_shared.proofs.Marking.{told_last}
+use Rattle.art_shared.proofs.shared.Shared.learn.Goals as goal
+
+pub returns-clause-learnt : goal.returns-clause-learnt
+returns-clause-learnt c =
+    let h = history_of c.args.mark in
+    c.look.ensures.turn.row.begins h (subst (λ (k : Known). Member h k.told) (sym c.take_in.ensures.told) (told_last (known_to c.args.pass.now) h))

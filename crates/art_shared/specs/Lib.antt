@@ -1,0 +1,9 @@
+pub mod Closing
+pub mod Marks
+pub mod Opening
+pub mod Passes
+pub mod Rule
+pub mod SamePass
+pub mod Stepper
+pub mod Tables
+pub mod Turns

@@ -1,0 +1,53 @@
+-- The rule of a table: its words, and the views that its seats have, are a world in which the invariant holds. The views are those of
+-- passes apart, wherever each of them stands; and what a seat was told is a beginning of the one history.
+use Rattle.std.specs.Prelude.{◌≡◌, ℕ, List, [], ◌∷◌, ◌++◌, map, length, ◌==◌, if◌then◌else◌, Option, Some, None, ⊤}
+use Rattle.atomic_table.specs.Table.{State}
+use Rattle.art_step.specs.declared.views.Event.{Event}
+use Rattle.art_step.specs.declared.views.Sizes.{Sizes}
+use Rattle.art_step.specs.declared.views.View.{View}
+use Rattle.art_step.specs.Histories.{StartsWith}
+use Rattle.art_step.specs.Sound.{IsSound}
+use Rattle.art_step.specs.Views.{Member, Views}
+use Rattle.art_step.specs.WordPlaces.{word_count}
+use Rattle.art_step.specs.WordRows.{memory_of}
+use Rattle.art_shared.specs.declared.law.Known.{Known}
+
+-- the words of a table, and what each of its seats knows
+abbrev pub Words : Type 0
+Words = State (Unit {0}) Known
+
+abbrev pub joined : {A : Type 0} → List (List A) → List A
+joined [] = []
+joined (x ∷ xs) = x ++ joined xs
+
+-- the views of all seats, one after another
+abbrev pub all_views : List Known → List View
+all_views ks = joined (map (λ (k : Known). k.views) ks)
+
+-- the histories that seats were told
+abbrev pub all_told : List Known → List (List Event)
+all_told ks = joined (map (λ (k : Known). k.told) ks)
+
+-- the view of the pass, where there is one
+abbrev pub find : List View → ℕ → Option View
+find [] p = None
+find (v ∷ vs) p = if v.pass == p then Some v else find vs p
+
+-- the views of all passes, whatever seats they stand in
+abbrev pub seated : List Known → Views
+seated ks p = find (all_views ks) p
+
+abbrev pub passes_of : List View → List ℕ
+passes_of vs = map (λ (v : View). v.pass) vs
+
+-- no number stands twice
+abbrev pub Apart : List ℕ → Type 0
+Apart [] = ⊤
+Apart (p ∷ ps) = (Member p ps → ⊥) × Apart ps
+
+-- the rule of the table
+pub record Kept (z : Sizes) (s : Words) : Type 0 where
+  pub long : length s.words ≡ word_count z
+  pub sound : IsSound z (memory_of z s.words) (seated s.views)
+  pub apart : Apart (passes_of (all_views s.views))
+  pub told : (h : List Event) → Member h (all_told s.views) → StartsWith sound.log h

@@ -1,0 +1,27 @@
+//! The table of all words, which threads share.
+ghost use Rattle.std.specs.Prelude.{◌≡◌};
+ghost use Rattle.art_step.specs.WordPlaces.{word_count};
+
+use crate::law::{Known, Law};
+use art_step::Sizes;
+use atomic_table::Table;
+use std::alloc::Global;
+
+/// The words of all cells, of free numbers, of the epoch and of the passes, in one table.
+#[derive(Drop)]
+pub struct Shared {
+    pub(crate) table: Table<(), Known, Sizes, Law, Global>,
+    pub(crate) sizes: Sizes,
+    ghost key: { table.shared.key ≡ sizes },
+    ghost wide: { table.shared.table_id.words ≡ word_count sizes },
+    ghost plain: { table.shared.table_id.slots ≡ 0 },
+}
+
+impl Shared {
+    /// How many numbers each pool has, and how many passes there are.
+    pub fn sizes(&self) -> Sizes
+        ensures { result ≡ self.now.sizes }
+    {
+        self.sizes
+    }
+}

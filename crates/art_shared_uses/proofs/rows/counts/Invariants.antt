@@ -1,0 +1,5 @@
+use Rattle.art_shared_uses.specs.Clients.{IsIdle}
+use Rattle.art_shared_uses.proofs.rows.counts.Given as goal
+
+abbrev pub invariant-loop-number : goal.invariant-loop-number
+invariant-loop-number l = IsIdle l.shared l.pass

@@ -1,0 +1,33 @@
+-- Passes of a table, as tests have them.
+use Rattle.std.specs.Prelude.{◌≡◌, ℕ, List, Some}
+use Rattle.std.specs.List.{slice_get}
+use Rattle.art_change.specs.Writes.{IsWriter}
+use Rattle.art_change.specs.declared.writers.Writer.{Writer}
+use Rattle.art_epoch.specs.Pins.{MayPin}
+use Rattle.art_shared.specs.declared.pass.Pass.{Pass}
+use Rattle.art_shared.specs.declared.shared.Shared.{Shared}
+use Rattle.art_shared.specs.Passes.{newcomer_known}
+use Rattle.art_shared.specs.Tables.{IsPassOf, known_to, sizes_in, view_of_pass}
+
+-- a pass that made no step yet
+pub record IsNew (t : Shared) (a : Pass) : Type 0 where
+  pub of : IsPassOf t a
+  pub number : ℕ
+  pub new : known_to a ≡ newcomer_known (sizes_in t) number
+
+abbrev pub AreNew : Shared → List Pass → Type 0
+AreNew t passes = (p : ℕ) (a : Pass) → slice_get passes p ≡ Some a → IsNew t a
+
+-- passes of the table, whatever each of them did
+abbrev pub AreOf : Shared → List Pass → Type 0
+AreOf t passes = (p : ℕ) (a : Pass) → slice_get passes p ≡ Some a → IsPassOf t a
+
+-- one that is idle and holds nothing
+pub record IsIdle (t : Shared) (a : Pass) : Type 0 where
+  pub of : IsPassOf t a
+  pub may : MayPin (view_of_pass a)
+
+-- one that is ready to write
+pub record Writes (t : Shared) (a : Pass) (w : Writer) : Type 0 where
+  pub of : IsPassOf t a
+  pub may : IsWriter (sizes_in t) (view_of_pass a) w

@@ -1,0 +1,101 @@
+//! Passes of a table write and look up.
+ghost use Rattle.std.specs.Prelude.{◌≡◌, IfSome};
+ghost use Rattle.art_change.specs.Writes.{IsWriter};
+ghost use Rattle.art_shared.specs.Opening.{OpensWith};
+ghost use Rattle.art_shared.specs.Stepper.{OnlyStepped, sizes_of, view_of};
+ghost use Rattle.art_shared.specs.Tables.{IsPassOf, sizes_in};
+ghost use Rattle.art_shared_uses.specs.Clients.{AreNew, IsIdle, IsNew, Writes};
+
+use art_change::{Outcome, Writer};
+use art_epoch::{pin, unpin};
+use art_find::{Got, get};
+use art_key::Key;
+use art_shared::{Pass, Shared, Stepper};
+
+/// As many turns as there are: a thread may lose its processor while it holds a cell, and the other waits for it by trying anew.
+const TURNS: u32 = u32::MAX;
+
+/// The key of two bytes of a number.
+pub(crate) fn key_of(number: u16) -> Key {
+    let mut key = Key::new();
+    for byte in number.to_be_bytes() {
+        let _ = key.try_push(byte);
+    }
+    key
+}
+
+/// The last of these passes, which made no step yet.
+pub(crate) fn last_of(shared: &Shared, passes: &mut Vec<Pass>) -> Option<Pass>
+    requires { AreNew shared.now passes.old.items }
+    ensures new { IfSome result (λ a. IsNew shared.now a) }
+    ensures left { AreNew shared.now passes.new.items }
+{
+    let _ = shared.sizes();
+    passes.pop()
+}
+
+/// What a pass keeps beside the table to change it.
+pub(crate) fn writer_of(shared: &Shared, pass: &Pass) -> Writer
+    requires { IsNew shared.now pass.now }
+    ensures { Writes shared.now pass.now result }
+{
+    Writer::new(pass.number(), &shared.sizes())
+}
+
+/// How an insert of the row ends.
+pub(crate) fn puts(
+    shared: &Shared,
+    pass: &mut Pass,
+    writer: &mut Writer,
+    key: &Key,
+    value: u64,
+) -> Outcome
+    requires { Writes shared.now pass.old writer.old }
+    ensures { Writes shared.now pass.new writer.new }
+{
+    let mut stepper = shared.at(pass);
+    writer.insert(&mut stepper, key, value, TURNS).outcome
+}
+
+/// How a removal of the key ends.
+pub(crate) fn takes(shared: &Shared, pass: &mut Pass, writer: &mut Writer, key: &Key) -> Outcome
+    requires { Writes shared.now pass.old writer.old }
+    ensures { Writes shared.now pass.new writer.new }
+{
+    let mut stepper = shared.at(pass);
+    writer.remove(&mut stepper, key, TURNS).outcome
+}
+
+/// How a get of the key ends, in so many turns.
+pub(crate) fn finds(shared: &Shared, pass: &mut Pass, key: &Key, turns: u32) -> Got
+    requires { IsIdle shared.now pass.old }
+    ensures { IsIdle shared.now pass.new }
+{
+    let mut stepper = shared.at(pass);
+    pin(&mut stepper);
+    let got = get(&mut stepper, key, turns).got;
+    unpin(&mut stepper);
+    got
+}
+
+/// How a get of the key ends, of the pass of the writer.
+fn looks_up(stepper: &mut Stepper<'_>, writer: &Writer, key: &Key) -> Got
+    requires { IsWriter (sizes_of stepper.old) (view_of stepper.old) writer.now }
+    ensures only { OnlyStepped stepper.old stepper.new }
+    ensures may { IsWriter (sizes_of stepper.new) (view_of stepper.new) writer.now }
+{
+    let _ = writer.limbo();
+    pin(stepper);
+    let got = get(stepper, key, TURNS).got;
+    unpin(stepper);
+    got
+}
+
+/// How a get of the key ends, between two writes.
+pub(crate) fn asks(shared: &Shared, pass: &mut Pass, writer: &Writer, key: &Key) -> Got
+    requires { Writes shared.now pass.old writer.now }
+    ensures { Writes shared.now pass.new writer.now }
+{
+    let mut stepper = shared.at(pass);
+    looks_up(&mut stepper, writer, key)
+}

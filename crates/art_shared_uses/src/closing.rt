@@ -1,0 +1,144 @@
+//! A table closes, and its numbers are counted: free, named in the tree, or waiting.
+ghost use Rattle.std.specs.Prelude.{◌≡◌, ◌<◌};
+ghost use Rattle.art_shared.specs.Tables.{IsPassOf};
+ghost use Rattle.art_shared_uses.specs.Clients.{AreOf};
+
+use art_cell::{Cell, Link, Node, Pool};
+use art_epoch::Limbo;
+use art_model::NoMemory;
+use art_shared::{Pass, Shared};
+use art_step::{Sizes, free_words, pool_of_layout};
+use std::alloc::Global;
+
+/// All pools.
+pub(crate) const POOLS: [Pool; 5] = [Pool::Leaves, Pool::N4, Pool::N16, Pool::N48, Pool::N256];
+
+/// More than there are links in a tree here.
+const MOST: usize = 4096;
+
+/// So many numbers of each pool.
+#[derive(Clone, Copy)]
+pub(crate) struct Counts {
+    of: [u32; 5],
+}
+
+/// Where the pool stands among all pools.
+fn index_of(pool: Pool) -> usize
+    ensures { result < 5 }
+{
+    match pool {
+        Pool::Leaves => 0,
+        Pool::N4 => 1,
+        Pool::N16 => 2,
+        Pool::N48 => 3,
+        Pool::N256 => 4,
+    }
+}
+
+impl Counts {
+    pub(crate) fn none() -> Counts {
+        Counts { of: [0; 5] }
+    }
+
+    /// So many of the pool.
+    pub(crate) fn of(&self, pool: Pool) -> u32 {
+        self.of[index_of(pool)]
+    }
+
+    /// One more, of the pool that it is of.
+    fn note(&mut self, link: Link) {
+        let pool = match link {
+            Link::Leaf(_) => Pool::Leaves,
+            Link::Node(node) => pool_of_layout(node.layout),
+        };
+        let place = index_of(pool);
+        self.of[place] = self.of[place].saturating_add(1);
+    }
+
+    /// What waits is counted too.
+    pub(crate) fn note_all(&mut self, limbo: &Limbo) {
+        for place in limbo.places() {
+            self.note(place.link);
+        }
+    }
+
+    /// What another counted is counted too.
+    pub(crate) fn add(&mut self, other: &Counts) {
+        for place in 0..5 {
+            self.of[place] = self.of[place].saturating_add(other.of[place]);
+        }
+    }
+}
+
+/// All words of a table in the end.
+#[derive(Drop)]
+pub(crate) struct Closed {
+    sizes: Sizes,
+    words: Vec<u64>,
+}
+
+/// The table, closed with these passes and another.
+pub(crate) fn ended(
+    alloc: Global,
+    shared: Shared,
+    passes: Vec<Pass>,
+    last: Pass,
+) -> Result<Closed, NoMemory>
+    requires passes { AreOf shared passes.items }
+    requires last { IsPassOf shared last }
+{
+    let sizes = shared.sizes();
+    let mut passes = passes;
+    passes.push(last)?;
+    let words = shared.close(alloc, passes)?;
+    Ok(Closed { sizes, words })
+}
+
+impl Closed {
+    /// A word after the first of a cell.
+    fn word(&self, cell: Cell, place: usize) -> u64 {
+        let at = self.sizes.place_of(cell).wrapping_add(place);
+        self.words.get(at).copied().unwrap_or(0)
+    }
+
+    /// How many numbers of the pool are free.
+    pub(crate) fn free(&self, pool: Pool) -> u32 {
+        let first = self.sizes.first_free_word(pool);
+        let mut count = 0u32;
+        for index in 0..free_words(self.sizes.pool_size(pool)) {
+            let word = self.words.get(first.wrapping_add(index)).copied();
+            count = count.saturating_add(word.unwrap_or(0).count_ones());
+        }
+        count
+    }
+
+    /// What the node's children are.
+    fn push_children(&self, node: Node, links: &mut Vec<Link>) -> Result<(), NoMemory> {
+        let end = node.layout.size();
+        for place in end - node.layout.places()..end {
+            if let Some(link) = Link::named_by(self.word(Cell::Node(node), place)) {
+                links.push(link)?;
+            }
+        }
+        Ok(())
+    }
+
+    /// What is named in the tree, by a walk from the anchor on: as often as it is named.
+    pub(crate) fn in_tree(&self, alloc: Global) -> Result<Counts, NoMemory> {
+        let mut links = Vec::new(alloc);
+        if let Some(root) = Link::named_by(self.word(Cell::Anchor, 1)) {
+            links.push(root)?;
+        }
+        let mut counts = Counts::none();
+        for index in 0..MOST {
+            let Some(&link) = links.get(index) else {
+                break;
+            };
+            counts.note(link);
+            if let Link::Node(node) = link {
+                self.push_children(node, &mut links)?;
+            }
+        }
+        Ok(counts)
+    }
+}

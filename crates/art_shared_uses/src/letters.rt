@@ -1,0 +1,117 @@
+//! A mark goes over a channel, from a pass in one thread to a pass in another.
+ghost use Rattle.std.specs.Prelude.{◌≡◌, ℕ};
+ghost use Rattle.art_shared.specs.Marks.{IsMarkOf};
+ghost use Rattle.art_shared.specs.Tables.{IsPassOf};
+ghost use Rattle.art_shared_uses.specs.Clients.{IsIdle, IsNew};
+ghost use Rattle.art_shared_uses.specs.Letters.{IsNamed, sizes_of_mark, table_of_mark};
+
+use crate::clients::last_of;
+use crate::marks::{learns_and_finds, puts_and_marks};
+use art_change::Outcome;
+use art_find::Got;
+use art_shared::{Mark, Pass, Shared};
+use art_step::Sizes;
+use crossbeam_channel::{Receiver, Sender, bounded};
+use std::alloc::{AllocError, Global};
+use std::marker::{Brand, PhantomData};
+use std::sync::Wait;
+use std::test::*;
+use std::thread::{Threads, join};
+
+/// More than one word of free numbers in each pool.
+const SIZES: Sizes = Sizes {
+    leaves: 256,
+    n4: 128,
+    n16: 128,
+    n48: 128,
+    n256: 128,
+    passes: 2,
+};
+
+/// The name of a table, of which letters are: a test picks it.
+trait Naming {
+    ghost use Rattle.art_step.specs.declared.views.Sizes.{Sizes};
+    ghost use Rattle.atomic_table.specs.Seated.{TableId};
+
+    ghost table: { TableId };
+
+    ghost sizes: { Sizes };
+}
+
+impl Naming for Brand {
+    ghost use Rattle.art_shared_uses.specs.Letters.{no_sizes, no_table};
+
+    ghost table = { no_table };
+
+    ghost sizes = { no_sizes };
+}
+
+/// A mark of the table with this name.
+#[derive(Drop)]
+struct Letter<N: Naming> {
+    mark: Mark,
+    of: PhantomData<N>,
+    ghost table: { table_of_mark mark ≡ N.table },
+    ghost sizes: { sizes_of_mark mark ≡ N.sizes },
+}
+
+/// The row with key 7 is inserted, and what was seen is sent: whether both went well.
+fn sends<N: Naming, R: Wait>(rt: &R, shared: &Shared, pass: Pass, sender: Sender<Letter<N>>) -> bool
+    requires pass { IsNew shared.now pass }
+    requires named { IsNamed shared.now N.table N.sizes }
+{
+    let (_pass, outcome, mark) = puts_and_marks(shared, pass, 7, 70);
+    let letter: Letter<N> = Letter {
+        mark,
+        of: PhantomData,
+    };
+    sender.send(rt, letter).is_ok() && outcome == Outcome::New
+}
+
+/// What was seen is learnt, and the row with key 7 looked up, where a letter comes.
+fn receives<N: Naming, R: Wait>(
+    rt: &R,
+    shared: &Shared,
+    pass: Pass,
+    receiver: Receiver<Letter<N>>,
+) -> Option<Got>
+    requires pass { IsIdle shared.now pass }
+    requires named { IsNamed shared.now N.table N.sizes }
+{
+    let Ok(letter) = receiver.recv(rt) else {
+        return None;
+    };
+    let Letter { mark, of: _ } = letter;
+    Some(learns_and_finds(shared, pass, mark, 7))
+}
+
+/// One thread sends, and another receives.
+fn over_a_channel<N: Naming + Send + Sync, R: Threads + Wait + Sync>(
+    rt: &R,
+    alloc: Global,
+    shared: &Shared,
+    one: Pass,
+    two: Pass,
+) -> Result<(bool, Option<Got>), AllocError>
+    requires one { IsNew shared.now one }
+    requires two { IsIdle shared.now two }
+    requires named { IsNamed shared.now N.table N.sizes }
+{
+    let (sender, receiver) = bounded::<Letter<N>, Global>(alloc, 1)?;
+    Ok(join(
+        rt,
+        || sends::<N, R>(rt, shared, one, sender),
+        || receives::<N, R>(rt, shared, two, receiver),
+    ))
+}
+
+#[test]
+fn a_mark_goes_over_a_channel(rt: HostRuntime) -> Result<(), Fail> {
+    let (shared, mut passes) = Shared::open(rt.alloc(), &SIZES, 0)?;
+    let one = last_of(&shared, &mut passes).expect(&rt, "two passes");
+    let two = last_of(&shared, &mut passes).expect(&rt, "one pass");
+    let (sent, got) = over_a_channel::<Brand, _>(&rt, rt.alloc(), &shared, one, two)?;
+    assert!(rt; sent);
+    assert_eq!(rt; got, Some(Got::Found(70)));
+    Ok(())
+}
