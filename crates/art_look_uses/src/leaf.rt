@@ -11,7 +11,7 @@ use art_visitor::{KEY, VALUE, Visitor};
 use art_world::World;
 use std::test::*;
 
-const EIGHT_LEAVES: Sizes = Sizes {
+pub(crate) const EIGHT_LEAVES: Sizes = Sizes {
     leaves: 8,
     n4: 1,
     n16: 1,
@@ -21,10 +21,10 @@ const EIGHT_LEAVES: Sizes = Sizes {
 };
 
 /// In how many turns a visitor puts the leaf below the anchor.
-const LINKED: usize = 20;
+pub(crate) const LINKED: usize = 20;
 
 /// How many turns the visitor had.
-fn turns_of(visitors: [Visitor; 1]) -> u64 {
+pub(crate) fn turns_of(visitors: [Visitor; 1]) -> u64 {
     let [visitor] = visitors;
     visitor.end()
 }

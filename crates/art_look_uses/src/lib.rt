@@ -7,3 +7,5 @@ mod gets;
 mod leaf;
 #[cfg(test)]
 mod looks;
+#[cfg(test)]
+mod seeks;

@@ -14,11 +14,13 @@ use Rattle.art_step.specs.Views.{Member}
 use Rattle.art_step.specs.WordRows.{memory_of}
 use Rattle.art_step.proofs.SetsView.{member_append, member_back, member_front}
 use Rattle.atomic_table.proofs.Lists.{at_map}
+use Rattle.art_shared.specs.declared.law.Basis.{Basis}
 use Rattle.art_shared.specs.declared.law.Known.{Known}
 use Rattle.art_shared.specs.declared.pass.Pass.{Pass}
 use Rattle.art_shared.specs.Closing.{Closes}
 use Rattle.art_shared.specs.Passes.{view_in}
 use Rattle.art_shared.specs.Rule.{Apart, Kept, Words, joined, passes_of, seated}
+use Rattle.art_shared.specs.Typed.{AreTyped}
 use Rattle.art_shared.proofs.Ended.{closes_by}
 use Rattle.art_shared.proofs.Lists.{joined_here}
 use Rattle.art_shared.proofs.Moving.{views_in}
@@ -130,14 +132,16 @@ length_passes (v ∷ vs) = ap suc (length_passes vs)
 
 -- ---- the end
 
-pub closes : (z : Sizes) (id : ℕ) (s : Words) (k : Kept z s) (known : Known) (ps : List Pass) (ws : List ℕ) → get_elem? s.views id ≡ some known → ((v : View) → Member v (pass_views ps) ↔ Member v known.views)
-    → length known.views ≡ length ps → ws ≡ s.words → Closes z ws ps
-closes z id s k known ps ws at all long is =
+pub closes : (b : Basis) (id : ℕ) (s : Words) (k : Kept b s) (known : Known) (ps : List Pass) (ws : List ℕ) → get_elem? s.views id ≡ some known → ((v : View) → Member v (pass_views ps) ↔ Member v known.views)
+    → length known.views ≡ length ps → ws ≡ s.words → Closes b ws ps
+closes b id s k known ps ws at all long is =
+    let z : Sizes = b.sizes in
     let vss : List (List View) = map views_in s.views in
     let here : get_elem? vss id ≡ some known.views = at_map views_in s.views id known at in
     let found : (u : View) → Member u known.views → seated s.views u.pass ≡ Some u = λ u i. member_found (joined vss) u k.apart (joined_here u vss id known.views here i) in
-    let sound : IsSound z (memory_of z ws) (seated s.views) = subst (λ (l : List ℕ). IsSound z (memory_of z l) (seated s.views)) (sym is) k.sound in
-    closes_by z ws (seated s.views) ps sound (λ a i. found (view_in a.seat.me.0) ((all (view_in a.seat.me.0)).0 (view_of_pass ps a i))) (λ count p v e.
+    let both : (r : IsSound z (memory_of z ws) (seated s.views)) × AreTyped b.schema r.log =
+    subst (λ (l : List ℕ). (r : IsSound z (memory_of z l) (seated s.views)) × AreTyped b.schema r.log) (sym is) (k.sound, k.typed) in
+    closes_by b ws (seated s.views) ps both.0 both.1 (λ a i. found (view_in a.seat.me.0) ((all (view_in a.seat.me.0)).0 (view_of_pass ps a i))) (λ count p v e.
     let low = (k.sound.unstamped.pinned p v e).inside in
     let there = all_there z.passes (passes_of known.views) (apart_here vss id known.views here k.apart)
     (λ q i. let u = pass_of_view known.views q i in subst (λ (n : ℕ). n < z.passes) u.2 (k.sound.unstamped.pinned u.0.pass u.0 (found u.0 u.1)).inside)

@@ -13,9 +13,11 @@ use Rattle.art_step.specs.Sound.{InHandOf, InLimboOf, InTree, IsFree, IsSound, N
 use Rattle.art_step.specs.Views.{IsInLimbo, IsLocked, Member, Memory, Views}
 use Rattle.art_step.specs.WordRows.{memory_of}
 use Rattle.art_tree.specs.Heaps.{Cells}
+use Rattle.art_shared.specs.declared.law.Basis.{Basis}
 use Rattle.art_shared.specs.declared.pass.Pass.{Pass}
 use Rattle.art_shared.specs.Closing.{AreAll, Closes, Fate, Free, HasFate, HaveNoNumber, HoldNoCell, InLimbo, IsAccounted, Linked, TellsAll}
 use Rattle.art_shared.specs.Tables.{view_of_pass}
+use Rattle.art_shared.specs.Typed.{AreTyped}
 
 -- an event of a history has a place in it
 has_place : (k : ℕ) (e : Event) (log : List Event) → Member e log → places_from e.pass k log ≡ [] → ⊥
@@ -81,52 +83,56 @@ module _ (z : Sizes) (m : Memory) (f : Views) (passes : List Pass) (at : Link �
 
 -- ---- the end
 
-module _ (z : Sizes) (m : Memory) (f : Views) (passes : List Pass) (r : IsSound z m f)
+module _ (b : Basis) (m : Memory) (f : Views) (passes : List Pass) (r : IsSound b.sizes m f) (typed : AreTyped b.schema r.log)
     (known : (a : Pass) → Member a passes → f (view_of_pass a).pass ≡ Some (view_of_pass a))
-    (others : AreAll z passes → (p : ℕ) (v : View) → f p ≡ Some v → (a : Pass) × Member a passes × (view_of_pass a ≡ v)) where
+    (others : AreAll b passes → (p : ℕ) (v : View) → f p ≡ Some v → (a : Pass) × Member a passes × (view_of_pass a ≡ v)) where
   -- an event of the history is one of a pass
-  event_of : AreAll z passes → (e : Event) → Member e r.log → (o : Option View) → f e.pass ≡ o → (a : Pass) × Member a passes × (e.pass ≡ (view_of_pass a).pass)
+  abbrev z : Sizes
+  z = b.sizes
+
+  event_of : AreAll b passes → (e : Event) → Member e r.log → (o : Option View) → f e.pass ≡ o → (a : Pass) × Member a passes × (e.pass ≡ (view_of_pass a).pass)
   event_of all e i None none = absurd (has_place 0 e r.log i (r.history.strangers e.pass none))
   event_of all e i (Some v) some =
       let a = others all e.pass v some in
       (a.0, a.1, sym (r.history.tells e.pass v some).pass ∙ ap (λ (u : View). u.pass) (sym a.2))
 
-  tells_all : TellsAll z passes r.log
+  tells_all : TellsAll b passes r.log
   tells_all = record {
     legal = r.history.legal;
+    typed = typed;
     begins = λ a i. (r.history.tells (view_of_pass a).pass (view_of_pass a) (known a i)).starts;
     own = λ a i. (r.history.tells (view_of_pass a).pass (view_of_pass a) (known a i)).own;
     whole = λ all e i. event_of all e i (f e.pass) refl;
   }
 
   -- no cell is locked, so each has its logical words
-  unlocked : AreAll z passes → HoldNoCell passes → (c : Cell) → IsLocked (m.version c) → ⊥
+  unlocked : AreAll b passes → HoldNoCell passes → (c : Cell) → IsLocked (m.version c) → ⊥
   unlocked all held c locked =
       let h = r.holder.holder c locked in
       let a = others all h.pass h.view h.is in
       subst (Member h.holding) (ap (λ (v : View). v.held) (sym a.2) ∙ held a.0 a.1) h.holds
 
-  logical_words : AreAll z passes → HoldNoCell passes → r.logical ≡ m.words
+  logical_words : AreAll b passes → HoldNoCell passes → r.logical ≡ m.words
   logical_words all held = λ i c. r.holder.at_rest c (unlocked all held c) i
 
-  shows_words : AreAll z passes → HoldNoCell passes → ShowsReplay z r.log m.words
+  shows_words : AreAll b passes → HoldNoCell passes → ShowsReplay z r.log m.words
   shows_words all held = subst (λ (s : Cells). ShowsReplay z r.log s) (logical_words all held) r.shows
 
-  accounts : AreAll z passes → HoldNoCell passes → HaveNoNumber passes → IsAccounted z m passes
+  accounts : AreAll b passes → HoldNoCell passes → HaveNoNumber passes → IsAccounted z m passes
   accounts all held hand =
       let numbers : NumbersAccounted z m f m.words r.at = subst (λ (s : Cells). NumbersAccounted z m f s r.at) (logical_words all held) r.numbers in
       accounted z m f passes r.at numbers (λ p v e. (r.history.tells p v e).pass) known (others all) hand
 
-pub closes_by : (z : Sizes) (ws : List ℕ) (f : Views) (passes : List Pass) (r : IsSound z (memory_of z ws) f)
+pub closes_by : (b : Basis) (ws : List ℕ) (f : Views) (passes : List Pass) (r : IsSound b.sizes (memory_of b.sizes ws) f) → AreTyped b.schema r.log
     → ((a : Pass) → Member a passes → f (view_of_pass a).pass ≡ Some (view_of_pass a))
-    → (AreAll z passes → (p : ℕ) (v : View) → f p ≡ Some v → (a : Pass) × Member a passes × (view_of_pass a ≡ v))
-    → Closes z ws passes
-closes_by z ws f passes r known others = record {
+    → (AreAll b passes → (p : ℕ) (v : View) → f p ≡ Some v → (a : Pass) × Member a passes × (view_of_pass a ≡ v))
+    → Closes b ws passes
+closes_by b ws f passes r typed known others = record {
   views = f;
   sound = r;
   each = known;
   whole = others;
-  history = tells_all z (memory_of z ws) f passes r known others;
-  tree = shows_words z (memory_of z ws) f passes r known others;
-  numbers = accounts z (memory_of z ws) f passes r known others;
+  history = tells_all b (memory_of b.sizes ws) f passes r typed known others;
+  tree = shows_words b (memory_of b.sizes ws) f passes r typed known others;
+  numbers = accounts b (memory_of b.sizes ws) f passes r typed known others;
 }

@@ -25,10 +25,12 @@ use Rattle.art_step.proofs.Moves.{Moves}
 use Rattle.art_step.proofs.NumberMoves.{bit_room, in_use, keeps_free_word, moves_sets, moves_takes, puts_free_word}
 use Rattle.art_step.proofs.WordPlaces.{free_below, has_free_word}
 use Rattle.art_step.proofs.WordRows.{free_word_found, pass_word_found, sets_epoch, sets_pass_word}
+use Rattle.art_shared.specs.declared.law.Basis.{Basis}
 use Rattle.art_shared.specs.declared.law.Known.{Known}
 use Rattle.art_shared.specs.Passes.{view_in}
 use Rattle.art_shared.specs.Turns.{MayTurn}
 use Rattle.art_shared.proofs.Turning.{looks}
+use Rattle.art_shared.proofs.Typed.{pinned_sees, quiet, taken_sees}
 
 -- ---- one bit of a word
 
@@ -52,7 +54,10 @@ free_low z pool i has = let low = (free_below z pool i has).1 in omega (arith, l
 abbrev pub Frees : Sizes → Link → View → View → Type 0
 Frees z d v w = (give.May v d → give.Outcome v w d) × (give.MayFree z v d → give.FreeOutcome v w d)
 
-module _ (z : Sizes) (me : Known) where
+module _ (basis : Basis) (me : Known) where
+  abbrev z : Sizes
+  z = basis.sizes
+
   abbrev v : View
   v = view_in me
 
@@ -62,56 +67,80 @@ module _ (z : Sizes) (me : Known) where
   -- ---- numbers
 
   pub turns_look_free : (pool : Pool) (i at : ℕ) → at ≡ first_free_word z pool + i → take_free.May z pool i None
-      → MayTurn z me at (λ n. n) (λ n v w. take_free.Outcome z v w pool i None n) (λ n. take_free.Takes pool i None n)
-  turns_look_free pool i at is may ws f s low =
-      let n : ℕ = get_or ws at 0 in
-      let found = found_free ws pool i at is may.word in
-      let keeps = subst (λ (x : ℕ). SetsFreeWord (memory_of z ws) pool i x (memory_of z ws)) (sym found) (keeps_free_word z ws s.long pool i may.word) in
-      looks z ws f v.pass v at (λ v w. take_free.Outcome z v w pool i None n) (take_free.Takes pool i None n)
-      (moves_takes z ws f v.pass v s.sound s.here s.long ws pool i None n may found keeps)
+      → MayTurn basis me at (λ n. n) (λ n v w. take_free.Outcome z v w pool i None n) (λ n. take_free.Takes pool i None n)
+  turns_look_free pool i at is may = record {
+    moves = λ ws f s low.
+        let n : ℕ = get_or ws at 0 in
+        let found = found_free ws pool i at is may.word in
+        let keeps = subst (λ (x : ℕ). SetsFreeWord (memory_of z ws) pool i x (memory_of z ws)) (sym found) (keeps_free_word z ws s.long pool i may.word) in
+        looks z ws f v.pass v at (λ v w. take_free.Outcome z v w pool i None n) (take_free.Takes pool i None n)
+        (moves_takes z ws f v.pass v s.sound s.here s.long ws pool i None n may found keeps);
+    adds = λ n w row. quiet basis.schema v w (ap (λ (u : View). u.own) row.is ∙ (taken_sees v pool i None n row.words).1);
+  }
 
   pub turns_take : (pool : Pool) (i k mask at : ℕ) → mask ≡ 2 ^ 64 - 1 - 2 ^ k → at ≡ first_free_word z pool + i → take_free.May z pool i (Some k)
-      → MayTurn z me at (λ n. bit_and n mask) (λ n v w. take_free.Outcome z v w pool i (Some k) n) (λ n. take_free.Takes pool i (Some k) n)
-  turns_take pool i k mask at up is may ws f s low =
-      let n : ℕ = get_or ws at 0 in
-      let found = found_free ws pool i at is may.word in
-      moves_takes z ws f v.pass v s.sound s.here s.long (slice_set ws at (bit_and n mask)) pool i (Some k) n may found
-      (puts_free_word z ws s.long pool i may.word at (bit_and n mask) (without_bit (Some k) n) is (ap (bit_and n) up ∙ masked n k low may.low))
+      → MayTurn basis me at (λ n. bit_and n mask) (λ n v w. take_free.Outcome z v w pool i (Some k) n) (λ n. take_free.Takes pool i (Some k) n)
+  turns_take pool i k mask at up is may = record {
+    moves = λ ws f s low.
+        let n : ℕ = get_or ws at 0 in
+        let found = found_free ws pool i at is may.word in
+        moves_takes z ws f v.pass v s.sound s.here s.long (slice_set ws at (bit_and n mask)) pool i (Some k) n may found
+        (puts_free_word z ws s.long pool i may.word at (bit_and n mask) (without_bit (Some k) n) is (ap (bit_and n) up ∙ masked n k low may.low));
+    adds = λ n w row. quiet basis.schema v w (ap (λ (u : View). u.own) row.is ∙ (taken_sees v pool i (Some k) n row.words).1);
+  }
 
   pub turns_give : (d : Link) (bit at : ℕ) → bit ≡ 2 ^ free_bit d → at ≡ first_free_word z (pool_of d) + free_index d → give.May v d ⊎ give.MayFree z v d
-      → MayTurn z me at (λ n. (n + bit) % 2 ^ 64) (λ n v w. Frees z d v w) (λ n. SetsBit d)
-  turns_give d bit at up is may ws f s low =
-      let n : ℕ = get_or ws at 0 in
-      let m : Memory = memory_of z ws in
-      let used = in_use z ws f v.pass v s.sound s.here s.long d may in
-      let has = has_free_word z d used.0 in
-      let found : n ≡ m.free_word (pool_of d) (free_index d) = found_free ws (pool_of d) (free_index d) at is has in
-      let room = bit_room m d n found used.1 low in
-      let sum : (n + bit) % 2 ^ 64 ≡ m.free_word (pool_of d) (free_index d) + 2 ^ free_bit d = ap (λ (b : ℕ). (n + b) % 2 ^ 64) up ∙ (mod-eq_of_lt room ∙ ap (λ (x : ℕ). x + 2 ^ free_bit d) found) in
-      moves_sets z ws f v.pass v s.sound s.here s.long (slice_set ws at ((n + bit) % 2 ^ 64)) d may
-      (λ g. puts_free_word z ws s.long (pool_of d) (free_index d) has at ((n + bit) % 2 ^ 64) (m.free_word (pool_of d) (free_index d) + 2 ^ free_bit d) is sum)
+      → MayTurn basis me at (λ n. (n + bit) % 2 ^ 64) (λ n v w. Frees z d v w) (λ n. SetsBit d)
+  turns_give d bit at up is may = record {
+    moves = λ ws f s low.
+        let n : ℕ = get_or ws at 0 in
+        let m : Memory = memory_of z ws in
+        let used = in_use z ws f v.pass v s.sound s.here s.long d may in
+        let has = has_free_word z d used.0 in
+        let found : n ≡ m.free_word (pool_of d) (free_index d) = found_free ws (pool_of d) (free_index d) at is has in
+        let room = bit_room m d n found used.1 low in
+        let sum : (n + bit) % 2 ^ 64 ≡ m.free_word (pool_of d) (free_index d) + 2 ^ free_bit d = ap (λ (b : ℕ). (n + b) % 2 ^ 64) up ∙ (mod-eq_of_lt room ∙ ap (λ (x : ℕ). x + 2 ^ free_bit d) found) in
+        moves_sets z ws f v.pass v s.sound s.here s.long (slice_set ws at ((n + bit) % 2 ^ 64)) d may
+        (λ g. puts_free_word z ws s.long (pool_of d) (free_index d) has at ((n + bit) % 2 ^ 64) (m.free_word (pool_of d) (free_index d) + 2 ^ free_bit d) is sum);
+    adds = λ n w row. quiet basis.schema v w (⊎_elim
+        (λ (m : give.May v d). ap (λ (u : View). u.own) (row.0 m).is)
+        (λ (m : give.MayFree z v d). ap (λ (u : View). u.own) (row.1 m).is)
+        may);
+  }
 
   -- ---- epochs and pins
 
-  pub turns_epoch : (at : ℕ) → at ≡ epoch_place z → MayTurn z me at (λ n. n) (λ n v w. epoch.Outcome z v w n) (λ n. FindsEpoch n)
-  turns_epoch at is ws f s low =
-      let n : ℕ = get_or ws at 0 in
-      looks z ws f v.pass v at (λ v w. epoch.Outcome z v w n) (FindsEpoch n) (moves_notes z ws f v.pass v s.sound s.here s.long n (ap (λ (j : ℕ). get_or ws j 0) is))
+  pub turns_epoch : (at : ℕ) → at ≡ epoch_place z → MayTurn basis me at (λ n. n) (λ n v w. epoch.Outcome z v w n) (λ n. FindsEpoch n)
+  turns_epoch at is = record {
+    moves = λ ws f s low.
+        let n : ℕ = get_or ws at 0 in
+        looks z ws f v.pass v at (λ v w. epoch.Outcome z v w n) (FindsEpoch n) (moves_notes z ws f v.pass v s.sound s.here s.long n (ap (λ (j : ℕ). get_or ws j 0) is));
+    adds = λ n w row. quiet basis.schema v w (ap (λ (u : View). u.own) row.is);
+  }
 
-  pub turns_advance : (at : ℕ) → at ≡ epoch_place z → z.passes < 2 ^ 32 → advance.May v → MayTurn z me at (λ n. (n + 1) % 2 ^ 64) (λ n. advance.Outcome) (λ n. RaisesEpoch n)
-  turns_advance at is few may ws f s low =
-      let n : ℕ = get_or ws at 0 in
-      let found : n ≡ (memory_of z ws).epoch = ap (λ (j : ℕ). get_or ws j 0) is in
-      let up : n + 1 ≡ (n + 1) % 2 ^ 64 = sym (mod-eq_of_lt (epoch_fits z ws f v.pass v s.sound s.here s.long n found few)) in
-      subst (λ (y : ℕ). Moves z ws f v.pass v (slice_set ws at y) advance.Outcome (RaisesEpoch n)) up
-      (moves_advances z ws f v.pass v s.sound s.here s.long (slice_set ws at (n + 1)) n found may (rw is (sets_epoch z ws (get_or ws (epoch_place z) 0 + 1) s.long)))
+  pub turns_advance : (at : ℕ) → at ≡ epoch_place z → z.passes < 2 ^ 32 → advance.May v → MayTurn basis me at (λ n. (n + 1) % 2 ^ 64) (λ n. advance.Outcome) (λ n. RaisesEpoch n)
+  turns_advance at is few may = record {
+    moves = λ ws f s low.
+        let n : ℕ = get_or ws at 0 in
+        let found : n ≡ (memory_of z ws).epoch = ap (λ (j : ℕ). get_or ws j 0) is in
+        let up : n + 1 ≡ (n + 1) % 2 ^ 64 = sym (mod-eq_of_lt (epoch_fits z ws f v.pass v s.sound s.here s.long n found few)) in
+        subst (λ (y : ℕ). Moves z ws f v.pass v (slice_set ws at y) advance.Outcome (RaisesEpoch n)) up
+        (moves_advances z ws f v.pass v s.sound s.here s.long (slice_set ws at (n + 1)) n found may (rw is (sets_epoch z ws (get_or ws (epoch_place z) 0 + 1) s.long)));
+    adds = λ n w row. quiet basis.schema v w (ap (λ (u : View). u.own) row);
+  }
 
-  pub turns_pin : (p x at : ℕ) → p ≡ v.pass → p < z.passes → at ≡ pass_place z p → pin.May v x → MayTurn z me at (λ _. x) (λ _ v w. pin.Outcome v w x) (λ _. PutsPassWord v.pass x)
-  turns_pin p x at own few is may ws f s low =
-      moves_pins z ws f v.pass v s.sound s.here s.long (slice_set ws at x) x may (rw (is, own) (sets_pass_word z ws v.pass x (subst (λ (q : ℕ). q < z.passes) own few) s.long))
+  pub turns_pin : (p x at : ℕ) → p ≡ v.pass → p < z.passes → at ≡ pass_place z p → pin.May v x → MayTurn basis me at (λ _. x) (λ _ v w. pin.Outcome v w x) (λ _. PutsPassWord v.pass x)
+  turns_pin p x at own few is may = record {
+    moves = λ ws f s low.
+        moves_pins z ws f v.pass v s.sound s.here s.long (slice_set ws at x) x may (rw (is, own) (sets_pass_word z ws v.pass x (subst (λ (q : ℕ). q < z.passes) own few) s.long));
+    adds = λ n w row. quiet basis.schema v w (ap (λ (u : View). u.own) row ∙ (pinned_sees v x).1);
+  }
 
-  pub turns_watch : (q at : ℕ) → at ≡ pass_place z q → watch.May z v q → MayTurn z me at (λ n. n) (λ n v w. watch.Outcome v w q n) (λ n. FindsPassWord q n)
-  turns_watch q at is may ws f s low =
-      let n : ℕ = get_or ws at 0 in
-      looks z ws f v.pass v at (λ v w. watch.Outcome v w q n) (FindsPassWord q n)
-      (moves_watches z ws f v.pass v s.sound s.here s.long q n may (ap (λ (j : ℕ). get_or ws j 0) is ∙ sym (pass_word_found z ws q may.there)))
+  pub turns_watch : (q at : ℕ) → at ≡ pass_place z q → watch.May z v q → MayTurn basis me at (λ n. n) (λ n v w. watch.Outcome v w q n) (λ n. FindsPassWord q n)
+  turns_watch q at is may = record {
+    moves = λ ws f s low.
+        let n : ℕ = get_or ws at 0 in
+        looks z ws f v.pass v at (λ v w. watch.Outcome v w q n) (FindsPassWord q n)
+        (moves_watches z ws f v.pass v s.sound s.here s.long q n may (ap (λ (j : ℕ). get_or ws j 0) is ∙ sym (pass_word_found z ws q may.there)));
+    adds = λ n w row. quiet basis.schema v w (ap (λ (u : View). u.own) row);
+  }

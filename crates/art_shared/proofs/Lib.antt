@@ -9,3 +9,4 @@ pub mod Opened
 pub mod Seated
 pub mod Stamps
 pub mod Turning
+pub mod Typed

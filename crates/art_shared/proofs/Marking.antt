@@ -4,12 +4,12 @@ use mathlib.Core.Option.{some}
 use lib.ListN.{get_elem?}
 use Rattle.atomic_table.specs.Table.{Me}
 use Rattle.art_step.specs.declared.views.Event.{Event}
-use Rattle.art_step.specs.declared.views.Sizes.{Sizes}
 use Rattle.art_step.specs.declared.views.View.{View}
 use Rattle.art_step.specs.Histories.{places, StartsWith}
 use Rattle.art_step.specs.Steps.Anchor as anchor
 use Rattle.art_step.specs.Views.{Member}
 use Rattle.art_step.proofs.SetsView.{member_back}
+use Rattle.art_shared.specs.declared.law.Basis.{Basis}
 use Rattle.art_shared.specs.declared.law.Known.{Known}
 use Rattle.art_shared.specs.Marks.{LooksTwice, Meets, told_too}
 use Rattle.art_shared.specs.Passes.{first_told, glued, marked, view_in}
@@ -24,15 +24,15 @@ one_told (h ∷ i ∷ hs) e = absurd (omega arith)
 
 -- a seat that takes in a mark's is told its history, and no more
 pub takes_in : (a b : Known) → length b.views ≡ 0 → length b.told ≡ 1 → glued a b ≡ told_too a (first_told b.told)
-takes_in a b none one = ap₂ (λ (vs : List View) (hs : List (List Event)). record { sizes = a.sizes; views = vs; told = a.told ++ hs }) (ap (λ (l : List View). a.views ++ l) (no_items b.views none) ∙ append-nil a.views) (one_told b.told one)
+takes_in a b none one = ap₂ (λ (vs : List View) (hs : List (List Event)). record { basis = a.basis; views = vs; told = a.told ++ hs }) (ap (λ (l : List View). a.views ++ l) (no_items b.views none) ∙ append-nil a.views) (one_told b.told one)
 
 pub told_last : (k : Known) (h : List Event) → Member h (told_too k h).told
 told_last k h = member_back h k.told (h ∷ []) (inl refl)
 
 -- what a seat's pass has seen is a beginning of the history
-pub seen_begins : (z : Sizes) (id : ℕ) (me : Me (Unit {0}) Known) → length me.0.views ≡ 1 → (s : Words) (k : Kept z s) → get_elem? s.views id ≡ some me.0 → (h : List Event) → Member h (marked me.0).told → StartsWith k.sound.log h
-seen_begins z id me single s k at h i = ⊎_elim
-    (λ (is : h ≡ (view_in me.0).seen). subst (StartsWith k.sound.log) (sym is) (k.sound.history.tells (view_in me.0).pass (view_in me.0) (stands z id 0 me single s k at).here).starts)
+pub seen_begins : (b : Basis) (id : ℕ) (me : Me (Unit {0}) Known) → length me.0.views ≡ 1 → (s : Words) (k : Kept b s) → get_elem? s.views id ≡ some me.0 → (h : List Event) → Member h (marked me.0).told → StartsWith k.sound.log h
+seen_begins b id me single s k at h i = ⊎_elim
+    (λ (is : h ≡ (view_in me.0).seen). subst (StartsWith k.sound.log) (sym is) (k.sound.history.tells (view_in me.0).pass (view_in me.0) (stands b id 0 me single s k at).here).starts)
     (λ (none : Member h []). absurd none)
     i
 

@@ -5,7 +5,6 @@ use mathlib.Core.Option.{some, some-injective, some-ne-none}
 use mathlib.Core.Logic.{dite}
 use native.Mathlib.Decide.{ℕ_discrete}
 use lib.ListN.{get_elem?}
-use Rattle.art_step.specs.declared.views.Sizes.{Sizes}
 use Rattle.art_step.specs.declared.views.View.{View}
 use Rattle.art_step.specs.Sound.{IsSound}
 use Rattle.art_step.specs.Views.{Member, Views}
@@ -16,9 +15,11 @@ use Rattle.std.proofs.lemmas.List.{map-append, map-set}
 use Rattle.art_step.specs.declared.views.Event.{Event}
 use Rattle.art_step.specs.Histories.{StartsWith}
 use Rattle.art_step.proofs.SetsView.{member_append}
+use Rattle.art_shared.specs.declared.law.Basis.{Basis}
 use Rattle.art_shared.specs.declared.law.Known.{Known}
 use Rattle.art_shared.specs.Passes.{glued, nobody}
 use Rattle.art_shared.specs.Rule.{Apart, Kept, Words, all_told, all_views, find, joined, passes_of, seated}
+use Rattle.art_shared.specs.Typed.{AreTyped}
 use Rattle.art_shared.proofs.Lists.{joined_append, joined_here, joined_set}
 use Rattle.art_shared.proofs.Seated.{members}
 
@@ -135,11 +136,11 @@ apart_same : (vss uss : List (List View)) → ((q : ℕ) → only q (joined uss)
 apart_same vss uss h a = apart_of (joined uss) (λ q. let n = at_most (joined vss) a q in let e = ap length (h q) in omega arith)
 
 -- the rule stands where the views of all passes are the same, and what is told is a beginning of the history
-kept_again : (z : Sizes) (s : Words) (ks : List Known) (k : Kept z s) → seated ks ≡ seated s.views → Apart (passes_of (all_views ks)) → ((h : List Event) → Member h (all_told ks) → StartsWith k.sound.log h)
-    → Kept z record { words = s.words; homes = s.homes; views = ks }
-kept_again z s ks k same apart told =
-    let both = subst (λ (f : Views). (r : IsSound z (memory_of z s.words) f) × ((h : List Event) → Member h (all_told ks) → StartsWith r.log h)) (sym same) (k.sound, told) in
-    record { long = k.long; sound = both.0; apart = apart; told = both.1 }
+kept_again : (b : Basis) (s : Words) (ks : List Known) (k : Kept b s) → seated ks ≡ seated s.views → Apart (passes_of (all_views ks)) → ((h : List Event) → Member h (all_told ks) → StartsWith k.sound.log h)
+    → Kept b record { words = s.words; homes = s.homes; views = ks }
+kept_again b s ks k same apart told =
+    let both = subst (λ (f : Views). (r : IsSound b.sizes (memory_of b.sizes s.words) f) × ((h : List Event) → Member h (all_told ks) → StartsWith r.log h) × AreTyped b.schema r.log) (sym same) (k.sound, told, k.typed) in
+    record { long = k.long; sound = both.0; apart = apart; told = both.1; typed = both.2 }
 
 -- what one seat knows
 abbrev pub views_in : Known → List View
@@ -148,10 +149,10 @@ views_in k = k.views
 abbrev pub told_in : Known → List (List Event)
 told_in k = k.told
 
-module _ (z : Sizes) where
+module _ (basis : Basis) where
   -- the rule stands where views move to a new seat, which is told beginnings of the history
   pub splits : (id : ℕ) (whole left right : Known) → whole.views ≡ right.views ++ left.views → left.told ≡ whole.told
-      → ((s : Words) (k : Kept z s) → get_elem? s.views id ≡ some whole → (h : List Event) → Member h right.told → StartsWith k.sound.log h) → Splits (Kept z) id whole left right
+      → ((s : Words) (k : Kept basis s) → get_elem? s.views id ≡ some whole → (h : List Event) → Member h right.told → StartsWith k.sound.log h) → Splits (Kept basis) id whole left right
   splits id whole left right e same starts s k at =
       let vss : List (List View) = map views_in s.views in
       let ks : List Known = set s.views id left ++ right ∷ [] in
@@ -159,7 +160,7 @@ module _ (z : Sizes) where
       let is : map views_in ks ≡ uss = map-append views_in (set s.views id left) (right ∷ []) ∙ ap (λ (l : List (List View)). l ++ right.views ∷ []) (map-set views_in s.views id left) in
       let here : get_elem? vss id ≡ some (right.views ++ left.views) = at_map views_in s.views id whole at ∙ ap (λ (l : List View). some l) e in
       let h : (q : ℕ) → only q (joined uss) ≡ only q (joined vss) = λ q. cut_only q vss id right.views left.views here (at_most (joined vss) k.apart q) in
-      kept_again z s ks k (ap members is ∙ members_same vss uss h) (subst (λ (l : List (List View)). Apart (passes_of (joined l))) (sym is) (apart_same vss uss h k.apart))
+      kept_again basis s ks k (ap members is ∙ members_same vss uss h) (subst (λ (l : List (List View)). Apart (passes_of (joined l))) (sym is) (apart_same vss uss h k.apart))
       (λ x i.
       let told : map told_in ks ≡ set (map told_in s.views) id left.told ++ right.told ∷ [] = map-append told_in (set s.views id left) (right ∷ []) ∙ ap (λ (l : List (List (List Event))). l ++ right.told ∷ []) (map-set told_in s.views id left) in
       let among : Member x (joined (set (map told_in s.views) id left.told) ++ joined (right.told ∷ [])) = subst (Member x) (ap joined told ∙ joined_append (set (map told_in s.views) id left.told) (right.told ∷ [])) i in
@@ -172,15 +173,15 @@ module _ (z : Sizes) where
       (member_append x (joined (set (map told_in s.views) id left.told)) (joined (right.told ∷ [])) among))
 
   -- where a seat comes that has no pass
-  pub enters : (slots : ℕ) → Enters (Kept z) slots 0 (λ n w. w ≡ nobody)
+  pub enters : (slots : ℕ) → Enters (Kept basis) slots 0 (λ n w. w ≡ nobody)
   enters slots s k homes low =
       let ks : List Known = s.views ++ nobody ∷ [] in
       let is : joined (map views_in ks) ≡ joined (map views_in s.views) = ap joined (map-append views_in s.views (nobody ∷ [])) ∙ (joined_append (map views_in s.views) ([] ∷ []) ∙ append-nil (joined (map views_in s.views))) in
       let told : joined (map told_in ks) ≡ joined (map told_in s.views) = ap joined (map-append told_in s.views (nobody ∷ [])) ∙ (joined_append (map told_in s.views) ([] ∷ []) ∙ append-nil (joined (map told_in s.views))) in
-      (nobody, kept_again z s ks k (ap find is) (subst (λ (l : List View). Apart (passes_of l)) (sym is) k.apart) (λ x i. k.told x (subst (Member x) told i)), refl)
+      (nobody, kept_again basis s ks k (ap find is) (subst (λ (l : List View). Apart (passes_of l)) (sym is) k.apart) (λ x i. k.told x (subst (Member x) told i)), refl)
 
   -- and where one takes in what another knows, which is left with nothing
-  pub joins : (id other : ℕ) (a b : Known) → Joins (Kept z) id a other b (glued a b) nobody
+  pub joins : (id other : ℕ) (a b : Known) → Joins (Kept basis) id a other b (glued a b) nobody
   joins id other a b s k at apart at' =
       let vss : List (List View) = map views_in s.views in
       let ks : List Known = set (set s.views id (glued a b)) other nobody in
@@ -190,7 +191,7 @@ module _ (z : Sizes) where
       let h : (q : ℕ) → only q (joined uss) ≡ only q (joined vss) = λ q. glue_only q vss id other a.views b.views apart (at_map views_in s.views id a at) (at_map views_in s.views other b was) (at_most (joined vss) k.apart q) in
       let tss : List (List (List Event)) = map told_in s.views in
       let told : map told_in ks ≡ set (set tss id (a.told ++ b.told)) other [] = map-set told_in (set s.views id (glued a b)) other nobody ∙ ap (λ (l : List (List (List Event))). set l other []) (map-set told_in s.views id (glued a b)) in
-      kept_again z s ks k (ap members is ∙ members_same vss uss h) (subst (λ (l : List (List View)). Apart (passes_of (joined l))) (sym is) (apart_same vss uss h k.apart))
+      kept_again basis s ks k (ap members is ∙ members_same vss uss h) (subst (λ (l : List (List View)). Apart (passes_of (joined l))) (sym is) (apart_same vss uss h k.apart))
       (λ x i. k.told x (⊎_elim
       (λ (j : Member x []). absurd j)
       (λ (j : Member x (joined (set tss id (a.told ++ b.told)))). ⊎_elim

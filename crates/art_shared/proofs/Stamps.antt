@@ -12,6 +12,7 @@ use Rattle.art_step.specs.Steps.Give as give
 use Rattle.art_step.specs.Views.{IsNumber, Member, links_in_hand, links_in_limbo, pool_of}
 use Rattle.art_step.specs.WordPlaces.{place_of, pool_size}
 use Rattle.art_step.proofs.WordPlaces.{is_number}
+use Rattle.art_shared.specs.declared.law.Basis.{Basis}
 use Rattle.art_shared.specs.declared.stepper.Stepper.{Stepper}
 use Rattle.art_shared.specs.Passes.{all_placed, are_numbers}
 use Rattle.art_shared.specs.Stepper.{sizes_of, view_of}
@@ -27,7 +28,7 @@ placed_at z (y ∷ ys) x h i = ⊎_elim
     (cases_eq y.first (place_of z y.cell))
 
 pub stamp_at : (a : Stepper) (x : Stamp) → Member x (view_of a).stamps → x.first ≡ place_of (sizes_of a) x.cell
-stamp_at a x i = subst (λ (z : Sizes). x.first ≡ place_of z x.cell) a.sizes (placed_at (a.pass.now.seat.me.0.sizes) (view_of a).stamps x a.pass.now.placed i)
+stamp_at a x i = subst (λ (b : Basis). x.first ≡ place_of b.sizes x.cell) a.basis (placed_at (a.pass.now.seat.me.0.basis.sizes) (view_of a).stamps x a.pass.now.placed i)
 
 -- ---- and its numbers in hand and in limbo are numbers that there are
 
@@ -49,9 +50,9 @@ both_true false b h = absurd (false≢true h)
 pub number_there : (a : Stepper) (d : Link) → give.May (view_of a) d ⊎ give.MayFree (sizes_of a) (view_of a) d → IsNumber (sizes_of a) d
 number_there a d may =
     let v : View = view_of a in
-    let both = both_true (are_numbers a.pass.now.seat.me.0.sizes (links_in_hand v.hand)) (are_numbers a.pass.now.seat.me.0.sizes (links_in_limbo v.limbo)) a.pass.now.numbers in
-    subst (λ (z : Sizes). IsNumber z d) a.sizes
+    let both = both_true (are_numbers a.pass.now.seat.me.0.basis.sizes (links_in_hand v.hand)) (are_numbers a.pass.now.seat.me.0.basis.sizes (links_in_limbo v.limbo)) a.pass.now.numbers in
+    subst (λ (b : Basis). IsNumber b.sizes d) a.basis
     (⊎_elim
-    (λ (m : give.May v d). subst (IsNumber a.pass.now.seat.me.0.sizes) m.hand.2 (numbers_at a.pass.now.seat.me.0.sizes (λ (x : InHand). x.link) v.hand m.hand.0 both.0 m.hand.1))
-    (λ (m : give.MayFree (sizes_of a) v d). subst (IsNumber a.pass.now.seat.me.0.sizes) m.link (numbers_at a.pass.now.seat.me.0.sizes (λ (x : Retired). x.link) v.limbo m.place both.1 m.limbo))
+    (λ (m : give.May v d). subst (IsNumber a.pass.now.seat.me.0.basis.sizes) m.hand.2 (numbers_at a.pass.now.seat.me.0.basis.sizes (λ (x : InHand). x.link) v.hand m.hand.0 both.0 m.hand.1))
+    (λ (m : give.MayFree (sizes_of a) v d). subst (IsNumber a.pass.now.seat.me.0.basis.sizes) m.link (numbers_at a.pass.now.seat.me.0.basis.sizes (λ (x : Retired). x.link) v.limbo m.place both.1 m.limbo))
     may)

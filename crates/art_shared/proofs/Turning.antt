@@ -24,13 +24,15 @@ use Rattle.art_step.specs.WordRows.{memory_of}
 use Rattle.art_step.proofs.Determined.{history_grows}
 use Rattle.art_step.proofs.Moves.{Moves}
 use Rattle.art_step.proofs.WordPlaces.{is_number}
+use Rattle.art_shared.specs.declared.law.Basis.{Basis}
 use Rattle.art_shared.specs.declared.law.Known.{Known}
 use Rattle.art_shared.specs.Passes.{all_placed, are_numbers, has_numbers, head_of, view_in}
 use Rattle.art_shared.specs.Rule.{Apart, Kept, Words, all_told, all_views, joined, passes_of, seated}
-use Rattle.art_shared.specs.Turns.{MayTurn, Stands, Turn}
+use Rattle.art_shared.specs.Turns.{AddsTyped, MayTurn, Stands, Turn}
 use Rattle.art_shared.proofs.Lists.{joined_here}
 use Rattle.art_shared.proofs.Moving.{told_in, views_in}
 use Rattle.art_shared.proofs.Seated.{at_member, members, passes_set, standing, turns_member}
+use Rattle.art_shared.proofs.Typed.{still_typed, typed_start}
 
 -- a step that writes nothing
 pub looks : (z : Sizes) (ws : List ℕ) (f : Views) (p : ℕ) (v : View) (place : ℕ) (Row : View → View → Type 0) (so : Instant) → Moves z ws f p v ws Row so → Moves z ws f p v (slice_set ws place (get_or ws place 0)) Row so
@@ -72,21 +74,24 @@ starts_then xs ys zs a b = (b.0 ++ a.0, a.1 ∙ (ap (λ (l : List Event). l ++ a
 
 -- ---- one step
 
-module _ (z : Sizes) (id place : ℕ) (me : Me (Unit {0}) Known) (single : length me.0.views ≡ 1) where
+module _ (basis : Basis) (id place : ℕ) (me : Me (Unit {0}) Known) (single : length me.0.views ≡ 1) where
+  abbrev z : Sizes
+  z = basis.sizes
+
   abbrev v : View
   v = view_in me.0
 
   -- what the seat knows after it
   abbrev after : View → Known
-  after w = record { sizes = me.0.sizes; views = w ∷ []; told = me.0.told }
+  after w = record { basis = me.0.basis; views = w ∷ []; told = me.0.told }
 
   -- the word becomes x, so that the rule stands, and the seat is told of it
   record Done (s : Words) (x : ℕ) (so : Instant) (Row : View → View → Type 0) : Type 0 where
     known : Known
-    kept : Kept z (stepped s place x id me.1 known keeps)
-    turn : Turn z me.0 known so Row
+    kept : Kept basis (stepped s place x id me.1 known keeps)
+    turn : Turn basis me.0 known so Row
 
-  module _ (s : Words) (k : Kept z s) (at : get_elem? s.views id ≡ some me.0) where
+  module _ (s : Words) (k : Kept basis s) (at : get_elem? s.views id ≡ some me.0) where
     abbrev vss : List (List View)
     vss = map views_in s.views
 
@@ -96,7 +101,7 @@ module _ (z : Sizes) (id place : ℕ) (me : Me (Unit {0}) Known) (single : lengt
     mine : seated s.views v.pass ≡ Some v
     mine = at_member vss id v here k.apart
 
-    pub stands : Stands z me.0 s.words (seated s.views)
+    pub stands : Stands basis me.0 s.words (seated s.views)
     stands = record {
       long = k.long;
       sound = k.sound;
@@ -114,18 +119,19 @@ module _ (z : Sizes) (id place : ℕ) (me : Me (Unit {0}) Known) (single : lengt
     same_passes : (w : View) → w.pass ≡ v.pass → passes_of (all_views (set s.views id (after w))) ≡ passes_of (all_views s.views)
     same_passes w same = ap (λ (l : List (List View)). passes_of (joined l)) (map-set views_in s.views id (after w)) ∙ passes_set vss id v w here same
 
-    done : (x : ℕ) (so : Instant) (Row : View → View → Type 0) → Moves z s.words (seated s.views) v.pass v (set s.words place x) Row so → Done s x so Row
-    done x so Row t =
+    done : (x : ℕ) (so : Instant) (Row : View → View → Type 0) (t : Moves z s.words (seated s.views) v.pass v (set s.words place x) Row so) → AddsTyped basis.schema v t.view → Done s x so Row
+    done x so Row t adds =
         let w : View = t.view in
         let g : Views = seated (set s.views id (after w)) in
         let turn = sets w t.pass in
         let sound = t.sound g turn in
         let step = t.step g turn in
-        let kept : Kept z (stepped s place x id me.1 (after w) keeps) = record {
+        let kept : Kept basis (stepped s place x id me.1 (after w) keeps) = record {
           long = length-set s.words place x ∙ k.long;
           sound = sound;
           apart = subst Apart (sym (same_passes w t.pass)) k.apart;
           told = λ h i. starts_then _ _ h (history_grows z v.pass _ _ _ _ step k.sound sound) (k.told h (subst (Member h) (same_told w) i));
+          typed = still_typed basis.schema z v.pass v w _ _ _ _ step k.sound sound mine turn k.typed adds;
         } in
         record {
           known = after w;
@@ -160,21 +166,23 @@ module _ (z : Sizes) (id place : ℕ) (me : Me (Unit {0}) Known) (single : lengt
             pass = t.pass;
             placed = placed_all z w.stamps (sound.unstamped.pinned v.pass w turn.here).placed;
             numbers = owned z (memory_of z (set s.words place x)) g v.pass w sound turn.here;
-            sizes = refl;
+            typed = typed_start basis.schema sound.log w.seen (sound.history.tells v.pass w turn.here).starts kept.typed;
+            basis = refl;
             told = refl;
           };
         }
 
-  pub allowed : (slots : ℕ) (change : ℕ → ℕ) (Row : ℕ → View → View → Type 0) (so : ℕ → Instant) → MayTurn z me.0 place change Row so
-      → Allows (Kept z) slots id me place change (λ n w. Turn z me.0 w.0 (so n) (Row n) × (w.1 ≡ me.1))
+  pub allowed : (slots : ℕ) (change : ℕ → ℕ) (Row : ℕ → View → View → Type 0) (so : ℕ → Instant) → MayTurn basis me.0 place change Row so
+      → Allows (Kept basis) slots id me place change (λ n w. Turn basis me.0 w.0 (so n) (Row n) × (w.1 ≡ me.1))
   allowed slots change Row so may s k homes at fits =
       let n : ℕ = get_or s.words place 0 in
-      let d = done s k at (change n) (so n) (Row n) (may s.words (seated s.views) (stands s k at) fits) in
+      let t = may.moves s.words (seated s.views) (stands s k at) fits in
+      let d = done s k at (change n) (so n) (Row n) t (may.adds n t.view t.row) in
       (d.known, keeps, tt, d.kept, (d.turn, refl))
 
 -- the same of a table with this key, whose cells the pass knows
-pub allowed_at : {z key : Sizes} (id place : ℕ) (me : Me (Unit {0}) Known) (slots : ℕ) (change : ℕ → ℕ) (Row : ℕ → View → View → Type 0) (so : ℕ → Instant) → length me.0.views ≡ 1 → key ≡ z → me.0.sizes ≡ z → MayTurn z me.0 place change Row so
-    → Allows (Kept key) slots id me place change (λ n w. Turn me.0.sizes me.0 w.0 (so n) (Row n) × (w.1 ≡ me.1))
-allowed_at {z} {key} id place me slots change Row so single is sized may =
-    subst (λ (k : Sizes). Allows (Kept k) slots id me place change (λ n w. Turn me.0.sizes me.0 w.0 (so n) (Row n) × (w.1 ≡ me.1))) (sized ∙ sym is)
-    (allowed me.0.sizes id place me single slots change Row so (subst (λ (k : Sizes). MayTurn k me.0 place change Row so) (sym sized) may))
+pub allowed_at : {basis key : Basis} (id place : ℕ) (me : Me (Unit {0}) Known) (slots : ℕ) (change : ℕ → ℕ) (Row : ℕ → View → View → Type 0) (so : ℕ → Instant) → length me.0.views ≡ 1 → key ≡ basis → me.0.basis ≡ basis → MayTurn basis me.0 place change Row so
+    → Allows (Kept key) slots id me place change (λ n w. Turn me.0.basis me.0 w.0 (so n) (Row n) × (w.1 ≡ me.1))
+allowed_at {basis} {key} id place me slots change Row so single is based may =
+    subst (λ (k : Basis). Allows (Kept k) slots id me place change (λ n w. Turn me.0.basis me.0 w.0 (so n) (Row n) × (w.1 ≡ me.1))) (based ∙ sym is)
+    (allowed me.0.basis id place me single slots change Row so (subst (λ (k : Basis). MayTurn k me.0 place change Row so) (sym based) may))

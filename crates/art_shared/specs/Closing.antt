@@ -10,12 +10,14 @@ use Rattle.art_step.specs.Views.{IsInLimbo, IsNumber, IsOnce, Member, Memory, Vi
 use Rattle.art_step.specs.WordRows.{memory_of}
 use Rattle.art_tree.specs.Heaps.{heap_of}
 use Rattle.art_tree.specs.Tree.{StandsAt}
+use Rattle.art_shared.specs.declared.law.Basis.{Basis}
 use Rattle.art_shared.specs.declared.pass.Pass.{Pass}
 use Rattle.art_shared.specs.Tables.{view_of_pass}
+use Rattle.art_shared.specs.Typed.{AreTyped}
 
 -- these are as many passes as the table has: all of them
-abbrev pub AreAll : Sizes → List Pass → Type 0
-AreAll z passes = length passes ≡ z.passes
+abbrev pub AreAll : Basis → List Pass → Type 0
+AreAll b passes = length passes ≡ b.sizes.passes
 
 -- none of them holds a cell
 abbrev pub HoldNoCell : List Pass → Type 0
@@ -27,13 +29,14 @@ HaveNoNumber passes = (a : Pass) → Member a passes → (view_of_pass a).hand �
 
 -- ---- one history
 
--- it is legal, begins with what each of these passes has seen, and has the events of each at their places; where they are all passes
--- of the table, it has no others
-pub record TellsAll (z : Sizes) (passes : List Pass) (log : List Event) : Type 0 where
+-- it is legal, of commands with keys of the schema, begins with what each of these passes has seen, and has the events of each at their
+-- places; where they are all passes of the table, it has no others
+pub record TellsAll (b : Basis) (passes : List Pass) (log : List Event) : Type 0 where
   pub legal : IsLegal log
+  pub typed : AreTyped b.schema log
   pub begins : (a : Pass) → Member a passes → StartsWith log (view_of_pass a).seen
   pub own : (a : Pass) → Member a passes → places (view_of_pass a).pass log ≡ (view_of_pass a).own
-  pub whole : AreAll z passes → (e : Event) → Member e log → (a : Pass) × Member a passes × (e.pass ≡ (view_of_pass a).pass)
+  pub whole : AreAll b passes → (e : Event) → Member e log → (a : Pass) × Member a passes × (e.pass ≡ (view_of_pass a).pass)
 
 -- ---- what became of each number
 
@@ -60,11 +63,11 @@ pub record IsAccounted (z : Sizes) (m : Memory) (passes : List Pass) : Type 0 wh
 -- the words are those of a sound world, in which each of these passes knows just what it knows; and where they are all passes of the
 -- table, there are no others. Its history is that of these passes. Where they are all, and none holds a cell, the words mean a tree
 -- with the rows that the history leaves; and where none has a number in hand either, each number is accounted for
-pub record Closes (z : Sizes) (ws : List ℕ) (passes : List Pass) : Type 0 where
+pub record Closes (b : Basis) (ws : List ℕ) (passes : List Pass) : Type 0 where
   pub views : Views
-  pub sound : IsSound z (memory_of z ws) views
+  pub sound : IsSound b.sizes (memory_of b.sizes ws) views
   pub each : (a : Pass) → Member a passes → views (view_of_pass a).pass ≡ Some (view_of_pass a)
-  pub whole : AreAll z passes → (p : ℕ) (v : View) → views p ≡ Some v → (a : Pass) × Member a passes × (view_of_pass a ≡ v)
-  pub history : TellsAll z passes sound.log
-  pub tree : AreAll z passes → HoldNoCell passes → ShowsReplay z sound.log (memory_of z ws).words
-  pub numbers : AreAll z passes → HoldNoCell passes → HaveNoNumber passes → IsAccounted z (memory_of z ws) passes
+  pub whole : AreAll b passes → (p : ℕ) (v : View) → views p ≡ Some v → (a : Pass) × Member a passes × (view_of_pass a ≡ v)
+  pub history : TellsAll b passes sound.log
+  pub tree : AreAll b passes → HoldNoCell passes → ShowsReplay b.sizes sound.log (memory_of b.sizes ws).words
+  pub numbers : AreAll b passes → HoldNoCell passes → HaveNoNumber passes → IsAccounted b.sizes (memory_of b.sizes ws) passes

@@ -7,3 +7,4 @@ pub mod SamePass
 pub mod Stepper
 pub mod Tables
 pub mod Turns
+pub mod Typed

@@ -2,18 +2,18 @@
 use Rattle.std.specs.Prelude.{◌≡◌, ℕ, ◌+◌, List, [], ◌∷◌, ◌++◌}
 use Rattle.art_cell.specs.declared.cells.Cell.TheVariants as cell
 use Rattle.art_step.specs.declared.views.Event.{Event}
-use Rattle.art_step.specs.declared.views.Sizes.{Sizes}
 use Rattle.art_step.specs.declared.views.View.{View}
 use Rattle.art_step.specs.Effects.{FindsVersion}
 use Rattle.art_step.specs.Histories.{IsLegal, places, StartsWith}
 use Rattle.art_step.specs.Steps.{AtStep}
 use Rattle.art_step.specs.Steps.Anchor as anchor
 use Rattle.art_step.specs.Views.{Member}
+use Rattle.art_shared.specs.declared.law.Basis.{Basis}
 use Rattle.art_shared.specs.declared.law.Known.{Known}
 use Rattle.art_shared.specs.declared.mark.Mark.{Mark}
 use Rattle.art_shared.specs.declared.shared.Shared.{Shared}
 use Rattle.art_shared.specs.Passes.{first_told, view_in}
-use Rattle.art_shared.specs.Tables.{sizes_in}
+use Rattle.art_shared.specs.Tables.{basis_in}
 use Rattle.art_shared.specs.Turns.{Moment, Turn}
 
 -- what the pass of the mark had seen
@@ -23,16 +23,16 @@ history_of k = first_told k.seat.me.0.told
 -- the mark is one of the table
 pub record IsMarkOf (t : Shared) (k : Mark) : Type 0 where
   pub table : k.seat.table_id ≡ t.table.shared.table_id
-  pub sizes : k.seat.me.0.sizes ≡ sizes_in t
+  pub basis : k.seat.me.0.basis ≡ basis_in t
 
 -- a seat was told one history more
 abbrev pub told_too : Known → List Event → Known
-told_too k h = record { sizes = k.sizes; views = k.views; told = k.told ++ h ∷ [] }
+told_too k h = record { basis = k.basis; views = k.views; told = k.told ++ h ∷ [] }
 
 -- at one instant the pass of the seat looked at the anchor alone
-pub record LooksOnce (z : Sizes) (k k' : Known) : Type 0 where
+pub record LooksOnce (b : Basis) (k k' : Known) : Type 0 where
   pub found : ℕ
-  pub at_once : AtStep z (view_in k) (view_in k') (Moment z k k') (FindsVersion cell.Anchor found)
+  pub at_once : AtStep b.sizes (view_in k) (view_in k') (Moment b k k') (FindsVersion cell.Anchor found)
 
 -- it sees all of the history then, which begins with each that the seat was told
 pub record Sees (told : List (List Event)) (v w : View) : Type 0 where
@@ -40,8 +40,8 @@ pub record Sees (told : List (List Event)) (v w : View) : Type 0 where
   pub begins : (h : List Event) → Member h told → StartsWith w.seen h
 
 -- such a look, at which the version word was n
-abbrev pub Looked : Sizes → Known → Known → ℕ → Type 0
-Looked z k k' n = Turn z k k' (FindsVersion cell.Anchor n) (Sees k.told)
+abbrev pub Looked : Basis → Known → Known → ℕ → Type 0
+Looked b k k' n = Turn b k k' (FindsVersion cell.Anchor n) (Sees k.told)
 
 -- ---- passes that meet
 

@@ -10,6 +10,7 @@ use Rattle.art_step.specs.Opening.{newcomer}
 use Rattle.art_step.specs.Views.{links_in_hand, links_in_limbo, pool_of}
 use Rattle.art_step.specs.WordPlaces.{place_of, pool_size}
 use Rattle.art_step.specs.WordRows.{newcomers}
+use Rattle.art_shared.specs.declared.law.Basis.{Basis}
 use Rattle.art_shared.specs.declared.law.Known.{Known}
 
 -- the first of some views, and the others
@@ -45,27 +46,30 @@ abbrev pub has_numbers : Sizes → View → Bool
 has_numbers z v = are_numbers z (links_in_hand v.hand) && are_numbers z (links_in_limbo v.limbo)
 
 -- the seat that opens a table has all passes, which know nothing
-abbrev pub newcomers_known : Sizes → Known
-newcomers_known z = record { sizes = z; views = newcomers 0 z.passes; told = [] }
+abbrev pub newcomers_known : Basis → Known
+newcomers_known b = record { basis = b; views = newcomers 0 b.sizes.passes; told = [] }
 
 -- the seat of one of them
-abbrev pub newcomer_known : Sizes → ℕ → Known
-newcomer_known z p = record { sizes = z; views = newcomer p ∷ []; told = [] }
+abbrev pub newcomer_known : Basis → ℕ → Known
+newcomer_known b p = record { basis = b; views = newcomer p ∷ []; told = [] }
 
 -- the first pass of a seat, and the others, as they get seats of their own
 abbrev pub first_alone : Known → Known
-first_alone k = record { sizes = k.sizes; views = head_of k.views ∷ []; told = [] }
+first_alone k = record { basis = k.basis; views = head_of k.views ∷ []; told = [] }
 
 abbrev pub without_first : Known → Known
-without_first k = record { sizes = k.sizes; views = tail_of k.views; told = k.told }
+without_first k = record { basis = k.basis; views = tail_of k.views; told = k.told }
 
 -- a seat that was told what the pass of another has seen
 abbrev pub marked : Known → Known
-marked k = record { sizes = k.sizes; views = []; told = (view_in k).seen ∷ [] }
+marked k = record { basis = k.basis; views = []; told = (view_in k).seen ∷ [] }
 
 -- a seat with no pass, and one that takes in what another knows
+abbrev pub no_basis : Basis
+no_basis = record { sizes = record { leaves = 0; n4 = 0; n16 = 0; n48 = 0; n256 = 0; passes = 0 }; schema = [] }
+
 abbrev pub nobody : Known
-nobody = record { sizes = record { leaves = 0; n4 = 0; n16 = 0; n48 = 0; n256 = 0; passes = 0 }; views = []; told = [] }
+nobody = record { basis = no_basis; views = []; told = [] }
 
 abbrev pub glued : Known → Known → Known
-glued a b = record { sizes = a.sizes; views = a.views ++ b.views; told = a.told ++ b.told }
+glued a b = record { basis = a.basis; views = a.views ++ b.views; told = a.told ++ b.told }

@@ -7,7 +7,7 @@ pub record SamePass (a b : Pass) : Type 0 where
   pub number : b.number ≡ a.number
   pub table : b.seat.table_id ≡ a.seat.table_id
   pub seat : b.seat.id ≡ a.seat.id
-  pub sizes : b.seat.me.0.sizes ≡ a.seat.me.0.sizes
+  pub basis : b.seat.me.0.basis ≡ a.seat.me.0.basis
   pub told : b.seat.me.0.told ≡ a.seat.me.0.told
 
 -- it is the same pass at the same table, whatever it was told
@@ -15,4 +15,4 @@ pub record SameSeat (a b : Pass) : Type 0 where
   pub number : b.number ≡ a.number
   pub table : b.seat.table_id ≡ a.seat.table_id
   pub seat : b.seat.id ≡ a.seat.id
-  pub sizes : b.seat.me.0.sizes ≡ a.seat.me.0.sizes
+  pub basis : b.seat.me.0.basis ≡ a.seat.me.0.basis

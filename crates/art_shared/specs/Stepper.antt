@@ -1,9 +1,11 @@
 -- What contracts see of a pass that is lent to a table.
-use Rattle.std.specs.Prelude.{◌≡◌, ℕ, refl}
-use Rattle.std.proofs.Common.{◌∙◌}
+use Rattle.std.specs.Prelude.{◌≡◌, ◌↔◌, ℕ, List, refl}
+use Rattle.std.proofs.Common.{◌∙◌, ap, subst, sym}
+use Rattle.art_key.specs.declared.columns.Column.{Column}
 use Rattle.art_step.specs.declared.views.Sizes.{Sizes}
 use Rattle.art_step.specs.declared.views.View.{View}
 use Rattle.art_step.specs.Effects.{Instant}
+use Rattle.art_shared.specs.declared.law.Basis.{Basis}
 use Rattle.art_shared.specs.declared.law.Known.{Known}
 use Rattle.art_shared.specs.declared.pass.Pass.{Pass}
 use Rattle.art_shared.specs.declared.stepper.Stepper.{Stepper}
@@ -11,6 +13,7 @@ use Rattle.art_shared.specs.Passes.{view_in}
 use Rattle.art_shared.specs.SamePass.{SamePass}
 use Rattle.art_shared.specs.Tables.{known_to}
 use Rattle.art_shared.specs.Turns.{Moment}
+use Rattle.art_shared.specs.Typed.{AreTyped, IsKeyOf}
 
 -- the borrow of the pass
 abbrev pub lender : Stepper → ℕ
@@ -28,22 +31,34 @@ known_by a = known_to (pass_of a)
 abbrev pub view_of : Stepper → View
 view_of a = view_in (known_by a)
 
--- how many cells there are
+-- how many cells there are, and what spells all keys
+abbrev pub basis_of : Stepper → Basis
+basis_of a = a.shared.now.basis
+
 abbrev pub sizes_of : Stepper → Sizes
-sizes_of a = a.shared.now.sizes
+sizes_of a = (basis_of a).sizes
+
+abbrev pub schema_of : Stepper → List Column
+schema_of a = (basis_of a).schema
 
 -- the table just before a step of the pass between the two, and just after it
 abbrev pub instants_of : Stepper → Stepper → Instant
-instants_of a b = Moment (sizes_of a) (known_by a) (known_by b)
+instants_of a b = Moment (basis_of a) (known_by a) (known_by b)
 
--- it is the same borrow of the same pass
+-- it is the same borrow of the same pass; and if all that it had seen are commands with keys of the schema, so is all that it has seen
 pub record OnlyStepped (a b : Stepper) : Type 0 where
   pub lender : lender b ≡ lender a
   pub pass : SamePass (pass_of a) (pass_of b)
-  pub sizes : sizes_of b ≡ sizes_of a
+  pub basis : basis_of b ≡ basis_of a
+  pub typed : AreTyped (schema_of a) (view_of a).seen → AreTyped (schema_of b) (view_of b).seen
 
 pub only_same : (a : Stepper) → OnlyStepped a a
-only_same a = record { lender = refl; pass = record { number = refl; table = refl; seat = refl; sizes = refl; told = refl }; sizes = refl }
+only_same a = record {
+  lender = refl;
+  pass = record { number = refl; table = refl; seat = refl; basis = refl; told = refl };
+  basis = refl;
+  typed = λ t. t;
+}
 
 pub only_then : (a b c : Stepper) → OnlyStepped a b → OnlyStepped b c → OnlyStepped a c
 only_then a b c x y = record {
@@ -52,8 +67,15 @@ only_then a b c x y = record {
     number = y.pass.number ∙ x.pass.number;
     table = y.pass.table ∙ x.pass.table;
     seat = y.pass.seat ∙ x.pass.seat;
-    sizes = y.pass.sizes ∙ x.pass.sizes;
+    basis = y.pass.basis ∙ x.pass.basis;
     told = y.pass.told ∙ x.pass.told;
   };
-  sizes = y.sizes ∙ x.sizes;
+  basis = y.basis ∙ x.basis;
+  typed = λ t. y.typed (x.typed t);
 }
+
+pub only_sizes : (a b : Stepper) → OnlyStepped a b → sizes_of b ≡ sizes_of a
+only_sizes a b x = ap (λ (s : Basis). s.sizes) x.basis
+
+pub only_keys : (a b : Stepper) (k : List ℕ) → OnlyStepped a b → (IsKeyOf (schema_of b) k ↔ IsKeyOf (schema_of a) k)
+only_keys a b k x = (subst (λ (s : Basis). IsKeyOf s.schema k) x.basis, subst (λ (s : Basis). IsKeyOf s.schema k) (sym x.basis))

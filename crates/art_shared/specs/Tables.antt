@@ -1,15 +1,24 @@
 -- What contracts see of a table, and of a pass.
-use Rattle.std.specs.Prelude.{◌≡◌}
+use Rattle.std.specs.Prelude.{◌≡◌, List}
+use Rattle.art_key.specs.declared.columns.Column.{Column}
 use Rattle.art_step.specs.declared.views.Sizes.{Sizes}
 use Rattle.art_step.specs.declared.views.View.{View}
+use Rattle.art_shared.specs.declared.law.Basis.{Basis}
 use Rattle.art_shared.specs.declared.law.Known.{Known}
 use Rattle.art_shared.specs.declared.pass.Pass.{Pass}
 use Rattle.art_shared.specs.declared.shared.Shared.{Shared}
 use Rattle.art_shared.specs.Passes.{view_in}
+use Rattle.art_shared.specs.Typed.{AreTyped}
 
--- how many cells the table has
+-- what the table was opened with: how many cells it has, and what spells its keys
+abbrev pub basis_in : Shared → Basis
+basis_in t = t.basis
+
 abbrev pub sizes_in : Shared → Sizes
-sizes_in t = t.sizes
+sizes_in t = (basis_in t).sizes
+
+abbrev pub schema_in : Shared → List Column
+schema_in t = (basis_in t).schema
 
 -- what the seat of the pass knows, and what the pass knows
 abbrev pub known_to : Pass → Known
@@ -18,7 +27,8 @@ known_to a = a.seat.me.0
 abbrev pub view_of_pass : Pass → View
 view_of_pass a = view_in (known_to a)
 
--- the pass is one of the table
+-- the pass is one of the table, and what it has seen are commands with keys of its schema
 pub record IsPassOf (t : Shared) (a : Pass) : Type 0 where
   pub table : a.seat.table_id ≡ t.table.shared.table_id
-  pub sizes : (known_to a).sizes ≡ sizes_in t
+  pub basis : (known_to a).basis ≡ basis_in t
+  pub typed : AreTyped (schema_in t) (view_of_pass a).seen

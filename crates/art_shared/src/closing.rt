@@ -3,7 +3,7 @@ ghost use Rattle.std.specs.Prelude.{◌≡◌, ℕ, ◌<◌, length, false, IfOk
 ghost use Rattle.std.specs.List.{slice_get};
 ghost use Rattle.std.specs.Mem.Slots.{IsFull, slots_filled, slots_items, slots_len};
 ghost use Rattle.art_shared.specs.Closing.{Closes};
-ghost use Rattle.art_shared.specs.Tables.{IsPassOf, sizes_in};
+ghost use Rattle.art_shared.specs.Tables.{IsPassOf, basis_in};
 
 use crate::law::Known;
 use crate::pass::Pass;
@@ -39,9 +39,9 @@ impl Shared {
     /// its rows; and where none has a number in hand, each number is linked, free, or in one limbo.
     pub fn close(self, alloc: Global, passes: Vec<Pass>) -> Result<Vec<u64>, NoMemory>
         requires { (p : ℕ) (a : Pass) → slice_get passes.items p ≡ Some a → IsPassOf self a }
-        ensures { IfOk result (λ words. Closes (sizes_in self) words.items passes.items) }
+        ensures { IfOk result (λ words. Closes (basis_in self) words.items passes.items) }
     {
-        let words = Vec::from_elem(alloc, 0u64, self.sizes.word_count())?;
+        let words = Vec::from_elem(alloc, 0u64, self.basis.sizes.word_count())?;
         let (_, mut seat) = self.table.shared.load_new_seat::<Nobody>(0);
         let mut passes = passes;
         while let Some(pass) = passes.pop() {
@@ -51,7 +51,7 @@ impl Shared {
             } = pass;
             self.table.shared.join_seat::<Glue>(&mut seat, other);
         }
-        let Shared { table, sizes: _ } = self;
+        let Shared { table, basis: _ } = self;
         Ok(copied(table.close_with(seat), words))
     }
 }

@@ -17,8 +17,8 @@ impl EpochSteps for Stepper<'_> {
     }
 
     fn bits_clear(&mut self, pool: Pool, index: u32, bit: Option<u32>) -> u64 {
-        let first = self.shared.sizes.first_free_word(pool);
-        let at = word_at(self.shared.sizes, first, index as usize);
+        let first = self.shared.basis.sizes.first_free_word(pool);
+        let at = word_at(self.shared.basis.sizes, first, index as usize);
         match bit {
             None => self
                 .pass
@@ -35,21 +35,22 @@ impl EpochSteps for Stepper<'_> {
     }
 
     fn bits_set(&mut self, number: Number) {
-        let first = self.shared.sizes.first_free_word(number.pool());
+        let first = self.shared.basis.sizes.first_free_word(number.pool());
         let index = number.number() as usize / 64;
         let bit = 1 << (number.number() % 64);
-        let at = word_at(self.shared.sizes, first, index);
+        let at = word_at(self.shared.basis.sizes, first, index);
         let freed = number.spend();
         self.pass.add::<Brand, Link>(self.shared, at, bit, &freed);
     }
 
     fn epoch(&mut self) -> u64 {
-        let place = self.shared.sizes.epoch_place();
+        let place = self.shared.basis.sizes.epoch_place();
         self.pass.load::<Brand, ()>(self.shared, place, &())
     }
 
     fn pass_store(&mut self, word: u64) {
-        let place = self.shared.sizes.pass_place(self.pass.number as usize);
+        let sizes = self.shared.basis.sizes;
+        let place = sizes.pass_place(self.pass.number as usize);
         self.pass.store::<Brand, ()>(self.shared, place, word, &());
     }
 
@@ -59,7 +60,7 @@ impl EpochSteps for Stepper<'_> {
     }
 
     fn pass_load(&mut self, pass: u32) -> u64 {
-        let place = self.shared.sizes.pass_place(pass as usize);
+        let place = self.shared.basis.sizes.pass_place(pass as usize);
         self.pass.load::<Brand, u32>(self.shared, place, &pass)
     }
 }

@@ -1,7 +1,7 @@
 //! A pass is lent to its table.
 ghost use Rattle.std.specs.Prelude.{◌≡◌, ◌<◌};
-ghost use Rattle.art_shared.specs.Stepper.{lender, pass_of, sizes_of};
-ghost use Rattle.art_shared.specs.Tables.{IsPassOf, known_to, sizes_in, view_of_pass};
+ghost use Rattle.art_shared.specs.Stepper.{basis_of, lender, pass_of};
+ghost use Rattle.art_shared.specs.Tables.{IsPassOf, basis_in, known_to, view_of_pass};
 
 use crate::pass::Pass;
 use crate::shared::Shared;
@@ -11,7 +11,7 @@ impl Pass {
     /// The number of the pass.
     pub fn number(&self) -> u32
         ensures is { result ≡ (view_of_pass self.now).pass }
-        ensures inside { result < (known_to self.now).sizes.passes }
+        ensures inside { result < (known_to self.now).basis.sizes.passes }
     {
         self.number
     }
@@ -22,7 +22,7 @@ impl Shared {
     pub fn at<'a>(&'a self, pass: &'a mut Pass) -> Stepper<'a>
         requires { IsPassOf self.now pass.old }
         ensures pass { pass_of result ≡ pass.old }
-        ensures sizes { sizes_of result ≡ sizes_in self.now }
+        ensures basis { basis_of result ≡ basis_in self.now }
         ensures lender { lender result ≡ pass.entry.ghost_name }
     {
         Stepper { shared: self, pass }

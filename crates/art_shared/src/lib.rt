@@ -5,7 +5,13 @@
 //! `Shared` keeps the words of all cells, of free numbers, of the epoch and of the passes in one `atomic_table`. It is opened
 //! with its passes (`Shared::open`), each a `Pass`, which a thread may take with it: a pass is the right to make its steps, and
 //! no two passes have the same number. A `Pass` has a seat of the table. What the seat knows (`Known`) exists in proofs alone:
-//! how many cells there are, the view of the pass as `art_step` has it, and histories that it was told.
+//! what the table was opened with, the view of the pass as `art_step` has it, and histories that it was told.
+//!
+//! # Keys
+//!
+//! A table is opened with a schema (`Basis`), and a command may have no key but one that spells a tuple of it (`IsKeyOf`): that is what
+//! the `admits` of a `Stepper` says. So a pass that looks at the history sees typed rows alone, whoever made them (`AreTyped`, kept
+//! from step to step in `OnlyStepped`, and in `IsPassOf` for a pass that is not lent).
 //!
 //! # Steps
 //!
@@ -29,9 +35,9 @@
 //! # The rule
 //!
 //! Between any two steps of any threads the table keeps one rule (`Kept` in `specs/Rule.antt`): its words, and the views that all
-//! seats have, are a world in which the invariant of `art_step` holds; each pass stands in one seat; and what a seat was told is a
-//! beginning of the one history. Each step of a thread has to keep it, whatever the table is then, and is shown to by the law of
-//! its kind: no step rests on what other threads do or leave undone.
+//! seats have, are a world in which the invariant of `art_step` holds; each pass stands in one seat; what a seat was told is a
+//! beginning of the one history; and all commands of that have keys of the schema. Each step of a thread has to keep it, whatever the
+//! table is then, and is shown to by the law of its kind: no step rests on what other threads do or leave undone.
 //!
 //! # What a step tells
 //!
@@ -68,8 +74,8 @@
 //! `Shared::close` takes the table and passes of it, and gives all words, in their places (`Closes`): they are those of a sound
 //! world, in which each of the passes knows what it knew at its last step. What is left is said in the table's own words:
 //!
-//! - one history (`TellsAll`). It is legal, begins with what each of the passes has seen, and has the events of each at their
-//!   places. Where all passes of the table are closed, it has no others.
+//! - one history (`TellsAll`). It is legal, of commands with keys of the schema, begins with what each of the passes has seen, and has
+//!   the events of each at their places. Where all passes of the table are closed, it has no others.
 //! - the tree (`ShowsReplay`). Where they are all, and none holds a cell, the words mean a tree with the rows that this history
 //!   leaves.
 //! - the numbers (`IsAccounted`). Where none has a number in hand either, each number of each pool has just one `Fate`: it is
@@ -90,7 +96,7 @@ mod stepper;
 mod steps;
 mod words;
 
-pub use law::{Known, Law};
+pub use law::{Basis, Known, Law};
 pub use mark::Mark;
 pub use pass::Pass;
 pub use shared::Shared;

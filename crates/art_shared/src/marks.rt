@@ -4,7 +4,7 @@ ghost use Rattle.art_step.specs.Histories.{StartsWith};
 ghost use Rattle.art_step.specs.Steps.Anchor as anchor;
 ghost use Rattle.art_shared.specs.Marks.{history_of, IsMarkOf, Looked, LooksOnce, Meets, told_too};
 ghost use Rattle.art_shared.specs.SamePass.{SamePass, SameSeat};
-ghost use Rattle.art_shared.specs.Tables.{IsPassOf, known_to, sizes_in, view_of_pass};
+ghost use Rattle.art_shared.specs.Tables.{IsPassOf, basis_in, known_to, view_of_pass};
 
 use crate::closing::Glue;
 use crate::law::Known;
@@ -31,9 +31,9 @@ impl Pass {
     fn look(&mut self, shared: &Shared) -> u64
         requires { IsPassOf shared.now self.old }
         ensures same { SamePass self.old self.new }
-        ensures turn { Looked (sizes_in shared.now) (known_to self.old) (known_to self.new) result }
+        ensures turn { Looked (basis_in shared.now) (known_to self.old) (known_to self.new) result }
     {
-        let place = shared.sizes.place_of(Cell::Anchor);
+        let place = shared.basis.sizes.place_of(Cell::Anchor);
         self.load::<Brand, ()>(shared, place, &())
     }
 
@@ -54,7 +54,7 @@ impl Shared {
     pub fn mark(&self, pass: &mut Pass) -> Mark
         requires { IsPassOf self.now pass.old }
         ensures row { anchor.Outcome (view_of_pass pass.old) (view_of_pass pass.new) }
-        ensures at_once { LooksOnce (sizes_in self.now) (known_to pass.old) (known_to pass.new) }
+        ensures at_once { LooksOnce (basis_in self.now) (known_to pass.old) (known_to pass.new) }
         ensures history { history_of result ≡ (view_of_pass pass.new).seen }
         ensures mark { IsMarkOf self.now result }
         ensures same { SamePass pass.old pass.new }
@@ -71,7 +71,7 @@ impl Shared {
         requires mark { IsMarkOf self.now mark }
         ensures row { anchor.Outcome (view_of_pass pass.old) (view_of_pass pass.new) }
         ensures learnt { StartsWith (view_of_pass pass.new).seen (history_of mark) }
-        ensures at_once { LooksOnce (sizes_in self.now) (told_too (known_to pass.old) (history_of mark)) (known_to pass.new) }
+        ensures at_once { LooksOnce (basis_in self.now) (told_too (known_to pass.old) (history_of mark)) (known_to pass.new) }
         ensures told { (known_to pass.new).told ≡ (told_too (known_to pass.old) (history_of mark)).told }
         ensures same { SameSeat pass.old pass.new }
         ensures pass { IsPassOf self.now pass.new }

@@ -3,9 +3,10 @@ ghost use Rattle.std.specs.Prelude.{◌≡◌, ◌≤◌, IfOk};
 ghost use Rattle.art_shared.specs.Opening.{OpensWith};
 ghost use Rattle.art_step.specs.Views.{last_counter};
 
-use crate::law::{Known, Law};
+use crate::law::{Basis, Known, Law};
 use crate::pass::Pass;
 use crate::shared::Shared;
+use art_key::Schema;
 use art_model::NoMemory;
 use art_step::{Sizes, opening_words};
 use atomic_table::{Split, Table};
@@ -23,28 +24,30 @@ impl Split<Known> for Cut {
 }
 
 impl Shared {
-    /// A table for these cells, and its passes in the order of their numbers. The anchor names no root, its counter and those
-    /// of all nodes begin at `counter_start`, all numbers are free, and each pass is idle and knows nothing.
+    /// A table for these cells, with keys of the schema, and its passes in the order of their numbers. The anchor names no root,
+    /// its counter and those of all nodes begin at `counter_start`, all numbers are free, and each pass is idle and knows nothing.
     pub fn open(
         alloc: Global,
+        schema: Schema,
         sizes: &Sizes,
         counter_start: u64,
     ) -> Result<(Shared, Vec<Pass>), NoMemory>
         requires { counter_start ≤ last_counter }
-        ensures { IfOk result (λ r. OpensWith sizes.now r.0 r.1.items) }
+        ensures { IfOk result (λ r. OpensWith (record { sizes = sizes.now; schema = schema }) r.0 r.1.items) }
     {
         let sizes = *sizes;
         let words = opening_words(alloc, sizes, counter_start)?;
-        let (table, mut rest) = Table::<(), Known, Sizes, Law, Global>::of_words(
+        let basis = Basis { sizes, schema };
+        let (table, mut rest) = Table::<(), Known, Basis, Law, Global>::of_words(
             alloc,
             words.as_slice(),
-            &sizes,
+            &basis,
         )?;
         let mut passes = Vec::new(alloc);
         for number in 0..sizes.passes {
             let seat = table.shared.split_seat::<Cut>(&mut rest);
             passes.push(Pass { seat, number })?;
         }
-        Ok((Shared { table, sizes }, passes))
+        Ok((Shared { table, basis }, passes))
     }
 }

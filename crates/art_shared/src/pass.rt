@@ -13,7 +13,7 @@ pub struct Pass {
     ghost one: { length seat.me.0.views ≡ 1 },
     ghost empty: { length seat.me.1 ≡ 0 },
     ghost own: { number ≡ (view_in seat.me.0).pass },
-    ghost inside: { number < seat.me.0.sizes.passes },
-    ghost placed: { all_placed seat.me.0.sizes (view_in seat.me.0).stamps ≡ true },
-    ghost numbers: { has_numbers seat.me.0.sizes (view_in seat.me.0) ≡ true },
+    ghost inside: { number < seat.me.0.basis.sizes.passes },
+    ghost placed: { all_placed seat.me.0.basis.sizes (view_in seat.me.0).stamps ≡ true },
+    ghost numbers: { has_numbers seat.me.0.basis.sizes (view_in seat.me.0) ≡ true },
 }

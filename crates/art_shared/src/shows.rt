@@ -30,5 +30,5 @@ impl<K: Shows> Play<(), Known> for Told<K> {
     ghost use Rattle.std.specs.Prelude.{◌≡◌};
     ghost use Rattle.art_shared.specs.Turns.{Turn};
 
-    ghost then = { λ s me n w. Turn me.0.sizes me.0 w.0 (K.happens n) (K.shown n) × (w.1 ≡ me.1) };
+    ghost then = { λ s me n w. Turn me.0.basis me.0 w.0 (K.happens n) (K.shown n) × (w.1 ≡ me.1) };
 }

@@ -12,5 +12,5 @@ pub struct Stepper<'a> {
     pub(crate) shared: &'a Shared,
     pub(crate) pass: &'a mut Pass,
     ghost same: { pass.now.seat.table_id ≡ shared.now.table.shared.table_id } by { Coded-set table_id_coded _ _ },
-    ghost sizes: { pass.now.seat.me.0.sizes ≡ shared.now.sizes },
+    ghost basis: { pass.now.seat.me.0.basis ≡ shared.now.basis },
 }

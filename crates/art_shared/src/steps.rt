@@ -1,8 +1,19 @@
 //! The steps of cells, of the pass that is lent.
-ghost use Rattle.std.specs.Prelude.{◌≡◌, ◌+◌, ◌<◌, ⊤};
+ghost use Rattle.std.specs.Prelude.{◌≡◌, ◌+◌, ◌<◌};
 ghost use Rattle.art_step.specs.Effects.{released_word};
 ghost use Rattle.art_step.specs.WordPlaces.{word_count};
-ghost use Rattle.art_shared.specs.Stepper.{OnlyStepped, instants_of, only_same, only_then, sizes_of, view_of};
+ghost use Rattle.art_shared.specs.Stepper.{
+  OnlyStepped,
+  basis_of,
+  instants_of,
+  only_keys,
+  only_same,
+  only_sizes,
+  only_then,
+  sizes_of,
+  view_of,
+};
+ghost use Rattle.art_shared.specs.Typed.{IsKeyOf};
 
 use crate::stepper::Stepper;
 use art_cell::{Cell, Link, Node};
@@ -17,7 +28,7 @@ impl Steps for Stepper<'_> {
 
     ghost sizes = { λ a. sizes_of a };
 
-    ghost admits = { λ a k. ⊤ };
+    ghost admits = { λ a k. IsKeyOf (basis_of a).schema k };
 
     ghost only = { λ a b. OnlyStepped a b };
 
@@ -27,12 +38,12 @@ impl Steps for Stepper<'_> {
 
     ghost only_then = { λ a b c x y. only_then a b c x y };
 
-    ghost only_sizes = { λ a b x. x.sizes };
+    ghost only_sizes = { λ a b x. only_sizes a b x };
 
-    ghost only_admits = { λ a b k x. (λ y. y, λ y. y) };
+    ghost only_admits = { λ a b k x. only_keys a b k x };
 
     fn begin(&mut self, cell: Cell) -> Result<Stamp, Locked> {
-        let first = self.shared.sizes.place_of(cell);
+        let first = self.shared.basis.sizes.place_of(cell);
         let found = self.pass.load::<Brand, Cell>(self.shared, first, &cell);
         if !(Version { word: found }).is_clear() {
             return Err(Locked { cell, found });
@@ -45,14 +56,14 @@ impl Steps for Stepper<'_> {
     }
 
     fn read(&mut self, stamp: Stamp, place: usize) -> u64 {
-        let at = word_at(self.shared.sizes, stamp.first, place);
+        let at = word_at(self.shared.basis.sizes, stamp.first, place);
         self.pass
             .load::<Brand, (Stamp, usize)>(self.shared, at, &(stamp, place))
     }
 
     fn read_leaf(&mut self, stamp: Stamp, leaf: u32, place: usize) -> u64 {
-        let first = self.shared.sizes.place_of(Cell::Leaf(leaf));
-        let at = word_at(self.shared.sizes, first, place);
+        let first = self.shared.basis.sizes.place_of(Cell::Leaf(leaf));
+        let at = word_at(self.shared.basis.sizes, first, place);
         self.pass
             .load::<Brand, (Stamp, u32, usize)>(self.shared, at, &(stamp, leaf, place))
     }
@@ -92,15 +103,15 @@ impl Steps for Stepper<'_> {
             unreachable!();
         };
         let cell = Cell::Node(node);
-        let place = self.shared.sizes.place_of(cell);
+        let place = self.shared.basis.sizes.place_of(cell);
         self.pass.add::<Brand, Node>(self.shared, place, 1, &node);
         Held::of(cell)
     }
 
     fn write(&mut self, held: &mut Held, place: usize, value: u64) {
         let cell = held.cell();
-        let first = self.shared.sizes.place_of(cell);
-        let at = word_at(self.shared.sizes, first, place);
+        let first = self.shared.basis.sizes.place_of(cell);
+        let at = word_at(self.shared.basis.sizes, first, place);
         self.pass
             .store::<Brand, (Cell, usize)>(self.shared, at, value, &(cell, place));
     }
@@ -109,8 +120,8 @@ impl Steps for Stepper<'_> {
         let Link::Leaf(leaf) = number.link() else {
             unreachable!();
         };
-        let first = self.shared.sizes.place_of(Cell::Leaf(leaf));
-        let at = word_at(self.shared.sizes, first, place);
+        let first = self.shared.basis.sizes.place_of(Cell::Leaf(leaf));
+        let at = word_at(self.shared.basis.sizes, first, place);
         self.pass
             .store::<Brand, (u32, usize)>(self.shared, at, value, &(leaf, place));
     }
@@ -125,7 +136,7 @@ impl Steps for Stepper<'_> {
     ) -> Unlinked {
         let cell = held.spend();
         let leaf = spent(leaf);
-        let place = self.shared.sizes.place_of(cell);
+        let place = self.shared.basis.sizes.place_of(cell);
         self.pass
             .add::<Brand, (Cell, bool, &Deed, Option<Link>, &[u64])>(
                 self.shared,
@@ -138,7 +149,7 @@ impl Steps for Stepper<'_> {
 
     fn release(&mut self, held: Held, obsolete: bool) {
         let cell = held.spend();
-        let place = self.shared.sizes.place_of(cell);
+        let place = self.shared.basis.sizes.place_of(cell);
         self.pass
             .add::<Brand, (Cell, bool)>(self.shared, place, rise(obsolete), &(cell, obsolete));
     }

@@ -13,11 +13,11 @@ impl Pass {
     /// The word at the place is found.
     pub(crate) fn load<K: Shows, A>(&mut self, shared: &Shared, place: usize, _about: &A) -> u64
         requires table { self.old.seat.table_id ≡ shared.now.table.shared.table_id }
-        requires sizes { self.old.seat.me.0.sizes ≡ shared.now.sizes }
-        requires place { place < word_count shared.now.sizes }
-        requires may { MayTurn shared.now.sizes self.old.seat.me.0 place (λ n. n) K.shown K.happens }
+        requires basis { self.old.seat.me.0.basis ≡ shared.now.basis }
+        requires place { place < word_count shared.now.basis.sizes }
+        requires may { MayTurn shared.now.basis self.old.seat.me.0 place (λ n. n) K.shown K.happens }
         ensures same { SamePass self.old self.new }
-        ensures turn { Turn shared.now.sizes self.old.seat.me.0 self.new.seat.me.0 (K.happens result) (K.shown result) }
+        ensures turn { Turn shared.now.basis self.old.seat.me.0 self.new.seat.me.0 (K.happens result) (K.shown result) }
     {
         shared.table.shared.load::<Told<K>>(&mut self.seat, place)
     }
@@ -25,11 +25,11 @@ impl Pass {
     /// It becomes `new`.
     pub(crate) fn store<K: Shows, A>(&mut self, shared: &Shared, place: usize, new: u64, _about: &A)
         requires table { self.old.seat.table_id ≡ shared.now.table.shared.table_id }
-        requires sizes { self.old.seat.me.0.sizes ≡ shared.now.sizes }
-        requires place { place < word_count shared.now.sizes }
-        requires may { MayTurn shared.now.sizes self.old.seat.me.0 place (λ _. new) (λ _. K.shown new) (λ _. K.happens new) }
+        requires basis { self.old.seat.me.0.basis ≡ shared.now.basis }
+        requires place { place < word_count shared.now.basis.sizes }
+        requires may { MayTurn shared.now.basis self.old.seat.me.0 place (λ _. new) (λ _. K.shown new) (λ _. K.happens new) }
         ensures same { SamePass self.old self.new }
-        ensures turn { Turn shared.now.sizes self.old.seat.me.0 self.new.seat.me.0 (K.happens new) (K.shown new) }
+        ensures turn { Turn shared.now.basis self.old.seat.me.0 self.new.seat.me.0 (K.happens new) (K.shown new) }
     {
         shared
             .table
@@ -47,11 +47,11 @@ impl Pass {
         _about: &A,
     ) -> u64
         requires table { self.old.seat.table_id ≡ shared.now.table.shared.table_id }
-        requires sizes { self.old.seat.me.0.sizes ≡ shared.now.sizes }
-        requires place { place < word_count shared.now.sizes }
-        requires may { MayTurn shared.now.sizes self.old.seat.me.0 place (λ n. either (n == old) new n) K.shown K.happens }
+        requires basis { self.old.seat.me.0.basis ≡ shared.now.basis }
+        requires place { place < word_count shared.now.basis.sizes }
+        requires may { MayTurn shared.now.basis self.old.seat.me.0 place (λ n. either (n == old) new n) K.shown K.happens }
         ensures same { SamePass self.old self.new }
-        ensures turn { Turn shared.now.sizes self.old.seat.me.0 self.new.seat.me.0 (K.happens result) (K.shown result) }
+        ensures turn { Turn shared.now.basis self.old.seat.me.0 self.new.seat.me.0 (K.happens result) (K.shown result) }
     {
         shared
             .table
@@ -68,11 +68,11 @@ impl Pass {
         _about: &A,
     ) -> u64
         requires table { self.old.seat.table_id ≡ shared.now.table.shared.table_id }
-        requires sizes { self.old.seat.me.0.sizes ≡ shared.now.sizes }
-        requires place { place < word_count shared.now.sizes }
-        requires may { MayTurn shared.now.sizes self.old.seat.me.0 place (λ n. (n + more) % 2 ^ 64) K.shown K.happens }
+        requires basis { self.old.seat.me.0.basis ≡ shared.now.basis }
+        requires place { place < word_count shared.now.basis.sizes }
+        requires may { MayTurn shared.now.basis self.old.seat.me.0 place (λ n. (n + more) % 2 ^ 64) K.shown K.happens }
         ensures same { SamePass self.old self.new }
-        ensures turn { Turn shared.now.sizes self.old.seat.me.0 self.new.seat.me.0 (K.happens result) (K.shown result) }
+        ensures turn { Turn shared.now.basis self.old.seat.me.0 self.new.seat.me.0 (K.happens result) (K.shown result) }
     {
         shared
             .table
@@ -89,11 +89,11 @@ impl Pass {
         _about: &A,
     ) -> u64
         requires table { self.old.seat.table_id ≡ shared.now.table.shared.table_id }
-        requires sizes { self.old.seat.me.0.sizes ≡ shared.now.sizes }
-        requires place { place < word_count shared.now.sizes }
-        requires may { MayTurn shared.now.sizes self.old.seat.me.0 place (λ n. bit_and n mask) K.shown K.happens }
+        requires basis { self.old.seat.me.0.basis ≡ shared.now.basis }
+        requires place { place < word_count shared.now.basis.sizes }
+        requires may { MayTurn shared.now.basis self.old.seat.me.0 place (λ n. bit_and n mask) K.shown K.happens }
         ensures same { SamePass self.old self.new }
-        ensures turn { Turn shared.now.sizes self.old.seat.me.0 self.new.seat.me.0 (K.happens result) (K.shown result) }
+        ensures turn { Turn shared.now.basis self.old.seat.me.0 self.new.seat.me.0 (K.happens result) (K.shown result) }
     {
         shared
             .table

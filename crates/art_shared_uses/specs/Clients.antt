@@ -7,13 +7,14 @@ use Rattle.art_epoch.specs.Pins.{MayPin}
 use Rattle.art_shared.specs.declared.pass.Pass.{Pass}
 use Rattle.art_shared.specs.declared.shared.Shared.{Shared}
 use Rattle.art_shared.specs.Passes.{newcomer_known}
-use Rattle.art_shared.specs.Tables.{IsPassOf, known_to, sizes_in, view_of_pass}
+use Rattle.art_shared.specs.Tables.{IsPassOf, basis_in, known_to, schema_in, sizes_in, view_of_pass}
+use Rattle.art_shared.specs.Typed.{IsKeyOf}
 
 -- a pass that made no step yet
 pub record IsNew (t : Shared) (a : Pass) : Type 0 where
   pub of : IsPassOf t a
   pub number : ℕ
-  pub new : known_to a ≡ newcomer_known (sizes_in t) number
+  pub new : known_to a ≡ newcomer_known (basis_in t) number
 
 abbrev pub AreNew : Shared → List Pass → Type 0
 AreNew t passes = (p : ℕ) (a : Pass) → slice_get passes p ≡ Some a → IsNew t a
@@ -31,3 +32,7 @@ pub record IsIdle (t : Shared) (a : Pass) : Type 0 where
 pub record Writes (t : Shared) (a : Pass) (w : Writer) : Type 0 where
   pub of : IsPassOf t a
   pub may : IsWriter (sizes_in t) (view_of_pass a) w
+
+-- the key is one of the table's schema
+abbrev pub IsKey : Shared → List ℕ → Type 0
+IsKey t k = IsKeyOf (schema_in t) k

@@ -2,26 +2,34 @@
 ghost use Rattle.std.specs.Prelude.{◌≡◌, IfSome};
 ghost use Rattle.art_change.specs.Writes.{IsWriter};
 ghost use Rattle.art_shared.specs.Opening.{OpensWith};
-ghost use Rattle.art_shared.specs.Stepper.{OnlyStepped, sizes_of, view_of};
+ghost use Rattle.art_shared.specs.Stepper.{OnlyStepped, schema_of, sizes_of, view_of};
 ghost use Rattle.art_shared.specs.Tables.{IsPassOf, sizes_in};
-ghost use Rattle.art_shared_uses.specs.Clients.{AreNew, IsIdle, IsNew, Writes};
+ghost use Rattle.art_shared.specs.Typed.{IsKeyOf};
+ghost use Rattle.art_shared_uses.specs.Clients.{AreNew, IsIdle, IsKey, IsNew, Writes};
 
 use art_change::{Outcome, Writer};
 use art_epoch::{pin, unpin};
 use art_find::{Got, get};
-use art_key::Key;
+use art_key::{Key, Schema, encode};
+use art_model::{Tuple, Value};
 use art_shared::{Pass, Shared, Stepper};
+use std::process::Abort;
 
 /// As many turns as there are: a thread may lose its processor while it holds a cell, and the other waits for it by trying anew.
 const TURNS: u32 = u32::MAX;
 
-/// The key of two bytes of a number.
-pub(crate) fn key_of(number: u16) -> Key {
-    let mut key = Key::new();
-    for byte in number.to_be_bytes() {
-        let _ = key.try_push(byte);
-    }
-    key
+/// The schema of one column with keys of two bytes.
+pub(crate) fn two_bytes(rt: &impl Abort) -> Schema {
+    Schema::parse("u16").expect(rt, "a schema")
+}
+
+/// The key that spells a number under the schema of the table, which has one column.
+pub(crate) fn key_of(rt: &impl Abort, shared: &Shared, number: u16) -> Key
+    ensures { IsKey shared.now result.items }
+{
+    let mut tuple = Tuple::new();
+    tuple.push(Value::Int(i128::from(number)));
+    encode(shared.schema(), &tuple).expect(rt, "a number of the column")
 }
 
 /// The last of these passes, which made no step yet.
@@ -50,7 +58,8 @@ pub(crate) fn puts(
     key: &Key,
     value: u64,
 ) -> Outcome
-    requires { Writes shared.now pass.old writer.old }
+    requires pass { Writes shared.now pass.old writer.old }
+    requires key { IsKey shared.now key.now.items }
     ensures { Writes shared.now pass.new writer.new }
 {
     let mut stepper = shared.at(pass);
@@ -59,7 +68,8 @@ pub(crate) fn puts(
 
 /// How a removal of the key ends.
 pub(crate) fn takes(shared: &Shared, pass: &mut Pass, writer: &mut Writer, key: &Key) -> Outcome
-    requires { Writes shared.now pass.old writer.old }
+    requires pass { Writes shared.now pass.old writer.old }
+    requires key { IsKey shared.now key.now.items }
     ensures { Writes shared.now pass.new writer.new }
 {
     let mut stepper = shared.at(pass);
@@ -68,7 +78,8 @@ pub(crate) fn takes(shared: &Shared, pass: &mut Pass, writer: &mut Writer, key: 
 
 /// How a get of the key ends, in so many turns.
 pub(crate) fn finds(shared: &Shared, pass: &mut Pass, key: &Key, turns: u32) -> Got
-    requires { IsIdle shared.now pass.old }
+    requires pass { IsIdle shared.now pass.old }
+    requires key { IsKey shared.now key.now.items }
     ensures { IsIdle shared.now pass.new }
 {
     let mut stepper = shared.at(pass);
@@ -80,7 +91,8 @@ pub(crate) fn finds(shared: &Shared, pass: &mut Pass, key: &Key, turns: u32) -> 
 
 /// How a get of the key ends, of the pass of the writer.
 fn looks_up(stepper: &mut Stepper<'_>, writer: &Writer, key: &Key) -> Got
-    requires { IsWriter (sizes_of stepper.old) (view_of stepper.old) writer.now }
+    requires may { IsWriter (sizes_of stepper.old) (view_of stepper.old) writer.now }
+    requires key { IsKeyOf (schema_of stepper.old) key.now.items }
     ensures only { OnlyStepped stepper.old stepper.new }
     ensures may { IsWriter (sizes_of stepper.new) (view_of stepper.new) writer.now }
 {
@@ -93,7 +105,8 @@ fn looks_up(stepper: &mut Stepper<'_>, writer: &Writer, key: &Key) -> Got
 
 /// How a get of the key ends, between two writes.
 pub(crate) fn asks(shared: &Shared, pass: &mut Pass, writer: &Writer, key: &Key) -> Got
-    requires { Writes shared.now pass.old writer.now }
+    requires pass { Writes shared.now pass.old writer.now }
+    requires key { IsKey shared.now key.now.items }
     ensures { Writes shared.now pass.new writer.now }
 {
     let mut stepper = shared.at(pass);

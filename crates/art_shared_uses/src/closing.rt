@@ -96,7 +96,7 @@ pub(crate) fn ended(
 
 impl Closed {
     /// A word after the first of a cell.
-    fn word(&self, cell: Cell, place: usize) -> u64 {
+    pub(crate) fn word(&self, cell: Cell, place: usize) -> u64 {
         let at = self.sizes.place_of(cell).wrapping_add(place);
         self.words.get(at).copied().unwrap_or(0)
     }

@@ -3,13 +3,14 @@ ghost use Rattle.std.specs.Prelude.{◌≡◌, IfOk};
 ghost use Rattle.art_shared.specs.Tables.{IsPassOf};
 ghost use Rattle.art_shared_uses.specs.Clients.{AreNew, AreOf, IsIdle, IsNew, Writes};
 
-use crate::clients::{asks, finds, key_of, last_of, puts, takes, writer_of};
+use crate::clients::{asks, finds, key_of, last_of, puts, takes, two_bytes, writer_of};
 use crate::closing::{Counts, POOLS, ended};
 use art_change::{Outcome, Writer};
 use art_find::Got;
 use art_shared::{Pass, Shared};
 use art_step::Sizes;
 use std::alloc::AllocError;
+use std::process::Abort;
 use std::sync::{Mutex, Wait};
 use std::test::*;
 use std::thread;
@@ -95,6 +96,7 @@ impl Tally {
 
 /// One call: a get, a removal or an insert.
 fn call(
+    rt: &impl Abort,
     shared: &Shared,
     pass: &mut Pass,
     writer: &mut Writer,
@@ -105,7 +107,7 @@ fn call(
     requires { Writes shared.now pass.old writer.old }
     ensures { Writes shared.now pass.new writer.new }
 {
-    let key = key_of(number);
+    let key = key_of(rt, shared, number);
     match kind {
         0 => tally.saw(number, asks(shared, pass, writer, &key)),
         1 => tally.wrote(number, takes(shared, pass, writer, &key)),
@@ -114,7 +116,7 @@ fn call(
 }
 
 /// All calls of one thread.
-fn contends<R: Wait>(rt: &R, shared: &Shared, mut pass: Pass, total: &Mutex<Tally>) -> Pass
+fn contends<R: Wait + Abort>(rt: &R, shared: &Shared, mut pass: Pass, total: &Mutex<Tally>) -> Pass
     requires { IsNew shared.now pass }
     ensures { IsPassOf shared.now result }
 {
@@ -124,7 +126,7 @@ fn contends<R: Wait>(rt: &R, shared: &Shared, mut pass: Pass, total: &Mutex<Tall
     for round in 0..CALLS {
         let number = round.wrapping_mul(7).wrapping_add(first) % 50;
         let kind = round.wrapping_add(first) % 3;
-        call(shared, &mut pass, &mut writer, &mut tally, number, kind);
+        call(rt, shared, &mut pass, &mut writer, &mut tally, number, kind);
     }
     tally.waiting.note_all(&writer.end());
     total.lock(rt).add(&tally);
@@ -132,7 +134,7 @@ fn contends<R: Wait>(rt: &R, shared: &Shared, mut pass: Pass, total: &Mutex<Tall
 }
 
 /// Each pass makes its calls, in a thread of its own.
-fn all_contend<R: Threads + Wait + Sync>(
+fn all_contend<R: Threads + Wait + Abort + Sync>(
     rt: &R,
     shared: &Shared,
     passes: Vec<Pass>,
@@ -152,7 +154,7 @@ fn all_contend<R: Threads + Wait + Sync>(
 }
 
 /// With how many keys rows were new, and as many are found as the calls left.
-fn counts(shared: &Shared, mut pass: Pass, tally: &Tally) -> (Pass, u32)
+fn counts(rt: &impl Abort, shared: &Shared, mut pass: Pass, tally: &Tally) -> (Pass, u32)
     requires { IsIdle shared.now pass }
     ensures { IsPassOf shared.now result.0 }
 {
@@ -164,7 +166,7 @@ fn counts(shared: &Shared, mut pass: Pass, tally: &Tally) -> (Pass, u32)
         } else {
             Got::Found(u64::from(number))
         };
-        let found = finds(shared, &mut pass, &key_of(number), TURNS) == wanted;
+        let found = finds(shared, &mut pass, &key_of(rt, shared, number), TURNS) == wanted;
         if left < 2 && found && tally.was_new(number) {
             right = right.saturating_add(1);
         }
@@ -174,14 +176,14 @@ fn counts(shared: &Shared, mut pass: Pass, tally: &Tally) -> (Pass, u32)
 
 #[test]
 fn eight_threads_agree_on_fifty_keys(rt: HostRuntime) -> Result<(), Fail> {
-    let (shared, mut passes) = Shared::open(rt.alloc(), &SIZES, 0)?;
+    let (shared, mut passes) = Shared::open(rt.alloc(), two_bytes(&rt), &SIZES, 0)?;
     let ninth = last_of(&shared, &mut passes).expect(&rt, "nine passes");
     let total = Mutex::new(Tally::empty());
     let passes = all_contend(&rt, &shared, passes, &total)?;
     assert_eq!(rt; passes.len(), 8);
     let tally = total.into_inner();
     assert_eq!(rt; tally.strange, 0);
-    let (ninth, right) = counts(&shared, ninth, &tally);
+    let (ninth, right) = counts(&rt, &shared, ninth, &tally);
     assert_eq!(rt; right, 50);
     let end = ended(rt.alloc(), shared, passes, ninth)?;
     let in_tree = end.in_tree(rt.alloc())?;

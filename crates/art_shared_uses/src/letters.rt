@@ -3,9 +3,9 @@ ghost use Rattle.std.specs.Prelude.{◌≡◌, ℕ};
 ghost use Rattle.art_shared.specs.Marks.{IsMarkOf};
 ghost use Rattle.art_shared.specs.Tables.{IsPassOf};
 ghost use Rattle.art_shared_uses.specs.Clients.{IsIdle, IsNew};
-ghost use Rattle.art_shared_uses.specs.Letters.{IsNamed, sizes_of_mark, table_of_mark};
+ghost use Rattle.art_shared_uses.specs.Letters.{IsNamed, basis_of_mark, table_of_mark};
 
-use crate::clients::last_of;
+use crate::clients::{last_of, two_bytes};
 use crate::marks::{learns_and_finds, puts_and_marks};
 use art_change::Outcome;
 use art_find::Got;
@@ -14,6 +14,7 @@ use art_step::Sizes;
 use crossbeam_channel::{Receiver, Sender, bounded};
 use std::alloc::{AllocError, Global};
 use std::marker::{Brand, PhantomData};
+use std::process::Abort;
 use std::sync::Wait;
 use std::test::*;
 use std::thread::{Threads, join};
@@ -30,20 +31,21 @@ const SIZES: Sizes = Sizes {
 
 /// The name of a table, of which letters are: a test picks it.
 trait Naming {
-    ghost use Rattle.art_step.specs.declared.views.Sizes.{Sizes};
+    ghost use Rattle.art_shared.specs.declared.law.Basis.{Basis};
     ghost use Rattle.atomic_table.specs.Seated.{TableId};
 
     ghost table: { TableId };
 
-    ghost sizes: { Sizes };
+    ghost basis: { Basis };
 }
 
 impl Naming for Brand {
-    ghost use Rattle.art_shared_uses.specs.Letters.{no_sizes, no_table};
+    ghost use Rattle.art_shared_uses.specs.Letters.{no_table};
+    ghost use Rattle.art_shared.specs.Passes.{no_basis};
 
     ghost table = { no_table };
 
-    ghost sizes = { no_sizes };
+    ghost basis = { no_basis };
 }
 
 /// A mark of the table with this name.
@@ -52,15 +54,20 @@ struct Letter<N: Naming> {
     mark: Mark,
     of: PhantomData<N>,
     ghost table: { table_of_mark mark ≡ N.table },
-    ghost sizes: { sizes_of_mark mark ≡ N.sizes },
+    ghost basis: { basis_of_mark mark ≡ N.basis },
 }
 
 /// The row with key 7 is inserted, and what was seen is sent: whether both went well.
-fn sends<N: Naming, R: Wait>(rt: &R, shared: &Shared, pass: Pass, sender: Sender<Letter<N>>) -> bool
+fn sends<N: Naming, R: Wait + Abort>(
+    rt: &R,
+    shared: &Shared,
+    pass: Pass,
+    sender: Sender<Letter<N>>,
+) -> bool
     requires pass { IsNew shared.now pass }
-    requires named { IsNamed shared.now N.table N.sizes }
+    requires named { IsNamed shared.now N.table N.basis }
 {
-    let (_pass, outcome, mark) = puts_and_marks(shared, pass, 7, 70);
+    let (_pass, outcome, mark) = puts_and_marks(rt, shared, pass, 7, 70);
     let letter: Letter<N> = Letter {
         mark,
         of: PhantomData,
@@ -69,24 +76,24 @@ fn sends<N: Naming, R: Wait>(rt: &R, shared: &Shared, pass: Pass, sender: Sender
 }
 
 /// What was seen is learnt, and the row with key 7 looked up, where a letter comes.
-fn receives<N: Naming, R: Wait>(
+fn receives<N: Naming, R: Wait + Abort>(
     rt: &R,
     shared: &Shared,
     pass: Pass,
     receiver: Receiver<Letter<N>>,
 ) -> Option<Got>
     requires pass { IsIdle shared.now pass }
-    requires named { IsNamed shared.now N.table N.sizes }
+    requires named { IsNamed shared.now N.table N.basis }
 {
     let Ok(letter) = receiver.recv(rt) else {
         return None;
     };
     let Letter { mark, of: _ } = letter;
-    Some(learns_and_finds(shared, pass, mark, 7))
+    Some(learns_and_finds(rt, shared, pass, mark, 7))
 }
 
 /// One thread sends, and another receives.
-fn over_a_channel<N: Naming + Send + Sync, R: Threads + Wait + Sync>(
+fn over_a_channel<N: Naming + Send + Sync, R: Threads + Wait + Abort + Sync>(
     rt: &R,
     alloc: Global,
     shared: &Shared,
@@ -95,7 +102,7 @@ fn over_a_channel<N: Naming + Send + Sync, R: Threads + Wait + Sync>(
 ) -> Result<(bool, Option<Got>), AllocError>
     requires one { IsNew shared.now one }
     requires two { IsIdle shared.now two }
-    requires named { IsNamed shared.now N.table N.sizes }
+    requires named { IsNamed shared.now N.table N.basis }
 {
     let (sender, receiver) = bounded::<Letter<N>, Global>(alloc, 1)?;
     Ok(join(
@@ -107,7 +114,7 @@ fn over_a_channel<N: Naming + Send + Sync, R: Threads + Wait + Sync>(
 
 #[test]
 fn a_mark_goes_over_a_channel(rt: HostRuntime) -> Result<(), Fail> {
-    let (shared, mut passes) = Shared::open(rt.alloc(), &SIZES, 0)?;
+    let (shared, mut passes) = Shared::open(rt.alloc(), two_bytes(&rt), &SIZES, 0)?;
     let one = last_of(&shared, &mut passes).expect(&rt, "two passes");
     let two = last_of(&shared, &mut passes).expect(&rt, "one pass");
     let (sent, got) = over_a_channel::<Brand, _>(&rt, rt.alloc(), &shared, one, two)?;

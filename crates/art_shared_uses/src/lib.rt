@@ -10,6 +10,8 @@ mod contention;
 #[cfg(test)]
 mod letters;
 #[cfg(test)]
+mod looks;
+#[cfg(test)]
 mod marks;
 #[cfg(test)]
 mod one_thread;

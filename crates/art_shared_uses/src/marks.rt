@@ -4,11 +4,12 @@ ghost use Rattle.art_shared.specs.Marks.{IsMarkOf};
 ghost use Rattle.art_shared.specs.Tables.{IsPassOf};
 ghost use Rattle.art_shared_uses.specs.Clients.{IsIdle, IsNew, Writes};
 
-use crate::clients::{finds, key_of, last_of, puts, writer_of};
+use crate::clients::{finds, key_of, last_of, puts, two_bytes, writer_of};
 use art_change::Outcome;
 use art_find::Got;
 use art_shared::{Mark, Pass, Shared};
 use art_step::Sizes;
+use std::process::Abort;
 use std::test::*;
 use std::thread::{Threads, join};
 
@@ -27,6 +28,7 @@ const TURNS: u32 = 1_000;
 
 /// Inserts a row, and marks what was seen.
 pub(crate) fn puts_and_marks(
+    rt: &impl Abort,
     shared: &Shared,
     mut pass: Pass,
     number: u16,
@@ -37,7 +39,7 @@ pub(crate) fn puts_and_marks(
     ensures mark { IsMarkOf shared.now result.2 }
 {
     let mut writer = writer_of(shared, &pass);
-    let key = key_of(number);
+    let key = key_of(rt, shared, number);
     let outcome = puts(shared, &mut pass, &mut writer, &key, value);
     let _ = writer.end();
     let mark = shared.mark(&mut pass);
@@ -45,16 +47,22 @@ pub(crate) fn puts_and_marks(
 }
 
 /// Learns a mark, and looks up a row.
-pub(crate) fn learns_and_finds(shared: &Shared, mut pass: Pass, mark: Mark, number: u16) -> Got
+pub(crate) fn learns_and_finds(
+    rt: &impl Abort,
+    shared: &Shared,
+    mut pass: Pass,
+    mark: Mark,
+    number: u16,
+) -> Got
     requires pass { IsIdle shared.now pass }
     requires mark { IsMarkOf shared.now mark }
 {
     shared.learn(&mut pass, mark);
-    finds(shared, &mut pass, &key_of(number), TURNS)
+    finds(shared, &mut pass, &key_of(rt, shared, number), TURNS)
 }
 
 /// A row from each of two threads.
-fn both_put<R: Threads + Sync>(
+fn both_put<R: Threads + Abort + Sync>(
     rt: &R,
     shared: &Shared,
     one: Pass,
@@ -67,13 +75,13 @@ fn both_put<R: Threads + Sync>(
 {
     join(
         rt,
-        || puts_and_marks(shared, one, 7, 70),
-        || puts_and_marks(shared, two, 300, 3_000),
+        || puts_and_marks(rt, shared, one, 7, 70),
+        || puts_and_marks(rt, shared, two, 300, 3_000),
     )
 }
 
 /// Each of two threads learns one of the marks.
-fn both_learn<R: Threads + Sync>(
+fn both_learn<R: Threads + Abort + Sync>(
     rt: &R,
     shared: &Shared,
     one: (Pass, Mark),
@@ -86,14 +94,14 @@ fn both_learn<R: Threads + Sync>(
     let (four, other) = two;
     join(
         rt,
-        || learns_and_finds(shared, three, mark, 7),
-        || learns_and_finds(shared, four, other, 300),
+        || learns_and_finds(rt, shared, three, mark, 7),
+        || learns_and_finds(rt, shared, four, other, 300),
     )
 }
 
 #[test]
 fn two_threads_learn_what_two_others_saw(rt: HostRuntime) -> Result<(), Fail> {
-    let (shared, mut passes) = Shared::open(rt.alloc(), &SIZES, 0)?;
+    let (shared, mut passes) = Shared::open(rt.alloc(), two_bytes(&rt), &SIZES, 0)?;
     let one = last_of(&shared, &mut passes).expect(&rt, "four passes");
     let two = last_of(&shared, &mut passes).expect(&rt, "three passes");
     let three = last_of(&shared, &mut passes).expect(&rt, "two passes");

@@ -3,7 +3,7 @@ ghost use Rattle.std.specs.Prelude.{◌≡◌, IfOk};
 ghost use Rattle.art_shared.specs.Tables.{IsPassOf};
 ghost use Rattle.art_shared_uses.specs.Clients.{AreNew, AreOf, IsIdle, IsNew, Writes};
 
-use crate::clients::{finds, key_of, last_of, puts, writer_of};
+use crate::clients::{finds, key_of, last_of, puts, two_bytes, writer_of};
 use crate::closing::ended;
 use art_cell::Pool;
 use art_change::Outcome;
@@ -11,6 +11,7 @@ use art_find::Got;
 use art_shared::{Pass, Shared};
 use art_step::Sizes;
 use std::alloc::AllocError;
+use std::process::Abort;
 use std::sync::{Mutex, Wait};
 use std::test::*;
 use std::thread;
@@ -39,7 +40,7 @@ fn number_of(pass: &Pass) -> u16 {
 }
 
 /// Inserts the rows of one thread, and counts those that were new.
-fn fills<R: Wait>(rt: &R, shared: &Shared, mut pass: Pass, new: &Mutex<u32>) -> Pass
+fn fills<R: Wait + Abort>(rt: &R, shared: &Shared, mut pass: Pass, new: &Mutex<u32>) -> Pass
     requires { IsNew shared.now pass }
     ensures { IsPassOf shared.now result }
 {
@@ -48,7 +49,7 @@ fn fills<R: Wait>(rt: &R, shared: &Shared, mut pass: Pass, new: &Mutex<u32>) -> 
     let mut count = 0u32;
     for row in 0..ROWS {
         let number = first.wrapping_add(row);
-        let key = key_of(number);
+        let key = key_of(rt, shared, number);
         if puts(shared, &mut pass, &mut writer, &key, u64::from(number)) == Outcome::New {
             count = count.saturating_add(1);
         }
@@ -60,7 +61,7 @@ fn fills<R: Wait>(rt: &R, shared: &Shared, mut pass: Pass, new: &Mutex<u32>) -> 
 }
 
 /// Each pass inserts its rows, in a thread of its own.
-fn all_fill<R: Threads + Wait + Sync>(
+fn all_fill<R: Threads + Wait + Abort + Sync>(
     rt: &R,
     shared: &Shared,
     passes: Vec<Pass>,
@@ -80,14 +81,14 @@ fn all_fill<R: Threads + Wait + Sync>(
 }
 
 /// How many of the rows are found.
-fn counts(shared: &Shared, mut pass: Pass) -> (Pass, u32)
+fn counts(rt: &impl Abort, shared: &Shared, mut pass: Pass) -> (Pass, u32)
     requires { IsIdle shared.now pass }
     ensures { IsPassOf shared.now result.0 }
 {
     let mut right = 0u32;
     for number in 0..4 * ROWS {
         let wanted = Got::Found(u64::from(number));
-        if finds(shared, &mut pass, &key_of(number), TURNS) == wanted {
+        if finds(shared, &mut pass, &key_of(rt, shared, number), TURNS) == wanted {
             right = right.saturating_add(1);
         }
     }
@@ -96,13 +97,13 @@ fn counts(shared: &Shared, mut pass: Pass) -> (Pass, u32)
 
 #[test]
 fn four_threads_insert_two_hundred_and_fifty_rows_each(rt: HostRuntime) -> Result<(), Fail> {
-    let (shared, mut passes) = Shared::open(rt.alloc(), &SIZES, 0)?;
+    let (shared, mut passes) = Shared::open(rt.alloc(), two_bytes(&rt), &SIZES, 0)?;
     let fifth = last_of(&shared, &mut passes).expect(&rt, "five passes");
     let new = Mutex::new(0u32);
     let passes = all_fill(&rt, &shared, passes, &new)?;
     assert_eq!(rt; passes.len(), 4);
     assert_eq!(rt; new.into_inner(), 1000);
-    let (fifth, right) = counts(&shared, fifth);
+    let (fifth, right) = counts(&rt, &shared, fifth);
     assert_eq!(rt; right, 1000);
     let end = ended(rt.alloc(), shared, passes, fifth)?;
     assert_eq!(rt; end.free(Pool::Leaves), SIZES.leaves - 1000);

@@ -3,13 +3,14 @@ ghost use Rattle.std.specs.Prelude.{◌≡◌, ◌≤◌, IfOk};
 ghost use Rattle.art_shared.specs.Tables.{IsPassOf};
 ghost use Rattle.art_shared_uses.specs.Clients.{IsIdle, IsNew, Writes};
 
-use crate::clients::{finds, key_of, last_of, puts, takes, writer_of};
+use crate::clients::{finds, key_of, last_of, puts, takes, two_bytes, writer_of};
 use art_change::{Outcome, Writer};
 use art_find::Got;
 use art_model::NoMemory;
 use art_shared::{Pass, Shared};
 use art_step::Sizes;
 use std::alloc::Global;
+use std::process::Abort;
 use std::test::*;
 use std::thread::{Threads, join};
 
@@ -31,11 +32,17 @@ const ROWS: u16 = 250;
 const TURNS: u32 = 1_000;
 
 /// Inserts a row, and removes every tenth again: whether the row was new, and then had its value.
-fn round(shared: &Shared, pass: &mut Pass, writer: &mut Writer, number: u16) -> bool
+fn round(
+    rt: &impl Abort,
+    shared: &Shared,
+    pass: &mut Pass,
+    writer: &mut Writer,
+    number: u16,
+) -> bool
     requires { Writes shared.now pass.old writer.old }
     ensures { Writes shared.now pass.new writer.new }
 {
-    let key = key_of(number);
+    let key = key_of(rt, shared, number);
     let value = u64::from(number);
     let new = puts(shared, pass, writer, &key, value) == Outcome::New;
     if number % 10 != 9 {
@@ -45,14 +52,14 @@ fn round(shared: &Shared, pass: &mut Pass, writer: &mut Writer, number: u16) -> 
 }
 
 /// So many rounds from a number on, and how many of them went otherwise.
-fn works(shared: &Shared, mut pass: Pass, first: u16) -> (Pass, u32)
+fn works(rt: &impl Abort, shared: &Shared, mut pass: Pass, first: u16) -> (Pass, u32)
     requires { IsNew shared.now pass }
     ensures { IsPassOf shared.now result.0 }
 {
     let mut writer = writer_of(shared, &pass);
     let mut faults = 0u32;
     for row in 0..ROWS {
-        if !round(shared, &mut pass, &mut writer, first.wrapping_add(row)) {
+        if !round(rt, shared, &mut pass, &mut writer, first.wrapping_add(row)) {
             faults = faults.saturating_add(1);
         }
     }
@@ -61,7 +68,7 @@ fn works(shared: &Shared, mut pass: Pass, first: u16) -> (Pass, u32)
 }
 
 /// Both threads at once.
-fn both<R: Threads + Sync>(
+fn both<R: Threads + Abort + Sync>(
     rt: &R,
     shared: &Shared,
     one: Pass,
@@ -72,11 +79,15 @@ fn both<R: Threads + Sync>(
     ensures one { IsPassOf shared.now result.0.0 }
     ensures two { IsPassOf shared.now result.1.0 }
 {
-    join(rt, || works(shared, one, 0), || works(shared, two, ROWS))
+    join(
+        rt,
+        || works(rt, shared, one, 0),
+        || works(rt, shared, two, ROWS),
+    )
 }
 
 /// How many of the rows are found as they were left.
-fn counts(shared: &Shared, mut pass: Pass) -> (Pass, u32)
+fn counts(rt: &impl Abort, shared: &Shared, mut pass: Pass) -> (Pass, u32)
     requires { IsIdle shared.now pass }
     ensures { IsPassOf shared.now result.0 }
 {
@@ -87,7 +98,7 @@ fn counts(shared: &Shared, mut pass: Pass) -> (Pass, u32)
         } else {
             Got::Found(u64::from(number))
         };
-        if finds(shared, &mut pass, &key_of(number), TURNS) == wanted {
+        if finds(shared, &mut pass, &key_of(rt, shared, number), TURNS) == wanted {
             right = right.saturating_add(1);
         }
     }
@@ -115,14 +126,14 @@ fn ended(
 
 #[test]
 fn a_third_pass_finds_what_two_threads_left(rt: HostRuntime) -> Result<(), Fail> {
-    let (shared, mut passes) = Shared::open(rt.alloc(), &SIZES, 0)?;
+    let (shared, mut passes) = Shared::open(rt.alloc(), two_bytes(&rt), &SIZES, 0)?;
     let one = last_of(&shared, &mut passes).expect(&rt, "three passes");
     let two = last_of(&shared, &mut passes).expect(&rt, "two passes");
     let three = last_of(&shared, &mut passes).expect(&rt, "one pass");
     let ((one, faults), (two, others)) = both(&rt, &shared, one, two);
     assert_eq!(rt; faults, 0);
     assert_eq!(rt; others, 0);
-    let (three, right) = counts(&shared, three);
+    let (three, right) = counts(&rt, &shared, three);
     assert_eq!(rt; right, 500);
     let words = ended(rt.alloc(), shared, one, two, three)?;
     assert_eq!(rt; words.get(1).copied().unwrap_or(0) % 8, 2);

@@ -2,4 +2,4 @@ use Rattle.art_shared_uses.specs.Clients.{IsIdle}
 use Rattle.art_shared_uses.proofs.threads.counts.Given as goal
 
 abbrev pub invariant-loop-number : goal.invariant-loop-number
-invariant-loop-number l = IsIdle l.shared l.pass
+invariant-loop-number g l = IsIdle l.shared l.pass

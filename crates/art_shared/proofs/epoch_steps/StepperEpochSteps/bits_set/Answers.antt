@@ -5,7 +5,7 @@ use Rattle.art_step.specs.Views.{free_bit, free_index, pool_of}
 use Rattle.art_step.specs.WordPlaces.{first_free_word}
 use Rattle.art_step.proofs.NumberMoves.{bit_whole}
 use Rattle.art_step.proofs.WordPlaces.{has_free_word}
-use Rattle.art_shared.specs.Stepper.{known_by, sizes_of}
+use Rattle.art_shared.specs.Stepper.{basis_of, known_by, sizes_of}
 use Rattle.art_shared.proofs.EpochTurns.{free_low, turns_give}
 use Rattle.art_shared.proofs.Stamps.{number_there}
 use Rattle.art_shared.proofs.epoch_steps.StepperEpochSteps.bits_set.Goals as goal
@@ -28,4 +28,4 @@ add-requires-clause-may c =
     let d = link_of_number c.args.number in
     let bit : 1 * 2 ^ (c.number-2.result % 64) % 18446744073709551616 ≡ 2 ^ free_bit d = bit_whole c.number-2.result ∙ ap (λ (n : ℕ). 2 ^ (n % 64)) c.number-2.ensures in
     let first = c.first_free_word-first.ensures ∙ ap (first_free_word (sizes_of s)) c.pool.ensures in
-    rw c.spend-freed.ensures (turns_give (sizes_of s) (known_by s) d _ _ bit (c.word_at-at.ensures ∙ ap₂ (λ (a b : ℕ). a + b / 64) first c.number.ensures) c.requires.may)
+    rw c.spend-freed.ensures (turns_give (basis_of s) (known_by s) d _ _ bit (c.word_at-at.ensures ∙ ap₂ (λ (a b : ℕ). a + b / 64) first c.number.ensures) c.requires.may)

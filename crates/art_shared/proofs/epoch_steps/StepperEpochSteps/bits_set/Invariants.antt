@@ -4,4 +4,4 @@ use Rattle.art_shared.proofs.EpochTurns.{Frees}
 use Rattle.art_shared.proofs.epoch_steps.StepperEpochSteps.bits_set.Given as goal
 
 abbrev pub ghosts-add : goal.ghosts-add
-ghosts-add a = record { shown = λ n v w. Frees a.shared.now.sizes a._about.now v w; happens = λ n. SetsBit a._about.now }
+ghosts-add a = record { shown = λ n v w. Frees a.shared.now.basis.sizes a._about.now v w; happens = λ n. SetsBit a._about.now }

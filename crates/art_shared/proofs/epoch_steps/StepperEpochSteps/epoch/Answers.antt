@@ -1,7 +1,7 @@
 -- The epoch is found.
-use Rattle.art_shared.specs.Stepper.{known_by, sizes_of}
+use Rattle.art_shared.specs.Stepper.{basis_of, known_by}
 use Rattle.art_shared.proofs.EpochTurns.{turns_epoch}
 use Rattle.art_shared.proofs.epoch_steps.StepperEpochSteps.epoch.Goals as goal
 
 pub load-requires-clause-may : goal.load-requires-clause-may
-load-requires-clause-may c = let s = c.args.self.now in turns_epoch (sizes_of s) (known_by s) _ c.epoch_place-place.ensures
+load-requires-clause-may c = let s = c.args.self.now in turns_epoch (basis_of s) (known_by s) _ c.epoch_place-place.ensures

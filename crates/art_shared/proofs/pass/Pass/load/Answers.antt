@@ -6,4 +6,4 @@ pub load-requires : goal.load-requires
 load-requires g c =
     let me = c.args.self.now.seat in
     let t = c.args.shared.now in
-    (c.requires.table, rw t.wide c.requires.place, allowed_at me.id c.args.place me.me t.table.shared.table_id.slots (λ n. n) g.K.Shows.shown g.K.Shows.happens c.args.self.now.one t.key c.requires.sizes c.requires.may)
+    (c.requires.table, rw t.wide c.requires.place, allowed_at me.id c.args.place me.me t.table.shared.table_id.slots (λ n. n) g.K.Shows.shown g.K.Shows.happens c.args.self.now.one t.key c.requires.basis c.requires.may)

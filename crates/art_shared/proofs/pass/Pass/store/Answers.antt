@@ -6,4 +6,4 @@ pub store-requires : goal.store-requires
 store-requires g c =
     let me = c.args.self.now.seat in
     let t = c.args.shared.now in
-    (c.requires.table, rw t.wide c.requires.place, allowed_at me.id c.args.place me.me t.table.shared.table_id.slots (λ _. c.args.new) (λ _. g.K.Shows.shown c.args.new) (λ _. g.K.Shows.happens c.args.new) c.args.self.now.one t.key c.requires.sizes c.requires.may)
+    (c.requires.table, rw t.wide c.requires.place, allowed_at me.id c.args.place me.me t.table.shared.table_id.slots (λ _. c.args.new) (λ _. g.K.Shows.shown c.args.new) (λ _. g.K.Shows.happens c.args.new) c.args.self.now.one t.key c.requires.basis c.requires.may)

@@ -1,6 +1,8 @@
 -- A new seat is told what the pass sees.
-use Rattle.std.proofs.Common.{◌∙◌, refl, arith}
-use Rattle.art_shared.specs.Passes.{marked}
+use Rattle.std.proofs.Common.{◌∙◌, ap, arith, refl, subst, sym}
+use Rattle.art_shared.specs.Passes.{marked, view_in}
+use Rattle.art_shared.specs.Tables.{schema_in}
+use Rattle.art_shared.specs.Typed.{AreTyped}
 use Rattle.art_shared.proofs.Marking.{seen_begins}
 use Rattle.art_shared.proofs.Moving.{splits}
 use Rattle.art_shared.proofs.shared.Shared.mark.Goals as goal
@@ -11,3 +13,12 @@ split_seat-seat-requires c =
     let t = c.args.self.now in
     let z = t.table.shared.key in
     (c.look.ensures.same.table ∙ c.requires.table, rw t.wide (omega arith), splits z a.seat.id a.seat.me.0 a.seat.me.0 (marked a.seat.me.0) refl refl (seen_begins z a.seat.id a.seat.me a.one))
+
+pub returns-clause-pass : goal.returns-clause-pass
+returns-clause-pass c =
+    let cut = c.split_seat-seat.ensures in
+    record {
+      table = cut.0 ∙ (c.look.ensures.same.table ∙ c.requires.table);
+      basis = ap (λ m. m.0.basis) cut.2 ∙ (c.look.ensures.same.basis ∙ c.requires.basis);
+      typed = subst (λ m. AreTyped (schema_in c.args.self.now) (view_in m.0).seen) (sym cut.2) c.look.ensures.turn.typed;
+    }

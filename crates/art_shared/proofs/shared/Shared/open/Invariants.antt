@@ -8,7 +8,7 @@ use Rattle.art_shared.proofs.shared.Shared.open.Given as goal
 abbrev pub invariant-loop-number : goal.invariant-loop-number
 invariant-loop-number l = record {
   table : l.rest.table_id ≡ l.table.shared.table_id;
-  me : l.rest.me ≡ (record { sizes = l.sizes; views = newcomers l.number (l.sizes.passes - l.number); told = [] }, []);
+  me : l.rest.me ≡ (record { basis = l.basis; views = newcomers l.number (l.sizes.passes - l.number); told = [] }, []);
   count : length l.passes.items ≡ l.number;
-  each : (p : ℕ) (a : _) → slice_get l.passes.items p ≡ Some a → (a.seat.table_id ≡ l.table.shared.table_id) × (a.seat.me.0 ≡ record { sizes = l.sizes; views = newcomer p ∷ []; told = [] });
+  each : (p : ℕ) (a : _) → slice_get l.passes.items p ≡ Some a → (a.seat.table_id ≡ l.table.shared.table_id) × (a.seat.me.0 ≡ record { basis = l.basis; views = newcomer p ∷ []; told = [] });
 }

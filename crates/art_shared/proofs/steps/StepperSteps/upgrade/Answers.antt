@@ -4,7 +4,7 @@ use Rattle.std.proofs.lemmas.Bool.{cases_lt, false≢true}
 use Rattle.std.specs.Prelude.{IsTrue}
 use Rattle.art_step.specs.Steps.Upgrade as upgrade
 use Rattle.art_step.specs.Views.{last_counter}
-use Rattle.art_shared.specs.Stepper.{known_by, sizes_of, view_of}
+use Rattle.art_shared.specs.Stepper.{basis_of, known_by, sizes_of, view_of}
 use Rattle.art_shared.proofs.CellTurns.{turns_upgrade, version_low}
 use Rattle.art_shared.proofs.Stamps.{stamp_at}
 use Rattle.art_shared.proofs.steps.StepperSteps.upgrade.Goals as goal
@@ -23,4 +23,4 @@ pub exchange-found-requires-clause-may : goal.exchange-found-requires-clause-may
 exchange-found-requires-clause-may c =
     let s = c.args.self.now in
     let may : upgrade.May (view_of s) c.args.stamp = record { stamp = c.requires.stamp; path = c.requires.path; limit = not_last _ _ c.is_last.ensures c.if-is_last.false; early = c.requires.early; unclaimed = c.requires.unclaimed } in
-    turns_upgrade (sizes_of s) (known_by s) c.args.stamp _ _ c.locked.ensures (stamp_at s c.args.stamp c.requires.stamp) c.requires.inside may
+    turns_upgrade (basis_of s) (known_by s) c.args.stamp _ _ c.locked.ensures (stamp_at s c.args.stamp c.requires.stamp) c.requires.inside may

@@ -2,7 +2,7 @@
 use Rattle.std.proofs.Common.{◌≡◌, ◌+◌, ◌<◌, ◌∙◌, ℕ, ap, sym, subst}
 use Rattle.art_cell.specs.declared.cells.Link.TheVariants.{Leaf as leaf}
 use Rattle.art_step.specs.Steps.Write as write
-use Rattle.art_shared.specs.Stepper.{known_by, sizes_of, view_of}
+use Rattle.art_shared.specs.Stepper.{basis_of, known_by, sizes_of, view_of}
 use Rattle.art_shared.proofs.CellTurns.{turns_write_leaf}
 use Rattle.art_shared.proofs.steps.StepperSteps.write_leaf.Goals as goal
 
@@ -14,4 +14,4 @@ store-requires-clause-may c =
     let named : leaf o.0 ≡ leaf l = sym o.2 ∙ (sym c.link.ensures ∙ c.in-Leaf.is) in
     let same : o.0 ≡ l = cc in
     let may : (l < (sizes_of s).leaves) × write.MayLeaf (view_of s) o.1 l c.args.place = subst (λ (a : ℕ). (a < (sizes_of s).leaves) × write.MayLeaf (view_of s) o.1 a c.args.place) same (o.3, o.4) in
-    turns_write_leaf (sizes_of s) (known_by s) o.1 l c.args.place c.args.value _ (c.word_at-at.ensures ∙ ap (λ (n : ℕ). n + c.args.place) c.place_of-first.ensures) may.0 may.1
+    turns_write_leaf (basis_of s) (known_by s) o.1 l c.args.place c.args.value _ (c.word_at-at.ensures ∙ ap (λ (n : ℕ). n + c.args.place) c.place_of-first.ensures) may.0 may.1

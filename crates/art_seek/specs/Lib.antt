@@ -1,0 +1,4 @@
+pub mod Asking
+pub mod Seeks
+pub mod Sought
+pub mod Walks

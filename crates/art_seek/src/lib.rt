@@ -1,0 +1,45 @@
+//! A get or a look of a range, from its pin to its close.
+//!
+//! # The way
+//!
+//! ```text
+//! Pinning ── the epoch is noted, and stored in the word of the pass
+//!    ▼
+//! Walking ── a descent by the key (`art_find`) or a look of the range (`art_look`), from the anchor down; where a version word was
+//!    │       locked, obsolete or changed, it begins anew, under the same pin
+//!    ▼
+//! Closing ── 0 is stored: the pass is idle
+//! ```
+//!
+//! The steps of the walk are counted, those of the pin and of the close are not. Where all turns are used and nothing is told, the
+//! seek closes as `Busy`: with no turns at all, right after its pin. A restart is counted before the turns are looked at.
+//!
+//! # What stands beside it
+//!
+//! `Seek` is a value of scalars with `next` and `told`. Who runs it keeps what is large: the key of a get, or both ends of a range,
+//! and the `Trail`, which has what a look has read. They are handed in at each step and not copied, but for the key of a deed, as
+//! that is told, and for what a look has seen.
+//!
+//! # One step at a time
+//!
+//! `step` says which kind of step it made (`Stepped`): one of the pin or of the close, one of the walk that went on or began anew,
+//! or the one that made the event. So a caller learns from its result alone what the view of the pass saw at that step.
+//!
+//! # What is proved
+//!
+//! Each step may be made, and each answer keeps what the machine knows (`Fits`). When it has ended (`HasSought`) the pass is idle
+//! and holds nothing, with the numbers that it had in hand and in limbo, and made one event, or none where it is `Busy`. The
+//! restarts are the failures that were met, and turns that were used are few beside them.
+#![tactic(auto)]
+
+mod asked;
+mod driver;
+mod seekers;
+mod seeks;
+mod walks;
+
+pub use asked::{Answer, Asked};
+pub use driver::{Stepped, make, step};
+pub use seekers::{KeySought, RangeSought, Seeker};
+pub use seeks::{Seek, SeekStage};
+pub use walks::{Aim, Outcome};

@@ -1,0 +1,228 @@
+//! A seek, step by step: its pin, its walk, its close.
+ghost use Rattle.std.specs.Prelude.{◌≡◌, ℕ, ◌+◌, ◌-◌, ◌<◌, ◌≤◌, List, length, Option, Some, None};
+ghost use Rattle.art_epoch.specs.Asking.{Answers as FrameAnswers};
+ghost use Rattle.art_epoch.specs.Pins as pins;
+ghost use Rattle.art_epoch.specs.Pins.{MayPin};
+ghost use Rattle.art_epoch.specs.declared.asked.Asked.{Asked as FrameAsked};
+ghost use Rattle.art_find.specs.Asking.{Answers as CellAnswers, goes_on};
+ghost use Rattle.art_find.specs.Driven.{restarts_after};
+ghost use Rattle.art_find.specs.declared.asked.Asked.{Asked as CellAsked};
+ghost use Rattle.art_key.specs.declared.bounds.Bound.{Bound as KeyBound};
+ghost use Rattle.art_look.specs.Driven.{IsSeen};
+ghost use Rattle.art_look.specs.declared.trails.Trail.{Trail as Trailed};
+ghost use Rattle.art_seek.specs.Asking.{Answers, restarts_told};
+ghost use Rattle.art_seek.specs.Seeks.{Fits, HasSought, IsPinning, IsWalking, asks, ended_at, left_at, seen_at, steps_left};
+ghost use Rattle.art_seek.specs.Walks as walks;
+ghost use Rattle.art_seek.specs.Walks.{IsEnd, Settles, aim_of, deed_at};
+ghost use Rattle.art_seek.specs.declared.asked.Asked.{Asked as AskedStep};
+ghost use Rattle.art_seek.specs.declared.seeks.SeekStage.TheVariants as stages;
+ghost use Rattle.art_step.specs.declared.views.Sizes.{Sizes};
+ghost use Rattle.art_step.specs.declared.views.View.{View};
+
+use crate::asked::{cell_in, word_in};
+use crate::walks::Walk;
+use crate::{Aim, Answer, Asked, Outcome};
+use art_epoch::{Asked as FrameStep, Pinning};
+use art_find::Answer as CellAnswer;
+use art_key::Bound;
+use art_look::{Seen, Trail};
+
+/// Where a seek stands between two of its steps.
+#[derive(Clone, Copy)]
+pub enum SeekStage {
+    /// The pass is being pinned.
+    Pinning,
+    /// The tree is walked.
+    Walking,
+    /// The pass goes idle.
+    Closing,
+    Ended,
+}
+
+/// A get of a key, or a look of a range. What it looks for and the trail of a look stand beside it.
+#[derive(Clone, Copy)]
+pub struct Seek {
+    stage: SeekStage,
+    pinning: Pinning,
+    walk: Walk,
+    outcome: Outcome,
+    turns: u32,
+    /// How many turns are left: steps that the walk may still make.
+    left: u32,
+    restarts: u64,
+}
+
+impl Seek {
+    ghost use Rattle.art_seek.specs.Asking.{IsAllowed};
+    ghost use Rattle.std.specs.Prelude.{IfSome};
+
+    /// Of this, in so many turns.
+    pub fn new(aim: Aim, turns: u32) -> Seek
+        ensures aim { aim_of result.walk ≡ aim }
+        ensures turns { (result.turns ≡ turns) × (result.restarts ≡ 0) }
+        ensures going { ended_at result ≡ None }
+        ensures left { steps_left result ≡ turns + 3 }
+        ensures fits { (z : Sizes) (k : List ℕ) (hi : KeyBound) (t : Trailed) (u : View) → MayPin u → Fits z k hi u result t u }
+    {
+        Seek {
+            stage: SeekStage::Pinning,
+            pinning: Pinning::new(),
+            walk: Walk::new(aim),
+            outcome: Outcome::Busy,
+            turns,
+            left: turns,
+            restarts: 0,
+        }
+    }
+
+    /// The next step, or none where it has ended.
+    pub fn next(&self) -> Option<Asked>
+        ensures asks { result ≡ asks self.now }
+        ensures allowed { (z : Sizes) (k : List ℕ) (hi : KeyBound) (u v : View) (t : Trailed) → Fits z k hi u self.now t v →
+            IfSome result (IsAllowed z (Settles self.now.walk k t) v) }
+        ensures going { (z : Sizes) (k : List ℕ) (hi : KeyBound) (u v : View) (t : Trailed) → Fits z k hi u self.now t v →
+            ended_at self.now ≡ None → (a : AskedStep) × (result ≡ Some a) }
+    {
+        match self.stage {
+            SeekStage::Pinning => Some(Asked::Frame(self.pinning.next()?)),
+            SeekStage::Walking => Some(Asked::Cell(self.walk.next()?)),
+            SeekStage::Closing => Some(Asked::Frame(FrameStep::Store(0))),
+            SeekStage::Ended => None,
+        }
+    }
+
+    /// The step that it asked for was made, with this answer. The key is the one that is looked for, or the lower end of the range.
+    pub fn told(&mut self, key: &[u8], trail: &mut Trail, answer: Answer)
+        requires short { length key.now ≤ 64 }
+        requires told { (z : Sizes) × (hi : KeyBound) × (u : View) × (v : View) × (w : View) × (asked : AskedStep) ×
+            Fits z key.now hi u self.old trail.old v × (asks self.old ≡ Some asked) ×
+            Answers z (deed_at self.old.walk key.now hi trail.old) asked answer v w }
+        ensures aim { aim_of self.new.walk ≡ aim_of self.old.walk }
+        ensures turns { self.new.turns ≡ self.old.turns }
+        ensures restarts { self.new.restarts ≡ restarts_told answer self.old.restarts }
+        ensures left { steps_left self.new < steps_left self.old }
+        ensures fits { (z : Sizes) (hi : KeyBound) (u v w : View) (asked : AskedStep) →
+            Fits z key.now hi u self.old trail.old v → asks self.old ≡ Some asked →
+            Answers z (deed_at self.old.walk key.now hi trail.old) asked answer v w → Fits z key.now hi u self.new trail.new w }
+    {
+        match self.stage {
+            SeekStage::Pinning => self.pin_told(word_in(answer)),
+            SeekStage::Walking => self.walk_told(key, trail, cell_in(answer)),
+            SeekStage::Closing => self.stage = SeekStage::Ended,
+            SeekStage::Ended => {}
+        }
+    }
+
+    /// How it ended, if it has.
+    pub fn ended(&self) -> Option<Outcome>
+        ensures at { result ≡ ended_at self.now }
+        ensures sought { IfSome result (λ o. (z : Sizes) (k : List ℕ) (hi : KeyBound) (u v : View) (t : Trailed) →
+            length k ≤ 64 → Fits z k hi u self.now t v → HasSought k hi u self.now t o v) }
+    {
+        match self.stage {
+            SeekStage::Ended => Some(self.outcome),
+            _ => None,
+        }
+    }
+
+    /// How often it began anew.
+    pub fn restarts(&self) -> u64
+        ensures { result ≡ self.now.restarts }
+    {
+        self.restarts
+    }
+
+    /// What a look has seen, once it has ended as `Seen`.
+    pub fn seen(&self, lo: &[u8], hi: &Bound, trail: &Trail) -> Option<Seen>
+        requires { length lo.now ≤ 64 }
+        ensures at { result ≡ seen_at self.now lo.now hi.now trail.now }
+        ensures stood { IfSome result (λ seen. (z : Sizes) (u v : View) → Fits z lo.now hi.now u self.now trail.now v →
+            IsSeen z lo.now hi.now seen) }
+    {
+        match self.ended() {
+            Some(Outcome::Seen) => self.walk.seen(lo, hi, trail),
+            _ => None,
+        }
+    }
+
+    /// Its walk.
+    pub(crate) fn walk(&self) -> &Walk
+        ensures { result.now ≡ self.now.walk }
+    {
+        &self.walk
+    }
+
+    /// A step of the pin was made.
+    fn pin_told(&mut self, word: u64)
+        requires stage { self.old.stage ≡ stages.Pinning }
+        requires going { (a : FrameAsked) × (pins.asks self.old.pinning ≡ Some a) }
+        ensures walk { self.new.walk ≡ self.old.walk }
+        ensures turns { self.new.turns ≡ self.old.turns }
+        ensures restarts { self.new.restarts ≡ self.old.restarts }
+        ensures left { steps_left self.new < left_at stages.Pinning self.old }
+        ensures fits { (z : Sizes) (k : List ℕ) (hi : KeyBound) (u v w : View) (t : Trailed) (asked : FrameAsked) →
+            IsPinning z k hi u self.old t v → pins.asks self.old.pinning ≡ Some asked → FrameAnswers z asked word v w →
+            Fits z k hi u self.new t w }
+    {
+        self.pinning.told(word);
+        match self.pinning.next() {
+            Some(_) => {}
+            None => self.turn(),
+        }
+    }
+
+    /// The walk goes on, where turns are left.
+    fn turn(&mut self)
+        ensures walk { self.new.walk ≡ self.old.walk }
+        ensures turns { self.new.turns ≡ self.old.turns }
+        ensures restarts { self.new.restarts ≡ self.old.restarts }
+        ensures left { steps_left self.new ≤ self.old.left + 1 }
+        ensures fits { (z : Sizes) (k : List ℕ) (hi : KeyBound) (u v : View) (t : Trailed) → IsWalking z k hi u self.old t v →
+            walks.ended_at self.old.walk ≡ None → Fits z k hi u self.new t v }
+    {
+        if self.left == 0 {
+            self.close(Outcome::Busy);
+            return;
+        }
+        self.stage = SeekStage::Walking;
+    }
+
+    /// It ends so, once the pass is idle.
+    fn close(&mut self, outcome: Outcome)
+        ensures walk { self.new.walk ≡ self.old.walk }
+        ensures turns { self.new.turns ≡ self.old.turns }
+        ensures restarts { self.new.restarts ≡ self.old.restarts }
+        ensures left { steps_left self.new ≡ 1 }
+        ensures fits { (z : Sizes) (k : List ℕ) (hi : KeyBound) (u v : View) (t : Trailed) → IsWalking z k hi u self.old t v →
+            IsEnd self.old.walk self.old.left outcome → Fits z k hi u self.new t v }
+    {
+        self.outcome = outcome;
+        self.stage = SeekStage::Closing;
+    }
+
+    /// A step of the walk was made: it is counted, and so is a restart.
+    fn walk_told(&mut self, key: &[u8], trail: &mut Trail, answer: CellAnswer)
+        requires short { length key.now ≤ 64 }
+        requires turn { 0 < self.old.left }
+        requires few { self.old.restarts + self.old.left ≤ 4294967295 }
+        requires told { (z : Sizes) × (hi : KeyBound) × (u : View) × (v : View) × (w : View) × (asked : CellAsked) ×
+            IsWalking z key.now hi u self.old trail.old v × (walks.asks self.old.walk ≡ Some asked) ×
+            CellAnswers z (deed_at self.old.walk key.now hi trail.old) asked answer v w }
+        ensures aim { aim_of self.new.walk ≡ aim_of self.old.walk }
+        ensures turns { self.new.turns ≡ self.old.turns }
+        ensures restarts { self.new.restarts ≡ restarts_after self.old.restarts (goes_on answer) }
+        ensures left { steps_left self.new < left_at stages.Walking self.old }
+        ensures fits { (z : Sizes) (hi : KeyBound) (u v w : View) (asked : CellAsked) →
+            IsWalking z key.now hi u self.old trail.old v → walks.asks self.old.walk ≡ Some asked →
+            CellAnswers z (deed_at self.old.walk key.now hi trail.old) asked answer v w → Fits z key.now hi u self.new trail.new w }
+    {
+        self.left -= 1;
+        if !self.walk.told(key, trail, answer) {
+            self.restarts += 1;
+        }
+        match self.walk.ended() {
+            Some(outcome) => self.close(outcome),
+            None => self.turn(),
+        }
+    }
+}

@@ -1,0 +1,179 @@
+//! A descent by a key, or a look of a range.
+ghost use Rattle.std.specs.Prelude.{◌≡◌, ℕ, List, length, ◌≤◌, Option, None, Some};
+ghost use Rattle.art_find.specs.Asking.{Answers, IsAllowed, goes_on};
+ghost use Rattle.art_find.specs.Driven.{get_done, restarts_after};
+ghost use Rattle.art_find.specs.declared.asked.Asked.{Asked as AskedStep};
+ghost use Rattle.art_find.specs.declared.asked.Asked.TheVariants.{Settle as settle_asked};
+ghost use Rattle.art_key.specs.declared.bounds.Bound.{Bound as KeyBound};
+ghost use Rattle.art_look.specs.Looks as looks;
+ghost use Rattle.art_look.specs.declared.trails.Trail.{Trail as Trailed};
+ghost use Rattle.art_seek.specs.Walks.{Fits, IsAtStart, Settles, aim_of, asks, deed_at, ended_at, of_value, seen_at};
+ghost use Rattle.art_step.specs.declared.views.Sizes.{Sizes};
+ghost use Rattle.art_step.specs.declared.views.Stamp.{Stamp};
+ghost use Rattle.art_step.specs.declared.views.View.{View};
+
+use art_find::{Answer, Asked, Descent};
+use art_key::{Bound, Key};
+use art_look::{Look, Seen, Trail};
+use art_model::Answer as Reply;
+use art_step::{Act, Deed};
+
+/// What is looked for.
+#[derive(Clone, Copy, Debug, PartialEq, Eq)]
+pub enum Aim {
+    /// The value of a key.
+    Key,
+    /// The first row of a range.
+    Range,
+}
+
+/// How a seek ends.
+#[derive(Clone, Copy, Debug, PartialEq, Eq)]
+pub enum Outcome {
+    /// The key has this value.
+    Found(u64),
+    /// It has none.
+    Absent,
+    /// What the range has was seen, as far as the look saw.
+    Seen,
+    /// All turns were used.
+    Busy,
+}
+
+/// The machine of either.
+#[derive(Clone, Copy)]
+pub(crate) enum Walk {
+    Key(Descent),
+    Range(Look),
+}
+
+impl Walk {
+    ghost use Rattle.std.specs.Prelude.{IfSome};
+
+    /// At its beginning.
+    pub(crate) fn new(aim: Aim) -> Walk
+        ensures aim { aim_of result ≡ aim }
+        ensures fresh { (z : Sizes) (k : List ℕ) (hi : KeyBound) (t : Trailed) → IsAtStart z k hi result t }
+    {
+        match aim {
+            Aim::Key => Walk::Key(Descent::new()),
+            Aim::Range => Walk::Range(Look::new()),
+        }
+    }
+
+    /// The next step, or none where it has ended.
+    pub(crate) fn next(&self) -> Option<Asked>
+        ensures asks { result ≡ asks self.now }
+        ensures allowed { (z : Sizes) (k : List ℕ) (hi : KeyBound) (t : Trailed) (u v : View) (n : ℕ) →
+            Fits z k hi u self.now t n v → IfSome result (IsAllowed z (Settles self.now k t) v) }
+        ensures going { ended_at self.now ≡ None → (a : AskedStep) × (result ≡ Some a) }
+    {
+        match self {
+            Walk::Key(descent) => descent.next(),
+            Walk::Range(look) => look.next(),
+        }
+    }
+
+    /// The step that it asked for was made, with this answer. Whether it goes on: else it begins anew. The key is the one that is
+    /// looked for, or the lower end of the range.
+    pub(crate) fn told(&mut self, key: &[u8], trail: &mut Trail, answer: Answer) -> bool
+        requires short { length key.now ≤ 64 }
+        requires told { (z : Sizes) × (hi : KeyBound) × (u : View) × (v : View) × (w : View) × (n : ℕ) × (asked : AskedStep) ×
+            Fits z key.now hi u self.old trail.old n v × (asks self.old ≡ Some asked) ×
+            Answers z (deed_at self.old key.now hi trail.old) asked answer v w }
+        ensures on { result ≡ goes_on answer }
+        ensures aim { aim_of self.new ≡ aim_of self.old }
+        ensures fits { (z : Sizes) (hi : KeyBound) (u v w : View) (n : ℕ) (asked : AskedStep) →
+            Fits z key.now hi u self.old trail.old n v → asks self.old ≡ Some asked →
+            Answers z (deed_at self.old key.now hi trail.old) asked answer v w →
+            Fits z key.now hi u self.new trail.new (restarts_after n (goes_on answer)) w }
+    {
+        match self {
+            Walk::Key(descent) => descent.told(key, answer),
+            Walk::Range(look) => look.told(key, trail, answer),
+        }
+    }
+
+    /// How it ended, if it has.
+    pub(crate) fn ended(&self) -> Option<Outcome>
+        ensures { result ≡ ended_at self.now }
+    {
+        match self {
+            Walk::Key(descent) => Some(of_value(descent.ended()?)),
+            Walk::Range(look) => {
+                if look.ended() {
+                    Some(Outcome::Seen)
+                } else {
+                    None
+                }
+            }
+        }
+    }
+
+    /// What a look has seen: at the step that settles it, and once that is settled.
+    pub(crate) fn seen(&self, lo: &[u8], hi: &Bound, trail: &Trail) -> Option<Seen>
+        requires { length lo.now ≤ 64 }
+        ensures { result ≡ seen_at self.now lo.now hi.now trail.now }
+    {
+        match self {
+            Walk::Key(_) => None,
+            Walk::Range(look) => look.seen(lo, hi, trail),
+        }
+    }
+
+    /// The event of the step that settles the answer.
+    pub(crate) fn deed(&self, key: &[u8], hi: &Bound, trail: &Trail) -> Deed
+        requires short { length key.now ≤ 64 }
+        requires settles { (x : Stamp) × (asks self.now ≡ Some (settle_asked x)) }
+        ensures { result ≡ deed_at self.now key.now hi.now trail.now }
+    {
+        match self {
+            Walk::Key(descent) => get_done(key, descent.answer()),
+            Walk::Range(look) => look_done(look, key, hi, trail),
+        }
+    }
+}
+
+/// How a get ends that found this.
+fn of_value(value: Option<u64>) -> Outcome
+    ensures { result ≡ of_value value }
+{
+    match value {
+        Some(value) => Outcome::Found(value),
+        None => Outcome::Absent,
+    }
+}
+
+/// What a get of the key does where it has this value, or none.
+fn get_done(key: &[u8], value: Option<u64>) -> Deed
+    requires { length key.now ≤ 64 }
+    ensures { result ≡ get_done key.now value }
+{
+    let reply = match value {
+        Some(value) => Reply::Found(value),
+        None => Reply::Absent,
+    };
+    Deed::Done(Act::Get(copied(key)), reply)
+}
+
+/// The bytes as a key.
+fn copied(bytes: &[u8]) -> Key
+    requires { length bytes.now ≤ 64 }
+    ensures { result.items ≡ bytes.now }
+{
+    let mut key = Key::new();
+    key.try_extend_from_slice(bytes).unwrap();
+    key
+}
+
+/// What a look does that settles what it has seen.
+fn look_done(look: &Look, lo: &[u8], hi: &Bound, trail: &Trail) -> Deed
+    requires short { length lo.now ≤ 64 }
+    requires settles { (x : Stamp) × (looks.asks look.now.stage ≡ Some (settle_asked x)) }
+    ensures { result ≡ looks.deed_at lo.now hi.now trail.now look.now.stage }
+{
+    let Some(seen) = look.seen(lo, hi, trail) else {
+        unreachable!()
+    };
+    Deed::Look(seen.lo, seen.hi, seen.row)
+}
