@@ -1,7 +1,10 @@
 pub mod ColumnLaws
+pub mod Legality
+pub mod Looks
 pub mod Loops
 pub mod NamedColumns
 pub mod Names
+pub mod Same
 pub mod Texts
 pub mod TupleLaws
 pub mod Wholes

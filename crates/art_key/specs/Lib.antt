@@ -1,5 +1,6 @@
 pub mod Bounds
 pub mod Columns
+pub mod Histories
 pub mod KindLaws
 pub mod Kinds
 pub mod Laws

@@ -20,6 +20,10 @@ pub record IsSpelling (schema : List Column) (tuple : List Value) (bytes : List 
   pub stands : tuple_fault schema tuple ≡ None
   pub spelled : bytes ≡ spelling schema tuple
 
+-- they are the spelling of some tuple
+abbrev pub IsKeyOf : List Column → List ℕ → Type 0
+IsKeyOf schema bytes = (tuple : List Value) × IsSpelling schema tuple bytes
+
 -- the value that the bytes at the front spell in a column, and the bytes after it
 abbrev pub front_value : Column → List ℕ → Option (Value × List ℕ)
 front_value c bytes = (kind_of c).front bytes

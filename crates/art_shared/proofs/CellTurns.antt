@@ -1,4 +1,5 @@
 -- The kinds of steps of cells, as steps on a word of the table: what each shows, and that the pass makes it whatever the table is.
+use Rattle.art_key.specs.Spelling.{IsKeyOf}
 use Rattle.std.proofs.Common.{◌≡◌, ◌≢◌, ℕ, ◌+◌, ◌%◌, ◌^◌, ◌<◌, ◌≤◌, ◌==◌, Bool, true, false, List, slice_set, get_or, ⊎_elim, sym, ap, ◌∙◌, subst, arith}
 use Rattle.std.proofs.lemmas.Bool.{cases_eq}
 use Rattle.std.proofs.Math.Nat.{mod-eq_of_lt}
@@ -39,7 +40,6 @@ use Rattle.art_shared.specs.declared.law.Known.{Known}
 use Rattle.art_shared.specs.Marks.{Sees}
 use Rattle.art_shared.specs.Passes.{view_in}
 use Rattle.art_shared.specs.Turns.{MayTurn, Stands}
-use Rattle.art_shared.specs.Typed.{IsKeyOf}
 use Rattle.art_shared.proofs.Turning.{looks}
 use Rattle.art_shared.proofs.Typed.{begun_sees, made_typed, quiet, told_typed}
 

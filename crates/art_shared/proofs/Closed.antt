@@ -1,4 +1,6 @@
 -- The end of a table: the seat that is left has the views of all passes that are closed.
+use Rattle.art_key.specs.Spelling.{IsKeyOf}
+use Rattle.art_step.specs.Histories.{AreAdmitted}
 use Rattle.std.proofs.Common.{◌≡◌, ◌≢◌, ◌⊎◌, ◌↔◌, ℕ, zero, suc, ◌<◌, true, false, List, [], ◌∷◌, ◌++◌, length, map, get_or, inl, inr, ⊎_elim, sym, refl, ap, ap₂, ◌∙◌, subst, arith, eqb, ne_eqb}
 use Rattle.std.proofs.lemmas.Bool.{cases_eq, false≢true}
 use Rattle.std.proofs.lemmas.Map.Steps.{length-le_from_distinct_below}
@@ -20,7 +22,6 @@ use Rattle.art_shared.specs.declared.pass.Pass.{Pass}
 use Rattle.art_shared.specs.Closing.{Closes}
 use Rattle.art_shared.specs.Passes.{view_in}
 use Rattle.art_shared.specs.Rule.{Apart, Kept, Words, joined, passes_of, seated}
-use Rattle.art_shared.specs.Typed.{AreTyped}
 use Rattle.art_shared.proofs.Ended.{closes_by}
 use Rattle.art_shared.proofs.Lists.{joined_here}
 use Rattle.art_shared.proofs.Moving.{views_in}
@@ -139,8 +140,8 @@ closes b id s k known ps ws at all long is =
     let vss : List (List View) = map views_in s.views in
     let here : get_elem? vss id ≡ some known.views = at_map views_in s.views id known at in
     let found : (u : View) → Member u known.views → seated s.views u.pass ≡ Some u = λ u i. member_found (joined vss) u k.apart (joined_here u vss id known.views here i) in
-    let both : (r : IsSound z (memory_of z ws) (seated s.views)) × AreTyped b.schema r.log =
-    subst (λ (l : List ℕ). (r : IsSound z (memory_of z l) (seated s.views)) × AreTyped b.schema r.log) (sym is) (k.sound, k.typed) in
+    let both : (r : IsSound z (memory_of z ws) (seated s.views)) × AreAdmitted (IsKeyOf b.schema) r.log =
+    subst (λ (l : List ℕ). (r : IsSound z (memory_of z l) (seated s.views)) × AreAdmitted (IsKeyOf b.schema) r.log) (sym is) (k.sound, k.typed) in
     closes_by b ws (seated s.views) ps both.0 both.1 (λ a i. found (view_in a.seat.me.0) ((all (view_in a.seat.me.0)).0 (view_of_pass ps a i))) (λ count p v e.
     let low = (k.sound.unstamped.pinned p v e).inside in
     let there = all_there z.passes (passes_of known.views) (apart_here vss id known.views here k.apart)

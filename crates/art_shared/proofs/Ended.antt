@@ -1,4 +1,5 @@
 -- What follows of a world in which some passes know what they know, and where they are all, there are no others.
+use Rattle.art_key.specs.Spelling.{IsKeyOf}
 use Rattle.std.proofs.Common.{◌≡◌, ◌≢◌, ◌+◌, ◌==◌, ℕ, List, [], ◌∷◌, length, ⊎_elim, sym, refl, ap, ◌∙◌, subst, arith, eq-eqb}
 use Rattle.std.proofs.lemmas.Bool.{cond_both, false≢true}
 use Rattle.std.proofs.lemmas.Option.{same_Some}
@@ -8,7 +9,7 @@ use Rattle.art_cell.specs.declared.cells.Link.{Link}
 use Rattle.art_step.specs.declared.views.Event.{Event}
 use Rattle.art_step.specs.declared.views.Sizes.{Sizes}
 use Rattle.art_step.specs.declared.views.View.{View}
-use Rattle.art_step.specs.Histories.{places_from}
+use Rattle.art_step.specs.Histories.{AreAdmitted, places_from}
 use Rattle.art_step.specs.Sound.{InHandOf, InLimboOf, InTree, IsFree, IsSound, Nowhere, NumbersAccounted, ShowsReplay, Whereabouts}
 use Rattle.art_step.specs.Views.{IsInLimbo, IsLocked, Member, Memory, Views}
 use Rattle.art_step.specs.WordRows.{memory_of}
@@ -17,7 +18,6 @@ use Rattle.art_shared.specs.declared.law.Basis.{Basis}
 use Rattle.art_shared.specs.declared.pass.Pass.{Pass}
 use Rattle.art_shared.specs.Closing.{AreAll, Closes, Fate, Free, HasFate, HaveNoNumber, HoldNoCell, InLimbo, IsAccounted, Linked, TellsAll}
 use Rattle.art_shared.specs.Tables.{view_of_pass}
-use Rattle.art_shared.specs.Typed.{AreTyped}
 
 -- an event of a history has a place in it
 has_place : (k : ℕ) (e : Event) (log : List Event) → Member e log → places_from e.pass k log ≡ [] → ⊥
@@ -83,7 +83,7 @@ module _ (z : Sizes) (m : Memory) (f : Views) (passes : List Pass) (at : Link �
 
 -- ---- the end
 
-module _ (b : Basis) (m : Memory) (f : Views) (passes : List Pass) (r : IsSound b.sizes m f) (typed : AreTyped b.schema r.log)
+module _ (b : Basis) (m : Memory) (f : Views) (passes : List Pass) (r : IsSound b.sizes m f) (typed : AreAdmitted (IsKeyOf b.schema) r.log)
     (known : (a : Pass) → Member a passes → f (view_of_pass a).pass ≡ Some (view_of_pass a))
     (others : AreAll b passes → (p : ℕ) (v : View) → f p ≡ Some v → (a : Pass) × Member a passes × (view_of_pass a ≡ v)) where
   -- an event of the history is one of a pass
@@ -123,7 +123,7 @@ module _ (b : Basis) (m : Memory) (f : Views) (passes : List Pass) (r : IsSound 
       let numbers : NumbersAccounted z m f m.words r.at = subst (λ (s : Cells). NumbersAccounted z m f s r.at) (logical_words all held) r.numbers in
       accounted z m f passes r.at numbers (λ p v e. (r.history.tells p v e).pass) known (others all) hand
 
-pub closes_by : (b : Basis) (ws : List ℕ) (f : Views) (passes : List Pass) (r : IsSound b.sizes (memory_of b.sizes ws) f) → AreTyped b.schema r.log
+pub closes_by : (b : Basis) (ws : List ℕ) (f : Views) (passes : List Pass) (r : IsSound b.sizes (memory_of b.sizes ws) f) → AreAdmitted (IsKeyOf b.schema) r.log
     → ((a : Pass) → Member a passes → f (view_of_pass a).pass ≡ Some (view_of_pass a))
     → (AreAll b passes → (p : ℕ) (v : View) → f p ≡ Some v → (a : Pass) × Member a passes × (view_of_pass a ≡ v))
     → Closes b ws passes

@@ -1,4 +1,5 @@
 -- A view that moves from one seat to another: the members are the same.
+use Rattle.art_key.specs.Spelling.{IsKeyOf}
 use Rattle.std.proofs.Common.{◌≡◌, ◌≢◌, ℕ, zero, suc, true, false, ◌==◌, if◌then◌else◌, ◌+◌, ◌≤◌, List, [], ◌∷◌, ◌++◌, length, map, set, inl, inr, ⊎_elim, sym, refl, ap, ◌∙◌, subst, arith, eq-eqb, ne_eqb, append-nil, append_assoc, length-append}
 use Rattle.std.specs.Prelude.{Option, Some, None}
 use mathlib.Core.Option.{some, some-injective, some-ne-none}
@@ -13,13 +14,12 @@ use Rattle.atomic_table.specs.Table.{Enters, Joins, Splits}
 use Rattle.atomic_table.proofs.Lists.{at_map, set_else}
 use Rattle.std.proofs.lemmas.List.{map-append, map-set}
 use Rattle.art_step.specs.declared.views.Event.{Event}
-use Rattle.art_step.specs.Histories.{StartsWith}
+use Rattle.art_step.specs.Histories.{AreAdmitted, StartsWith}
 use Rattle.art_step.proofs.SetsView.{member_append}
 use Rattle.art_shared.specs.declared.law.Basis.{Basis}
 use Rattle.art_shared.specs.declared.law.Known.{Known}
 use Rattle.art_shared.specs.Passes.{glued, nobody}
 use Rattle.art_shared.specs.Rule.{Apart, Kept, Words, all_told, all_views, find, joined, passes_of, seated}
-use Rattle.art_shared.specs.Typed.{AreTyped}
 use Rattle.art_shared.proofs.Lists.{joined_append, joined_here, joined_set}
 use Rattle.art_shared.proofs.Seated.{members}
 
@@ -139,7 +139,7 @@ apart_same vss uss h a = apart_of (joined uss) (λ q. let n = at_most (joined vs
 kept_again : (b : Basis) (s : Words) (ks : List Known) (k : Kept b s) → seated ks ≡ seated s.views → Apart (passes_of (all_views ks)) → ((h : List Event) → Member h (all_told ks) → StartsWith k.sound.log h)
     → Kept b record { words = s.words; homes = s.homes; views = ks }
 kept_again b s ks k same apart told =
-    let both = subst (λ (f : Views). (r : IsSound b.sizes (memory_of b.sizes s.words) f) × ((h : List Event) → Member h (all_told ks) → StartsWith r.log h) × AreTyped b.schema r.log) (sym same) (k.sound, told, k.typed) in
+    let both = subst (λ (f : Views). (r : IsSound b.sizes (memory_of b.sizes s.words) f) × ((h : List Event) → Member h (all_told ks) → StartsWith r.log h) × AreAdmitted (IsKeyOf b.schema) r.log) (sym same) (k.sound, told, k.typed) in
     record { long = k.long; sound = both.0; apart = apart; told = both.1; typed = both.2 }
 
 -- what one seat knows

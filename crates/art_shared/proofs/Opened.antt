@@ -1,4 +1,6 @@
 -- The rule of the table at its opening.
+use Rattle.art_key.specs.Spelling.{IsKeyOf}
+use Rattle.art_step.specs.Histories.{AreAdmitted}
 use Rattle.std.proofs.Common.{◌≡◌, ℕ, zero, suc, ◌+◌, ◌-◌, ◌<◌, ◌≤◌, List, [], ◌∷◌, ◌++◌, length, Some, ⊎_elim, sym, refl, ap, ap₂, ◌∙◌, subst, arith, append-nil}
 use Rattle.atomic_table.specs.Table.{Me, opening}
 use Rattle.art_step.specs.declared.views.Sizes.{Sizes}
@@ -16,7 +18,6 @@ use Rattle.art_shared.specs.declared.law.Basis.{Basis}
 use Rattle.art_shared.specs.declared.law.Known.{Known}
 use Rattle.art_shared.specs.Passes.{first_alone, head_of, newcomers_known, tail_of, without_first}
 use Rattle.art_shared.specs.Rule.{Apart, Kept, passes_of, seated}
-use Rattle.art_shared.specs.Typed.{AreTyped}
 use Rattle.art_shared.proofs.Seated.{found_member}
 
 newcomer_in : (k n : ℕ) (v : View) → Member v (newcomers k n) → (v ≡ newcomer v.pass) × (k ≤ v.pass) × (v.pass < k + n)
@@ -59,7 +60,7 @@ opened basis k ws low is =
       sound = sound;
       apart = subst (λ (l : List View). Apart (passes_of l)) (sym all) (apart_newcomers 0 z.passes);
       told = λ h i. absurd i;
-      typed = subst (AreTyped basis.schema) (sym (⊎_elim
+      typed = subst (AreAdmitted (IsKeyOf basis.schema)) (sym (⊎_elim
           (λ (none : sound.log ≡ []). none)
           (λ (o : (q : ℕ) × (u : View) × (f q ≡ Some u) × (u.seen ≡ sound.log)). sym o.3 ∙ ap (λ (u : View). u.seen) (mine.views o.0 o.1 o.2).1)
           (whole f sound.log sound.history))) (λ e i. absurd i);

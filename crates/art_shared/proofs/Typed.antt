@@ -1,4 +1,5 @@
 -- All commands of the history keep having keys of the schema: a step adds the event of its pass alone.
+use Rattle.art_key.specs.Spelling.{IsKeyOf}
 use Rattle.std.proofs.Common.{◌≡◌, ◌≢◌, ◌⊎◌, ℕ, suc, ◌+◌, ◌%◌, ◌==◌, List, [], ◌∷◌, ◌++◌, length, inl, inr, ⊎_elim, sym, refl, ap, ◌∙◌, subst, arith, length-append}
 use Rattle.std.proofs.lemmas.Bool.{cases_eq, cond_both}
 use Rattle.std.proofs.lemmas.Option.{same_Some}
@@ -13,7 +14,7 @@ use Rattle.art_step.specs.declared.views.Sizes.{Sizes}
 use Rattle.art_step.specs.declared.views.View.{View}
 use Rattle.art_step.specs.Deeds.{IsAdmitted}
 use Rattle.art_step.specs.Events.{MakesEvent, SeesEvent}
-use Rattle.art_step.specs.Histories.{StartsWith, event}
+use Rattle.art_step.specs.Histories.{AreAdmitted, StartsWith, event}
 use Rattle.art_step.specs.Sound.{IsSound}
 use Rattle.art_step.specs.Steps.{IsAdvance, IsAnchor, IsBegin, IsChanged, IsClaim, IsCommit, IsEpoch, IsFreed, IsGive, IsPin, IsRead, IsReadLeaf, IsRelease, IsTake, IsUnchanged, IsUpgrade, IsWatch, IsWrite, IsWriteLeaf, OfAKind, OneStep}
 use Rattle.art_step.specs.Steps.Begin as begin
@@ -24,7 +25,6 @@ use Rattle.art_step.specs.Views.{Member, Memory, SetsView, Views, bit_of}
 use Rattle.art_step.proofs.Determined.{history_law, whole}
 use Rattle.art_step.proofs.SetsView.{member_append, member_front}
 use Rattle.art_shared.specs.Turns.{AddsTyped}
-use Rattle.art_shared.specs.Typed.{AreTyped, IsKeyOf}
 use Rattle.art_tree.specs.Heaps.{Cells}
 
 -- ---- histories
@@ -35,10 +35,10 @@ last_same [] (y ∷ ys) a b e = absurd (omega (arith, ap length e, length-append
 last_same (x ∷ xs) [] a b e = absurd (omega (arith, ap length e, length-append xs (a ∷ [])))
 last_same (x ∷ xs) (y ∷ ys) a b e = last_same xs ys a b (cc)
 
-pub typed_start : (schema : List Column) (log seen : List Event) → StartsWith log seen → AreTyped schema log → AreTyped schema seen
+pub typed_start : (schema : List Column) (log seen : List Event) → StartsWith log seen → AreAdmitted (IsKeyOf schema) log → AreAdmitted (IsKeyOf schema) seen
 typed_start schema log seen s t = λ e i. t e (subst (Member e) (sym s.1) (member_front e seen s.0 i))
 
-typed_more : (schema : List Column) (log : List Event) (e : Event) → AreTyped schema log → IsAdmitted (IsKeyOf schema) e.what → AreTyped schema (log ++ e ∷ [])
+typed_more : (schema : List Column) (log : List Event) (e : Event) → AreAdmitted (IsKeyOf schema) log → IsAdmitted (IsKeyOf schema) e.what → AreAdmitted (IsKeyOf schema) (log ++ e ∷ [])
 typed_more schema log e t a = λ x i. ⊎_elim
     (λ (j : Member x log). t x j)
     (λ (j : Member x (e ∷ [])). ⊎_elim (λ (is : x ≡ e). subst (λ (y : Event). IsAdmitted (IsKeyOf schema) y.what) (sym is) a) (λ (none : Member x []). absurd none) j)
@@ -99,32 +99,32 @@ module _ (z : Sizes) (p : ℕ) (v : View) (m : Memory) (f : Views) (m' : Memory)
 
 -- ---- a step
 
-module _ (schema : List Column) (v w : View) (log : List Event) (t : AreTyped schema log) (starts : StartsWith log v.seen) (adds : AddsTyped schema v w) where
-  own_typed : SeesOwn v log w → AreTyped schema w.seen
+module _ (schema : List Column) (v w : View) (log : List Event) (t : AreAdmitted (IsKeyOf schema) log) (starts : StartsWith log v.seen) (adds : AddsTyped schema v w) where
+  own_typed : SeesOwn v log w → AreAdmitted (IsKeyOf schema) w.seen
   own_typed k = ⊎_elim
       (λ (none : w.own ≡ v.own). absurd (omega (arith, ap length (sym none ∙ k.2), length-append v.own (length log ∷ []))))
       (λ (one : (front : List Event) × (e : Event) × (w.seen ≡ front ++ e ∷ []) × IsAdmitted (IsKeyOf schema) e.what).
       let same : one.1 ≡ k.0 = last_same one.0 log one.1 k.0 (sym one.2 ∙ k.1) in
-      subst (AreTyped schema) (sym k.1) (typed_more schema log k.0 t (subst (λ (y : Event). IsAdmitted (IsKeyOf schema) y.what) same one.3)))
+      subst (AreAdmitted (IsKeyOf schema)) (sym k.1) (typed_more schema log k.0 t (subst (λ (y : Event). IsAdmitted (IsKeyOf schema) y.what) same one.3)))
       adds
 
-  seen_typed : SeesSo v log w → AreTyped schema w.seen
+  seen_typed : SeesSo v log w → AreAdmitted (IsKeyOf schema) w.seen
   seen_typed k = ⊎_elim
-      (λ (same : w.seen ≡ v.seen). subst (AreTyped schema) (sym same) (typed_start schema log v.seen starts t))
-      (λ (more : (w.seen ≡ log) ⊎ SeesOwn v log w). ⊎_elim (λ (all : w.seen ≡ log). subst (AreTyped schema) (sym all) t) own_typed more)
+      (λ (same : w.seen ≡ v.seen). subst (AreAdmitted (IsKeyOf schema)) (sym same) (typed_start schema log v.seen starts t))
+      (λ (more : (w.seen ≡ log) ⊎ SeesOwn v log w). ⊎_elim (λ (all : w.seen ≡ log). subst (AreAdmitted (IsKeyOf schema)) (sym all) t) own_typed more)
       k
 
 pub still_typed : (schema : List Column) (z : Sizes) (p : ℕ) (v w : View) (m : Memory) (f : Views) (m' : Memory) (g : Views) → OneStep z p m f m' g → (r : IsSound z m f) (r' : IsSound z m' g) → f p ≡ Some v → SetsView f p w g
-    → AreTyped schema r.log → AddsTyped schema v w → AreTyped schema r'.log
+    → AreAdmitted (IsKeyOf schema) r.log → AddsTyped schema v w → AreAdmitted (IsKeyOf schema) r'.log
 still_typed schema z p v w m f m' g t r r' at set typed adds =
     let same : t.view ≡ v = same_Some t.view v (sym t.before ∙ at) in
     let log : t.sound.log ≡ r.log = history_law z m f t.sound r in
-    let mine : AreTyped schema w.seen = seen_typed schema t.view w t.sound.log (subst (AreTyped schema) (sym log) typed) (t.sound.history.tells p t.view t.before).starts (subst (λ (u : View). AddsTyped schema u w) (sym same) adds)
+    let mine : AreAdmitted (IsKeyOf schema) w.seen = seen_typed schema t.view w t.sound.log (subst (AreAdmitted (IsKeyOf schema)) (sym log) typed) (t.sound.history.tells p t.view t.before).starts (subst (λ (u : View). AddsTyped schema u w) (sym same) adds)
     (kind_sees z p t.view m f m' g t.sound.log t.sound.logical w set.here t.kind) in
     ⊎_elim
-    (λ (none : r'.log ≡ []). subst (AreTyped schema) (sym none) (λ e i. absurd i))
-    (λ (o : (q : ℕ) × (u : View) × (g q ≡ Some u) × (u.seen ≡ r'.log)). subst (AreTyped schema) o.3 (⊎_elim
-    (λ (e : o.0 ≡ p). subst (λ (u : View). AreTyped schema u.seen) (same_Some w o.1 (sym set.here ∙ (ap g (sym e) ∙ o.2))) mine)
+    (λ (none : r'.log ≡ []). subst (AreAdmitted (IsKeyOf schema)) (sym none) (λ e i. absurd i))
+    (λ (o : (q : ℕ) × (u : View) × (g q ≡ Some u) × (u.seen ≡ r'.log)). subst (AreAdmitted (IsKeyOf schema)) o.3 (⊎_elim
+    (λ (e : o.0 ≡ p). subst (λ (u : View). AreAdmitted (IsKeyOf schema) u.seen) (same_Some w o.1 (sym set.here ∙ (ap g (sym e) ∙ o.2))) mine)
     (λ (other : o.0 ≢ p). typed_start schema r.log o.1.seen (r.history.tells o.0 o.1 (sym (set.there o.0 other) ∙ o.2)).starts typed)
     (cases_eq o.0 p)))
     (whole g r'.log r'.history)

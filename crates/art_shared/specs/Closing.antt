@@ -1,10 +1,11 @@
 -- The end of a table: one history, the tree with its rows, and where each number is.
+use Rattle.art_key.specs.Spelling.{IsKeyOf}
 use Rattle.std.specs.Prelude.{◌≡◌, ℕ, List, [], length, true, Some}
 use Rattle.art_cell.specs.declared.cells.Link.{Link}
 use Rattle.art_step.specs.declared.views.Event.{Event}
 use Rattle.art_step.specs.declared.views.Sizes.{Sizes}
 use Rattle.art_step.specs.declared.views.View.{View}
-use Rattle.art_step.specs.Histories.{IsLegal, StartsWith, places}
+use Rattle.art_step.specs.Histories.{AreAdmitted, IsLegal, StartsWith, places}
 use Rattle.art_step.specs.Sound.{IsSound, ShowsReplay}
 use Rattle.art_step.specs.Views.{IsInLimbo, IsNumber, IsOnce, Member, Memory, Views, is_free, links_in_limbo}
 use Rattle.art_step.specs.WordRows.{memory_of}
@@ -13,7 +14,6 @@ use Rattle.art_tree.specs.Tree.{StandsAt}
 use Rattle.art_shared.specs.declared.law.Basis.{Basis}
 use Rattle.art_shared.specs.declared.pass.Pass.{Pass}
 use Rattle.art_shared.specs.Tables.{view_of_pass}
-use Rattle.art_shared.specs.Typed.{AreTyped}
 
 -- these are as many passes as the table has: all of them
 abbrev pub AreAll : Basis → List Pass → Type 0
@@ -33,7 +33,7 @@ HaveNoNumber passes = (a : Pass) → Member a passes → (view_of_pass a).hand �
 -- places; where they are all passes of the table, it has no others
 pub record TellsAll (b : Basis) (passes : List Pass) (log : List Event) : Type 0 where
   pub legal : IsLegal log
-  pub typed : AreTyped b.schema log
+  pub typed : AreAdmitted (IsKeyOf b.schema) log
   pub begins : (a : Pass) → Member a passes → StartsWith log (view_of_pass a).seen
   pub own : (a : Pass) → Member a passes → places (view_of_pass a).pass log ≡ (view_of_pass a).own
   pub whole : AreAll b passes → (e : Event) → Member e log → (a : Pass) × Member a passes × (e.pass ≡ (view_of_pass a).pass)

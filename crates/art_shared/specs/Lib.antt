@@ -7,4 +7,3 @@ pub mod SamePass
 pub mod Stepper
 pub mod Tables
 pub mod Turns
-pub mod Typed

@@ -1,18 +1,18 @@
 -- The rule of a table: its words, and the views that its seats have, are a world in which the invariant holds. The views are those of
 -- passes apart, wherever each of them stands; what a seat was told is a beginning of the one history; and all commands of it have keys of
 -- the schema.
+use Rattle.art_key.specs.Spelling.{IsKeyOf}
 use Rattle.std.specs.Prelude.{◌≡◌, ℕ, List, [], ◌∷◌, ◌++◌, map, length, ◌==◌, if◌then◌else◌, Option, Some, None, ⊤}
 use Rattle.atomic_table.specs.Table.{State}
 use Rattle.art_step.specs.declared.views.Event.{Event}
 use Rattle.art_step.specs.declared.views.View.{View}
-use Rattle.art_step.specs.Histories.{StartsWith}
+use Rattle.art_step.specs.Histories.{AreAdmitted, StartsWith}
 use Rattle.art_step.specs.Sound.{IsSound}
 use Rattle.art_step.specs.Views.{Member, Views}
 use Rattle.art_step.specs.WordPlaces.{word_count}
 use Rattle.art_step.specs.WordRows.{memory_of}
 use Rattle.art_shared.specs.declared.law.Basis.{Basis}
 use Rattle.art_shared.specs.declared.law.Known.{Known}
-use Rattle.art_shared.specs.Typed.{AreTyped}
 
 -- the words of a table, and what each of its seats knows
 abbrev pub Words : Type 0
@@ -53,4 +53,4 @@ pub record Kept (b : Basis) (s : Words) : Type 0 where
   pub sound : IsSound b.sizes (memory_of b.sizes s.words) (seated s.views)
   pub apart : Apart (passes_of (all_views s.views))
   pub told : (h : List Event) → Member h (all_told s.views) → StartsWith sound.log h
-  pub typed : AreTyped b.schema sound.log
+  pub typed : AreAdmitted (IsKeyOf b.schema) sound.log

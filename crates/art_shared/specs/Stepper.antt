@@ -1,4 +1,6 @@
 -- What contracts see of a pass that is lent to a table.
+use Rattle.art_key.specs.Spelling.{IsKeyOf}
+use Rattle.art_step.specs.Histories.{AreAdmitted}
 use Rattle.std.specs.Prelude.{◌≡◌, ◌↔◌, ℕ, List, refl}
 use Rattle.std.proofs.Common.{◌∙◌, ap, subst, sym}
 use Rattle.art_key.specs.declared.columns.Column.{Column}
@@ -13,7 +15,6 @@ use Rattle.art_shared.specs.Passes.{view_in}
 use Rattle.art_shared.specs.SamePass.{SamePass}
 use Rattle.art_shared.specs.Tables.{known_to}
 use Rattle.art_shared.specs.Turns.{Moment}
-use Rattle.art_shared.specs.Typed.{AreTyped, IsKeyOf}
 
 -- the borrow of the pass
 abbrev pub lender : Stepper → ℕ
@@ -50,7 +51,7 @@ pub record OnlyStepped (a b : Stepper) : Type 0 where
   pub lender : lender b ≡ lender a
   pub pass : SamePass (pass_of a) (pass_of b)
   pub basis : basis_of b ≡ basis_of a
-  pub typed : AreTyped (schema_of a) (view_of a).seen → AreTyped (schema_of b) (view_of b).seen
+  pub typed : AreAdmitted (IsKeyOf (schema_of a)) (view_of a).seen → AreAdmitted (IsKeyOf (schema_of b)) (view_of b).seen
 
 pub only_same : (a : Stepper) → OnlyStepped a a
 only_same a = record {

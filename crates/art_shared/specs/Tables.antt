@@ -1,4 +1,6 @@
 -- What contracts see of a table, and of a pass.
+use Rattle.art_key.specs.Spelling.{IsKeyOf}
+use Rattle.art_step.specs.Histories.{AreAdmitted}
 use Rattle.std.specs.Prelude.{◌≡◌, List}
 use Rattle.art_key.specs.declared.columns.Column.{Column}
 use Rattle.art_step.specs.declared.views.Sizes.{Sizes}
@@ -8,7 +10,6 @@ use Rattle.art_shared.specs.declared.law.Known.{Known}
 use Rattle.art_shared.specs.declared.pass.Pass.{Pass}
 use Rattle.art_shared.specs.declared.shared.Shared.{Shared}
 use Rattle.art_shared.specs.Passes.{view_in}
-use Rattle.art_shared.specs.Typed.{AreTyped}
 
 -- what the table was opened with: how many cells it has, and what spells its keys
 abbrev pub basis_in : Shared → Basis
@@ -31,4 +32,4 @@ view_of_pass a = view_in (known_to a)
 pub record IsPassOf (t : Shared) (a : Pass) : Type 0 where
   pub table : a.seat.table_id ≡ t.table.shared.table_id
   pub basis : (known_to a).basis ≡ basis_in t
-  pub typed : AreTyped (schema_in t) (view_of_pass a).seen
+  pub typed : AreAdmitted (IsKeyOf (schema_in t)) (view_of_pass a).seen

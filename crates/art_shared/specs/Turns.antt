@@ -1,4 +1,5 @@
 -- A step of a pass at a table, as its seat is told of it.
+use Rattle.art_key.specs.Spelling.{IsKeyOf}
 use Rattle.std.specs.Prelude.{◌≡◌, ◌⊎◌, ℕ, Some, ◌^◌, ◌<◌, List, [], ◌∷◌, ◌++◌, length, get_or, slice_set, true}
 use Rattle.art_key.specs.declared.columns.Column.{Column}
 use Rattle.art_step.specs.Deeds.{IsAdmitted}
@@ -8,7 +9,7 @@ use Rattle.art_step.specs.declared.views.Event.{Event}
 use Rattle.art_step.specs.declared.views.Pin.{Pin}
 use Rattle.art_step.specs.declared.views.View.{View}
 use Rattle.art_step.specs.Effects.{Instant}
-use Rattle.art_step.specs.Histories.{StartsWith}
+use Rattle.art_step.specs.Histories.{AreAdmitted, StartsWith}
 use Rattle.art_step.specs.Sound.{IsSound}
 use Rattle.art_step.specs.Steps.{AtStep}
 use Rattle.art_step.specs.Steps.Commit.{AreStanding}
@@ -20,7 +21,6 @@ use Rattle.art_shared.specs.declared.law.Basis.{Basis}
 use Rattle.art_shared.specs.declared.law.Known.{Known}
 use Rattle.art_shared.specs.Passes.{all_placed, has_numbers, view_in}
 use Rattle.art_shared.specs.Rule.{Kept, Words, seated}
-use Rattle.art_shared.specs.Typed.{AreTyped, IsKeyOf}
 
 -- the table is so just before a step of a seat and just after it, where what the seat knows goes from k to k'; and the rule holds before
 -- and after
@@ -45,7 +45,7 @@ pub record Turn (b : Basis) (k k' : Known) (so : Instant) (Row : View → View �
   pub pass : (view_in k').pass ≡ (view_in k).pass
   pub placed : all_placed b.sizes (view_in k').stamps ≡ true
   pub numbers : has_numbers b.sizes (view_in k') ≡ true
-  pub typed : AreTyped b.schema (view_in k').seen
+  pub typed : AreAdmitted (IsKeyOf b.schema) (view_in k').seen
   pub basis : k'.basis ≡ k.basis
   pub told : k'.told ≡ k.told
 

@@ -10,7 +10,7 @@
 //! # Keys
 //!
 //! A table is opened with a schema (`Basis`), and a command may have no key but one that spells a tuple of it (`IsKeyOf`): that is what
-//! the `admits` of a `Stepper` says. So a pass that looks at the history sees typed rows alone, whoever made them (`AreTyped`, kept
+//! the `admits` of a `Stepper` says. So a pass that looks at the history sees typed rows alone, whoever made them (`AreAdmitted`, kept
 //! from step to step in `OnlyStepped`, and in `IsPassOf` for a pass that is not lent).
 //!
 //! # Steps

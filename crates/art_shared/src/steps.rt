@@ -1,4 +1,5 @@
 //! The steps of cells, of the pass that is lent.
+ghost use Rattle.art_key.specs.Spelling.{IsKeyOf};
 ghost use Rattle.std.specs.Prelude.{◌≡◌, ◌+◌, ◌<◌};
 ghost use Rattle.art_step.specs.Effects.{released_word};
 ghost use Rattle.art_step.specs.WordPlaces.{word_count};
@@ -13,7 +14,6 @@ ghost use Rattle.art_shared.specs.Stepper.{
   sizes_of,
   view_of,
 };
-ghost use Rattle.art_shared.specs.Typed.{IsKeyOf};
 
 use crate::stepper::Stepper;
 use art_cell::{Cell, Link, Node};

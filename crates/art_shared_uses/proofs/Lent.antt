@@ -1,4 +1,6 @@
 -- A pass that was lent to its table is one of it still, and ready if it is ready as it was lent.
+use Rattle.art_key.specs.Spelling.{IsKeyOf}
+use Rattle.art_step.specs.Histories.{AreAdmitted}
 use Rattle.std.proofs.Common.{◌≡◌, ◌∙◌, [], ap, subst, sym}
 use Rattle.art_change.specs.Writes.{IsWriter}
 use Rattle.art_change.specs.declared.writers.Writer.{Writer}
@@ -8,7 +10,6 @@ use Rattle.art_shared.specs.declared.shared.Shared.{Shared}
 use Rattle.art_shared.specs.declared.stepper.Stepper.{Stepper}
 use Rattle.art_shared.specs.Stepper.{OnlyStepped, basis_of, pass_of, sizes_of, view_of}
 use Rattle.art_shared.specs.Tables.{IsPassOf, basis_in}
-use Rattle.art_shared.specs.Typed.{AreTyped}
 use Rattle.art_shared_uses.specs.Clients.{IsIdle, Writes}
 use Rattle.art_step.specs.declared.views.Sizes.{Sizes}
 use Rattle.art_step.specs.declared.views.View.{View}
@@ -21,7 +22,7 @@ module _ (t : Shared) (p : Pass) (a b : Stepper) (of : IsPassOf t p) (lent : pas
       record {
         table = only.pass.table ∙ is.table;
         basis = only.pass.basis ∙ is.basis;
-        typed = subst (λ (s : Basis). AreTyped s.schema (view_of b).seen) (only.basis ∙ same) (only.typed (subst (λ (s : Basis). AreTyped s.schema (view_of a).seen) (sym same) is.typed));
+        typed = subst (λ (s : Basis). AreAdmitted (IsKeyOf s.schema) (view_of b).seen) (only.basis ∙ same) (only.typed (subst (λ (s : Basis). AreAdmitted (IsKeyOf s.schema) (view_of a).seen) (sym same) is.typed));
       }
 
   pub writes_still : (w : Writer) → IsWriter (sizes_of a) (view_of b) w → Writes t (pass_of b) w

@@ -1,4 +1,5 @@
 -- Passes of a table, as tests have them.
+use Rattle.art_key.specs.Spelling.{IsKeyOf}
 use Rattle.std.specs.Prelude.{◌≡◌, ℕ, List, Some}
 use Rattle.std.specs.List.{slice_get}
 use Rattle.art_change.specs.Writes.{IsWriter}
@@ -8,7 +9,6 @@ use Rattle.art_shared.specs.declared.pass.Pass.{Pass}
 use Rattle.art_shared.specs.declared.shared.Shared.{Shared}
 use Rattle.art_shared.specs.Passes.{newcomer_known}
 use Rattle.art_shared.specs.Tables.{IsPassOf, basis_in, known_to, schema_in, sizes_in, view_of_pass}
-use Rattle.art_shared.specs.Typed.{IsKeyOf}
 
 -- a pass that made no step yet
 pub record IsNew (t : Shared) (a : Pass) : Type 0 where

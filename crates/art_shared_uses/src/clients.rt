@@ -1,10 +1,10 @@
 //! Passes of a table write and look up.
+ghost use Rattle.art_key.specs.Spelling.{IsKeyOf};
 ghost use Rattle.std.specs.Prelude.{◌≡◌, IfSome};
 ghost use Rattle.art_change.specs.Writes.{IsWriter};
 ghost use Rattle.art_shared.specs.Opening.{OpensWith};
 ghost use Rattle.art_shared.specs.Stepper.{OnlyStepped, schema_of, sizes_of, view_of};
 ghost use Rattle.art_shared.specs.Tables.{IsPassOf, sizes_in};
-ghost use Rattle.art_shared.specs.Typed.{IsKeyOf};
 ghost use Rattle.art_shared_uses.specs.Clients.{AreNew, IsIdle, IsKey, IsNew, Writes};
 
 use art_change::{Outcome, Writer};

@@ -7,10 +7,11 @@ use Rattle.art_model.specs.declared.commands.Answer.{Answer}
 use Rattle.art_model.specs.declared.commands.Answer.TheVariants.{Inserted, Present, Removed, Absent, Found}
 use Rattle.art_tree.specs.declared.bounds.Bound.{Bound}
 use Rattle.arrayvec.specs.ArrayVec.{ArrayVec}
-use Rattle.art_step.specs.Deeds.{bound_of}
+use Rattle.art_step.specs.Deeds.{IsAdmitted, bound_of}
 use Rattle.art_step.specs.declared.deeds.Deed.{Deed}
 use Rattle.art_step.specs.declared.deeds.Deed.TheVariants.{Done, Look}
 use Rattle.art_step.specs.declared.views.Event.{Event}
+use Rattle.art_step.specs.Views.{Member}
 use Rattle.art_tree.specs.Looks.{InRange}
 use Rattle.art_tree.specs.Rows.{ByteMap}
 
@@ -80,3 +81,7 @@ places p log = places_from p 0 log
 -- the history begins with these events
 abbrev pub StartsWith : List Event → List Event → Type 0
 StartsWith log seen = (rest : List Event) × (log ≡ seen ++ rest)
+
+-- all commands of the history have keys that are admitted
+abbrev pub AreAdmitted : (List ℕ → Type 0) → List Event → Type 0
+AreAdmitted A log = (e : Event) → Member e log → IsAdmitted A e.what

@@ -1,8 +1,9 @@
 -- A new seat is told what the pass sees.
+use Rattle.art_key.specs.Spelling.{IsKeyOf}
+use Rattle.art_step.specs.Histories.{AreAdmitted}
 use Rattle.std.proofs.Common.{◌∙◌, ap, arith, refl, subst, sym}
 use Rattle.art_shared.specs.Passes.{marked, view_in}
 use Rattle.art_shared.specs.Tables.{schema_in}
-use Rattle.art_shared.specs.Typed.{AreTyped}
 use Rattle.art_shared.proofs.Marking.{seen_begins}
 use Rattle.art_shared.proofs.Moving.{splits}
 use Rattle.art_shared.proofs.shared.Shared.mark.Goals as goal
@@ -20,5 +21,5 @@ returns-clause-pass c =
     record {
       table = cut.0 ∙ (c.look.ensures.same.table ∙ c.requires.table);
       basis = ap (λ m. m.0.basis) cut.2 ∙ (c.look.ensures.same.basis ∙ c.requires.basis);
-      typed = subst (λ m. AreTyped (schema_in c.args.self.now) (view_in m.0).seen) (sym cut.2) c.look.ensures.turn.typed;
+      typed = subst (λ m. AreAdmitted (IsKeyOf (schema_in c.args.self.now)) (view_in m.0).seen) (sym cut.2) c.look.ensures.turn.typed;
     }
