@@ -40,7 +40,7 @@ module _ (u opened ended v : View) (seen : opened.seen ≡ u.seen) (own : opened
   none_all : ended.seen ≡ opened.seen → ended.own ≡ opened.own → SeesEvent u v None
   none_all same mine = (seen' ∙ (same ∙ seen), own' ∙ (mine ∙ own))
 
-  sees_all : (what : Option Deed) → SeesEvent opened ended what → SeesEvent u v what
+  pub sees_all : (what : Option Deed) → SeesEvent opened ended what → SeesEvent u v what
   sees_all None sees = none_all sees.0 sees.1
   sees_all (Some what) sees = event_all what sees
 

@@ -1,5 +1,5 @@
 -- What a write asks, and what it knows between two of its steps: its opening, its attempts, its close.
-use Rattle.std.specs.Prelude.{◌≡◌, ◌⊎◌, ℕ, ◌+◌, ◌*◌, ◌<◌, ◌≤◌, ◌==◌, true, false, List, [], length, Option, Some, None, if◌then◌else◌}
+use Rattle.std.specs.Prelude.{◌≡◌, ◌≢◌, ◌⊎◌, ℕ, ◌+◌, ◌-◌, ◌*◌, ◌<◌, ◌≤◌, ◌==◌, Bool, true, false, List, [], length, Option, Some, None, if◌then◌else◌}
 use Rattle.arrayvec.specs.ArrayVec.{ArrayVec}
 use Rattle.std.specs.Option.{option_map}
 use Rattle.art_attempt.specs.Inserting.{present, tries_left}
@@ -37,7 +37,7 @@ use Rattle.art_insert.specs.declared.leaves.NewLeaf.{NewLeaf}
 use Rattle.art_plan.specs.declared.changes.Change.{Change}
 use Rattle.art_remove.specs.Removals.{removed}
 use Rattle.art_remove.specs.declared.leaves.OldLeaf.{OldLeaf}
-use Rattle.art_step.specs.Events.{SeesEvent}
+use Rattle.art_step.specs.Events.{MakesEvent, SeesEvent}
 use Rattle.art_step.specs.Tokens.{links_of}
 use Rattle.art_step.specs.declared.deeds.Deed.{Deed}
 use Rattle.art_step.specs.declared.views.Sizes.{Sizes}
@@ -212,6 +212,39 @@ StageFits z u ps stage.Ended m r qs v = IsDone z u ps m.outcome m r qs v
 pub record Fits (z : Sizes) (u : View) (ps : List Place) (m : Write) (r : Room) (qs : List Place) (v : View) : Type 0 where
   pub room : IsRoom z m.job r
   pub stage : StageFits z u ps m.stage m r qs v
+
+-- ---- a write that is given up
+
+-- nothing was told
+abbrev pub is_refusal : Outcome → Bool
+is_refusal New = false
+is_refusal (Present stands) = false
+is_refusal (Gone value) = false
+is_refusal Absent = false
+is_refusal o = true
+
+-- it will end as a refusal: it has come to one, or has no turns
+abbrev pub refuses_at : Stage → Write → Type 0
+refuses_at stage.Opening m = m.left ≡ 0
+refuses_at stage.Trying m = ⊥
+refuses_at stage.Closing m = is_refusal m.outcome ≡ true
+refuses_at stage.Ended m = is_refusal m.outcome ≡ true
+
+abbrev pub WillRefuse : Write → Type 0
+WillRefuse m = refuses_at m.stage m
+
+-- the turns that it has used where it is given up
+abbrev pub turns_used_at : Stage → Write → ℕ
+turns_used_at stage.Opening m = 0
+turns_used_at stage.Trying m = m.turns - m.left
+turns_used_at s m = m.turns
+
+abbrev pub turns_used : Write → ℕ
+turns_used m = turns_used_at m.stage m
+
+-- the pass holds a cell, or has made an event since it had the view u
+abbrev pub HoldsOrTold : View → View → Type 0
+HoldsOrTold u v = (v.held ≢ []) ⊎ ((what : Deed) × MakesEvent u v what)
 
 -- ---- what a client sees
 

@@ -1,11 +1,13 @@
 //! Makes the steps of a write.
-ghost use Rattle.std.specs.Prelude.{◌≡◌, ℕ, ◌+◌, ◌<◌, ◌≤◌, List, None};
+ghost use Rattle.std.specs.Prelude.{◌≡◌, ℕ, ◌+◌, ◌<◌, ◌≤◌, List, None, Some};
 ghost use Rattle.art_attempt.specs.declared.asked.Asked.{Asked as AttemptAsked};
 ghost use Rattle.art_attempt.specs.declared.asked.Asked.TheVariants.{Change as change_asked};
 ghost use Rattle.art_change.specs.Asking.{Answers, IsAllowed};
 ghost use Rattle.art_change.specs.Tries.{IsRoom, SameKey, deed_at, key_of, value_of};
 ghost use Rattle.art_change.specs.Made.{IsMadeBy, key_by};
-ghost use Rattle.art_change.specs.Writes.{Fits, HasAnswered, HasCounted, HasGround, IsReady, ended_at, most_steps, steps_left};
+ghost use Rattle.art_change.specs.Asking.{attempt_in};
+ghost use Rattle.art_change.specs.Writes.{Fits, HasAnswered, HasCounted, HasGround, IsReady, RestartsBy, WillRefuse, asks, deed_at as deed_of};
+ghost use Rattle.art_change.specs.Writes.{ended_at, most_steps, steps_left};
 ghost use Rattle.art_change.specs.declared.asked.Asked.TheVariants.{Attempt as attempt_asked};
 ghost use Rattle.art_epoch.specs.Limbo.{places_of};
 ghost use Rattle.art_epoch.specs.declared.limbo.Place.{Place};
@@ -17,6 +19,13 @@ use art_attempt::{Room, make as make_insert};
 use art_epoch::{Limbo, make as make_frame};
 use art_erase::make as make_removal;
 use art_step::EpochSteps;
+
+/// What was asked, and what was answered. It was one step, or none where the counter of a cell that was to be locked is at its end.
+#[derive(Clone, Copy, Debug, PartialEq, Eq)]
+pub struct Stepped {
+    pub asked: Asked,
+    pub answer: Answer,
+}
 
 /// Makes the step that a write asks for, whose attempt this is.
 fn make<S: EpochSteps>(steps: &mut S, asked: Asked, trying: &Trying, room: &Room) -> Answer
@@ -46,7 +55,12 @@ fn make<S: EpochSteps>(steps: &mut S, asked: Asked, trying: &Trying, room: &Room
 }
 
 /// Makes the next step of a write: one step, or none where a counter is at its end.
-pub fn step<S: EpochSteps>(steps: &mut S, write: &mut Write, room: &mut Room, limbo: &mut Limbo)
+pub fn step<S: EpochSteps>(
+    steps: &mut S,
+    write: &mut Write,
+    room: &mut Room,
+    limbo: &mut Limbo,
+) -> Stepped
     requires admitted { S.admits steps.old (key_of write.old.job room.old).items }
     requires going { ended_at write.old ≡ None }
     requires fits { (u : View) × (ps : List Place) ×
@@ -55,6 +69,12 @@ pub fn step<S: EpochSteps>(steps: &mut S, write: &mut Write, room: &mut Room, li
     ensures job { write.new.job ≡ write.old.job }
     ensures turns { write.new.turns ≡ write.old.turns }
     ensures key { SameKey write.old.job room.old room.new }
+    ensures asked { asks write.old room.old (places_of limbo.old) ≡ Some result.asked }
+    ensures allowed { IsAllowed (S.sizes steps.old) (deed_of write.old room.old) room.old.change (S.view steps.old) result.asked }
+    ensures row { Answers (S.sizes steps.old) (deed_of write.old room.old) room.old.change result.asked result.answer
+        (S.view steps.old) (S.view steps.new) }
+    ensures restarts { RestartsBy write.old write.new (attempt_in result.answer) }
+    ensures refuses { WillRefuse write.old → WillRefuse write.new }
     ensures one { (S.view steps.new).steps ≤ (S.view steps.old).steps + 1 }
     ensures left { steps_left write.new room.new (places_of limbo.new) < steps_left write.old room.old (places_of limbo.old) }
     ensures fits { (u : View) (ps : List Place) →
@@ -66,6 +86,7 @@ pub fn step<S: EpochSteps>(steps: &mut S, write: &mut Write, room: &mut Room, li
     };
     let answer = make(steps, asked, write.trying(), room);
     write.told(room, limbo, answer);
+    Stepped { asked, answer }
 }
 
 /// Writes what the room has, in so many turns. The pass `own` is idle, with nothing in hand, before and after.

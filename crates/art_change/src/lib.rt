@@ -18,6 +18,9 @@
 //!
 //! A restart keeps the pin, and the numbers in hand.
 //!
+//! A write that is no longer wanted may be given up while it holds no cell and has told nothing (`give_up`): the turns that were used
+//! count as all there were. What is left then is the close, or first the pin where that was not made yet.
+//!
 //! # What stands beside it
 //!
 //! `Write` is a value of scalars with `next` and `told`. Its `Job` says whether the row of the room comes, or the row of its leaf
@@ -38,7 +41,7 @@ mod writers;
 mod writes;
 
 pub use asked::{Answer, Asked};
-pub use driver::step;
+pub use driver::{Stepped, step};
 pub use tries::{Job, Tried, Trying};
 pub use writers::{Writer, Written};
 pub use writes::{Outcome, Stage, Write};

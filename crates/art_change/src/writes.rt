@@ -5,9 +5,10 @@ ghost use Rattle.art_attempt.specs.Inserting.{tries_left};
 ghost use Rattle.art_attempt.specs.declared.asked.Asked.{Asked as AttemptAsked};
 ghost use Rattle.art_attempt.specs.declared.rooms.Room.{Room as RoomOf};
 ghost use Rattle.art_change.specs.Asking.{Answers, attempt_in};
-ghost use Rattle.art_change.specs.Tries.{EndFits, HasHand, IsRoom, SameKey, asks as attempt_asks, key_of, value_of};
+ghost use Rattle.art_change.specs.Tries.{EndFits, HasHand, IsRoom, SameKey, asks as attempt_asks, is_free, key_of, value_of};
 ghost use Rattle.art_change.specs.Tries as tries;
-ghost use Rattle.art_change.specs.Writes.{Fits, HasAnswered, HasBegun, HasCounted, HasOutcome, HasTurn, IsClosing, IsOpening, IsTrying, MayWrite, RestartsBy, WasOpened};
+ghost use Rattle.art_change.specs.Writes.{Fits, HasAnswered, HasBegun, HasCounted, HasGround, HasOutcome, HasTurn, IsClosing, IsOpening, IsReady, IsTrying, MayWrite, RestartsBy, WasOpened};
+ghost use Rattle.art_change.specs.Writes.{HoldsOrTold, WillRefuse, is_refusal, turns_used};
 ghost use Rattle.art_change.specs.Writes.{asks, asks_at, deed_at, ended_at, ended_left, gone_by, left_at, most_steps, or_busy, outcome_of, steps_left};
 ghost use Rattle.art_change.specs.declared.asked.Asked.{Asked as AskedStep};
 ghost use Rattle.art_change.specs.declared.tries.Tried.TheVariants.{Anew as anew};
@@ -18,6 +19,7 @@ ghost use Rattle.art_epoch.specs.declared.asked.Asked.{Asked as FrameAsked};
 ghost use Rattle.art_epoch.specs.declared.limbo.Place.{Place};
 ghost use Rattle.art_frame.specs.Closings.{asks as closing_asks, is_ended};
 ghost use Rattle.art_frame.specs.Openings.{asks as opening_asks};
+ghost use Rattle.art_frame.specs.declared.stocks.Stock.{Stock as StockOf};
 ghost use Rattle.art_step.specs.declared.deeds.Deed.{Deed};
 ghost use Rattle.art_step.specs.declared.views.Sizes.{Sizes};
 ghost use Rattle.art_step.specs.declared.views.View.{View};
@@ -133,6 +135,7 @@ impl Write {
         ensures job { self.new.job ≡ self.old.job }
         ensures turns { self.new.turns ≡ self.old.turns }
         ensures restarts { RestartsBy self.old self.new (attempt_in answer) }
+        ensures refuses { WillRefuse self.old → WillRefuse self.new }
         ensures key { SameKey self.old.job room.old room.new }
         ensures fits { (z : Sizes) (u v w : View) (ps : List Place) (asked : AskedStep) →
             Fits z u ps self.old room.old (places_of limbo.old) v → asks self.old room.old (places_of limbo.old) ≡ Some asked →
@@ -155,11 +158,63 @@ impl Write {
             Fits z u ps self.now r qs v → HasAnswered z u self.now.job o (key_of self.now.job r) (value_of self.now.job r) qs v) }
         ensures counted { IfSome result (λ o. (z : Sizes) (u v : View) (ps qs : List Place) (r : RoomOf) →
             Fits z u ps self.now r qs v → HasCounted z u self.now.turns self.now.restarts o v) }
+        ensures grounds { IfSome result (λ o. (z : Sizes) (u v : View) (ps qs : List Place) (r : RoomOf) →
+            Fits z u ps self.now r qs v → HasGround z u self.now.job ps self.now.turns self.now.restarts o r qs v) }
+        ensures ready { IfSome result (λ o. (z : Sizes) (u v : View) (own : ℕ) (ps qs : List Place) (s : StockOf) (r : RoomOf) →
+            IsReady z u own ps s → Fits z u ps self.now r qs v → IsReady z v own qs r.stock) }
+        ensures refused { IfSome result (λ o. WillRefuse self.now → is_refusal o ≡ true) }
     {
         match self.stage {
             Stage::Ended => Some(self.outcome),
             _ => None,
         }
+    }
+
+    /// Ends as soon as it may, as if the turns that were used had been all. False, with nothing changed, where it cannot: a cell is
+    /// held, or the event was made.
+    pub fn give_up(&mut self, room: &Room) -> bool
+        ensures job { self.new.job ≡ self.old.job }
+        ensures restarts { self.new.restarts ≡ self.old.restarts }
+        ensures turns { result ≡ true → self.new.turns ≡ turns_used self.old }
+        ensures left { result ≡ true → (qs : List Place) → steps_left self.new room.now qs ≤ steps_left self.old room.now qs }
+        ensures refuses { result ≡ true → WillRefuse self.new }
+        ensures fits { (z : Sizes) (u v : View) (ps qs : List Place) → Fits z u ps self.old room.now qs v →
+            Fits z u ps self.new room.now qs v }
+        ensures kept { result ≡ false → self.new ≡ self.old }
+        ensures why { result ≡ false → (z : Sizes) (u v : View) (ps qs : List Place) → Fits z u ps self.old room.now qs v →
+            HoldsOrTold u v }
+    {
+        match self.stage {
+            Stage::Opening => {
+                self.turns = 0;
+                self.left = 0;
+                true
+            }
+            Stage::Trying => self.stop(room),
+            Stage::Closing | Stage::Ended => is_refusal(self.outcome),
+        }
+    }
+
+    /// The attempt ends here, if nothing is held.
+    fn stop(&mut self, room: &Room) -> bool
+        requires stage { self.old.stage ≡ stages.Trying }
+        ensures job { self.new.job ≡ self.old.job }
+        ensures restarts { self.new.restarts ≡ self.old.restarts }
+        ensures turns { result ≡ true → self.new.turns ≡ self.old.turns - self.old.left }
+        ensures left { result ≡ true → (qs : List Place) → steps_left self.new room.now qs ≤ 7 }
+        ensures refuses { result ≡ true → WillRefuse self.new }
+        ensures fits { (z : Sizes) (u v : View) (ps qs : List Place) → Fits z u ps self.old room.now qs v →
+            Fits z u ps self.new room.now qs v }
+        ensures kept { result ≡ false → self.new ≡ self.old }
+        ensures why { result ≡ false → is_free self.old.trying ≡ false }
+    {
+        if !self.trying.is_free() {
+            return false;
+        }
+        self.turns = self.turns.saturating_sub(self.left);
+        self.left = 0;
+        self.close(room, Outcome::Busy);
+        true
     }
 
     /// Its attempt.
@@ -218,6 +273,7 @@ impl Write {
         ensures job { self.new.job ≡ self.old.job }
         ensures turns { self.new.turns ≡ self.old.turns }
         ensures restarts { self.new.restarts ≡ self.old.restarts }
+        ensures refuses { self.old.left ≡ 0 → WillRefuse self.new }
         ensures left { steps_left self.new room.now (places_of limbo.new) < left_at stages.Opening self.old room.now (places_of limbo.old) }
         ensures fits { (z : Sizes) (u v w : View) (ps : List Place) (asked : FrameAsked) → IsRoom z self.old.job room.now →
             IsOpening z u ps self.old room.now (places_of limbo.old) v →
@@ -240,6 +296,7 @@ impl Write {
         ensures job { self.new.job ≡ self.old.job }
         ensures turns { self.new.turns ≡ self.old.turns }
         ensures restarts { self.new.restarts ≡ self.old.restarts }
+        ensures refuses { self.old.left ≡ 0 → WillRefuse self.new }
         ensures left { (qs : List Place) → steps_left self.new room.now qs ≤ tries_left self.old.left + 7 }
         ensures fits { (z : Sizes) (u opened v : View) (ps qs : List Place) → IsRoom z self.old.job room.now → WasOpened z u opened ps qs →
             HasBegun z opened self.old.restarts v → HasHand z self.old.job v room.now →
@@ -255,6 +312,7 @@ impl Write {
 
     /// The last attempt has ended so: the frame is closed.
     fn close(&mut self, room: &Room, outcome: Outcome)
+        ensures refuses { is_refusal outcome ≡ true → WillRefuse self.new }
         ensures job { self.new.job ≡ self.old.job }
         ensures turns { self.new.turns ≡ self.old.turns }
         ensures restarts { self.new.restarts ≡ self.old.restarts }
@@ -340,6 +398,7 @@ impl Write {
         ensures job { self.new.job ≡ self.old.job }
         ensures turns { self.new.turns ≡ self.old.turns }
         ensures restarts { self.new.restarts ≡ self.old.restarts }
+        ensures refuses { is_refusal self.old.outcome ≡ true → WillRefuse self.new }
         ensures key { SameKey self.old.job room.old room.new }
         ensures fits { (z : Sizes) (u v w : View) (ps : List Place) (asked : FrameAsked) → IsRoom z self.old.job room.old →
             IsClosing z u ps self.old room.old (places_of limbo.old) v → closing_asks self.old.closing room.old.stock ≡ Some asked →
@@ -381,6 +440,16 @@ fn outcome_of(left: u32, tried: Tried) -> Option<Outcome>
         Tried::TooMany => Some(or_busy(left, Outcome::TooMany)),
         Tried::Anew => None,
     }
+}
+
+/// Whether nothing was told.
+fn is_refusal(outcome: Outcome) -> bool
+    ensures { result ≡ is_refusal outcome }
+{
+    !matches!(
+        outcome,
+        Outcome::New | Outcome::Present(_) | Outcome::Gone(_) | Outcome::Absent
+    )
 }
 
 /// A refusal at the last turn is none: the turns were used.

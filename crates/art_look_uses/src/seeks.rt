@@ -104,11 +104,11 @@ fn counts_of<S: EpochSteps>(steps: &mut S, key: &[u8], turns: u32) -> (u32, u32)
     let mut counted = 0_u32;
     let mut told = 0_u32;
     while seek.ended().is_none() {
-        let stepped = step(steps, &mut seek, key, &Bound::End, &mut trail);
-        if stepped != Stepped::Frame {
+        let made = step(steps, &mut seek, key, &Bound::End, &mut trail);
+        if made.stepped != Stepped::Frame {
             counted = counted.saturating_add(1);
         }
-        if stepped == Stepped::Told {
+        if made.stepped == Stepped::Told {
             told = told.saturating_add(1);
         }
     }

@@ -34,14 +34,14 @@ module _ (u opened before v : View) (seen : opened.seen ≡ u.seen) (own : opene
     all = ap₂ (λ (i : ℕ) (l : List Event). places i l) (sym pass) seen' ∙ (m.all ∙ sym own');
   }
 
-  sees_all : (what : Option Deed) → SeesEvent opened before what → SeesEvent u v what
+  pub sees_all : (what : Option Deed) → SeesEvent opened before what → SeesEvent u v what
   sees_all None sees = (seen' ∙ (sees.0 ∙ seen), own' ∙ (sees.1 ∙ own))
   sees_all (Some what) sees = event_all what sees
 
 module _ (z : Sizes) (k : List ℕ) (hi : KeyBound) (u : View) (m : Seek) (t : Trail) where
   -- ---- a seek that is over
 
-  over_told : (v : View) (over : IsOver z k hi u m t v) → HasTold over.walking.opened v (told_of m.outcome k hi t m.walk)
+  pub over_told : (v : View) (over : IsOver z k hi u m t v) → HasTold over.walking.opened v (told_of m.outcome k hi t m.walk)
   over_told v over = has_told z k hi over.walking.opened t m.restarts v m.walk m.left m.outcome over.ends over.walking.walk
 
   -- nothing is held, so the pass may go idle

@@ -23,6 +23,7 @@ pub walks_on : (z : Sizes) (k : List ℕ) (hi : KeyBound) (u : View) (m : Seek) 
 walks_on z k hi u m t v d asked answer w turn row b next t' fits on s same is =
     let one = (answers_count z d asked answer v w row).steps in
     let counted = b.counted in
+    let within = b.within in
     let few = b.few in
     let more = restarts_few m.restarts on in
     subst (λ (a : Seek). IsWalking z k hi u a t' w) (sym is) (record {
@@ -31,5 +32,6 @@ walks_on z k hi u m t v d asked answer w turn row b next t' fits on s same is =
       pins_to = b.pins_to;
       walk = subst (λ (e : Bool). Fits z k hi b.opened next t' (restarts_after m.restarts e) w) (sym same) fits;
       counted = omega (arith, one, counted, turn);
+      within = omega (arith, within);
       few = omega (arith, few, more, turn);
     })

@@ -65,7 +65,7 @@ seen_alone true o is = cc
 seen_alone false o is = cc
 
 -- a get sees no range, and a look finds no value
-key_not_seen : (m : Descent) (left : ℕ) → IsEnd (Key m) left Seen → ⊥
+pub key_not_seen : (m : Descent) (left : ℕ) → IsEnd (Key m) left Seen → ⊥
 key_not_seen m left ends = value_not_seen (descents.ended_at m.stage) ends
 
 pub range_seen : (m : Look) (left : ℕ) → IsEnd (Range m) left Seen → looks.has_ended m.stage ≡ true

@@ -1,8 +1,9 @@
 pub mod Answered
-mod Closes
+pub mod Closes
 mod Counted
 mod Ends
+mod GivenUp
 mod Parts
 mod Pinned
-mod Told
+pub mod Told
 mod Walking

@@ -43,7 +43,7 @@ taken_silent v pool i (Some k) x ws = ⊎_elim
 stored_silent : (v : View) (x : ℕ) → SeesEvent v (pin.view_after v x) None
 stored_silent v x = ⊎_elim (λ (e : (x == 0) ≡ true). rw e (refl, refl)) (λ (e : (x == 0) ≡ false). rw e (refl, refl)) (cases_Bool (x == 0))
 
-frame_silent : (z : Sizes) (a : FrameAsked) (x : ℕ) (v w : View) → FrameAnswers z a x v w → SeesEvent v w None
+pub frame_silent : (z : Sizes) (a : FrameAsked) (x : ℕ) (v w : View) → FrameAnswers z a x v w → SeesEvent v w None
 frame_silent z (Clear pool i bit) x v w row =
     let k = taken_silent v pool i bit x row.words in
     (ap (λ (a : View). a.seen) row.is ∙ k.0, ap (λ (a : View). a.own) row.is ∙ k.1)
@@ -56,7 +56,7 @@ frame_silent z (Watch q) x v w row = (ap (λ (a : View). a.seen) row, ap (λ (a 
 
 -- ---- a step of the walk makes it where it settles the answer
 
-cell_sees : (z : Sizes) (d : Deed) (a : CellAsked) (r : CellAnswer) (v w : View) → CellAnswers z d a r v w → SeesEvent v w (told_by (walked a r) d)
+pub cell_sees : (z : Sizes) (d : Deed) (a : CellAsked) (r : CellAnswer) (v w : View) → CellAnswers z d a r v w → SeesEvent v w (told_by (walked a r) d)
 cell_sees z d (Begin c) (Begun (Ok x)) v w row = read_silent v w (begun_rest z v w c x.version row.2)
 cell_sees z d (Begin c) (Begun (Err l)) v w row = read_silent v w (begun_rest z v w c l.found row.2)
 cell_sees z d (Read x i) (word_told a) v w row = (ap (λ (b : View). b.seen) row.is, ap (λ (b : View). b.own) row.is)

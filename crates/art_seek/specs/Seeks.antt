@@ -1,5 +1,5 @@
 -- What a seek asks, and what it knows between two of its steps: its pin, its walk, its close.
-use Rattle.std.specs.Prelude.{◌≡◌, ℕ, ◌+◌, ◌<◌, ◌≤◌, List, Bool, true, false, Option, Some, None}
+use Rattle.std.specs.Prelude.{◌≡◌, ℕ, ◌+◌, ◌-◌, ◌<◌, ◌≤◌, List, Bool, true, false, Option, Some, None}
 use Rattle.std.specs.Option.{option_map}
 use Rattle.art_epoch.specs.Pins as pins
 use Rattle.art_epoch.specs.Pins.{MayPin, Pins}
@@ -85,6 +85,7 @@ pub record IsWalking (z : Sizes) (k : List ℕ) (hi : KeyBound) (u : View) (m : 
   pub pins_to : Pins z u opened
   pub walk : walks.Fits z k hi opened m.walk t m.restarts v
   pub counted : v.steps + m.left ≡ opened.steps + m.turns
+  pub within : m.left ≤ m.turns
   pub few : m.restarts + m.left ≤ 4294967295
 
 -- and the walk goes on, with a turn
@@ -112,6 +113,27 @@ StageFits z k hi u stage.Ended m t v = WentIdle z k hi u m t v
 
 abbrev pub Fits : Sizes → List ℕ → KeyBound → View → Seek → Trail → View → Type 0
 Fits z k hi u m t v = StageFits z k hi u m.stage m t v
+
+-- ---- a seek that is given up
+
+-- it will end as busy: it has come to that, or has no turns
+abbrev pub busy_at : SeekStage → Seek → Type 0
+busy_at stage.Pinning m = m.left ≡ 0
+busy_at stage.Walking m = ⊥
+busy_at stage.Closing m = m.outcome ≡ Busy
+busy_at stage.Ended m = m.outcome ≡ Busy
+
+abbrev pub WillBeBusy : Seek → Type 0
+WillBeBusy m = busy_at m.stage m
+
+-- the turns that it has used where it is given up
+abbrev pub turns_used_at : SeekStage → Seek → ℕ
+turns_used_at stage.Pinning m = 0
+turns_used_at stage.Walking m = m.turns - m.left
+turns_used_at s m = m.turns
+
+abbrev pub turns_used : Seek → ℕ
+turns_used m = turns_used_at m.stage m
 
 -- ---- how it ends
 

@@ -3,8 +3,9 @@ ghost use Rattle.std.specs.Prelude.{◌≡◌, ℕ, ◌+◌, ◌<◌, ◌≤◌,
 ghost use Rattle.art_epoch.specs.Pins.{MayPin};
 ghost use Rattle.art_find.specs.Asking.{Answers as CellAnswers, IsAllowed as IsCellAllowed};
 ghost use Rattle.art_seek.specs.Asking.{Answers, IsAllowed, is_counted, restarts_by, stepped_by, told_by};
-ghost use Rattle.art_seek.specs.Seeks.{Fits, asks, ended_at, is_walking, steps_left};
+ghost use Rattle.art_seek.specs.Seeks.{Fits, WillBeBusy, asks, ended_at, is_walking, steps_left};
 ghost use Rattle.art_seek.specs.Walks.{Settles, aim_of, asks as walk_asks, deed_at};
+ghost use Rattle.art_seek.specs.declared.asked.Answer.{Answer as AnswerOf};
 ghost use Rattle.art_seek.specs.declared.walks.Aim.TheVariants as aims;
 ghost use Rattle.art_seek.specs.declared.walks.Outcome.{Outcome as OutcomeOf};
 ghost use Rattle.art_step.specs.Events.{SeesEvent};
@@ -29,6 +30,13 @@ pub enum Stepped {
     Anew,
     /// The check of the walk that settled the answer, and made the event.
     Told,
+}
+
+/// A step that was made: what was asked, and which kind of step it was.
+#[derive(Clone, Copy, Debug, PartialEq, Eq)]
+pub struct Made {
+    pub asked: Asked,
+    pub stepped: Stepped,
 }
 
 /// Looks at a cell; where that settles the answer, the event of the walk is made.
@@ -106,7 +114,7 @@ pub fn step<S: EpochSteps>(
     key: &[u8],
     hi: &Bound,
     trail: &mut Trail,
-) -> Stepped
+) -> Made
     requires short { length key.now ≤ 64 }
     requires admitted { aim_of seek.old.walk ≡ aims.Key → S.admits steps.old key.now }
     requires going { ended_at seek.old ≡ None }
@@ -115,9 +123,14 @@ pub fn step<S: EpochSteps>(
     ensures aim { aim_of seek.new.walk ≡ aim_of seek.old.walk }
     ensures turns { seek.new.turns ≡ seek.old.turns }
     ensures one { (S.view steps.new).steps ≡ (S.view steps.old).steps + 1 }
-    ensures counted { is_counted result ≡ is_walking seek.old.stage }
-    ensures restarts { seek.new.restarts ≡ restarts_by result seek.old.restarts }
-    ensures tells { SeesEvent (S.view steps.old) (S.view steps.new) (told_by result (deed_at seek.old.walk key.now hi.now trail.old)) }
+    ensures asked { asks seek.old ≡ Some result.asked }
+    ensures row { (answer : AnswerOf) × Answers (S.sizes steps.old) (deed_at seek.old.walk key.now hi.now trail.old) result.asked answer
+        (S.view steps.old) (S.view steps.new) × (result.stepped ≡ stepped_by result.asked answer) }
+    ensures refuses { WillBeBusy seek.old → WillBeBusy seek.new }
+    ensures counted { is_counted result.stepped ≡ is_walking seek.old.stage }
+    ensures restarts { seek.new.restarts ≡ restarts_by result.stepped seek.old.restarts }
+    ensures tells { SeesEvent (S.view steps.old) (S.view steps.new)
+        (told_by result.stepped (deed_at seek.old.walk key.now hi.now trail.old)) }
     ensures left { steps_left seek.new < steps_left seek.old }
     ensures fits { (u : View) → Fits (S.sizes steps.old) key.now hi.now u seek.old trail.old (S.view steps.old) →
         Fits (S.sizes steps.old) key.now hi.now u seek.new trail.new (S.view steps.new) }
@@ -127,7 +140,10 @@ pub fn step<S: EpochSteps>(
     };
     let answer = make(steps, asked, seek, key, hi, trail);
     seek.told(key, trail, answer);
-    kind_of(asked, answer)
+    Made {
+        asked,
+        stepped: kind_of(asked, answer),
+    }
 }
 
 /// Makes all steps of a seek of this, in so many turns. The pass is idle and holds nothing, before and after.

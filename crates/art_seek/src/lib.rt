@@ -22,8 +22,10 @@
 //!
 //! # One step at a time
 //!
-//! `step` says which kind of step it made (`Stepped`): one of the pin or of the close, one of the walk that went on or began anew,
-//! or the one that made the event. So a caller learns from its result alone what the view of the pass saw at that step.
+//! `step` says what was asked, and which kind of step it made (`Stepped`): one of the pin or of the close, one of the walk that went on
+//! or began anew, or the one that made the event. So a caller learns from its result alone what the view of the pass saw at that step.
+//!
+//! A seek that is no longer wanted may be given up while nothing is told (`give_up`): the turns that were used count as all there were.
 //!
 //! # What is proved
 //!
@@ -39,7 +41,7 @@ mod seeks;
 mod walks;
 
 pub use asked::{Answer, Asked};
-pub use driver::{Stepped, make, step};
+pub use driver::{Made, Stepped, make, step};
 pub use seekers::{KeySought, RangeSought, Seeker};
 pub use seeks::{Seek, SeekStage};
 pub use walks::{Aim, Outcome};

@@ -1,5 +1,5 @@
 //! A seek, step by step: its pin, its walk, its close.
-ghost use Rattle.std.specs.Prelude.{◌≡◌, ℕ, ◌+◌, ◌-◌, ◌<◌, ◌≤◌, List, length, Option, Some, None};
+ghost use Rattle.std.specs.Prelude.{◌≡◌, ℕ, ◌+◌, ◌-◌, ◌<◌, ◌≤◌, List, length, Option, Some, None, true, false};
 ghost use Rattle.art_epoch.specs.Asking.{Answers as FrameAnswers};
 ghost use Rattle.art_epoch.specs.Pins as pins;
 ghost use Rattle.art_epoch.specs.Pins.{MayPin};
@@ -11,11 +11,14 @@ ghost use Rattle.art_key.specs.declared.bounds.Bound.{Bound as KeyBound};
 ghost use Rattle.art_look.specs.Driven.{IsSeen};
 ghost use Rattle.art_look.specs.declared.trails.Trail.{Trail as Trailed};
 ghost use Rattle.art_seek.specs.Asking.{Answers, restarts_told};
-ghost use Rattle.art_seek.specs.Seeks.{Fits, HasSought, IsPinning, IsWalking, asks, ended_at, left_at, seen_at, steps_left};
+ghost use Rattle.art_seek.specs.Seeks.{Fits, HasSought, IsPinning, IsWalking, WillBeBusy, asks, ended_at, left_at, seen_at, steps_left, turns_used};
 ghost use Rattle.art_seek.specs.Walks as walks;
 ghost use Rattle.art_seek.specs.Walks.{IsEnd, Settles, aim_of, deed_at};
 ghost use Rattle.art_seek.specs.declared.asked.Asked.{Asked as AskedStep};
 ghost use Rattle.art_seek.specs.declared.seeks.SeekStage.TheVariants as stages;
+ghost use Rattle.art_seek.specs.declared.walks.Outcome.TheVariants.{Busy as busy};
+ghost use Rattle.art_step.specs.Events.{MakesEvent};
+ghost use Rattle.art_step.specs.declared.deeds.Deed.{Deed as DeedOf};
 ghost use Rattle.art_step.specs.declared.views.Sizes.{Sizes};
 ghost use Rattle.art_step.specs.declared.views.View.{View};
 
@@ -100,6 +103,7 @@ impl Seek {
         ensures aim { aim_of self.new.walk ≡ aim_of self.old.walk }
         ensures turns { self.new.turns ≡ self.old.turns }
         ensures restarts { self.new.restarts ≡ restarts_told answer self.old.restarts }
+        ensures refuses { WillBeBusy self.old → WillBeBusy self.new }
         ensures left { steps_left self.new < steps_left self.old }
         ensures fits { (z : Sizes) (hi : KeyBound) (u v w : View) (asked : AskedStep) →
             Fits z key.now hi u self.old trail.old v → asks self.old ≡ Some asked →
@@ -118,6 +122,7 @@ impl Seek {
         ensures at { result ≡ ended_at self.now }
         ensures sought { IfSome result (λ o. (z : Sizes) (k : List ℕ) (hi : KeyBound) (u v : View) (t : Trailed) →
             length k ≤ 64 → Fits z k hi u self.now t v → HasSought k hi u self.now t o v) }
+        ensures refused { IfSome result (λ o. WillBeBusy self.now → o ≡ busy) }
     {
         match self.stage {
             SeekStage::Ended => Some(self.outcome),
@@ -130,6 +135,35 @@ impl Seek {
         ensures { result ≡ self.now.restarts }
     {
         self.restarts
+    }
+
+    /// Ends as soon as it may, as if the turns that were used had been all. False, with nothing changed, where the event was made.
+    pub fn give_up(&mut self) -> bool
+        ensures walk { self.new.walk ≡ self.old.walk }
+        ensures restarts { self.new.restarts ≡ self.old.restarts }
+        ensures turns { result ≡ true → self.new.turns ≡ turns_used self.old }
+        ensures left { result ≡ true → steps_left self.new ≤ steps_left self.old }
+        ensures refuses { result ≡ true → WillBeBusy self.new }
+        ensures fits { (z : Sizes) (k : List ℕ) (hi : KeyBound) (u v : View) (t : Trailed) → Fits z k hi u self.old t v →
+            Fits z k hi u self.new t v }
+        ensures kept { result ≡ false → self.new ≡ self.old }
+        ensures why { result ≡ false → (z : Sizes) (k : List ℕ) (hi : KeyBound) (u v : View) (t : Trailed) → length k ≤ 64 →
+            Fits z k hi u self.old t v → (what : DeedOf) × MakesEvent u v what }
+    {
+        match self.stage {
+            SeekStage::Pinning => {
+                self.turns = 0;
+                self.left = 0;
+                true
+            }
+            SeekStage::Walking => {
+                self.turns = self.turns.saturating_sub(self.left);
+                self.left = 0;
+                self.close(Outcome::Busy);
+                true
+            }
+            SeekStage::Closing | SeekStage::Ended => matches!(self.outcome, Outcome::Busy),
+        }
     }
 
     /// What a look has seen, once it has ended as `Seen`.
@@ -159,6 +193,7 @@ impl Seek {
         ensures walk { self.new.walk ≡ self.old.walk }
         ensures turns { self.new.turns ≡ self.old.turns }
         ensures restarts { self.new.restarts ≡ self.old.restarts }
+        ensures refuses { self.old.left ≡ 0 → WillBeBusy self.new }
         ensures left { steps_left self.new < left_at stages.Pinning self.old }
         ensures fits { (z : Sizes) (k : List ℕ) (hi : KeyBound) (u v w : View) (t : Trailed) (asked : FrameAsked) →
             IsPinning z k hi u self.old t v → pins.asks self.old.pinning ≡ Some asked → FrameAnswers z asked word v w →
@@ -176,6 +211,7 @@ impl Seek {
         ensures walk { self.new.walk ≡ self.old.walk }
         ensures turns { self.new.turns ≡ self.old.turns }
         ensures restarts { self.new.restarts ≡ self.old.restarts }
+        ensures refuses { self.old.left ≡ 0 → WillBeBusy self.new }
         ensures left { steps_left self.new ≤ self.old.left + 1 }
         ensures fits { (z : Sizes) (k : List ℕ) (hi : KeyBound) (u v : View) (t : Trailed) → IsWalking z k hi u self.old t v →
             walks.ended_at self.old.walk ≡ None → Fits z k hi u self.new t v }
@@ -189,6 +225,7 @@ impl Seek {
 
     /// It ends so, once the pass is idle.
     fn close(&mut self, outcome: Outcome)
+        ensures refuses { outcome ≡ busy → WillBeBusy self.new }
         ensures walk { self.new.walk ≡ self.old.walk }
         ensures turns { self.new.turns ≡ self.old.turns }
         ensures restarts { self.new.restarts ≡ self.old.restarts }

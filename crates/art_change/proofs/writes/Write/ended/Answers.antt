@@ -1,8 +1,9 @@
-use Rattle.std.proofs.Common.{refl, subst}
+use Rattle.std.proofs.Common.{ap, refl, subst}
 use Rattle.art_change.proofs.Answered.{answered}
 use Rattle.art_change.proofs.Counted.{write_counted}
+use Rattle.art_change.proofs.Ready.{ready_again}
 use Rattle.art_change.proofs.writes.Write.ended.Goals as goal
-use Rattle.art_change.specs.Writes.{StageFits}
+use Rattle.art_change.specs.Writes.{StageFits, outcome_at}
 use Rattle.art_change.specs.declared.writes.Stage.{Stage as StageOf}
 
 pub returns-in-Ended-clause-answered : goal.returns-in-Ended-clause-answered
@@ -14,3 +15,8 @@ pub returns-in-Ended-clause-counted : goal.returns-in-Ended-clause-counted
 returns-in-Ended-clause-counted c z u v ps qs r fits =
     let m = c.args.self.now in
     write_counted z u ps m r qs v m.outcome refl (subst (λ (s : StageOf). StageFits z u ps s m r qs v) c.in-Ended.is fits.stage)
+
+pub returns-in-Ended-clause-ready : goal.returns-in-Ended-clause-ready
+returns-in-Ended-clause-ready c z u v own ps qs s r ready fits =
+    let m = c.args.self.now in
+    ready_again z u own s ps m r qs v ready m.outcome (ap (λ (a : StageOf). outcome_at a m.outcome) c.in-Ended.is) fits

@@ -16,5 +16,6 @@ returns-in-None-clause-fits c z k hi u v w t asked p is row =
       pins_to = pins_to;
       walk = subst (λ (n : ℕ). Fits z k hi w m.walk t n w) (sym p.none) (p.fresh.fits w (pinned_reads z u w p.may pins_to));
       counted = ap (λ (n : ℕ). w.steps + n) p.full;
+      within = omega (arith, full);
       few = omega (arith, none, full, few);
     }) p.fresh.going

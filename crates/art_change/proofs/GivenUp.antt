@@ -1,0 +1,188 @@
+-- A write that cannot be given up holds a cell, or has made its event; one that can ends as a refusal.
+use Rattle.std.proofs.Common.{◌≡◌, ◌≢◌, ℕ, zero, suc, ◌+◌, ◌<◌, ◌≤◌, ◌==◌, false, true, List, [], Option, Some, None, inl, inr, refl, sym, ap, ◌∙◌, subst, arith}
+use Rattle.std.proofs.lemmas.Option.{slice_get-get_or}
+use Rattle.std.specs.Prelude.{get_or}
+use Rattle.std.specs.Option.{option_map}
+use Rattle.arrayvec.specs.ArrayVec.{ArrayVec}
+use Rattle.art_attempt.specs.Inserting as inserts
+use Rattle.art_attempt.specs.Inserting.{is_begun}
+use Rattle.art_attempt.specs.declared.inserting.Inserting.{Inserting as Insertion}
+use Rattle.art_attempt.specs.declared.inserting.Stage.{Stage as InsertStage}
+use Rattle.art_attempt.specs.declared.inserting.Stage.TheVariants as insert
+use Rattle.art_attempt.specs.declared.rooms.Room.{Room}
+use Rattle.art_cell.specs.declared.cells.Cell.TheVariants as cell
+use Rattle.art_cell.specs.declared.cells.Link.{Link}
+use Rattle.art_cell.specs.declared.cells.Node.{Node}
+use Rattle.art_change.proofs.Answered.{left_opened, sees_all}
+use Rattle.art_change.specs.Tries.{EndFits, Fits as TryFits, ended_at as try_ended, is_free, key_of, of_entered, of_erased, value_of}
+use Rattle.art_change.specs.Writes.{Fits, HasOutcome, HoldsOrTold, IsClosing, IsDone, StageFits, gone_by, is_refusal, told_by}
+use Rattle.art_change.specs.declared.tries.Job.{Job}
+use Rattle.art_change.specs.declared.tries.Job.TheVariants.{Insert, Remove}
+use Rattle.art_change.specs.declared.tries.Trying.{Trying}
+use Rattle.art_change.specs.declared.tries.Trying.TheVariants.{Inserting, Erasing}
+use Rattle.art_change.specs.declared.writes.Outcome.{Outcome}
+use Rattle.art_change.specs.declared.writes.Outcome.TheVariants.{New, Present, Gone, Absent, Full, Exhausted, Overlaps, TooMany, Busy, Crowded}
+use Rattle.art_change.specs.declared.writes.Stage.TheVariants as stages
+use Rattle.art_change.specs.declared.writes.Write.{Write}
+use Rattle.art_epoch.specs.declared.limbo.Place.{Place}
+use Rattle.art_erase.specs.Erasing as erases
+use Rattle.art_erase.specs.declared.erasing.Erasing.{Erasing as Erasure}
+use Rattle.art_erase.specs.declared.erasing.Stage.{Stage as EraseStage}
+use Rattle.art_erase.specs.declared.erasing.Stage.TheVariants as erase
+use Rattle.art_frame.specs.Closings.{ClosingFits}
+use Rattle.art_frame.specs.declared.closings.Closing.{Closing}
+use Rattle.art_frame.specs.declared.closings.Closing.TheVariants as closing
+use Rattle.art_frame.specs.declared.stocks.Stock.{Stock}
+use Rattle.art_make.proofs.Committing.{some_words}
+use Rattle.art_make.specs.Making.{Fits as MakeFits, ended_at as make_ended}
+use Rattle.art_make.specs.declared.making.Making.{Making}
+use Rattle.art_make.specs.declared.making.Making.TheVariants.{Upgrading, Claiming, Filling, Writing, Committing, Releasing, ReleasingNode, GivingUp, Ended}
+use Rattle.art_plan.specs.Changes.{Holds, filled_at, filled_end, node_made, target_at, targets}
+use Rattle.art_plan.specs.declared.changes.Change.{Change}
+use Rattle.art_plan.specs.declared.changes.Put.{Put}
+use Rattle.art_plan.specs.declared.changes.Target.{Target}
+use Rattle.art_step.specs.Events.{MakesEvent, SeesEvent}
+use Rattle.art_step.specs.Tokens.{links_of}
+use Rattle.art_step.specs.Views.{Member}
+use Rattle.art_step.specs.declared.deeds.Deed.{Deed}
+use Rattle.art_step.specs.declared.views.Holding.{Holding}
+use Rattle.art_step.specs.declared.views.Sizes.{Sizes}
+use Rattle.art_step.specs.declared.views.View.{View}
+
+-- ---- a cell is held
+
+some_member : (hs : List Holding) (h : Holding) → Member h hs → hs ≢ []
+some_member hs h i none = subst (Member h) none i
+
+target_there : (c : Change) (i : ℕ) → i < targets c → (x : Target) × (target_at c i ≡ Some x)
+target_there c i low =
+    let none : Target = record { stamp = record { cell = cell.Anchor; version = 0; first = 0 }; obsolete = false } in
+    (get_or c.targets.items i none, slice_get-get_or c.targets.items i none low)
+
+above_zero : (i : ℕ) → (i == 0) ≡ false → 0 < i
+above_zero zero some = absurd (cc)
+above_zero (suc i) some = omega arith
+
+module _ (u : View) (c : Change) (to : ℕ) (ps : List Put) (filled : ℕ) (hs : List Holding) where
+  holds_target : (i : ℕ) → Holds u c i to ps filled hs → i < to → i < targets c → hs ≢ []
+  holds_target i holds low is =
+      let x = target_there c i is in
+      let h = holds.each i x.0 (omega arith) low x.1 in
+      some_member hs h.0 h.1
+
+  holds_node : (i : ℕ) (n : Node) → Holds u c i to ps filled hs → node_made c ≡ Some n → 0 < filled → hs ≢ []
+  holds_node i n holds made some = let h = holds.new n made some in some_member hs h.0 h.1
+
+module _ (z : Sizes) (c : Change) (u v : View) where
+  -- the making of a change holds a cell from its first upgrade to its last release
+  making_holds : (m : Making) → MakeFits z c m u v → make_ended m ≡ None → is_begun m ≡ false → v.held ≢ []
+  making_holds (Upgrading i) fits on some =
+      let low = above_zero i some in
+      holds_target u c i [] 0 v.held 0 fits.stage.1.holds low (let a = fits.stage.0 in omega (arith, a, low))
+  making_holds Claiming fits on some = holds_target u c (targets c) [] 0 v.held 0 fits.stage.1.holds fits.planned.some fits.planned.some
+  making_holds (Filling place) fits on some = holds_target u c (targets c) [] place v.held 0 fits.stage.2.holds fits.planned.some fits.planned.some
+  making_holds (Writing j) fits on some = let k = fits.stage.1 in holds_target u c (targets c) _ (filled_end c) v.held 0 k.holds fits.planned.some fits.planned.some
+  making_holds Committing fits on some = holds_target u c (targets c) c.puts.items (filled_end c) v.held 0 fits.stage.holds fits.planned.some fits.planned.some
+  making_holds (Releasing i) fits on some = holds_target u c (targets c) c.puts.items (filled_end c) v.held i fits.stage.1.holds fits.stage.0 fits.stage.0
+  making_holds ReleasingNode fits on some =
+      let n = fits.stage.0 in
+      holds_node u c (targets c) c.puts.items (filled_end c) v.held (targets c) n.0 fits.stage.1.holds n.1
+      (subst (λ (o : Option Node). 0 < filled_at c o) (sym n.1) (some_words n.0.layout))
+  making_holds (GivingUp locked released e) fits on some =
+      let low = fits.stage.0 in
+      let few = fits.stage.1 in
+      holds_target u c locked [] 0 v.held released fits.stage.2.holds low (omega (arith, low, few))
+  making_holds (Ended r) fits on some = cc
+
+no_end : {A B : Type 0} (f : A → B) (o : Option A) → option_map f o ≡ None → o ≡ None
+no_end f None is = refl
+no_end f (Some x) is = cc
+
+-- an attempt that is not free holds one
+module _ (z : Sizes) (u : View) (r : Room) (v : View) where
+  insert_holds : (m : Insertion) (s : InsertStage) → inserts.StageFits z u s m r v → inserts.entered_at s ≡ None → inserts.free_at s m.making ≡ false → v.held ≢ []
+  insert_holds m insert.Making fits on free = making_holds z r.change fits.0.early v m.making fits.0.fits fits.1 free
+  insert_holds m insert.Finding fits on free = cc
+  insert_holds m insert.Supplying fits on free = cc
+  insert_holds m insert.Vouching fits on free = cc
+  insert_holds m (insert.Ended e) fits on free = cc
+
+  erase_holds : (m : Erasure) (s : EraseStage) → erases.StageFits z u s m r v → erases.erased_at s ≡ None → erases.free_at s m.making ≡ false → v.held ≢ []
+  erase_holds m erase.Making fits on free = making_holds z r.change fits.0.early v m.making fits.0.fits fits.1 free
+  erase_holds m erase.Finding fits on free = cc
+  erase_holds m (erase.Supplying layout) fits on free = cc
+  erase_holds m (erase.Reading q) fits on free = cc
+  erase_holds m erase.Vouching fits on free = cc
+  erase_holds m erase.Lowering fits on free = cc
+  erase_holds m (erase.Ended e) fits on free = cc
+
+  pub held_in : (j : Job) (t : Trying) → TryFits z u j t r v → try_ended t ≡ None → is_free t ≡ false → v.held ≢ []
+  held_in Insert (Inserting m) fits on free = insert_holds m m.stage fits.stage (no_end of_entered (inserts.ended_at m) on) free
+  held_in Remove (Erasing m) fits on free = erase_holds m m.stage fits.stage (no_end of_erased (erases.ended_at m) on) free
+  held_in Insert (Erasing m) fits on free = absurd fits
+  held_in Remove (Inserting m) fits on free = absurd fits
+
+-- ---- the event was made
+
+module _ (z : Sizes) (k : List ℕ) (value : ℕ) (u v : View) (ps qs : List Place) (us : List Link) (s : Stock) where
+  -- the close tells nothing
+  close_tells : (c : Closing) → ClosingFits z k value u ps us c qs s v → (v.seen ≡ u.seen) × (v.own ≡ u.own)
+  close_tells closing.Labelling fits = (ap (λ (t : View). t.seen) fits.is, ap (λ (t : View). t.own) fits.is)
+  close_tells closing.Giving fits = (ap (λ (t : View). t.seen) fits.is, ap (λ (t : View). t.own) fits.is)
+  close_tells closing.Ended fits = (ap (λ (t : View). t.seen) fits.0.is, ap (λ (t : View). t.own) fits.0.is)
+
+-- what is no refusal was told
+is_told : (z : Sizes) (u : View) (j : Job) (t : Trying) (r : Room) (o : Outcome) (left : ℕ) (v : View) (k : ArrayVec ℕ) (value : ℕ) → HasOutcome z u j t r o left v
+    → is_refusal o ≡ false → (what : Deed) × (told_by o j k value ≡ Some what)
+is_told z u Insert (Inserting m) r New left v k value fits untold = (_, refl)
+is_told z u Insert (Inserting m) r (Present stands) left v k value fits untold = (_, refl)
+is_told z u Remove (Erasing m) r (Gone had) left v k value fits untold = (_, refl)
+is_told z u Remove (Erasing m) r Absent left v k value fits untold = (_, refl)
+is_told z u Insert (Inserting m) r (Gone had) left v k value fits untold = absurd fits
+is_told z u Insert (Inserting m) r Absent left v k value fits untold = absurd fits
+is_told z u Remove (Erasing m) r New left v k value fits untold = absurd fits
+is_told z u Remove (Erasing m) r (Present stands) left v k value fits untold = absurd fits
+is_told z u j t r (Full pool) left v k value fits untold = cc
+is_told z u j t r (Exhausted c) left v k value fits untold = cc
+is_told z u j t r Overlaps left v k value fits untold = cc
+is_told z u j t r TooMany left v k value fits untold = cc
+is_told z u j t r Busy left v k value fits untold = cc
+is_told z u j t r (Crowded b) left v k value fits untold = cc
+is_told z u Insert (Erasing m) r New left v k value fits untold = absurd fits
+is_told z u Insert (Erasing m) r (Present stands) left v k value fits untold = absurd fits
+is_told z u Insert (Erasing m) r (Gone had) left v k value fits untold = absurd fits
+is_told z u Insert (Erasing m) r Absent left v k value fits untold = absurd fits
+is_told z u Remove (Inserting m) r New left v k value fits untold = absurd fits
+is_told z u Remove (Inserting m) r (Present stands) left v k value fits untold = absurd fits
+is_told z u Remove (Inserting m) r (Gone had) left v k value fits untold = absurd fits
+is_told z u Remove (Inserting m) r Absent left v k value fits untold = absurd fits
+
+module _ (z : Sizes) (u : View) (ps : List Place) (m : Write) (r : Room) (qs : List Place) (v : View) where
+  closing_told : IsClosing z u ps m r qs v → is_refusal m.outcome ≡ false → HoldsOrTold u v
+  closing_told k untold =
+      let same = close_tells z (key_of m.job r).items (value_of m.job r) k.ended v k.waiting qs (links_of (gone_by m.outcome r.change)) r.stock m.closing k.fits in
+      let told = is_told z k.began m.job m.trying (record r { stock = k.stock }) m.outcome m.left k.ended (key_of m.job r) (value_of m.job r) k.outcome untold in
+      let sees = sees_all u k.opened k.ended v (ap (λ (t : View). t.seen) k.frame.frame.is) (ap (λ (t : View). t.own) k.frame.frame.is) (ap (λ (t : View). t.pass) k.frame.frame.is)
+      same.0 same.1 (told_by m.outcome m.job (key_of m.job r) (value_of m.job r)) (left_opened z u ps m r qs v k).tells in
+      inr (told.0, subst (SeesEvent u v) told.1 sees)
+
+  done_told : (o : Outcome) → m.outcome ≡ o → IsDone z u ps o m r qs v → is_refusal o ≡ false → HoldsOrTold u v
+  done_told New is done untold = closing_told done.0 (ap is_refusal is ∙ untold)
+  done_told (Present stands) is done untold = closing_told done.0 (ap is_refusal is ∙ untold)
+  done_told (Gone had) is done untold = closing_told done.0 (ap is_refusal is ∙ untold)
+  done_told Absent is done untold = closing_told done.0 (ap is_refusal is ∙ untold)
+  done_told (Full pool) is done untold = cc
+  done_told (Exhausted c) is done untold = cc
+  done_told Overlaps is done untold = cc
+  done_told TooMany is done untold = cc
+  done_told Busy is done untold = cc
+  done_told (Crowded b) is done untold = cc
+
+  pub told_at_close : StageFits z u ps stages.Closing m r qs v → is_refusal m.outcome ≡ false → HoldsOrTold u v
+  told_at_close fits untold = closing_told fits.0 untold
+
+  pub told_at_end : StageFits z u ps stages.Ended m r qs v → is_refusal m.outcome ≡ false → HoldsOrTold u v
+  told_at_end fits untold = done_told m.outcome refl fits untold
+
+  pub held_in_try : StageFits z u ps stages.Trying m r qs v → is_free m.trying ≡ false → HoldsOrTold u v
+  held_in_try fits untold = inl (held_in z fits.0.began r v m.job m.trying fits.0.fits fits.0.going untold)
