@@ -55,7 +55,6 @@ free_few left (stage.Ended (entered.Present x)) m is = omega arith
 free_few left (stage.Ended (entered.Full x)) m is = omega arith
 free_few left (stage.Ended (entered.Exhausted x)) m is = omega arith
 free_few left (stage.Ended entered.Overlaps) m is = omega arith
-free_few left (stage.Ended entered.TooMany) m is = omega arith
 free_few left (stage.Ended entered.Anew) m is = omega arith
 
 -- one step was made, and nothing is held after it

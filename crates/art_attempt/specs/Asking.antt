@@ -1,5 +1,5 @@
 -- What each step of an attempt needs of the pass's view, and what its answer says of the view after it.
-use Rattle.std.specs.Prelude.{ℕ, ⊤, Some, Result, Ok, Err}
+use Rattle.std.specs.Prelude.{ℕ, List, ⊤, Some, Result, Ok, Err}
 use Rattle.art_attempt.specs.declared.asked.Answer.{Answer}
 use Rattle.art_attempt.specs.declared.asked.Answer.TheVariants as told
 use Rattle.art_attempt.specs.declared.asked.Asked.{Asked}
@@ -39,6 +39,11 @@ Answers z d c (Cell a) (told.Cell r) v w = cells.Answers z d a r v w
 Answers z d c (Supply a) (told.Word x) v w = supplies.Answers z a x v w
 Answers z d c (Change a) (told.Change r) v w = changes.Answers c a r v w
 Answers z d c asked answer v w = ⊥
+
+-- where it was a check that succeeded, what was noted under the stamp held of a tree whose keys are all admitted
+abbrev pub PassesAmong : (List ℕ → Type 0) → Sizes → View → Asked → Answer → Type 0
+PassesAmong A z v (Cell a) (told.Cell r) = cells.PassesAmong A z v a r
+PassesAmong A z v asked answer = ⊤
 
 -- ---- what an answer has in it
 

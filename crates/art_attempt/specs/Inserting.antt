@@ -7,15 +7,14 @@ use Rattle.art_attempt.specs.Trying.{HasChecked, HasSpent, IsKey, IsLater, Still
 use Rattle.art_attempt.specs.declared.asked.Asked.{Asked}
 use Rattle.art_attempt.specs.declared.asked.Asked.TheVariants as asked
 use Rattle.art_attempt.specs.declared.inserting.Entered.{Entered}
-use Rattle.art_attempt.specs.declared.inserting.Entered.TheVariants.{New, Present, Full, Exhausted, Overlaps, TooMany, Anew}
+use Rattle.art_attempt.specs.declared.inserting.Entered.TheVariants.{New, Present, Full, Exhausted, Overlaps, Anew}
 use Rattle.art_attempt.specs.declared.inserting.Inserting.{Inserting}
 use Rattle.art_attempt.specs.declared.inserting.Stage.{Stage}
 use Rattle.art_attempt.specs.declared.inserting.Stage.TheVariants as stage
 use Rattle.art_attempt.specs.declared.rooms.Room.{Room}
 use Rattle.art_cell.specs.declared.cells.Cell.{Cell as CellOf}
 use Rattle.art_cell.specs.declared.layouts.Pool.{Pool}
-use Rattle.art_decide.specs.Plans.{Comes, IsLockedAt, IsTooMuch, LocksOnly}
-use Rattle.art_decide.specs.Seen.{IsSeen}
+use Rattle.art_decide.specs.Plans.{Comes, IsLockedAt, LocksOnly}
 use Rattle.art_find.specs.Asking.{goes_on}
 use Rattle.art_find.specs.Descents as descents
 use Rattle.art_find.specs.Verdicts.{HasOverlap, value_of}
@@ -28,6 +27,7 @@ use Rattle.art_frame.specs.Stocks.{HasStock}
 use Rattle.art_gather.specs.Supplying as supplying
 use Rattle.art_gather.specs.Supplying.{HasAll, HasNone}
 use Rattle.art_gather.specs.Vouching as vouching
+use Rattle.art_gather.specs.Vouching.{passed}
 use Rattle.art_gather.specs.declared.asked.Asked.{Asked as SupplyAsked}
 use Rattle.art_insert.specs.Puts.{inserted}
 use Rattle.art_insert.specs.declared.leaves.NewLeaf.{NewLeaf}
@@ -296,20 +296,12 @@ pub record IsOverlap (z : Sizes) (u : View) (t : Stand) (r : Room) (v : View) : 
   pub place : IsChecked z u t r t.stamp v
   pub overlap : HasOverlap place.checked.passed.vouched.0 r.row.key.items
 
--- all that the change writes was read, and checked in this attempt, and its words are more than a change takes
-pub record IsTooLarge (z : Sizes) (u : View) (t : Stand) (r : Room) (v : View) : Type 0 where
-  pub seen : IsSeen z r.row.key.items t r.desk
-  pub each : (x : Stamp) → IsLockedAt t x → IsChecked z u t r x v
-  pub made : ℕ
-  pub much : IsTooMuch t r.desk r.row made
-
 abbrev pub EndFits : Sizes → View → Stand → Room → Entered → View → Type 0
 EndFits z u t r New v = HasEntered z u r v
 EndFits z u t r (Present stands) v = IsPresent z u r stands v
 EndFits z u t r (Full pool) v = EndsSo z u r v × IsFull z u t r pool v
 EndFits z u t r (Exhausted c) v = EndsSo z u r v × IsExhausted z u t r c v
 EndFits z u t r Overlaps v = EndsSo z u r v × IsOverlap z u t r v
-EndFits z u t r TooMany v = EndsSo z u r v × IsTooLarge z u t r v
 EndFits z u t r Anew v = EndsSo z u r v × (u.failures < v.failures)
 
 -- ---- why it is tried anew
@@ -318,6 +310,16 @@ EndFits z u t r Anew v = EndsSo z u r v × (u.failures < v.failures)
 abbrev pub IsAnewBy : Stage → Making → CellAnswer → Type 0
 IsAnewBy stage.Making m answer = (e : Changed) × (fault_of m ≡ Some (fault.Changed e))
 IsAnewBy s m answer = goes_on answer ≡ false
+
+-- ---- why it ends as an overlap
+
+-- the place of the key was known, one where a key begins the other, and its check succeeded
+pub record IsOverlapBy (m : Inserting) (answer : CellAnswer) : Type 0 where
+  pub finding : m.stage ≡ stage.Finding
+  pub stand : Stand
+  pub there : stand_at m.finding ≡ Some stand
+  pub overlaps : stand.verdict ≡ verdict.Overlaps
+  pub succeeded : passed answer ≡ true
 
 -- ---- at each stage
 

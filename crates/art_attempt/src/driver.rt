@@ -1,9 +1,9 @@
 //! Makes the steps of an attempt.
 ghost use Rattle.std.specs.Prelude.{◌≡◌};
-ghost use Rattle.art_attempt.specs.Asking.{Answers, IsAllowed, MayAsk};
+ghost use Rattle.art_attempt.specs.Asking.{Answers, IsAllowed, MayAsk, PassesAmong};
 ghost use Rattle.art_attempt.specs.Inserting.{present};
 ghost use Rattle.art_attempt.specs.declared.asked.Asked.TheVariants.{Change as change_asked};
-ghost use Rattle.art_find.specs.Asking.{Answers as CellAnswers};
+ghost use Rattle.art_find.specs.Asking.{Answers as CellAnswers, PassesAmong as CellPassesAmong};
 ghost use Rattle.art_insert.specs.Puts.{inserted};
 ghost use Rattle.art_make.specs.declared.asked.Asked.{Asked as ChangeAsked};
 
@@ -31,6 +31,7 @@ fn look<S: Steps>(steps: &mut S, asked: CellAsked, row: &NewLeaf, stands: u64) -
     requires allowed { MayAsk (S.sizes steps.old) (present row.now stands) (S.view steps.old) asked }
     ensures only { S.only steps.old steps.new }
     ensures row { CellAnswers (S.sizes steps.old) (present row.now stands) asked result (S.view steps.old) (S.view steps.new) }
+    ensures keys { CellPassesAmong (S.admits steps.old) (S.sizes steps.old) (S.view steps.old) asked result }
 {
     match asked {
         CellAsked::Begin(cell) => CellAnswer::Begun(steps.begin(cell)),
@@ -60,6 +61,7 @@ pub fn make<S: EpochSteps>(
     requires allowed { IsAllowed (S.sizes steps.old) (present row.now stands) change.now (S.view steps.old) asked }
     ensures only { S.only steps.old steps.new }
     ensures row { Answers (S.sizes steps.old) (present row.now stands) change.now asked result (S.view steps.old) (S.view steps.new) }
+    ensures keys { PassesAmong (S.admits steps.old) (S.sizes steps.old) (S.view steps.old) asked result }
 {
     match asked {
         Asked::Cell(asked) => Answer::Cell(look(steps, asked, row, stands)),

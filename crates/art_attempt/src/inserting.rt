@@ -2,15 +2,16 @@
 ghost use Rattle.std.specs.Prelude.{◌≡◌, ◌≢◌, ℕ, ◌-◌, ◌<◌, ◌≤◌, List, length, Some, None, true, false};
 ghost use Rattle.art_attempt.specs.Asking.{Answers, cell_in, steps_in, steps_of};
 ghost use Rattle.art_attempt.specs.Inserting.{Fits, HasMade, HasPlace, HasSupplies, HasVouched, IsFinding, IsRoom};
-ghost use Rattle.art_attempt.specs.Inserting.{IsAnewBy, asks, check_of, deed_at, ended_at, entered_by, entered_so, finding_asks, found_at, free_at, given_up, is_begun, is_free};
+ghost use Rattle.art_attempt.specs.Inserting.{IsAnewBy, IsOverlapBy, asks, check_of, deed_at, ended_at, entered_by, entered_so, finding_asks, found_at, free_at, given_up, is_begun, is_free};
 ghost use Rattle.art_attempt.specs.Inserting.{making_asks, making_left, steps_left, supply_asks, vouching_asks};
 ghost use Rattle.art_attempt.specs.Rooms.{SameRow, wants_of};
 ghost use Rattle.art_attempt.specs.Trying.{HasSpent, StillTries};
 ghost use Rattle.art_attempt.specs.declared.asked.Asked.{Asked as AskedStep};
-ghost use Rattle.art_attempt.specs.declared.inserting.Entered.TheVariants.{Anew as anew};
+ghost use Rattle.art_attempt.specs.declared.inserting.Entered.TheVariants.{Anew as anew, Overlaps as overlaps};
 ghost use Rattle.art_attempt.specs.declared.inserting.Stage.TheVariants as stages;
 ghost use Rattle.art_find.specs.Asking.{Answers as CellAnswers, goes_on};
 ghost use Rattle.art_find.specs.declared.asked.Asked.{Asked as CellAskedStep};
+ghost use Rattle.art_find.specs.declared.verdicts.Verdict.TheVariants as verdicts;
 ghost use Rattle.art_frame.specs.Stocks.{HasStock};
 ghost use Rattle.art_gather.specs.Asking.{Answers as SupplyAnswers};
 ghost use Rattle.art_gather.specs.Supplying.{HasAll};
@@ -50,8 +51,6 @@ pub enum Entered {
     Exhausted(Cell),
     /// A key begins the other.
     Overlaps,
-    /// The change has more words than one takes.
-    TooMany,
     /// A version word was locked, obsolete or changed: it may be tried anew.
     Anew,
 }
@@ -137,6 +136,7 @@ impl Inserting {
         ensures left { (left : ℕ) → (is_free self.old ≡ true → 0 < left) →
             steps_left (left - steps_in answer) self.new < steps_left left self.old }
         ensures anew { ended_at self.new ≡ Some anew → IsAnewBy self.old.stage self.new.making (cell_in answer) }
+        ensures overlaps { ended_at self.new ≡ Some overlaps → IsOverlapBy self.old (cell_in answer) }
     {
         match self.stage {
             Stage::Finding => self.find_told(room, cell_in(answer)),
@@ -230,6 +230,7 @@ impl Inserting {
             CellAnswers z (deed_at self.old room.old) asked answer v w }
         ensures row { SameRow room.old room.new }
         ensures anew { ended_at self.new ≡ Some anew → goes_on answer ≡ false }
+        ensures overlaps { ended_at self.new ≡ Some overlaps → IsOverlapBy self.old answer }
         ensures free { is_free self.new ≡ true }
         ensures fits { (z : Sizes) (u v w : View) (asked : CellAskedStep) → IsRoom z room.old → IsFinding z u self.old room.old v →
             finding_asks self.old.finding ≡ Some asked → CellAnswers z (deed_at self.old room.old) asked answer v w →
@@ -250,6 +251,7 @@ impl Inserting {
             CellAnswers z (deed_at self.old room.old) asked answer v w }
         ensures row { SameRow room.old room.new }
         ensures anew { ended_at self.new ≡ Some anew → goes_on answer ≡ false }
+        ensures not_overlaps { ended_at self.new ≢ Some overlaps }
         ensures free { is_free self.new ≡ true }
         ensures fits { (z : Sizes) (u v w : View) (asked : CellAskedStep) → IsRoom z room.old → IsFinding z u self.old room.old v →
             finding_asks self.old.finding ≡ Some asked → CellAnswers z (deed_at self.old room.old) asked answer v w →
@@ -269,6 +271,7 @@ impl Inserting {
             (stand_at self.old.finding ≡ Some stand) × CellAnswers z (deed_at self.old room.old) (check_of stand) answer v w }
         ensures row { SameRow room.old room.new }
         ensures anew { ended_at self.new ≡ Some anew → goes_on answer ≡ false }
+        ensures overlaps { ended_at self.new ≡ Some overlaps → (stand.verdict ≡ verdicts.Overlaps) × (passed answer ≡ true) }
         ensures free { is_free self.new ≡ true }
         ensures fits { (z : Sizes) (u v w : View) → IsRoom z room.old → IsFinding z u self.old room.old v →
             stand_at self.old.finding ≡ Some stand → CellAnswers z (deed_at self.old room.old) (check_of stand) answer v w →
@@ -290,6 +293,7 @@ impl Inserting {
         requires { (k : List ℕ) × (value : ℕ) × (v : View) × HasStock room.old.sizes k value v room.old.stock }
         ensures row { SameRow room.old room.new }
         ensures not_anew { ended_at self.new ≢ Some anew }
+        ensures not_overlaps { ended_at self.new ≢ Some overlaps }
         ensures free { is_free self.new ≡ true }
         ensures fits { (z : Sizes) (u v : View) → IsRoom z room.old → StillTries u v → HasSpent z u 4301 v →
             HasPlace z u self.old.stand room.old v → HasStock z room.old.row.key.items room.old.row.value v room.old.stock →
@@ -306,6 +310,7 @@ impl Inserting {
             HasSupplies z u self.old room.old v × (supply_asks self.old room.old ≡ Some asked) × SupplyAnswers z asked word v w }
         ensures row { SameRow room.old room.new }
         ensures not_anew { ended_at self.new ≢ Some anew }
+        ensures not_overlaps { ended_at self.new ≢ Some overlaps }
         ensures free { is_free self.new ≡ true }
         ensures fits { (z : Sizes) (u v w : View) (asked : SupplyAsked) → IsRoom z room.old → HasSupplies z u self.old room.old v →
             supply_asks self.old room.old ≡ Some asked → SupplyAnswers z asked word v w → Fits z u self.new room.new w }
@@ -318,6 +323,7 @@ impl Inserting {
     /// It goes on; or all is in hand, and the cells are vouched for; or a pool gave no number.
     fn supply_on(&mut self, room: &Room)
         ensures not_anew { ended_at self.new ≢ Some anew }
+        ensures not_overlaps { ended_at self.new ≢ Some overlaps }
         ensures free { is_free self.new ≡ true }
         ensures fits { (z : Sizes) (u v : View) → IsRoom z room.now → HasSupplies z u self.old room.now v → Fits z u self.new room.now v }
     {
@@ -331,6 +337,7 @@ impl Inserting {
     /// All is in hand: the cells are vouched for.
     fn vouch(&mut self, room: &Room)
         ensures not_anew { ended_at self.new ≢ Some anew }
+        ensures not_overlaps { ended_at self.new ≢ Some overlaps }
         ensures free { is_free self.new ≡ true }
         ensures fits { (z : Sizes) (u v : View) → IsRoom z room.now → HasSupplies z u self.old room.now v →
             HasAll (wants_of z self.old.stand.verdict) room.now.stock → Fits z u self.new room.now v }
@@ -348,6 +355,7 @@ impl Inserting {
             CellAnswers z (deed_at self.old room.old) asked answer v w }
         ensures row { SameRow room.old room.new }
         ensures anew { ended_at self.new ≡ Some anew → goes_on answer ≡ false }
+        ensures not_overlaps { ended_at self.new ≢ Some overlaps }
         ensures free { is_free self.new ≡ true }
         ensures fits { (z : Sizes) (u v w : View) (asked : CellAskedStep) → IsRoom z room.old → HasVouched z u self.old room.old v →
             vouching_asks self.old ≡ Some asked → CellAnswers z (deed_at self.old room.old) asked answer v w →
@@ -369,6 +377,7 @@ impl Inserting {
             (vouched_at self.old.vouching ≡ Some unchanged) }
         ensures row { SameRow room.old room.new }
         ensures not_anew { ended_at self.new ≢ Some anew }
+        ensures not_overlaps { ended_at self.new ≢ Some overlaps }
         ensures free { is_free self.new ≡ true }
         ensures fits { (z : Sizes) (u v : View) → IsRoom z room.old → HasVouched z u self.old room.old v →
             vouched_at self.old.vouching ≡ Some unchanged → Fits z u self.new room.new v }
@@ -385,10 +394,7 @@ impl Inserting {
             change,
             ..
         } = room;
-        if !plan_insert(change, bodies, &self.stand, desk, row, made) {
-            self.stage = Stage::Ended(Entered::TooMany);
-            return;
-        }
+        plan_insert(change, bodies, &self.stand, desk, row, made);
         self.making = Making::new(&room.change);
         self.stage = Stage::Making;
     }
@@ -406,6 +412,7 @@ impl Inserting {
         ensures left { (left : ℕ) → (is_begun self.old.making ≡ true → 0 < left) →
             steps_left (left - steps_of answer) self.new < making_left left self.old.making }
         ensures anew { ended_at self.new ≡ Some anew → (e : Changed) × (fault_of self.new.making ≡ Some (changed e)) }
+        ensures not_overlaps { ended_at self.new ≢ Some overlaps }
     {
         self.making.told(&room.change, answer);
         match self.making.ended() {

@@ -11,8 +11,8 @@
 //!
 //! ```text
 //! Finding ──► the check of the place ──► Supplying ──► Vouching ──► plan ──► Making ──► New
-//!    │              │  Present, Overlaps      │ Full        │          │ TooMany   │ Exhausted
-//!    └── Anew ◄─────┴─────────────────────────┴─────────────┘          └───────────┴──► Anew
+//!    │              │  Present, Overlaps      │ Full        │                      │ Exhausted
+//!    └── Anew ◄─────┴─────────────────────────┴─────────────┘                      └──► Anew
 //! ```
 //!
 //! A check of a leaf with the key settles the answer: it is there, and keeps its value. Of any other place a check tells

@@ -1,4 +1,5 @@
 -- Lemmas that crates above cite.
+pub mod Differing
 pub mod Empty
 pub mod Entries
 pub mod Headers

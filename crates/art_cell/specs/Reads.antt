@@ -92,6 +92,14 @@ change_at w after place = if w place == after place then None else Some (record 
 abbrev pub changes : Layout → Words → Words → List Write
 changes k w after = filter_map (change_at w after) (range_with_len 1 (size k - 1))
 
+-- how many words a child that comes or goes changes at most: the header, and all words of key bytes and of children of a Node16
+abbrev pub most_writes : ℕ
+most_writes = 19
+
+-- how many words another prefix changes at most: the header, and all words of the prefix
+abbrev pub most_prefix_writes : ℕ
+most_prefix_writes = 9
+
 -- a map with one more entry, or one less
 abbrev pub with_child : (ℕ → Option ℕ) → ℕ → ℕ → ℕ → Option ℕ
 with_child child byte c b = if b == byte then Some c else child b

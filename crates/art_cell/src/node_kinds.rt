@@ -1,5 +1,5 @@
 //! What every layout of a node can do.
-ghost use Rattle.std.specs.Prelude.{◌≡◌, ◌<◌, ◌↔◌, ℕ, Some, None, IsNone, IfSome, false, true};
+ghost use Rattle.std.specs.Prelude.{◌≡◌, ◌<◌, ◌≤◌, ◌↔◌, ℕ, Some, None, IsNone, IfSome, false, true, length};
 
 use crate::{Body, Reads, Writes, changes};
 use arrayvec::ArrayVec;
@@ -45,7 +45,7 @@ pub trait NodeKind {
     ghost use Rattle.art_cell.specs.Words.{Words, child_of, entries};
     ghost use Rattle.art_cell.specs.Bodies.{IsBody, IsFull, Becomes};
     ghost use Rattle.art_cell.specs.Reads.{Agrees, ProbeNeeds, ProbeTells, NextNeeds, NextTells};
-    ghost use Rattle.art_cell.specs.Reads.{word_of, IsBodyOf, SameOutside, IsPlan, with_child, without_child};
+    ghost use Rattle.art_cell.specs.Reads.{word_of, IsBodyOf, SameOutside, changes, IsPlan, with_child, without_child, most_writes};
 
     ghost layout: { Layout };
 
@@ -69,7 +69,8 @@ pub trait NodeKind {
             (with_child (child_of layout (word_of body.old)) byte child) }
         ensures refused { result ≡ false → body.new ≡ body.old }
         ensures layout { body.new.layout ≡ body.old.layout }
-        ensures outside { SameOutside layout (word_of body.old) (word_of body.new) };
+        ensures outside { SameOutside layout (word_of body.old) (word_of body.new) }
+        ensures few { result ≡ true → length (changes layout (word_of body.old) (word_of body.new)) ≤ most_writes };
 
     /// Gives the byte, which has a child, this one.
     fn set(body: &mut Body, byte: u8, child: u64)
@@ -78,7 +79,8 @@ pub trait NodeKind {
         requires child { 0 < child }
         ensures set { Becomes layout (word_of body.old) (word_of body.new) (with_child (child_of layout (word_of body.old)) byte child) }
         ensures layout { body.new.layout ≡ body.old.layout }
-        ensures outside { SameOutside layout (word_of body.old) (word_of body.new) };
+        ensures outside { SameOutside layout (word_of body.old) (word_of body.new) }
+        ensures one { length (changes layout (word_of body.old) (word_of body.new)) ≤ 1 };
 
     /// Takes away the child of the byte, which has one.
     fn take(body: &mut Body, byte: u8)
@@ -86,7 +88,8 @@ pub trait NodeKind {
         requires there { (c : ℕ) × (child_of layout (word_of body.old) byte ≡ Some c) }
         ensures taken { Becomes layout (word_of body.old) (word_of body.new) (without_child (child_of layout (word_of body.old)) byte) }
         ensures layout { body.new.layout ≡ body.old.layout }
-        ensures outside { SameOutside layout (word_of body.old) (word_of body.new) };
+        ensures outside { SameOutside layout (word_of body.old) (word_of body.new) }
+        ensures few { length (changes layout (word_of body.old) (word_of body.new)) ≤ most_writes };
 
     /// The children, in ascending order of their bytes.
     fn list(body: &Body) -> Entries
@@ -103,6 +106,7 @@ pub trait NodeKind {
         ensures plan { result ≡ true → IsPlan layout (word_of body.now) writes.new.items
             (with_child (child_of layout (word_of body.now)) byte child) }
         ensures refused { result ≡ false → writes.new ≡ writes.old }
+        ensures few { result ≡ true → length writes.new.items ≤ most_writes }
     {
         let mut after = *body;
         if !Self::add(&mut after, byte, child) {
@@ -117,7 +121,8 @@ pub trait NodeKind {
         requires body { IsBodyOf layout body.now }
         requires there { (c : ℕ) × (child_of layout (word_of body.now) byte ≡ Some c) }
         requires child { 0 < child }
-        ensures { IsPlan layout (word_of body.now) writes.new.items (with_child (child_of layout (word_of body.now)) byte child) }
+        ensures plan { IsPlan layout (word_of body.now) writes.new.items (with_child (child_of layout (word_of body.now)) byte child) }
+        ensures one { length writes.new.items ≤ 1 }
     {
         let mut after = *body;
         Self::set(&mut after, byte, child);
@@ -128,7 +133,8 @@ pub trait NodeKind {
     final fn plan_drop(body: &Body, byte: u8, writes: &mut Writes)
         requires body { IsBodyOf layout body.now }
         requires there { (c : ℕ) × (child_of layout (word_of body.now) byte ≡ Some c) }
-        ensures { IsPlan layout (word_of body.now) writes.new.items (without_child (child_of layout (word_of body.now)) byte) }
+        ensures plan { IsPlan layout (word_of body.now) writes.new.items (without_child (child_of layout (word_of body.now)) byte) }
+        ensures few { length writes.new.items ≤ most_writes }
     {
         let mut after = *body;
         Self::take(&mut after, byte);

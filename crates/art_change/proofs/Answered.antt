@@ -6,7 +6,7 @@ use Rattle.art_attempt.specs.declared.rooms.Room.{Room}
 use Rattle.art_change.specs.Writes.{HasAnswered, IsClosing, IsDone, gone_by, told_by}
 use Rattle.art_change.specs.declared.writes.Write.{Write}
 use Rattle.art_change.specs.declared.writes.Outcome.{Outcome}
-use Rattle.art_change.specs.declared.writes.Outcome.TheVariants.{New, Present, Gone, Absent, Full, Exhausted, Overlaps, TooMany, Busy, Crowded}
+use Rattle.art_change.specs.declared.writes.Outcome.TheVariants.{New, Present, Gone, Absent, Full, Exhausted, Overlaps, Busy, Crowded}
 use Rattle.art_epoch.specs.declared.limbo.Place.{Place}
 use Rattle.art_frame.specs.Closings.{ClosingFits, IsClosed, is_ended}
 use Rattle.art_frame.specs.declared.closings.Closing.{Closing}
@@ -77,5 +77,4 @@ module _ (z : Sizes) (u : View) (ps : List Place) (m : Write) (r : Room) (qs : L
   answered (Full pool) is done = subst (λ (o : Outcome). HasAnswered z u m.job o (key_of m.job r) (value_of m.job r) qs v) is (closing_answers done.0 done.1)
   answered (Exhausted c) is done = subst (λ (o : Outcome). HasAnswered z u m.job o (key_of m.job r) (value_of m.job r) qs v) is (closing_answers done.0 done.1)
   answered Overlaps is done = subst (λ (o : Outcome). HasAnswered z u m.job o (key_of m.job r) (value_of m.job r) qs v) is (closing_answers done.0 done.1)
-  answered TooMany is done = subst (λ (o : Outcome). HasAnswered z u m.job o (key_of m.job r) (value_of m.job r) qs v) is (closing_answers done.0 done.1)
   answered Busy is done = subst (λ (o : Outcome). HasAnswered z u m.job o (key_of m.job r) (value_of m.job r) qs v) is (closing_answers done.0 done.1)

@@ -6,7 +6,7 @@ use Rattle.art_change.proofs.EitherKind.{left_by}
 use Rattle.art_change.specs.Tries.{EndsSo, key_of, value_of}
 use Rattle.art_change.specs.Writes.{HasCounted, HasOutcome, IsClosing, IsDone, UsedTurns}
 use Rattle.art_change.specs.declared.writes.Outcome.{Outcome}
-use Rattle.art_change.specs.declared.writes.Outcome.TheVariants.{New, Present, Gone, Absent, Full, Exhausted, Overlaps, TooMany, Busy, Crowded}
+use Rattle.art_change.specs.declared.writes.Outcome.TheVariants.{New, Present, Gone, Absent, Full, Exhausted, Overlaps, Busy, Crowded}
 use Rattle.art_change.specs.declared.writes.Write.{Write}
 use Rattle.art_epoch.specs.declared.limbo.Place.{Place}
 use Rattle.art_frame.specs.Closings.{is_ended}
@@ -46,7 +46,6 @@ module _ (z : Sizes) (u : View) (ps : List Place) (m : Write) (r : Room) (qs : L
     at_last (Full pool) h busy = cc
     at_last (Exhausted c) h busy = cc
     at_last Overlaps h busy = cc
-    at_last TooMany h busy = cc
     at_last (Crowded b) h busy = cc
 
     closing_counted : HasCounted z u m.turns m.restarts m.outcome v
@@ -72,5 +71,4 @@ module _ (z : Sizes) (u : View) (ps : List Place) (m : Write) (r : Room) (qs : L
   write_counted (Full pool) is done = subst (λ (o : Outcome). HasCounted z u m.turns m.restarts o v) is (closing_counted done.0 done.1)
   write_counted (Exhausted c) is done = subst (λ (o : Outcome). HasCounted z u m.turns m.restarts o v) is (closing_counted done.0 done.1)
   write_counted Overlaps is done = subst (λ (o : Outcome). HasCounted z u m.turns m.restarts o v) is (closing_counted done.0 done.1)
-  write_counted TooMany is done = subst (λ (o : Outcome). HasCounted z u m.turns m.restarts o v) is (closing_counted done.0 done.1)
   write_counted Busy is done = subst (λ (o : Outcome). HasCounted z u m.turns m.restarts o v) is (closing_counted done.0 done.1)

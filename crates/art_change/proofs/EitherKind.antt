@@ -27,7 +27,7 @@ use Rattle.art_change.specs.declared.tries.Tried.TheVariants as tried
 use Rattle.art_change.specs.declared.tries.Trying.{Trying}
 use Rattle.art_change.specs.declared.tries.Trying.TheVariants.{Inserting, Erasing}
 use Rattle.art_change.specs.declared.writes.Outcome.{Outcome}
-use Rattle.art_change.specs.declared.writes.Outcome.TheVariants.{New, Present, Gone, Absent, Full, Exhausted, Overlaps, TooMany, Busy, Crowded}
+use Rattle.art_change.specs.declared.writes.Outcome.TheVariants.{New, Present, Gone, Absent, Full, Exhausted, Overlaps, Busy, Crowded}
 use Rattle.art_epoch.proofs.Waiting.{commit_waits}
 use Rattle.art_epoch.specs.Limbo.{IsLimbo}
 use Rattle.art_epoch.specs.declared.limbo.Place.{Place}
@@ -73,7 +73,6 @@ abbrev pub IsRefusal : Tried → Type 0
 IsRefusal (tried.Full pool) = ⊤
 IsRefusal (tried.Exhausted c) = ⊤
 IsRefusal tried.Overlaps = ⊤
-IsRefusal tried.TooMany = ⊤
 IsRefusal tried.Anew = ⊤
 IsRefusal e = ⊥
 
@@ -90,14 +89,12 @@ module _ (z : Sizes) (u : View) (r : Room) (v : View) where
   insert_ends m (entered.Full pool) fits = (insert_so fits.0, fits.1)
   insert_ends m (entered.Exhausted c) fits = (insert_so fits.0, fits.1)
   insert_ends m entered.Overlaps fits = (insert_so fits.0, fits.1)
-  insert_ends m entered.TooMany fits = (insert_so fits.0, fits.1)
   insert_ends m entered.Anew fits = (insert_so fits.0, fits.1)
 
   erase_ends : (m : Erasure) (e : Erased) → erases.EndFits z u m.stand m.way m.lowering r e v → EraseEnds z u m r (of_erased e) v
   erase_ends m (erased.Gone value) fits = fits
   erase_ends m erased.Absent fits = fits
   erase_ends m (erased.Exhausted c) fits = (erase_so fits.0, fits.1)
-  erase_ends m erased.TooMany fits = (erase_so fits.0, fits.1)
   erase_ends m erased.Anew fits = (erase_so fits.0, fits.1)
 
   pub ends_as : (j : Job) (t : Trying) (e : Tried) → Fits z u j t r v → ended_at t ≡ Some e → EndFits z u j t r e v
@@ -122,7 +119,6 @@ module _ (z : Sizes) (u : View) (r : Room) (v : View) where
   insert_refused m (tried.Full pool) none fits = fits.0
   insert_refused m (tried.Exhausted c) none fits = fits.0
   insert_refused m tried.Overlaps none fits = fits.0
-  insert_refused m tried.TooMany none fits = fits.0
   insert_refused m tried.Anew none fits = fits.0
 
   erase_refused : (m : Erasure) (e : Tried) → IsRefusal e → EraseEnds z u m r e v → EndsSo z u Remove r v
@@ -133,7 +129,6 @@ module _ (z : Sizes) (u : View) (r : Room) (v : View) where
   erase_refused m (tried.Full pool) none fits = absurd fits
   erase_refused m (tried.Exhausted c) none fits = fits.0
   erase_refused m tried.Overlaps none fits = absurd fits
-  erase_refused m tried.TooMany none fits = fits.0
   erase_refused m tried.Anew none fits = fits.0
 
   pub refused_so : (j : Job) (t : Trying) (e : Tried) → IsRefusal e → EndFits z u j t r e v → EndsSo z u j r v
@@ -196,7 +191,6 @@ module _ (z : Sizes) (u : View) (r : Room) (v : View) where
   insert_left m (Full pool) left h = so_left Insert (Full pool) refl refl h.0
   insert_left m (Exhausted c) left h = so_left Insert (Exhausted c) refl refl h.0
   insert_left m Overlaps left h = so_left Insert Overlaps refl refl h.0
-  insert_left m TooMany left h = so_left Insert TooMany refl refl h.0
   insert_left m Busy left h = so_left Insert Busy refl refl h.0
   insert_left m (Crowded b) left h = absurd h
 
@@ -223,7 +217,6 @@ module _ (z : Sizes) (u : View) (r : Room) (v : View) where
   erase_left m (Full pool) left h = absurd h
   erase_left m (Exhausted c) left h = so_left Remove (Exhausted c) refl refl h.0
   erase_left m Overlaps left h = absurd h
-  erase_left m TooMany left h = so_left Remove TooMany refl refl h.0
   erase_left m Busy left h = so_left Remove Busy refl refl h.0
   erase_left m (Crowded b) left h = absurd h
 
@@ -236,7 +229,6 @@ module _ (z : Sizes) (u : View) (r : Room) (v : View) where
   none_left j t none (Full pool) left h = absurd (none (tried.Full pool) h)
   none_left j t none (Exhausted c) left h = absurd (none (tried.Exhausted c) h)
   none_left j t none Overlaps left h = absurd (none tried.Overlaps h)
-  none_left j t none TooMany left h = absurd (none tried.TooMany h)
   none_left j t none Busy left h = so_left j Busy refl refl h.0
   none_left j t none (Crowded b) left h = absurd h
 
@@ -271,14 +263,12 @@ anew_entered (entered.Present stands) is = cc
 anew_entered (entered.Full pool) is = cc
 anew_entered (entered.Exhausted c) is = cc
 anew_entered entered.Overlaps is = cc
-anew_entered entered.TooMany is = cc
 
 anew_erased : (e : Erased) → of_erased e ≡ tried.Anew → e ≡ erased.Anew
 anew_erased erased.Anew is = refl
 anew_erased (erased.Gone value) is = cc
 anew_erased erased.Absent is = cc
 anew_erased (erased.Exhausted c) is = cc
-anew_erased erased.TooMany is = cc
 
 pub insert_anew : (m : Insertion) → ended_at (Inserting m) ≡ Some tried.Anew → inserts.ended_at m ≡ Some entered.Anew
 insert_anew m is = let k = map_some of_entered (inserts.ended_at m) tried.Anew is in k.1 ∙ ap (λ (e : Entered). Some e) (anew_entered k.0 k.2)
@@ -294,14 +284,12 @@ left_entered left (entered.Present stands) = refl
 left_entered left (entered.Full pool) = refl
 left_entered left (entered.Exhausted c) = refl
 left_entered left entered.Overlaps = refl
-left_entered left entered.TooMany = refl
 left_entered left entered.Anew = refl
 
 left_erased : (left : ℕ) (e : Erased) → erases.ended_left left e ≡ ended_left left (of_erased e)
 left_erased left (erased.Gone value) = refl
 left_erased left erased.Absent = refl
 left_erased left (erased.Exhausted c) = refl
-left_erased left erased.TooMany = refl
 left_erased left erased.Anew = refl
 
 pub ended_steps : (left : ℕ) (t : Trying) (e : Tried) → ended_at t ≡ Some e → steps_left left t ≡ ended_left left e

@@ -15,7 +15,7 @@ use Rattle.art_change.specs.declared.tries.Tried.TheVariants as tried
 use Rattle.art_change.specs.declared.tries.Trying.{Trying}
 use Rattle.art_change.specs.declared.writes.Write.{Write}
 use Rattle.art_change.specs.declared.writes.Outcome.{Outcome}
-use Rattle.art_change.specs.declared.writes.Outcome.TheVariants.{New, Present, Gone, Absent, Full, Exhausted, Overlaps, TooMany, Busy, Crowded}
+use Rattle.art_change.specs.declared.writes.Outcome.TheVariants.{New, Present, Gone, Absent, Full, Exhausted, Overlaps, Busy, Crowded}
 use Rattle.std.specs.List.{cons_option}
 use Rattle.art_cell.specs.Children.{link_of}
 use Rattle.art_cell.specs.declared.cells.Link.{Link}
@@ -109,7 +109,6 @@ module _ (z : Sizes) (u : View) (j : Job) (t : Trying) (r : Room) (left : ℕ) (
   tried_ends (tried.Full pool) o fits is = subst Ends (same_Some {A = Outcome} (or_busy left (Full pool)) o is) (or_busy_ends (Full pool) (so (tried.Full pool) tt fits) fits)
   tried_ends (tried.Exhausted c) o fits is = subst Ends (same_Some {A = Outcome} (Exhausted c) o is) fits
   tried_ends tried.Overlaps o fits is = subst Ends (same_Some {A = Outcome} (or_busy left Overlaps) o is) (or_busy_ends Overlaps (so tried.Overlaps tt fits) fits)
-  tried_ends tried.TooMany o fits is = subst Ends (same_Some {A = Outcome} (or_busy left TooMany) o is) (or_busy_ends TooMany (so tried.TooMany tt fits) fits)
   tried_ends tried.Anew o fits is = cc
 
   -- it is tried anew
@@ -121,7 +120,6 @@ module _ (z : Sizes) (u : View) (j : Job) (t : Trying) (r : Room) (left : ℕ) (
   anew_ends (tried.Full pool) fits is = cc
   anew_ends (tried.Exhausted c) fits is = cc
   anew_ends tried.Overlaps fits is = cc
-  anew_ends tried.TooMany fits is = cc
   anew_ends tried.Anew fits is = (so tried.Anew tt fits, anew_failed z u r v j t fits)
 
 pub none_anew : (left : ℕ) (e : Tried) → outcome_of left e ≡ None → e ≡ tried.Anew
@@ -133,7 +131,6 @@ none_anew left tried.Absent is = cc
 none_anew left (tried.Full pool) is = cc
 none_anew left (tried.Exhausted c) is = cc
 none_anew left tried.Overlaps is = cc
-none_anew left tried.TooMany is = cc
 
 -- ---- turns
 
@@ -157,7 +154,6 @@ done_by z u opened v ps j t r Absent left m s qs w h done = done
 done_by z u opened v ps j t r (Full pool) left m s qs w h done = done
 done_by z u opened v ps j t r (Exhausted c) left m s qs w h done = done
 done_by z u opened v ps j t r Overlaps left m s qs w h done = done
-done_by z u opened v ps j t r TooMany left m s qs w h done = done
 done_by z u opened v ps j t r Busy left m s qs w h done = done
 done_by z u opened v ps j t r (Crowded b) left m s qs w h done = absurd h
 
@@ -176,5 +172,4 @@ anew_left left tried.Absent is = cc
 anew_left left (tried.Full pool) is = cc
 anew_left left (tried.Exhausted c) is = cc
 anew_left left tried.Overlaps is = cc
-anew_left left tried.TooMany is = cc
 anew_left left tried.Anew is = refl

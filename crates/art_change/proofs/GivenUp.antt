@@ -21,7 +21,7 @@ use Rattle.art_change.specs.declared.tries.Job.TheVariants.{Insert, Remove}
 use Rattle.art_change.specs.declared.tries.Trying.{Trying}
 use Rattle.art_change.specs.declared.tries.Trying.TheVariants.{Inserting, Erasing}
 use Rattle.art_change.specs.declared.writes.Outcome.{Outcome}
-use Rattle.art_change.specs.declared.writes.Outcome.TheVariants.{New, Present, Gone, Absent, Full, Exhausted, Overlaps, TooMany, Busy, Crowded}
+use Rattle.art_change.specs.declared.writes.Outcome.TheVariants.{New, Present, Gone, Absent, Full, Exhausted, Overlaps, Busy, Crowded}
 use Rattle.art_change.specs.declared.writes.Stage.TheVariants as stages
 use Rattle.art_change.specs.declared.writes.Write.{Write}
 use Rattle.art_epoch.specs.declared.limbo.Place.{Place}
@@ -145,7 +145,6 @@ is_told z u Remove (Erasing m) r (Present stands) left v k value fits untold = a
 is_told z u j t r (Full pool) left v k value fits untold = cc
 is_told z u j t r (Exhausted c) left v k value fits untold = cc
 is_told z u j t r Overlaps left v k value fits untold = cc
-is_told z u j t r TooMany left v k value fits untold = cc
 is_told z u j t r Busy left v k value fits untold = cc
 is_told z u j t r (Crowded b) left v k value fits untold = cc
 is_told z u Insert (Erasing m) r New left v k value fits untold = absurd fits
@@ -174,7 +173,6 @@ module _ (z : Sizes) (u : View) (ps : List Place) (m : Write) (r : Room) (qs : L
   done_told (Full pool) is done untold = cc
   done_told (Exhausted c) is done untold = cc
   done_told Overlaps is done untold = cc
-  done_told TooMany is done untold = cc
   done_told Busy is done untold = cc
   done_told (Crowded b) is done untold = cc
 

@@ -3,6 +3,8 @@ pub mod Counted
 pub mod EitherKind
 pub mod Frames
 pub mod GivenUp
+pub mod Looked
+pub mod Overlaps
 pub mod Parts
 pub mod Ready
 pub mod Steps

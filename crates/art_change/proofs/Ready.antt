@@ -10,7 +10,7 @@ use Rattle.art_change.specs.declared.tries.Job.{Job}
 use Rattle.art_change.specs.Writes.{Fits, HasGround, IsClosing, IsDone, IsReady, MayWrite, StageFits, ended_at, gone_by, outcome_at}
 use Rattle.art_change.specs.declared.writes.Write.{Write}
 use Rattle.art_change.specs.declared.writes.Outcome.{Outcome}
-use Rattle.art_change.specs.declared.writes.Outcome.TheVariants.{New, Present, Gone, Absent, Full, Exhausted, Overlaps, TooMany, Busy, Crowded}
+use Rattle.art_change.specs.declared.writes.Outcome.TheVariants.{New, Present, Gone, Absent, Full, Exhausted, Overlaps, Busy, Crowded}
 use Rattle.art_change.specs.declared.writes.Stage.{Stage}
 use Rattle.art_change.specs.declared.writes.Stage.TheVariants as stage
 use Rattle.art_epoch.specs.declared.limbo.Place.{Place}
@@ -93,7 +93,6 @@ module _ (z : Sizes) (u : View) (own : ℕ) (s : Stock) (ps : List Place) (m : W
   done_ready (Full pool) is done = closing_ready (subst (λ (o : Outcome). IsDone z u ps o m r qs v) (sym is) done) done.0 done.1
   done_ready (Exhausted c) is done = closing_ready (subst (λ (o : Outcome). IsDone z u ps o m r qs v) (sym is) done) done.0 done.1
   done_ready Overlaps is done = closing_ready (subst (λ (o : Outcome). IsDone z u ps o m r qs v) (sym is) done) done.0 done.1
-  done_ready TooMany is done = closing_ready (subst (λ (o : Outcome). IsDone z u ps o m r qs v) (sym is) done) done.0 done.1
   done_ready Busy is done = closing_ready (subst (λ (o : Outcome). IsDone z u ps o m r qs v) (sym is) done) done.0 done.1
 
   by_stage : (s : Stage) (o : Outcome) → outcome_at s m.outcome ≡ Some o → StageFits z u ps s m r qs v → IsReady z v own qs r.stock
@@ -114,5 +113,18 @@ module _ (z : Sizes) (u : View) (ps : List Place) (m : Write) (r : Room) (qs : L
   ground_at stage.Closing o is fits = cc
   ground_at stage.Ended o is fits = subst (λ (a : Outcome). IsDone z u ps a m r qs v) (same_Some {A = Outcome} m.outcome o is) fits
 
+  outcome_told : (s : Stage) (o : Outcome) → outcome_at s m.outcome ≡ Some o → m.outcome ≡ o
+  outcome_told stage.Opening o is = cc
+  outcome_told stage.Trying o is = cc
+  outcome_told stage.Closing o is = cc
+  outcome_told stage.Ended o is = same_Some {A = Outcome} m.outcome o is
+
   pub ends_with : (o : Outcome) → ended_at m ≡ Some o → Fits z u ps m r qs v → HasGround z u m.job ps m.turns m.restarts o r qs v
-  ends_with o is fits = record { machine = m; job_is = refl; turns_are = refl; restarts_are = refl; done = ground_at m.stage o is fits.stage }
+  ends_with o is fits = record {
+    machine = m;
+    job_is = refl;
+    turns_are = refl;
+    restarts_are = refl;
+    outcome_is = outcome_told m.stage o is;
+    done = ground_at m.stage o is fits.stage;
+  }

@@ -1,5 +1,5 @@
 -- What each step of a change needs of the pass's view, and what its answer says of the view after it.
-use Rattle.std.specs.Prelude.{ℕ}
+use Rattle.std.specs.Prelude.{ℕ, List, ⊤}
 use Rattle.art_attempt.specs.Asking as attempts
 use Rattle.art_attempt.specs.declared.asked.Answer.{Answer as AttemptAnswer}
 use Rattle.art_attempt.specs.declared.asked.Answer.TheVariants.{Word as word_told}
@@ -23,6 +23,11 @@ abbrev pub Answers : Sizes → Deed → Change → Asked → Answer → View →
 Answers z d c (Frame a) (told.Word x) v w = frames.Answers z a x v w
 Answers z d c (Attempt a) (told.Attempt r) v w = attempts.Answers z d c a r v w
 Answers z d c asked answer v w = ⊥
+
+-- where it was a check that succeeded, what was noted under the stamp held of a tree whose keys are all admitted
+abbrev pub PassesAmong : (List ℕ → Type 0) → Sizes → View → Asked → Answer → Type 0
+PassesAmong A z v (Attempt a) (told.Attempt r) = attempts.PassesAmong A z v a r
+PassesAmong A z v asked answer = ⊤
 
 abbrev pub word_in : Answer → ℕ
 word_in (told.Word x) = x

@@ -3,7 +3,7 @@ use Rattle.std.specs.Prelude.{◌≡◌, ◌<◌, ℕ, Option, Bool}
 use Rattle.std.specs.Option.{option_map}
 use Rattle.arrayvec.specs.ArrayVec.{ArrayVec}
 use Rattle.art_attempt.specs.Inserting as inserts
-use Rattle.art_attempt.specs.Inserting.{HasEntered, IsExhausted, IsFull, IsOverlap, IsPresent, IsTooLarge}
+use Rattle.art_attempt.specs.Inserting.{HasEntered, IsExhausted, IsFull, IsOverlap, IsPresent}
 use Rattle.art_attempt.specs.Trying.{HasSpent, IsKey, StillTries}
 use Rattle.art_attempt.specs.declared.asked.Asked.{Asked}
 use Rattle.art_attempt.specs.declared.inserting.Entered.{Entered}
@@ -13,7 +13,7 @@ use Rattle.art_attempt.specs.declared.rooms.Room.{Room}
 use Rattle.art_change.specs.declared.tries.Job.{Job}
 use Rattle.art_change.specs.declared.tries.Job.TheVariants.{Insert, Remove}
 use Rattle.art_change.specs.declared.tries.Tried.{Tried}
-use Rattle.art_change.specs.declared.tries.Tried.TheVariants.{New, Present, Gone, Absent, Full, Exhausted, Overlaps, TooMany, Anew}
+use Rattle.art_change.specs.declared.tries.Tried.TheVariants.{New, Present, Gone, Absent, Full, Exhausted, Overlaps, Anew}
 use Rattle.art_change.specs.declared.tries.Trying.{Trying}
 use Rattle.art_change.specs.declared.tries.Trying.TheVariants.{Inserting, Erasing}
 use Rattle.art_erase.specs.Erasing as erases
@@ -45,14 +45,12 @@ of_entered (entered.Present stands) = Present stands
 of_entered (entered.Full pool) = Full pool
 of_entered (entered.Exhausted c) = Exhausted c
 of_entered entered.Overlaps = Overlaps
-of_entered entered.TooMany = TooMany
 of_entered entered.Anew = Anew
 
 abbrev pub of_erased : Erased → Tried
 of_erased (erased.Gone value) = Gone value
 of_erased erased.Absent = Absent
 of_erased (erased.Exhausted c) = Exhausted c
-of_erased erased.TooMany = TooMany
 of_erased erased.Anew = Anew
 
 -- how it ended, if it has
@@ -122,7 +120,6 @@ InsertEnds z u m r (Present stands) v = IsPresent z u r stands v
 InsertEnds z u m r (Full pool) v = EndsSo z u Insert r v × IsFull z u m.stand r pool v
 InsertEnds z u m r (Exhausted c) v = EndsSo z u Insert r v × IsExhausted z u m.stand r c v
 InsertEnds z u m r Overlaps v = EndsSo z u Insert r v × IsOverlap z u m.stand r v
-InsertEnds z u m r TooMany v = EndsSo z u Insert r v × IsTooLarge z u m.stand r v
 InsertEnds z u m r Anew v = EndsSo z u Insert r v × (u.failures < v.failures)
 InsertEnds z u m r e v = ⊥
 
@@ -131,7 +128,6 @@ abbrev pub EraseEnds : Sizes → View → Erasure → Room → Tried → View �
 EraseEnds z u m r (Gone value) v = HasErased z u r value v
 EraseEnds z u m r Absent v = IsAbsent z u r v
 EraseEnds z u m r (Exhausted c) v = EndsSo z u Remove r v × erases.IsExhausted z u m.stand m.way m.lowering r c v
-EraseEnds z u m r TooMany v = EndsSo z u Remove r v × erases.IsTooLarge z u m.stand m.way m.lowering r v
 EraseEnds z u m r Anew v = EndsSo z u Remove r v × (u.failures < v.failures)
 EraseEnds z u m r e v = ⊥
 
@@ -147,3 +143,10 @@ abbrev pub IsAnewBy : Trying → Trying → CellAnswer → Type 0
 IsAnewBy (Inserting m) (Inserting next) answer = inserts.IsAnewBy m.stage next.making answer
 IsAnewBy (Erasing m) (Erasing next) answer = erases.IsAnewBy m.stage next.making answer
 IsAnewBy t next answer = ⊥
+
+-- ---- why it ends as an overlap
+
+-- of an insert; a removal never does
+abbrev pub IsOverlapBy : Trying → CellAnswer → Type 0
+IsOverlapBy (Inserting m) answer = inserts.IsOverlapBy m answer
+IsOverlapBy (Erasing m) answer = ⊥

@@ -17,7 +17,7 @@ use Rattle.art_change.specs.declared.tries.Tried.{Tried}
 use Rattle.art_change.specs.declared.tries.Tried.TheVariants as tried
 use Rattle.art_change.specs.declared.tries.Trying.{Trying}
 use Rattle.art_change.specs.declared.writes.Outcome.{Outcome}
-use Rattle.art_change.specs.declared.writes.Outcome.TheVariants.{New, Present, Gone, Absent, Full, Exhausted, Overlaps, TooMany, Busy, Crowded}
+use Rattle.art_change.specs.declared.writes.Outcome.TheVariants.{New, Present, Gone, Absent, Full, Exhausted, Overlaps, Busy, Crowded}
 use Rattle.art_change.specs.declared.writes.Stage.{Stage}
 use Rattle.art_change.specs.declared.writes.Stage.TheVariants as stage
 use Rattle.art_change.specs.declared.writes.Write.{Write}
@@ -110,7 +110,6 @@ outcome_of left tried.Absent = Some Absent
 outcome_of left (tried.Full pool) = Some (or_busy left (Full pool))
 outcome_of left (tried.Exhausted c) = Some (Exhausted c)
 outcome_of left tried.Overlaps = Some (or_busy left Overlaps)
-outcome_of left tried.TooMany = Some (or_busy left TooMany)
 outcome_of left tried.Anew = None
 
 -- a row with this key and this value, and a leaf that had them
@@ -137,7 +136,6 @@ HasOutcome z u j t r Absent left v = EndFits z u j t r tried.Absent v
 HasOutcome z u j t r (Full pool) left v = EndFits z u j t r (tried.Full pool) v
 HasOutcome z u j t r (Exhausted c) left v = EndFits z u j t r (tried.Exhausted c) v
 HasOutcome z u j t r Overlaps left v = EndFits z u j t r tried.Overlaps v
-HasOutcome z u j t r TooMany left v = EndFits z u j t r tried.TooMany v
 HasOutcome z u j t r Busy left v = EndsSo z u j r v × (left ≡ 0)
 HasOutcome z u j t r (Crowded b) left v = ⊥
 
@@ -274,6 +272,7 @@ pub record HasGround (z : Sizes) (u : View) (j : Job) (ps : List Place) (turns r
   pub job_is : machine.job ≡ j
   pub turns_are : machine.turns ≡ turns
   pub restarts_are : machine.restarts ≡ restarts
+  pub outcome_is : machine.outcome ≡ o
   pub done : IsDone z u ps o machine r qs v
 
 -- so many steps were counted as there were turns, and in a table within its limits these are few beside the failures
@@ -289,6 +288,19 @@ pub record HasCounted (z : Sizes) (u : View) (turns restarts : ℕ) (o : Outcome
 -- it did not try anew, or this answer to its attempt was why
 abbrev pub RestartsBy : Write → Write → AttemptAnswer → Type 0
 RestartsBy m next answer = (next.restarts ≡ m.restarts) ⊎ ((t : Trying) × tries.IsAnewBy m.trying t (cell_in answer))
+
+-- ---- an overlap
+
+-- the outcome is not that a key begins the other
+abbrev pub IsApart : Write → Type 0
+IsApart m = m.outcome ≢ Overlaps
+
+-- that became the outcome only where this answer to its attempt was why
+abbrev pub OverlapsBy : Write → Write → AttemptAnswer → Type 0
+OverlapsBy m next answer = next.outcome ≡ Overlaps → (m.outcome ≡ Overlaps) ⊎
+    ((m.stage ≡ stage.Trying) × tries.IsOverlapBy m.trying (cell_in answer))
+
+-- ---- what is answered
 
 -- the pass is idle and holds nothing; limbo is as the code has it; it made the event of the outcome, or none
 pub record HasAnswered (z : Sizes) (u : View) (j : Job) (o : Outcome) (k : ArrayVec ℕ) (value : ℕ) (qs : List Place) (v : View)

@@ -1,17 +1,19 @@
 //! Makes the steps of a write.
-ghost use Rattle.std.specs.Prelude.{◌≡◌, ℕ, ◌+◌, ◌<◌, ◌≤◌, List, None, Some};
+ghost use Rattle.std.specs.Prelude.{◌≡◌, ◌≢◌, ℕ, ◌+◌, ◌<◌, ◌≤◌, List, None, Some};
 ghost use Rattle.art_attempt.specs.declared.asked.Asked.{Asked as AttemptAsked};
 ghost use Rattle.art_attempt.specs.declared.asked.Asked.TheVariants.{Change as change_asked};
-ghost use Rattle.art_change.specs.Asking.{Answers, IsAllowed};
+ghost use Rattle.art_change.specs.Asking.{Answers, IsAllowed, PassesAmong};
 ghost use Rattle.art_change.specs.Tries.{IsRoom, SameKey, deed_at, key_of, value_of};
 ghost use Rattle.art_change.specs.Made.{IsMadeBy, key_by};
 ghost use Rattle.art_change.specs.Asking.{attempt_in};
-ghost use Rattle.art_change.specs.Writes.{Fits, HasAnswered, HasCounted, HasGround, IsReady, RestartsBy, WillRefuse, asks, deed_at as deed_of};
+ghost use Rattle.art_change.specs.Writes.{Fits, HasAnswered, HasCounted, HasGround, IsApart, IsReady, RestartsBy, WillRefuse, asks, deed_at as deed_of};
 ghost use Rattle.art_change.specs.Writes.{ended_at, most_steps, steps_left};
 ghost use Rattle.art_change.specs.declared.asked.Asked.TheVariants.{Attempt as attempt_asked};
+ghost use Rattle.art_change.specs.declared.writes.Outcome.TheVariants.{Overlaps as overlaps};
 ghost use Rattle.art_epoch.specs.Limbo.{places_of};
 ghost use Rattle.art_epoch.specs.declared.limbo.Place.{Place};
 ghost use Rattle.art_make.specs.declared.asked.Asked.{Asked as ChangeAsked};
+ghost use Rattle.art_step.specs.Histories.{AreApart};
 ghost use Rattle.art_step.specs.declared.views.View.{View};
 
 use crate::{Answer, Asked, Job, Trying, Write, Written};
@@ -35,6 +37,7 @@ fn make<S: EpochSteps>(steps: &mut S, asked: Asked, trying: &Trying, room: &Room
     ensures only { S.only steps.old steps.new }
     ensures row { Answers (S.sizes steps.old) (deed_at trying.now room.now) room.now.change asked result
         (S.view steps.old) (S.view steps.new) }
+    ensures keys { PassesAmong (S.admits steps.old) (S.sizes steps.old) (S.view steps.old) asked result }
 {
     match asked {
         Asked::Frame(asked) => Answer::Word(make_frame(steps, asked)),
@@ -75,6 +78,7 @@ pub fn step<S: EpochSteps>(
         (S.view steps.old) (S.view steps.new) }
     ensures restarts { RestartsBy write.old write.new (attempt_in result.answer) }
     ensures refuses { WillRefuse write.old → WillRefuse write.new }
+    ensures apart { AreApart (S.admits steps.old) → IsApart write.old → IsApart write.new }
     ensures one { (S.view steps.new).steps ≤ (S.view steps.old).steps + 1 }
     ensures left { steps_left write.new room.new (places_of limbo.new) < steps_left write.old room.old (places_of limbo.old) }
     ensures fits { (u : View) (ps : List Place) →
@@ -108,6 +112,7 @@ pub(crate) fn write<S: EpochSteps>(
         (places_of limbo.new) (S.view steps.new) }
     ensures grounds { HasGround (S.sizes steps.old) (S.view steps.old) job (places_of limbo.old) turns result.restarts result.outcome
         room.new (places_of limbo.new) (S.view steps.new) }
+    ensures apart { AreApart (S.admits steps.old) → result.outcome ≢ overlaps }
     ensures counted { HasCounted (S.sizes steps.old) (S.view steps.old) turns result.restarts result.outcome (S.view steps.new) }
     ensures ready { IsReady (S.sizes steps.old) (S.view steps.new) own (places_of limbo.new) room.new.stock }
     ensures steps { (S.view steps.new).steps ≤

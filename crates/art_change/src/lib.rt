@@ -31,7 +31,9 @@
 //! Each step may be made, and each answer keeps what the machine knows (`Fits`). When it has ended (`IsDone`), either limbo was
 //! crowded and nothing was pinned, or the frame was opened, the last attempt ended so (`HasOutcome`, with the grounds of each
 //! refusal), and the frame is closed: the pass is idle and has nothing in hand. `Busy` comes only where as many steps were made
-//! as turns were given, and these are few beside the failures that were met; each restart was a failure (`HasCounted`).
+//! as turns were given, and these are few beside the failures that were met; each restart was a failure (`HasCounted`). `Overlaps`
+//! never comes where no admitted key begins another, as those of one schema never do: the check of such a place shows a tree with
+//! two keys, both admitted, of which one begins the other (`apart` of `step` and of the calls).
 #![tactic(auto)]
 
 mod asked;

@@ -5,9 +5,9 @@ ghost use Rattle.art_attempt.specs.Inserting.{tries_left};
 ghost use Rattle.art_attempt.specs.Trying.{StillTries};
 ghost use Rattle.art_attempt.specs.declared.asked.Asked.{Asked as AskedStep};
 ghost use Rattle.art_attempt.specs.declared.rooms.Room.{Room as RoomOf};
-ghost use Rattle.art_change.specs.Tries.{EndsSo, Fits, HasHand, IsAnewBy, IsRoom, SameKey, asks, deed_at, ended_at, is_free, of_entered, of_erased, steps_left};
+ghost use Rattle.art_change.specs.Tries.{EndsSo, Fits, HasHand, IsAnewBy, IsOverlapBy, IsRoom, SameKey, asks, deed_at, ended_at, is_free, of_entered, of_erased, steps_left};
 ghost use Rattle.art_change.specs.declared.tries.Job.{Job as JobOf};
-ghost use Rattle.art_change.specs.declared.tries.Tried.TheVariants.{Anew as anew};
+ghost use Rattle.art_change.specs.declared.tries.Tried.TheVariants.{Anew as anew, Overlaps as overlaps};
 ghost use Rattle.art_step.specs.declared.views.Sizes.{Sizes};
 ghost use Rattle.art_step.specs.declared.views.View.{View};
 
@@ -41,8 +41,6 @@ pub enum Tried {
     Exhausted(Cell),
     /// A key begins the other.
     Overlaps,
-    /// The change has more words than one takes.
-    TooMany,
     /// A version word was locked, obsolete or changed: it may be tried anew.
     Anew,
 }
@@ -97,6 +95,7 @@ impl Trying {
         ensures left { (left : ℕ) → (is_free self.old ≡ true → 0 < left) →
             steps_left (left - steps_in answer) self.new < steps_left left self.old }
         ensures anew { ended_at self.new ≡ Some anew → IsAnewBy self.old self.new (cell_in answer) }
+        ensures overlaps { ended_at self.new ≡ Some overlaps → IsOverlapBy self.old (cell_in answer) }
     {
         match self {
             Trying::Inserting(inserting) => inserting.told(room, answer),
@@ -137,7 +136,6 @@ fn of_entered(entered: Entered) -> Tried
         Entered::Full(pool) => Tried::Full(pool),
         Entered::Exhausted(cell) => Tried::Exhausted(cell),
         Entered::Overlaps => Tried::Overlaps,
-        Entered::TooMany => Tried::TooMany,
         Entered::Anew => Tried::Anew,
     }
 }
@@ -150,7 +148,6 @@ fn of_erased(erased: Erased) -> Tried
         Erased::Gone(value) => Tried::Gone(value),
         Erased::Absent => Tried::Absent,
         Erased::Exhausted(cell) => Tried::Exhausted(cell),
-        Erased::TooMany => Tried::TooMany,
         Erased::Anew => Tried::Anew,
     }
 }

@@ -1,8 +1,10 @@
 //! What a pass keeps beside the table to change it.
-ghost use Rattle.std.specs.Prelude.{◌≡◌, ◌+◌, ◌≤◌};
+ghost use Rattle.std.specs.Prelude.{◌≡◌, ◌≢◌, ◌+◌, ◌≤◌};
 ghost use Rattle.art_change.specs.Writes.{HasAnswered, HasCounted, HasGround, most_steps};
 ghost use Rattle.art_change.specs.declared.tries.Job.TheVariants as jobs;
+ghost use Rattle.art_change.specs.declared.writes.Outcome.TheVariants.{Overlaps as overlaps};
 ghost use Rattle.art_epoch.specs.Limbo.{places_of};
+ghost use Rattle.art_step.specs.Histories.{AreApart};
 ghost use Rattle.art_step.specs.declared.views.View.{View};
 
 use crate::driver::write;
@@ -57,6 +59,7 @@ impl Writer {
         ensures row { (self.new.room.row.key ≡ key.now) × (self.new.room.row.value ≡ value) }
         ensures grounds { HasGround (S.sizes steps.old) (S.view steps.old) jobs.Insert (places_of self.old.limbo) turns result.restarts
             result.outcome self.new.room (places_of self.new.limbo) (S.view steps.new) }
+        ensures apart { AreApart (S.admits steps.old) → result.outcome ≢ overlaps }
         ensures counted { HasCounted (S.sizes steps.old) (S.view steps.old) turns result.restarts result.outcome (S.view steps.new) }
         ensures may { IsWriter (S.sizes steps.old) (S.view steps.new) self.new }
         ensures steps { (S.view steps.new).steps ≤
@@ -77,6 +80,7 @@ impl Writer {
         ensures key { self.new.room.gone.key ≡ key.now }
         ensures grounds { HasGround (S.sizes steps.old) (S.view steps.old) jobs.Remove (places_of self.old.limbo) turns result.restarts
             result.outcome self.new.room (places_of self.new.limbo) (S.view steps.new) }
+        ensures apart { AreApart (S.admits steps.old) → result.outcome ≢ overlaps }
         ensures counted { HasCounted (S.sizes steps.old) (S.view steps.old) turns result.restarts result.outcome (S.view steps.new) }
         ensures may { IsWriter (S.sizes steps.old) (S.view steps.new) self.new }
         ensures steps { (S.view steps.new).steps ≤

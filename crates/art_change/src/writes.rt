@@ -7,11 +7,12 @@ ghost use Rattle.art_attempt.specs.declared.rooms.Room.{Room as RoomOf};
 ghost use Rattle.art_change.specs.Asking.{Answers, attempt_in};
 ghost use Rattle.art_change.specs.Tries.{EndFits, HasHand, IsRoom, SameKey, asks as attempt_asks, is_free, key_of, value_of};
 ghost use Rattle.art_change.specs.Tries as tries;
-ghost use Rattle.art_change.specs.Writes.{Fits, HasAnswered, HasBegun, HasCounted, HasGround, HasOutcome, HasTurn, IsClosing, IsOpening, IsReady, IsTrying, MayWrite, RestartsBy, WasOpened};
+ghost use Rattle.art_change.specs.Writes.{Fits, HasAnswered, HasBegun, HasCounted, HasGround, HasOutcome, HasTurn, IsApart, IsClosing, IsOpening, IsReady, IsTrying, MayWrite, OverlapsBy, RestartsBy, WasOpened};
 ghost use Rattle.art_change.specs.Writes.{HoldsOrTold, WillRefuse, is_refusal, turns_used};
 ghost use Rattle.art_change.specs.Writes.{asks, asks_at, deed_at, ended_at, ended_left, gone_by, left_at, most_steps, or_busy, outcome_of, steps_left};
 ghost use Rattle.art_change.specs.declared.asked.Asked.{Asked as AskedStep};
-ghost use Rattle.art_change.specs.declared.tries.Tried.TheVariants.{Anew as anew};
+ghost use Rattle.art_change.specs.declared.tries.Tried.TheVariants.{Anew as anew, Overlaps as tried_overlaps};
+ghost use Rattle.art_change.specs.declared.writes.Outcome.TheVariants.{Overlaps as overlaps};
 ghost use Rattle.art_change.specs.declared.writes.Stage.TheVariants as stages;
 ghost use Rattle.art_epoch.specs.Asking.{Answers as FrameAnswers};
 ghost use Rattle.art_epoch.specs.Limbo.{places_of};
@@ -47,10 +48,8 @@ pub enum Outcome {
     Full(Pool),
     /// The counter of a cell that was to be locked is at its end.
     Exhausted(Cell),
-    /// A key begins the other.
+    /// A key begins the other. It never comes where no admitted key begins another.
     Overlaps,
-    /// The change has more words than one takes.
-    TooMany,
     /// All turns were used.
     Busy,
     /// Limbo had fewer than four places.
@@ -92,6 +91,7 @@ impl Write {
     pub fn new(job: Job, own: u32, turns: u32, room: &Room, limbo: &Limbo) -> Write
         ensures job { result.job ≡ job }
         ensures turns { (result.turns ≡ turns) × (result.restarts ≡ 0) }
+        ensures apart { IsApart result }
         ensures left { (z : Sizes) (u : View) → MayWrite z u own job (places_of limbo.now) room.now →
             steps_left result room.now (places_of limbo.now) ≤ most_steps turns z.passes (places_of limbo.now) }
         ensures fits { (z : Sizes) (u : View) → MayWrite z u own job (places_of limbo.now) room.now →
@@ -136,6 +136,7 @@ impl Write {
         ensures turns { self.new.turns ≡ self.old.turns }
         ensures restarts { RestartsBy self.old self.new (attempt_in answer) }
         ensures refuses { WillRefuse self.old → WillRefuse self.new }
+        ensures overlaps { OverlapsBy self.old self.new (attempt_in answer) }
         ensures key { SameKey self.old.job room.old room.new }
         ensures fits { (z : Sizes) (u v w : View) (ps : List Place) (asked : AskedStep) →
             Fits z u ps self.old room.old (places_of limbo.old) v → asks self.old room.old (places_of limbo.old) ≡ Some asked →
@@ -178,6 +179,7 @@ impl Write {
         ensures turns { result ≡ true → self.new.turns ≡ turns_used self.old }
         ensures left { result ≡ true → (qs : List Place) → steps_left self.new room.now qs ≤ steps_left self.old room.now qs }
         ensures refuses { result ≡ true → WillRefuse self.new }
+        ensures apart { IsApart self.old → IsApart self.new }
         ensures fits { (z : Sizes) (u v : View) (ps qs : List Place) → Fits z u ps self.old room.now qs v →
             Fits z u ps self.new room.now qs v }
         ensures kept { result ≡ false → self.new ≡ self.old }
@@ -203,6 +205,7 @@ impl Write {
         ensures turns { result ≡ true → self.new.turns ≡ self.old.turns - self.old.left }
         ensures left { result ≡ true → (qs : List Place) → steps_left self.new room.now qs ≤ 7 }
         ensures refuses { result ≡ true → WillRefuse self.new }
+        ensures apart { IsApart self.old → IsApart self.new }
         ensures fits { (z : Sizes) (u v : View) (ps qs : List Place) → Fits z u ps self.old room.now qs v →
             Fits z u ps self.new room.now qs v }
         ensures kept { result ≡ false → self.new ≡ self.old }
@@ -274,6 +277,7 @@ impl Write {
         ensures turns { self.new.turns ≡ self.old.turns }
         ensures restarts { self.new.restarts ≡ self.old.restarts }
         ensures refuses { self.old.left ≡ 0 → WillRefuse self.new }
+        ensures overlaps { self.new.outcome ≡ overlaps → self.old.outcome ≡ overlaps }
         ensures left { steps_left self.new room.now (places_of limbo.new) < left_at stages.Opening self.old room.now (places_of limbo.old) }
         ensures fits { (z : Sizes) (u v w : View) (ps : List Place) (asked : FrameAsked) → IsRoom z self.old.job room.now →
             IsOpening z u ps self.old room.now (places_of limbo.old) v →
@@ -297,6 +301,7 @@ impl Write {
         ensures turns { self.new.turns ≡ self.old.turns }
         ensures restarts { self.new.restarts ≡ self.old.restarts }
         ensures refuses { self.old.left ≡ 0 → WillRefuse self.new }
+        ensures overlaps { self.new.outcome ≡ overlaps → self.old.outcome ≡ overlaps }
         ensures left { (qs : List Place) → steps_left self.new room.now qs ≤ tries_left self.old.left + 7 }
         ensures fits { (z : Sizes) (u opened v : View) (ps qs : List Place) → IsRoom z self.old.job room.now → WasOpened z u opened ps qs →
             HasBegun z opened self.old.restarts v → HasHand z self.old.job v room.now →
@@ -316,6 +321,7 @@ impl Write {
         ensures job { self.new.job ≡ self.old.job }
         ensures turns { self.new.turns ≡ self.old.turns }
         ensures restarts { self.new.restarts ≡ self.old.restarts }
+        ensures outcome { self.new.outcome ≡ outcome }
         ensures left { (qs : List Place) → steps_left self.new room.now qs ≤ 7 }
         ensures fits { (z : Sizes) (u opened began v : View) (ps qs : List Place) → IsRoom z self.old.job room.now →
             WasOpened z u opened ps qs → HasBegun z opened self.old.restarts began →
@@ -338,6 +344,7 @@ impl Write {
         ensures job { self.new.job ≡ self.old.job }
         ensures turns { self.new.turns ≡ self.old.turns }
         ensures restarts { RestartsBy self.old self.new answer }
+        ensures overlaps { OverlapsBy self.old self.new answer }
         ensures key { SameKey self.old.job room.old room.new }
         ensures fits { (z : Sizes) (u v w : View) (ps qs : List Place) (asked : AttemptAsked) → IsRoom z self.old.job room.old →
             IsTrying z u ps self.old room.old qs v → attempt_asks self.old.trying room.old ≡ Some asked →
@@ -358,6 +365,7 @@ impl Write {
         ensures job { self.new.job ≡ self.old.job }
         ensures turns { self.new.turns ≡ self.old.turns }
         ensures restarts { self.new.restarts ≡ self.old.restarts }
+        ensures overlaps { self.new.outcome ≡ overlaps → self.old.outcome ≡ overlaps }
         ensures left { (qs : List Place) → steps_left self.new room.now qs ≤ left_at stages.Trying self.old room.now qs }
         ensures fits { (z : Sizes) (u v : View) (ps qs : List Place) → IsRoom z self.old.job room.now →
             IsTrying z u ps self.old room.now qs v → Fits z u ps self.new room.now qs v }
@@ -374,6 +382,7 @@ impl Write {
         ensures job { self.new.job ≡ self.old.job }
         ensures turns { self.new.turns ≡ self.old.turns }
         ensures restarts { (self.new.restarts ≡ self.old.restarts) ⊎ (tried ≡ anew) }
+        ensures overlaps { self.new.outcome ≡ overlaps → (self.old.outcome ≡ overlaps) ⊎ (tried ≡ tried_overlaps) }
         ensures left { (qs : List Place) → steps_left self.new room.now qs ≤ ended_left self.old.left tried + 7 }
         ensures fits { (z : Sizes) (u opened began v : View) (ps qs : List Place) → IsRoom z self.old.job room.now →
             WasOpened z u opened ps qs → HasBegun z opened self.old.restarts began →
@@ -399,6 +408,7 @@ impl Write {
         ensures turns { self.new.turns ≡ self.old.turns }
         ensures restarts { self.new.restarts ≡ self.old.restarts }
         ensures refuses { is_refusal self.old.outcome ≡ true → WillRefuse self.new }
+        ensures outcome { self.new.outcome ≡ self.old.outcome }
         ensures key { SameKey self.old.job room.old room.new }
         ensures fits { (z : Sizes) (u v w : View) (ps : List Place) (asked : FrameAsked) → IsRoom z self.old.job room.old →
             IsClosing z u ps self.old room.old (places_of limbo.old) v → closing_asks self.old.closing room.old.stock ≡ Some asked →
@@ -437,7 +447,6 @@ fn outcome_of(left: u32, tried: Tried) -> Option<Outcome>
         Tried::Full(pool) => Some(or_busy(left, Outcome::Full(pool))),
         Tried::Exhausted(cell) => Some(Outcome::Exhausted(cell)),
         Tried::Overlaps => Some(or_busy(left, Outcome::Overlaps)),
-        Tried::TooMany => Some(or_busy(left, Outcome::TooMany)),
         Tried::Anew => None,
     }
 }

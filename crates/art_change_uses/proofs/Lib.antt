@@ -1,1 +1,1 @@
-pub mod Ready
+mod Ready

@@ -10,14 +10,13 @@ use Rattle.art_cell.specs.declared.cells.Cell.{Cell}
 use Rattle.art_cell.specs.declared.cells.Cell.TheVariants as cell
 use Rattle.art_cell.specs.declared.cells.Link.TheVariants.{Leaf as leaf, Node as node}
 use Rattle.art_cell.specs.declared.cells.Node.{Node}
-use Rattle.art_choose.specs.Plans.{DropsTooMuch, HasFound}
+use Rattle.art_choose.specs.Plans.{HasFound}
 use Rattle.art_choose.specs.Seen.{IsSeen}
 use Rattle.art_decide.proofs.AboveSites.{below_there, named_fits}
-use Rattle.art_decide.proofs.ChildSites.{site_deep, site_fits, site_is_in, site_taken, slot_has, stamp_in}
+use Rattle.art_decide.proofs.ChildSites.{site_deep, site_fits, site_taken, slot_has, stamp_in}
 use Rattle.art_decide.proofs.SeenBodies.{low_byte, seen_body, seen_child, stands, word_named}
 use Rattle.art_decide.proofs.WholeCells.{IsWhole, node_whole}
 use Rattle.art_decide.specs.Bodies.{IsFilled, site_in}
-use Rattle.art_decide.specs.Plans.{IsSiteIn}
 use Rattle.art_decide.specs.Seen.{WasSeen}
 use Rattle.art_find.specs.Verdicts.{IsFound, Says}
 use Rattle.art_find.specs.declared.verdicts.Verdict.{Verdict}
@@ -27,7 +26,7 @@ use Rattle.art_place.specs.Findings.{IsStanding}
 use Rattle.art_place.specs.declared.desks.Desk.{Desk}
 use Rattle.art_place.specs.declared.findings.Above.{Above}
 use Rattle.art_place.specs.declared.findings.Stand.{Stand}
-use Rattle.art_plan.specs.Puts.{DropTakesMany, IsTaken}
+use Rattle.art_plan.specs.Puts.{IsTaken}
 use Rattle.art_plan.specs.Seen.{HasBelow}
 use Rattle.art_plan.specs.declared.sites.Site.{Site}
 use Rattle.art_remove.specs.Cases.{IsDrop, IsOldLeaf}
@@ -114,7 +113,3 @@ module _ (z : Sizes) (t : Stand) (desk : Desk) (old : OldLeaf) (is : HasFound t 
       place = site_fits z u t.stamp (node_of desk) (node_whole z k t desk u standing seen.1) (leaf old.number) k t.depth standing.deep (child u standing) body filled low;
       old_leaf = subst (λ (x : Stamp). IsOldLeaf z u x old) (sym (stamp_in t.stamp body last)) (found_leaf seen u standing);
     }
-
-    -- or it was refused
-    pub drop_refused : (site : Site) → site ≡ site_in t.stamp body last → DropTakesMany site → DropsTooMuch t desk
-    drop_refused site named many = (site, subst (IsSiteIn t.stamp (node_of desk)) (sym named) (site_is_in t.stamp (node_of desk) body last filled), many)

@@ -1,5 +1,5 @@
 -- The other child is a node, which was read whole too: what the plan knows that puts it in the node's place.
-use Rattle.std.proofs.Common.{◌≡◌, ◌≢◌, ◌⊎◌, ℕ, ◌-◌, ◌<◌, List, get_or, Option, Some, None, refl, sym, ap, ◌∙◌, subst, inl, inr, ⊎_elim}
+use Rattle.std.proofs.Common.{◌≡◌, ◌≢◌, ℕ, ◌-◌, ◌<◌, List, get_or, Option, Some, None, refl, sym, ap, ◌∙◌, subst}
 use Rattle.std.specs.Borrow.{Bor}
 use Rattle.art_cell.specs.Bodies.{IsBody}
 use Rattle.art_cell.specs.Children.{child_word}
@@ -11,15 +11,14 @@ use Rattle.art_cell.specs.declared.cells.Cell.TheVariants as cell
 use Rattle.art_cell.specs.declared.cells.Link.TheVariants.{Leaf as leaf, Node as node}
 use Rattle.art_cell.specs.declared.cells.Node.{Node}
 use Rattle.art_choose.proofs.FoundLeaves.{found_below, found_leaf, found_stands, found_whole}
-use Rattle.art_choose.specs.Plans.{ArePartsOf, HasFound, HasOther, MayNotMerge}
+use Rattle.art_choose.specs.Plans.{ArePartsOf, HasFound, HasOther}
 use Rattle.art_choose.specs.Seen.{AreSeen, IsLowerSeen, IsSeen, StillKnown}
 use Rattle.art_choose.specs.declared.lowers.Lower.{Lower}
-use Rattle.art_decide.proofs.ChildSites.{site_is_in, stamp_in}
+use Rattle.art_decide.proofs.ChildSites.{stamp_in}
 use Rattle.art_decide.proofs.PrefixBytes.{prefix_seen}
 use Rattle.art_decide.proofs.SeenBodies.{seen_body, seen_child}
 use Rattle.art_decide.proofs.WholeCells.{IsWhole, filled_agrees, read_whole}
 use Rattle.art_decide.specs.Bodies.{IsFilled, site_in}
-use Rattle.art_decide.specs.Plans.{IsSiteIn}
 use Rattle.art_path.specs.declared.prefixes.Parts.{Parts}
 use Rattle.art_place.specs.Desks.{above_of, node_of}
 use Rattle.art_place.specs.Findings.{IsStanding}
@@ -28,12 +27,11 @@ use Rattle.art_place.specs.declared.desks.Desk.{Desk}
 use Rattle.art_place.specs.declared.findings.Above.{Above}
 use Rattle.art_place.specs.declared.findings.Stand.{Stand}
 use Rattle.art_plan.proofs.SiteWords.{children_read, not_own_child}
-use Rattle.art_plan.specs.Puts.{BothTakeMany}
 use Rattle.art_plan.specs.Seen.{site_stamp}
 use Rattle.art_plan.specs.declared.sites.Site.{Site}
 use Rattle.art_remove.proofs.GoneNodes.{fits_there}
 use Rattle.art_remove.specs.Cases.{IsMergeNode}
-use Rattle.art_remove.specs.Removals.{HasPair, IsTooLong, joined}
+use Rattle.art_remove.specs.Removals.{HasPair}
 use Rattle.art_remove.specs.declared.leaves.OldLeaf.{OldLeaf}
 use Rattle.art_step.specs.Views.{size_of}
 use Rattle.art_step.specs.declared.views.Sizes.{Sizes}
@@ -108,22 +106,3 @@ module _ (t : Stand) (desk : Desk) (old : OldLeaf) (a : Above) (at : t.above ≡
         front = sym (are.front (word_of body.now) (filled_agrees n (node_of desk) body.now (filled n on)));
         rest = sym (are.rest (word_of low.now) (filled_agrees lower.node reads low.now (low-filled lower.node on-low)));
       }
-
-  -- or it was refused
-  pub merge_refused : (low : Body) → IsFilled lower.stamp.cell reads low → IsTooLong parts ⊎ BothTakeMany site (child_word (node lower.node)) low (joined parts) → MayNotMerge t desk lower reads
-  merge_refused low low-filled many = inr (
-    parts,
-    are,
-    ⊎_elim
-        (λ (long : IsTooLong parts). inl long)
-        (λ (much : BothTakeMany site (child_word (node lower.node)) low (joined parts)). inr (record {
-          above = a;
-          is = at;
-          site = site;
-          inside = subst (IsSiteIn a.stamp (above_of desk)) (sym named) (site_is_in a.stamp (above_of desk) upper (get_or old.key.items (a.depth - 1) 0) upper-filled);
-          body = low;
-          filled = low-filled lower.node on-low;
-          many = much;
-        }))
-        many,
-  )

@@ -18,20 +18,17 @@ use Rattle.art_choose.proofs.LeftChildren.{goes_two}
 use Rattle.art_choose.proofs.ListedPairs.{two_listed}
 use Rattle.art_choose.specs.Losses.{loss_at}
 use Rattle.art_choose.specs.Others.{IsBeside, IsReadOf}
-use Rattle.art_choose.specs.Plans.{HasFound, HasOther, PutsTooMuch}
+use Rattle.art_choose.specs.Plans.{HasFound, HasOther}
 use Rattle.art_choose.specs.Seen.{AreSeen, IsSeen}
 use Rattle.art_choose.specs.declared.losses.Loss.TheVariants.{Merges}
-use Rattle.art_decide.proofs.ChildSites.{site_is_in}
 use Rattle.art_decide.proofs.SeenBodies.{low_byte, seen_child, word_named}
 use Rattle.art_decide.specs.Bodies.{HasWords, IsFilled, site_in}
-use Rattle.art_decide.specs.Plans.{IsSiteIn}
 use Rattle.art_place.specs.Desks.{above_of, node_of}
 use Rattle.art_place.specs.Findings.{IsStanding}
 use Rattle.art_place.specs.Rereadings.{AreKnown}
 use Rattle.art_place.specs.declared.desks.Desk.{Desk}
 use Rattle.art_place.specs.declared.findings.Above.{Above}
 use Rattle.art_place.specs.declared.findings.Stand.{Stand}
-use Rattle.art_plan.specs.Puts.{TakesMany}
 use Rattle.art_plan.specs.declared.sites.Site.{Site}
 use Rattle.art_remove.specs.Cases.{IsMergeLeaf}
 use Rattle.art_remove.specs.Removals.{HasPair}
@@ -176,14 +173,4 @@ module _ (t : Stand) (desk : Desk) (old : OldLeaf) (a : Above) (at : t.above ≡
     there = found_below z t desk old is seen.node n on a at (seen.above a at) upper lower upper-filled lower-filled u site named standing low;
     old_leaf = found_leaf z t desk old is seen.node u standing;
     pair = other.pair lower.now (lower-filled other.node other.is);
-  }
-
-  -- or it was refused
-  pub other_refused : (d : Link) → TakesMany site (child_word d) → PutsTooMuch t desk d
-  other_refused d many = record {
-    above = a;
-    is = at;
-    site = site;
-    inside = subst (IsSiteIn a.stamp (above_of desk)) (sym named) (site_is_in a.stamp (above_of desk) upper (get_or old.key.items (a.depth - 1) 0) upper-filled);
-    many = many;
   }

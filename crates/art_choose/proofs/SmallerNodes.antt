@@ -6,25 +6,22 @@ use Rattle.art_cell.specs.Reads.{word_of}
 use Rattle.art_cell.specs.Words.{child_of}
 use Rattle.art_cell.specs.declared.bodies.Body.{Body}
 use Rattle.art_cell.specs.declared.cells.Cell.TheVariants as cell
-use Rattle.art_cell.specs.declared.cells.Link.TheVariants.{Leaf as leaf, Node as node}
+use Rattle.art_cell.specs.declared.cells.Link.TheVariants.{Leaf as leaf}
 use Rattle.art_cell.specs.declared.cells.Node.{Node}
 use Rattle.art_cell.specs.declared.layouts.Layout.{Layout}
 use Rattle.art_choose.proofs.FoundLeaves.{found_at, found_below, found_leaf, found_meaning}
 use Rattle.art_choose.proofs.LeftChildren.{gives_sparse, gives_to}
 use Rattle.art_choose.specs.Losses.{loss_at}
-use Rattle.art_choose.specs.Plans.{HasFound, HasSmaller, ShrinksTooMuch}
+use Rattle.art_choose.specs.Plans.{HasFound, HasSmaller}
 use Rattle.art_choose.specs.Seen.{AreSeen, IsSeen}
 use Rattle.art_choose.specs.declared.losses.Loss.TheVariants.{Shrinks}
 use Rattle.art_commit.specs.CommitLaws.{HasNode}
-use Rattle.art_decide.proofs.ChildSites.{site_is_in}
 use Rattle.art_decide.specs.Bodies.{IsFilled, site_in}
-use Rattle.art_decide.specs.Plans.{IsSiteIn}
 use Rattle.art_place.specs.Desks.{above_of, node_of}
 use Rattle.art_place.specs.Findings.{IsStanding}
 use Rattle.art_place.specs.declared.desks.Desk.{Desk}
 use Rattle.art_place.specs.declared.findings.Above.{Above}
 use Rattle.art_place.specs.declared.findings.Stand.{Stand}
-use Rattle.art_plan.specs.Puts.{TakesMany}
 use Rattle.art_plan.specs.declared.sites.Site.{Site}
 use Rattle.art_remove.specs.Cases.{IsShrink}
 use Rattle.art_remove.specs.Removals.{IsSparse, smaller_node}
@@ -53,18 +50,3 @@ module _ (z : Sizes) (t : Stand) (desk : Desk) (old : OldLeaf) (is : HasFound t 
       at = subst (λ (b : ℕ). child_of lower.now.layout (word_of lower.now) b ≡ Some (child_word (leaf old.number))) (sym byte-is) (found_at z t desk old is seen.node n on lower.now lower-filled);
       made = subst (λ (k : Layout). HasNode z u (record { layout = k; number = made })) (gives_to t desk m goes n on lower.now lower-filled) (hand m goes);
     }
-
-  -- or it was refused
-  pub shrink_refused : (a : Above) → t.above ≡ Some a → (upper : Bor Body) (lower : Body) → IsFilled a.stamp.cell (above_of desk) upper.now → IsFilled t.stamp.cell (node_of desk) lower → (made : ℕ) (site : Site)
-      → site ≡ site_in a.stamp upper (get_or old.key.items (a.depth - 1) 0) → TakesMany site (child_word (node (smaller_node lower made))) → ShrinksTooMuch t desk made
-  shrink_refused a at upper lower upper-filled lower-filled made site named many = (
-    m,
-    goes,
-    record {
-      above = a;
-      is = at;
-      site = site;
-      inside = subst (IsSiteIn a.stamp (above_of desk)) (sym named) (site_is_in a.stamp (above_of desk) upper (get_or old.key.items (a.depth - 1) 0) upper-filled);
-      many = subst (λ (k : Layout). TakesMany site (child_word (node (record { layout = k; number = made })))) (sym (gives_to t desk m goes n on lower lower-filled)) many;
-    },
-  )

@@ -6,7 +6,7 @@ use Rattle.art_cell.specs.Words.{Words, prefix_of}
 use Rattle.art_cell.specs.declared.bodies.Body.{Body}
 use Rattle.art_cell.specs.declared.cells.Cell.TheVariants as cell
 use Rattle.art_cell.specs.declared.cells.Link.{Link}
-use Rattle.art_cell.specs.declared.cells.Link.TheVariants.{Leaf as leaf, Node as node}
+use Rattle.art_cell.specs.declared.cells.Link.TheVariants.{Leaf as leaf}
 use Rattle.art_cell.specs.declared.cells.Node.{Node}
 use Rattle.art_cell.specs.declared.layouts.Layout.{Layout}
 use Rattle.art_choose.specs.Losses.{loss_at}
@@ -15,19 +15,16 @@ use Rattle.art_choose.specs.declared.losses.Loss.TheVariants.{Shrinks}
 use Rattle.art_choose.specs.declared.lowers.Lower.{Lower}
 use Rattle.art_commit.specs.CommitLaws.{HasNode}
 use Rattle.art_decide.specs.Bodies.{HasWords}
-use Rattle.art_decide.specs.Plans.{IsSiteIn}
 use Rattle.art_find.specs.declared.verdicts.Verdict.TheVariants.{Found}
 use Rattle.art_path.specs.declared.prefixes.Parts.{Parts}
-use Rattle.art_place.specs.Desks.{above_of, node_of}
+use Rattle.art_place.specs.Desks.{node_of}
 use Rattle.art_place.specs.Findings.{IsStanding}
 use Rattle.art_place.specs.declared.desks.Desk.{Desk}
 use Rattle.art_place.specs.declared.findings.Above.{Above}
 use Rattle.art_place.specs.declared.findings.Stand.{Stand}
 use Rattle.art_plan.specs.Changes.{IsPlanned}
-use Rattle.art_plan.specs.Puts.{BothTakeMany, DropTakesMany, TakesMany}
 use Rattle.art_plan.specs.declared.changes.Change.{Change}
-use Rattle.art_plan.specs.declared.sites.Site.{Site}
-use Rattle.art_remove.specs.Removals.{HasPair, IsTooLong, joined}
+use Rattle.art_remove.specs.Removals.{HasPair, IsTooLong}
 use Rattle.art_remove.specs.declared.leaves.OldLeaf.{OldLeaf}
 use Rattle.art_step.specs.declared.views.Sizes.{Sizes}
 use Rattle.art_step.specs.declared.views.Stamp.{Stamp}
@@ -57,10 +54,6 @@ IsAnyAt t lower x = IsEitherAt t x ⊎ (x ≡ lower.stamp)
 abbrev pub PlansDrop : Stand → Desk → OldLeaf → Change → Type 0
 PlansDrop t desk old c = (z : Sizes) (u : View) → IsSeen z old.key.items t desk → IsStanding z old.key.items t desk u → IsPlanned z u c
 
--- the words by which the cell, with those that were read of it, loses the leaf are more than a change takes
-abbrev pub DropsTooMuch : Stand → Desk → Type 0
-DropsTooMuch t desk = (site : Site) × IsSiteIn t.stamp (node_of desk) site × DropTakesMany site
-
 -- ---- the leaf and the node
 
 -- a node of the layout that the node may give way to is in hand with this number
@@ -72,18 +65,6 @@ HasSmaller z u t desk made = (k : Layout) → loss_at t desk ≡ Shrinks k → H
 abbrev pub PlansShrink : Stand → Desk → OldLeaf → ℕ → Change → Type 0
 PlansShrink t desk old made c = (z : Sizes) (u : View) → AreSeen z old.key.items t desk → IsStanding z old.key.items t desk u →
     HasSmaller z u t desk made → IsPlanned z u c
-
--- the words by which the cell above, with those that were read of it, gets this child are more than a change takes
-pub record PutsTooMuch (t : Stand) (desk : Desk) (d : Link) : Type 0 where
-  pub above : Above
-  pub is : t.above ≡ Some above
-  pub site : Site
-  pub inside : IsSiteIn above.stamp (above_of desk) site
-  pub many : TakesMany site (child_word d)
-
--- so it is with the smaller node
-abbrev pub ShrinksTooMuch : Stand → Desk → ℕ → Type 0
-ShrinksTooMuch t desk made = (k : Layout) × (loss_at t desk ≡ Shrinks k) × PutsTooMuch t desk (node (record { layout = k; number = made }))
 
 -- ---- the leaf and the node, which keeps one other child
 
@@ -112,24 +93,12 @@ abbrev pub PlansMergeNode : Stand → Desk → Lower → List (Option ℕ) → O
 PlansMergeNode t desk lower reads old c = (z : Sizes) (u : View) → AreSeen z old.key.items t desk → IsStanding z old.key.items t desk u →
     StillKnown z u lower reads → IsPlanned z u c
 
--- the words by which the cell above gets the lower node, and those by which this one gets its prefix, each with those that were read of
--- the cell, are more than a change takes
-pub record JoinsTooMuch (t : Stand) (desk : Desk) (lower : Lower) (reads : List (Option ℕ)) (parts : Parts) : Type 0 where
-  pub above : Above
-  pub is : t.above ≡ Some above
-  pub site : Site
-  pub inside : IsSiteIn above.stamp (above_of desk) site
-  pub body : Body
-  pub filled : HasWords lower.node reads body
-  pub many : BothTakeMany site (child_word (node lower.node)) body (joined parts)
-
 -- the cell above is the lower node
 pub record IsAlsoAbove (t : Stand) (lower : Lower) : Type 0 where
   pub above : Above
   pub is : t.above ≡ Some above
   pub same : above.stamp.cell ≡ lower.stamp.cell
 
--- so it is, or the joined prefix is too long, or there are too many words
+-- so it is, or the joined prefix is too long
 abbrev pub MayNotMerge : Stand → Desk → Lower → List (Option ℕ) → Type 0
-MayNotMerge t desk lower reads = IsAlsoAbove t lower ⊎
-    ((parts : Parts) × ArePartsOf desk lower reads parts × (IsTooLong parts ⊎ JoinsTooMuch t desk lower reads parts))
+MayNotMerge t desk lower reads = IsAlsoAbove t lower ⊎ ((parts : Parts) × ArePartsOf desk lower reads parts × IsTooLong parts)

@@ -1,7 +1,7 @@
 //! The leaf goes alone.
-ghost use Rattle.std.specs.Prelude.{◌≡◌, ◌≢◌, None, true, false};
+ghost use Rattle.std.specs.Prelude.{◌≡◌, ◌≢◌, None};
 ghost use Rattle.art_choose.specs.Losses.{loss_at};
-ghost use Rattle.art_choose.specs.Plans.{DropsTooMuch, HasFound, IsNodeAt, PlansDrop};
+ghost use Rattle.art_choose.specs.Plans.{HasFound, IsNodeAt, PlansDrop};
 ghost use Rattle.art_choose.specs.Seen.{IsSeen};
 ghost use Rattle.art_choose.specs.declared.losses.Loss.TheVariants as losses;
 ghost use Rattle.art_decide.specs.Plans.{LocksOnly};
@@ -15,25 +15,24 @@ use art_plan::Change;
 use art_remove::{OldLeaf, drop};
 
 /// The leaf goes, and the cell that names it stays: the anchor, or a node that keeps two children. All words of the cell were read
-/// and checked. False where the words are more than a change takes.
+/// and checked.
 pub fn plan_drop(
     change: &mut Change,
     bodies: &mut Bodies,
     stand: &Stand,
     desk: &Desk,
     old: &OldLeaf,
-) -> bool
+)
     requires found { HasFound stand.now old.now }
     requires stays { loss_at stand.now desk.now ≢ losses.Merges }
     requires seen { (z : Sizes) × IsSeen z old.now.key.items stand.now desk.now }
-    ensures planned { result ≡ true → PlansDrop stand.now desk.now old.now change.new }
-    ensures targets { result ≡ true → targets change.new ≡ 1 }
-    ensures locks { result ≡ true → LocksOnly (IsNodeAt stand.now) change.new }
+    ensures planned { PlansDrop stand.now desk.now old.now change.new }
+    ensures targets { targets change.new ≡ 1 }
+    ensures locks { LocksOnly (IsNodeAt stand.now) change.new }
     ensures deed { change.new.deed ≡ removed old.now }
     ensures leaf { change.new.leaf ≡ None }
-    ensures refused { result ≡ false → DropsTooMuch stand.now desk.now }
 {
     fill(&mut bodies.node, stand.stamp.cell, desk.node());
     let site = site_at(stand.stamp, &bodies.node, old.key.as_slice(), stand.depth);
-    drop(change, &site, old)
+    drop(change, &site, old);
 }

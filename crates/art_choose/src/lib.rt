@@ -71,9 +71,8 @@
 //! has the words that were read (`HasOther`); before that, if anything, what a child word names that was read. Of each plan: the
 //! change is a plan (`IsPlanned` of `art_plan`), for each pass that has seen the cells and has in hand what is needed (`PlansDrop`,
 //! `PlansShrink`, `PlansMerge`, `PlansMergeNode`). It removes the leaf's key, and locks one cell, two or three: only the one that
-//! names the leaf, the one above it, and the lower node, under their stamps (`IsNodeAt`, `IsEitherAt`, `IsAnyAt`). It answers false
-//! only where the words are more than a change takes (`DropsTooMuch`, `ShrinksTooMuch`, `PutsTooMuch`); `plan_merge_node` also where
-//! the lower node is the cell above, or the joined prefix has more than 64 bytes (`MayNotMerge`).
+//! names the leaf, the one above it, and the lower node, under their stamps (`IsNodeAt`, `IsEitherAt`, `IsAnyAt`). `plan_merge_node`
+//! alone may answer false, where the lower node is the cell above, or the joined prefix has more than 64 bytes (`MayNotMerge`).
 #![tactic(auto)]
 
 mod drops;

@@ -31,7 +31,7 @@ pub struct Lower {
 
 /// The leaf goes from a node that has one other child, this node: it takes the node's place in the cell above, and its prefix becomes
 /// the node's, the byte, and its own. All words of the three cells were read and checked. False where the cell above is the lower
-/// node, the joined prefix is too long, or the words are more than a change takes.
+/// node, or the joined prefix is too long.
 pub fn plan_merge_node(
     change: &mut Change,
     bodies: &mut Bodies,

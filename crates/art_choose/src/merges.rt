@@ -1,7 +1,7 @@
 //! The leaf goes, and the node that names it gives way to its one other child.
-ghost use Rattle.std.specs.Prelude.{◌≡◌, ℕ, None, true, false};
+ghost use Rattle.std.specs.Prelude.{◌≡◌, ℕ, None};
 ghost use Rattle.art_cell.specs.declared.cells.Link.TheVariants.{Leaf as leaf_link};
-ghost use Rattle.art_choose.specs.Plans.{HasFound, HasOther, IsEitherAt, PlansMerge, PutsTooMuch};
+ghost use Rattle.art_choose.specs.Plans.{HasFound, HasOther, IsEitherAt, PlansMerge};
 ghost use Rattle.art_choose.specs.Seen.{AreSeen};
 ghost use Rattle.art_decide.specs.Plans.{LocksOnly};
 ghost use Rattle.art_plan.specs.Changes.{targets};
@@ -15,7 +15,7 @@ use art_plan::{Below, Change};
 use art_remove::{OldLeaf, merge_leaf};
 
 /// The leaf goes from a node that has one other child, this leaf: that one takes the node's place in the cell above. All words of
-/// both cells were read and checked. False where the words are more than a change takes.
+/// both cells were read and checked.
 pub fn plan_merge_leaf(
     change: &mut Change,
     bodies: &mut Bodies,
@@ -23,16 +23,15 @@ pub fn plan_merge_leaf(
     desk: &Desk,
     old: &OldLeaf,
     other: u32,
-) -> bool
+)
     requires found { HasFound stand.now old.now }
     requires other { (beside : ℕ) × HasOther stand.now desk.now old.now beside (leaf_link other) }
     requires seen { (z : Sizes) × AreSeen z old.now.key.items stand.now desk.now }
-    ensures planned { result ≡ true → PlansMerge stand.now desk.now old.now change.new }
-    ensures targets { result ≡ true → targets change.new ≡ 2 }
-    ensures locks { result ≡ true → LocksOnly (IsEitherAt stand.now) change.new }
+    ensures planned { PlansMerge stand.now desk.now old.now change.new }
+    ensures targets { targets change.new ≡ 2 }
+    ensures locks { LocksOnly (IsEitherAt stand.now) change.new }
     ensures deed { change.new.deed ≡ removed old.now }
     ensures leaf { change.new.leaf ≡ None }
-    ensures refused { result ≡ false → PutsTooMuch stand.now desk.now (leaf_link other) }
 {
     let Cell::Node(node) = stand.stamp.cell else {
         unreachable!();
@@ -49,5 +48,5 @@ pub fn plan_merge_leaf(
         stamp: stand.stamp,
         body: &bodies.node,
     };
-    merge_leaf(change, &site, &below, other, old)
+    merge_leaf(change, &site, &below, other, old);
 }

@@ -1,8 +1,8 @@
 //! The leaf goes, and the node that names it gives way to a smaller one.
-ghost use Rattle.std.specs.Prelude.{◌≡◌, None, true, false};
+ghost use Rattle.std.specs.Prelude.{◌≡◌, None};
 ghost use Rattle.art_cell.specs.declared.layouts.Layout.{Layout};
 ghost use Rattle.art_choose.specs.Losses.{loss_at};
-ghost use Rattle.art_choose.specs.Plans.{HasFound, IsEitherAt, PlansShrink, ShrinksTooMuch};
+ghost use Rattle.art_choose.specs.Plans.{HasFound, IsEitherAt, PlansShrink};
 ghost use Rattle.art_choose.specs.Seen.{AreSeen};
 ghost use Rattle.art_choose.specs.declared.losses.Loss.TheVariants as losses;
 ghost use Rattle.art_decide.specs.Plans.{LocksOnly};
@@ -17,7 +17,7 @@ use art_plan::{Below, Change};
 use art_remove::{OldLeaf, shrink};
 
 /// The leaf goes from a node that keeps few children: the next smaller one, which has this number, takes its place in the cell
-/// above. All words of both cells were read and checked. False where the words are more than a change takes.
+/// above. All words of both cells were read and checked.
 pub fn plan_shrink(
     change: &mut Change,
     bodies: &mut Bodies,
@@ -25,16 +25,15 @@ pub fn plan_shrink(
     desk: &Desk,
     old: &OldLeaf,
     made: u32,
-) -> bool
+)
     requires found { HasFound stand.now old.now }
     requires shrinks { (k : Layout) × (loss_at stand.now desk.now ≡ losses.Shrinks k) }
     requires seen { (z : Sizes) × AreSeen z old.now.key.items stand.now desk.now }
-    ensures planned { result ≡ true → PlansShrink stand.now desk.now old.now made change.new }
-    ensures targets { result ≡ true → targets change.new ≡ 2 }
-    ensures locks { result ≡ true → LocksOnly (IsEitherAt stand.now) change.new }
+    ensures planned { PlansShrink stand.now desk.now old.now made change.new }
+    ensures targets { targets change.new ≡ 2 }
+    ensures locks { LocksOnly (IsEitherAt stand.now) change.new }
     ensures deed { change.new.deed ≡ removed old.now }
     ensures leaf { change.new.leaf ≡ None }
-    ensures refused { result ≡ false → ShrinksTooMuch stand.now desk.now made }
 {
     let Cell::Node(node) = stand.stamp.cell else {
         unreachable!();
@@ -52,5 +51,5 @@ pub fn plan_shrink(
         body: &bodies.node,
     };
     let byte = byte_at(key, stand.depth - 1);
-    shrink(change, &site, &below, byte, old, made)
+    shrink(change, &site, &below, byte, old, made);
 }

@@ -8,7 +8,6 @@ use Rattle.art_cell.specs.declared.cells.Cell.TheVariants as cell
 use Rattle.art_cell.specs.declared.cells.Link.{Link}
 use Rattle.art_cell.specs.declared.cells.Node.{Node}
 use Rattle.art_decide.specs.Bodies.{IsFilled, site_by, site_in}
-use Rattle.art_decide.specs.Plans.{IsSiteIn}
 use Rattle.art_plan.specs.Puts.{IsTaken}
 use Rattle.art_plan.specs.Seen.{HasAt, SiteFits, site_stamp}
 use Rattle.art_plan.specs.declared.sites.Site.{Site}
@@ -38,15 +37,6 @@ stamp_in x body byte = stamp_by x.cell x body byte
 -- the site, and the bytes of the key, by the names that they have in code
 pub site_named : (x : Stamp) (body : Bor Body) (key k : List ℕ) (depth : ℕ) (site : Site) → site ≡ site_in x body (get_or key (depth - 1) 0) → key ≡ k → site ≡ site_in x body (get_or k (depth - 1) 0)
 site_named x body key k depth site is same = is ∙ ap (λ (bytes : List ℕ). site_in x body (get_or bytes (depth - 1) 0)) same
-
--- it is in the stamp's cell
-pub site_is_in : (x : Stamp) (reads : List (Option ℕ)) (body : Bor Body) (byte : ℕ) → IsFilled x.cell reads body.now → IsSiteIn x reads (site_in x body byte)
-site_is_in x reads body byte filled = by_cell x.cell
-  where
-    by_cell : (c : Cell) → IsSiteIn x reads (site_by c x body byte)
-    by_cell cell.Anchor = refl
-    by_cell (cell.Leaf l) = refl
-    by_cell (cell.Node n) = (refl, filled)
 
 -- ---- in a tree
 

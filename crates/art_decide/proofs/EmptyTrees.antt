@@ -1,14 +1,10 @@
 -- The tree is empty: the site in the anchor.
-use Rattle.std.proofs.Common.{◌≡◌, ℕ, refl, sym, subst}
-use Rattle.art_cell.specs.Children.{child_word}
-use Rattle.art_cell.specs.declared.cells.Link.TheVariants.{Leaf as leaf}
-use Rattle.art_decide.specs.Plans.{IsTooMuch, TakesTooMany}
+use Rattle.std.proofs.Common.{◌≡◌, refl, subst}
 use Rattle.art_decide.specs.Seen.{IsSeen}
 use Rattle.art_find.specs.Verdicts.{Says}
 use Rattle.art_find.specs.declared.verdicts.Verdict.{Verdict}
 use Rattle.art_find.specs.declared.verdicts.Verdict.TheVariants.{Empty}
 use Rattle.art_insert.specs.Cases.{IsAdd, IsInHand}
-use Rattle.art_plan.specs.Puts.{TakesMany}
 use Rattle.art_insert.specs.declared.leaves.NewLeaf.{NewLeaf}
 use Rattle.art_place.specs.Desks.{node_of}
 use Rattle.art_place.specs.Findings.{IsStanding}
@@ -29,7 +25,3 @@ root_knows z t desk new u is seen standing hand =
       place = record { word = root.0; read = root.1; shows = λ s shape holds. (refl, says.1 s shape holds) };
       new_leaf = hand;
     }
-
--- or it was refused
-pub root_refused : (t : Stand) (desk : Desk) (new : NewLeaf) (made : ℕ) → t.verdict ≡ Empty → TakesMany (Root t.stamp) (child_word (leaf new.number)) → IsTooMuch t desk new made
-root_refused t desk new made is many = subst (λ (f : Verdict). TakesTooMany f t desk new made) (sym is) (Root t.stamp, refl, many)

@@ -1,19 +1,16 @@
 -- The node has no child at the key's next byte: the site of the byte, and whether the node is full.
-use Rattle.std.proofs.Common.{◌≡◌, ℕ, ◌+◌, ◌%◌, ◌<◌, Bool, true, false, cond, eqb, List, [], ◌∷◌, ◌++◌, length, get_or, take, Option, Some, None, refl, sym, ap, ◌∙◌, subst, arith, add-one, take-suc, eq-eqb, eqb-true}
+use Rattle.std.proofs.Common.{◌≡◌, ℕ, ◌+◌, ◌%◌, ◌<◌, Bool, true, false, cond, eqb, List, [], ◌∷◌, ◌++◌, length, get_or, take, Some, None, refl, sym, ap, ◌∙◌, subst, arith, add-one, take-suc, eq-eqb, eqb-true}
 use Rattle.std.specs.Borrow.{Bor}
 use Rattle.art_cell.specs.Bodies.{IsBody, IsFull}
-use Rattle.art_cell.specs.Children.{child_word}
 use Rattle.art_cell.specs.Reads.{word_of}
 use Rattle.art_cell.specs.Words.{child_of, places}
 use Rattle.art_cell.specs.declared.bodies.Body.{Body}
 use Rattle.art_cell.specs.declared.cells.Cell.TheVariants as cell
-use Rattle.art_cell.specs.declared.cells.Link.TheVariants.{Leaf as leaf}
 use Rattle.art_cell.specs.declared.cells.Node.{Node}
 use Rattle.art_cell.specs.declared.layouts.Layout.{Layout}
 use Rattle.art_cell.specs.declared.layouts.Layout.TheVariants.{Node4, Node16, Node48, Node256}
 use Rattle.art_decide.specs.Bodies.{IsFilled}
 use Rattle.art_decide.specs.Needs.{full_needs, needs_of, nothing}
-use Rattle.art_decide.specs.Plans.{IsSiteIn, IsSiteOf, IsTooMuch, TakesTooMany, comes_by}
 use Rattle.art_decide.specs.Seen.{IsSeen}
 use Rattle.art_decide.specs.declared.needs.Needs.{Needs}
 use Rattle.art_find.specs.Ways.{IsPastPrefix}
@@ -24,7 +21,7 @@ use Rattle.art_insert.proofs.GrownNodes.{not_largest}
 use Rattle.art_plan.proofs.MadeNodes.{key_small}
 use Rattle.art_plan.proofs.WordsWithin.{past_prefix}
 use Rattle.art_insert.specs.Cases.{IsAdd, IsInHand}
-use Rattle.art_plan.specs.Puts.{HasRoom, IsCrowded, TakesMany}
+use Rattle.art_plan.specs.Puts.{HasRoom, IsCrowded}
 use Rattle.art_insert.specs.declared.leaves.NewLeaf.{NewLeaf}
 use Rattle.art_node.specs.Sizes.{larger}
 use Rattle.art_place.specs.Desks.{node_of}
@@ -162,13 +159,3 @@ module _ (z : Sizes) (t : Stand) (desk : Desk) (new : NewLeaf) (n : Node) (heade
         };
         new_leaf = hand;
       }
-
-  -- or it was refused
-  pub byte_refused : (made : ℕ) (site : Site) → site ≡ Slot t.stamp body (get_or k t.depth 0) → (needs_of t.verdict).above ≡ false → TakesMany site (child_word (leaf new.number)) → IsTooMuch t desk new made
-  byte_refused made site named room many =
-      let above = sym (ap (λ (f : Verdict). (needs_of f).above) is) ∙ room in
-      subst (λ (f : Verdict). TakesTooMany f t desk new made) (sym is) (
-        site,
-        subst (λ (b : Bool). IsSiteOf b t desk site) (sym above) (subst (IsSiteIn t.stamp (node_of desk)) (sym named) (refl, filled)),
-        subst (λ (o : Option Layout). TakesMany site (child_word (comes_by o new made))) (sym (needs_room n header above).0) many,
-      )

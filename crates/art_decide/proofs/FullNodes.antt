@@ -1,7 +1,6 @@
 -- The node has no child at the key's next byte, and is full: what its growth needs.
-use Rattle.std.proofs.Common.{◌≡◌, ℕ, ◌-◌, Bool, true, List, [], ◌∷◌, ◌++◌, get_or, take, Option, Some, sym, ap, ◌∙◌, subst}
+use Rattle.std.proofs.Common.{◌≡◌, ℕ, ◌-◌, true, List, [], ◌∷◌, ◌++◌, get_or, take, Some, sym, ap, ◌∙◌, subst}
 use Rattle.std.specs.Borrow.{Bor}
-use Rattle.art_cell.specs.Children.{child_word}
 use Rattle.art_cell.specs.Reads.{word_of}
 use Rattle.art_cell.specs.Words.{prefix_of}
 use Rattle.art_cell.specs.declared.bodies.Body.{Body}
@@ -12,7 +11,7 @@ use Rattle.art_cell.specs.declared.layouts.Layout.{Layout}
 use Rattle.art_commit.specs.CommitLaws.{HasNode}
 use Rattle.art_decide.specs.Bodies.{IsFilled, site_in}
 use Rattle.art_decide.specs.Needs.{needs_of}
-use Rattle.art_decide.specs.Plans.{HasNeeded, IsSiteIn, IsSiteOf, IsTooMuch, TakesTooMany, comes_by}
+use Rattle.art_decide.specs.Plans.{HasNeeded}
 use Rattle.art_decide.specs.Seen.{IsSeen}
 use Rattle.art_find.specs.declared.verdicts.Verdict.{Verdict}
 use Rattle.art_find.specs.declared.verdicts.Verdict.TheVariants.{Free}
@@ -21,7 +20,6 @@ use Rattle.art_insert.proofs.ForkNodes.{begins_at}
 use Rattle.art_plan.specs.Seen.{HasBelow}
 use Rattle.art_insert.specs.Cases.{IsGrow, IsInHand}
 use Rattle.art_insert.specs.Puts.{larger_node}
-use Rattle.art_plan.specs.Puts.{TakesMany}
 use Rattle.art_insert.specs.declared.leaves.NewLeaf.{NewLeaf}
 use Rattle.art_node.specs.Sizes.{larger}
 use Rattle.art_place.specs.Desks.{above_of, node_of}
@@ -36,7 +34,6 @@ use Rattle.art_tree.proofs.Places.{one_path}
 use Rattle.art_tree.specs.Heaps.{heap_of}
 use Rattle.art_tree.specs.Tree.{Begins}
 use Rattle.art_decide.proofs.AboveSites.{below_there, led_there}
-use Rattle.art_decide.proofs.ChildSites.{site_is_in}
 use Rattle.art_decide.proofs.FreeBytes.{free_inside, free_on, free_there, free_whole, needs_full}
 use Rattle.art_decide.proofs.SeenBodies.{seen_prefix}
 
@@ -74,16 +71,3 @@ module _ (z : Sizes) (t : Stand) (desk : Desk) (new : NewLeaf) (n : Node) (heade
           (needed (larger n.layout) (ap (λ (f : Verdict). (needs_of f).node) is ∙ (needs_full n header (sym (ap (λ (f : Verdict). (needs_of f).above) is) ∙ writes)).1));
       new_leaf = hand;
     }
-
-  -- or it was refused
-  pub full_refused : (upper : Bor Body) (lower : Body) → IsFilled a.stamp.cell (above_of desk) upper.now → IsFilled t.stamp.cell (node_of desk) lower → (site : Site)
-      → site ≡ site_in a.stamp upper (get_or k (a.depth - 1) 0) → TakesMany site (child_word (node (larger_node lower made))) → IsTooMuch t desk new made
-  full_refused upper lower upper-filled lower-filled site named many =
-      let above = sym (ap (λ (f : Verdict). (needs_of f).above) is) ∙ writes in
-      subst (λ (f : Verdict). TakesTooMany f t desk new made) (sym is) (
-        site,
-        subst (λ (b : Bool). IsSiteOf b t desk site) (sym above)
-            (a, at, subst (IsSiteIn a.stamp (above_of desk)) (sym named) (site_is_in a.stamp (above_of desk) upper (get_or k (a.depth - 1) 0) upper-filled)),
-        subst (λ (o : Option Layout). TakesMany site (child_word (comes_by o new made))) (sym (needs_full n header above).1)
-            (subst (λ (l : Layout). TakesMany site (child_word (node (record { layout = larger l; number = made })))) (lower-filled n on).layout many),
-      )

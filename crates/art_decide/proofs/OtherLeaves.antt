@@ -1,36 +1,33 @@
 -- Another leaf stands on the key's way: what a fork of both needs.
 use Rattle.std.proofs.Common.{◌≡◌, ◌≢◌, ℕ, ◌+◌, ◌-◌, ◌<◌, ◌≤◌, List, [], ◌∷◌, ◌++◌, length, get_or, take, sym, ap, subst, arith}
 use Rattle.std.specs.Borrow.{Bor}
-use Rattle.art_cell.specs.Children.{child_word}
 use Rattle.art_cell.specs.declared.bodies.Body.{Body}
 use Rattle.art_cell.specs.declared.cells.Cell.TheVariants as cell
-use Rattle.art_cell.specs.declared.cells.Link.TheVariants.{Leaf as leaf, Node as node}
+use Rattle.art_cell.specs.declared.cells.Link.TheVariants.{Leaf as leaf}
 use Rattle.art_cell.specs.declared.cells.Node.{Node}
 use Rattle.art_cell.specs.declared.layouts.Layout.TheVariants.{Node4}
 use Rattle.art_decide.specs.Bodies.{IsFilled, site_in}
 use Rattle.art_decide.specs.Needs.{needs_of}
-use Rattle.art_decide.specs.Plans.{HasNeeded, IsSiteIn, IsTooMuch, TakesTooMany}
+use Rattle.art_decide.specs.Plans.{HasNeeded}
 use Rattle.art_decide.specs.Seen.{IsSeen}
 use Rattle.art_find.specs.Verdicts.{IsOtherLeaf, Says}
 use Rattle.art_find.specs.declared.verdicts.Verdict.{Verdict}
 use Rattle.art_find.specs.declared.verdicts.Verdict.TheVariants.{OtherLeaf}
 use Rattle.art_plan.proofs.MadeNodes.{key_small}
 use Rattle.art_insert.specs.Cases.{IsForkLeaf, IsInHand}
-use Rattle.art_insert.specs.Puts.{node4}
-use Rattle.art_plan.specs.Puts.{IsTaken, TakesMany}
+use Rattle.art_plan.specs.Puts.{IsTaken}
 use Rattle.art_insert.specs.declared.leaves.NewLeaf.{NewLeaf}
 use Rattle.art_place.specs.Desks.{node_of}
 use Rattle.art_place.specs.Findings.{IsStanding}
 use Rattle.art_place.specs.declared.desks.Desk.{Desk}
 use Rattle.art_place.specs.declared.findings.Stand.{Stand}
-use Rattle.art_plan.specs.declared.sites.Site.{Site}
 use Rattle.art_step.specs.Shows.{HasChild, Shows}
 use Rattle.art_step.specs.declared.views.Sizes.{Sizes}
 use Rattle.art_step.specs.declared.views.Stamp.{Stamp}
 use Rattle.art_step.specs.declared.views.View.{View}
 use Rattle.art_tree.specs.Heaps.{heap_of}
 use Rattle.art_tree.specs.Tree.{Begins}
-use Rattle.art_decide.proofs.ChildSites.{site_deep, site_fits, site_is_in, site_taken, stamp_in}
+use Rattle.art_decide.proofs.ChildSites.{site_deep, site_fits, site_taken, stamp_in}
 use Rattle.art_decide.proofs.WholeCells.{IsWhole, node_whole}
 
 module _ (z : Sizes) (k : List ℕ) (t : Stand) (desk : Desk) (l at byte : ℕ) (is : t.verdict ≡ OtherLeaf l at byte) where
@@ -98,8 +95,3 @@ module _ (z : Sizes) (t : Stand) (desk : Desk) (new : NewLeaf) (l at byte made :
 
       all : t.depth + (at - t.depth) ≡ at
       all = let low = leaf_behind z k t desk l at byte is seen in omega (arith, low)
-
-  -- or it was refused
-  pub leaf_refused : (site : Site) → site ≡ site_in x body (get_or k (t.depth - 1) 0) → TakesMany site (child_word (node (node4 made))) → IsTooMuch t desk new made
-  leaf_refused site named many = subst (λ (f : Verdict). TakesTooMany f t desk new made) (sym is)
-      (site, subst (IsSiteIn x (node_of desk)) (sym named) (site_is_in x (node_of desk) body (get_or k (t.depth - 1) 0) filled), many)

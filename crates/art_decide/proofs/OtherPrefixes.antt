@@ -4,7 +4,6 @@ use Rattle.std.proofs.lemmas.List.FromFn.{get_or-map-range_with_len, length-map-
 use Rattle.std.specs.Borrow.{Bor}
 use Rattle.std.specs.List.{range_with_len}
 use Rattle.art_cell.specs.Bodies.{IsBody}
-use Rattle.art_cell.specs.Children.{child_word}
 use Rattle.art_cell.specs.Leaves.{prefix_read}
 use Rattle.art_cell.specs.Reads.{word_of}
 use Rattle.art_cell.specs.Words.{packed, prefix_of}
@@ -15,7 +14,7 @@ use Rattle.art_cell.specs.declared.cells.Node.{Node}
 use Rattle.art_cell.specs.declared.layouts.Layout.TheVariants.{Node4}
 use Rattle.art_decide.specs.Bodies.{IsFilled, site_in}
 use Rattle.art_decide.specs.Needs.{needs_of}
-use Rattle.art_decide.specs.Plans.{HasNeeded, IsSiteIn, IsTooMuch, TakesTooMany}
+use Rattle.art_decide.specs.Plans.{HasNeeded}
 use Rattle.art_decide.specs.Seen.{IsSeen}
 use Rattle.art_find.specs.Ways.{count_in}
 use Rattle.art_find.specs.Verdicts.{IsOtherPrefix, Says}
@@ -24,8 +23,6 @@ use Rattle.art_find.specs.declared.verdicts.Verdict.TheVariants.{OtherPrefix}
 use Rattle.art_plan.proofs.MadeNodes.{key_small}
 use Rattle.art_plan.specs.Seen.{HasBelow}
 use Rattle.art_insert.specs.Cases.{IsForkPrefix, IsInHand}
-use Rattle.art_insert.specs.Puts.{node4}
-use Rattle.art_plan.specs.Puts.{BothTakeMany}
 use Rattle.art_insert.specs.declared.leaves.NewLeaf.{NewLeaf}
 use Rattle.art_path.proofs.PackedTexts.{same_packed}
 use Rattle.art_place.specs.Desks.{above_of, node_of}
@@ -39,7 +36,6 @@ use Rattle.art_step.specs.declared.views.View.{View}
 use Rattle.art_tree.proofs.Places.{one_path}
 use Rattle.art_tree.specs.Heaps.{heap_of}
 use Rattle.art_decide.proofs.AboveSites.{below_there, led_there}
-use Rattle.art_decide.proofs.ChildSites.{site_is_in}
 use Rattle.art_decide.proofs.PrefixBytes.{prefix_seen}
 use Rattle.art_decide.proofs.SeenBodies.{seen_body, seen_node}
 use Rattle.art_decide.proofs.WholeCells.{IsWhole, above_is, node_whole}
@@ -137,13 +133,3 @@ module _ (z : Sizes) (t : Stand) (desk : Desk) (new : NewLeaf) (n : Node) (heade
       made = needed Node4 (ap (λ (f : Verdict). (needs_of f).node) is);
       new_leaf = hand;
     }
-
-  -- or it was refused
-  pub prefix_refused : (upper : Bor Body) (lower : Body) → IsFilled a.stamp.cell (above_of desk) upper.now → IsFilled t.stamp.cell (node_of desk) lower → (site : Site)
-      → site ≡ site_in a.stamp upper (get_or k (a.depth - 1) 0) → (bytes : List ℕ) → bytes ≡ prefix_of (word_of lower) → BothTakeMany site (child_word (node (node4 made))) lower (drop (at + 1) bytes)
-      → IsTooMuch t desk new made
-  prefix_refused upper lower upper-filled lower-filled site named bytes are many = subst (λ (f : Verdict). TakesTooMany f t desk new made) (sym is) (
-    site,
-    (a, above-is, subst (IsSiteIn a.stamp (above_of desk)) (sym named) (site_is_in a.stamp (above_of desk) upper (get_or k (a.depth - 1) 0) upper-filled)),
-    (lower, lower-filled, subst (λ (xs : List ℕ). BothTakeMany site (child_word (node (node4 made))) lower (drop (at + 1) xs)) are many),
-  )

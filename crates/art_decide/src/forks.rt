@@ -1,7 +1,7 @@
 //! The leaf comes beside what stands on the key's way: another leaf, or a node with another prefix.
-ghost use Rattle.std.specs.Prelude.{◌≡◌, ◌<◌, ℕ, true, false, Some};
+ghost use Rattle.std.specs.Prelude.{◌≡◌, ◌<◌, ℕ, Some};
 ghost use Rattle.art_cell.specs.declared.cells.Node.{Node as NodeOf};
-ghost use Rattle.art_decide.specs.Plans.{IsLockedAt, IsTooMuch, LocksOnly, PlansInsert};
+ghost use Rattle.art_decide.specs.Plans.{IsLockedAt, LocksOnly, PlansInsert};
 ghost use Rattle.art_decide.specs.Seen.{IsSeen};
 ghost use Rattle.art_find.specs.declared.verdicts.Verdict.TheVariants as verdicts;
 ghost use Rattle.art_insert.specs.Puts.{inserted};
@@ -24,15 +24,14 @@ pub(crate) fn beside_leaf(
     desk: &Desk,
     new: &NewLeaf,
     made: u32,
-) -> bool
+)
     requires other { (l : ℕ) × (at : ℕ) × (byte : ℕ) × (stand.now.verdict ≡ verdicts.OtherLeaf l at byte) }
     requires seen { (z : Sizes) × IsSeen z new.now.key.items stand.now desk.now }
-    ensures planned { result ≡ true → PlansInsert stand.now desk.now new.now made change.new }
-    ensures targets { result ≡ true → 0 < targets change.new }
-    ensures locks { result ≡ true → LocksOnly (IsLockedAt stand.now) change.new }
+    ensures planned { PlansInsert stand.now desk.now new.now made change.new }
+    ensures targets { 0 < targets change.new }
+    ensures locks { LocksOnly (IsLockedAt stand.now) change.new }
     ensures deed { change.new.deed ≡ inserted new.now }
     ensures leaf { change.new.leaf ≡ Some new.now.number }
-    ensures refused { result ≡ false → IsTooMuch stand.now desk.now new.now made }
 {
     let Verdict::OtherLeaf(other, at, byte) = stand.verdict else {
         unreachable!();
@@ -43,7 +42,7 @@ pub(crate) fn beside_leaf(
         depth: stand.depth,
         common: at - stand.depth,
     };
-    fork_leaf(change, &site, new, parting, other, byte, made)
+    fork_leaf(change, &site, new, parting, other, byte, made);
 }
 
 /// The prefix of the node parts from the key: a new node comes between the cell above and the node.
@@ -54,15 +53,14 @@ pub(crate) fn beside_node(
     desk: &Desk,
     new: &NewLeaf,
     made: u32,
-) -> bool
+)
     requires other { (n : NodeOf) × (header : ℕ) × (at : ℕ) × (stand.now.verdict ≡ verdicts.OtherPrefix n header at) }
     requires seen { (z : Sizes) × IsSeen z new.now.key.items stand.now desk.now }
-    ensures planned { result ≡ true → PlansInsert stand.now desk.now new.now made change.new }
-    ensures targets { result ≡ true → 0 < targets change.new }
-    ensures locks { result ≡ true → LocksOnly (IsLockedAt stand.now) change.new }
+    ensures planned { PlansInsert stand.now desk.now new.now made change.new }
+    ensures targets { 0 < targets change.new }
+    ensures locks { LocksOnly (IsLockedAt stand.now) change.new }
     ensures deed { change.new.deed ≡ inserted new.now }
     ensures leaf { change.new.leaf ≡ Some new.now.number }
-    ensures refused { result ≡ false → IsTooMuch stand.now desk.now new.now made }
 {
     let Verdict::OtherPrefix(node, _, at) = stand.verdict else {
         unreachable!();
@@ -85,5 +83,5 @@ pub(crate) fn beside_node(
         depth: above.depth,
         common: at,
     };
-    fork_prefix(change, &site, &below, bytes.as_slice(), new, parting, made)
+    fork_prefix(change, &site, &below, bytes.as_slice(), new, parting, made);
 }

@@ -2,7 +2,7 @@
 ghost use Rattle.std.specs.Prelude.{◌≡◌, ◌<◌, ℕ, true, false, Some};
 ghost use Rattle.art_cell.specs.declared.cells.Node.{Node as NodeOf};
 ghost use Rattle.art_decide.specs.Needs.{needs_of};
-ghost use Rattle.art_decide.specs.Plans.{IsLockedAt, IsTooMuch, LocksOnly, PlansInsert};
+ghost use Rattle.art_decide.specs.Plans.{IsLockedAt, LocksOnly, PlansInsert};
 ghost use Rattle.art_decide.specs.Seen.{IsSeen};
 ghost use Rattle.art_find.specs.declared.verdicts.Verdict.TheVariants as verdicts;
 ghost use Rattle.art_insert.specs.Puts.{inserted};
@@ -18,16 +18,15 @@ use art_place::{Desk, Stand};
 use art_plan::{Below, Change, Site};
 
 /// The tree is empty: the leaf comes to the anchor.
-pub(crate) fn to_anchor(change: &mut Change, stand: &Stand, new: &NewLeaf) -> bool
+pub(crate) fn to_anchor(change: &mut Change, stand: &Stand, new: &NewLeaf)
     requires { stand.now.verdict ≡ verdicts.Empty }
-    ensures planned { result ≡ true → (desk : DeskOf) (made : ℕ) → PlansInsert stand.now desk new.now made change.new }
-    ensures targets { result ≡ true → 0 < targets change.new }
-    ensures locks { result ≡ true → LocksOnly (IsLockedAt stand.now) change.new }
+    ensures planned { (desk : DeskOf) (made : ℕ) → PlansInsert stand.now desk new.now made change.new }
+    ensures targets { 0 < targets change.new }
+    ensures locks { LocksOnly (IsLockedAt stand.now) change.new }
     ensures deed { change.new.deed ≡ inserted new.now }
     ensures leaf { change.new.leaf ≡ Some new.now.number }
-    ensures refused { result ≡ false → (desk : DeskOf) (made : ℕ) → IsTooMuch stand.now desk new.now made }
 {
-    add(change, &Site::Root(stand.stamp), new)
+    add(change, &Site::Root(stand.stamp), new);
 }
 
 /// The node has a place for the leaf at the key's next byte.
@@ -37,21 +36,20 @@ pub(crate) fn to_byte(
     stand: &Stand,
     desk: &Desk,
     new: &NewLeaf,
-) -> bool
+)
     requires free { (n : NodeOf) × (header : ℕ) × (stand.now.verdict ≡ verdicts.Free n header) }
     requires room { (needs_of stand.now.verdict).above ≡ false }
     requires seen { (z : Sizes) × IsSeen z new.now.key.items stand.now desk.now }
-    ensures planned { result ≡ true → (made : ℕ) → PlansInsert stand.now desk.now new.now made change.new }
-    ensures targets { result ≡ true → 0 < targets change.new }
-    ensures locks { result ≡ true → LocksOnly (IsLockedAt stand.now) change.new }
+    ensures planned { (made : ℕ) → PlansInsert stand.now desk.now new.now made change.new }
+    ensures targets { 0 < targets change.new }
+    ensures locks { LocksOnly (IsLockedAt stand.now) change.new }
     ensures deed { change.new.deed ≡ inserted new.now }
     ensures leaf { change.new.leaf ≡ Some new.now.number }
-    ensures refused { result ≡ false → (made : ℕ) → IsTooMuch stand.now desk.now new.now made }
 {
     fill(&mut bodies.node, stand.stamp.cell, desk.node());
     let key = new.key.as_slice();
     let site = slot_at(stand.stamp, &bodies.node, key, stand.depth);
-    add(change, &site, new)
+    add(change, &site, new);
 }
 
 /// The node is full: a larger one, which has the leaf too, takes its place in the cell above.
@@ -62,16 +60,15 @@ pub(crate) fn to_larger(
     desk: &Desk,
     new: &NewLeaf,
     made: u32,
-) -> bool
+)
     requires full { (needs_of stand.now.verdict).above ≡ true }
     requires free { (n : NodeOf) × (header : ℕ) × (stand.now.verdict ≡ verdicts.Free n header) }
     requires seen { (z : Sizes) × IsSeen z new.now.key.items stand.now desk.now }
-    ensures planned { result ≡ true → PlansInsert stand.now desk.now new.now made change.new }
-    ensures targets { result ≡ true → 0 < targets change.new }
-    ensures locks { result ≡ true → LocksOnly (IsLockedAt stand.now) change.new }
+    ensures planned { PlansInsert stand.now desk.now new.now made change.new }
+    ensures targets { 0 < targets change.new }
+    ensures locks { LocksOnly (IsLockedAt stand.now) change.new }
     ensures deed { change.new.deed ≡ inserted new.now }
     ensures leaf { change.new.leaf ≡ Some new.now.number }
-    ensures refused { result ≡ false → IsTooMuch stand.now desk.now new.now made }
 {
     let Verdict::Free(node, _) = stand.verdict else {
         unreachable!();
@@ -89,5 +86,5 @@ pub(crate) fn to_larger(
         body: &bodies.node,
     };
     let byte = byte_at(key, stand.depth);
-    grow(change, &site, &below, byte, new, made)
+    grow(change, &site, &below, byte, new, made);
 }

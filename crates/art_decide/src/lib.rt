@@ -52,8 +52,7 @@
 //!
 //! `needed` is one equation. Of `plan_insert`: the change is a plan (`IsPlanned` of `art_plan`), for each pass that has seen the cells
 //! and has in hand the leaf and the node that is needed (`PlansInsert`). It inserts the leaf. It locks only the cell where the key
-//! stands, and the one above where that is written too, under their stamps (`LocksOnly`, `IsLockedAt`). It answers false only where
-//! the words are more than a change takes (`IsTooMuch`).
+//! stands, and the one above where that is written too, under their stamps (`LocksOnly`, `IsLockedAt`).
 #![tactic(auto)]
 
 mod bodies;

@@ -1,6 +1,6 @@
 //! The plan of an insert.
-ghost use Rattle.std.specs.Prelude.{◌≡◌, ◌<◌, true, false, Some};
-ghost use Rattle.art_decide.specs.Plans.{Comes, IsLockedAt, IsTooMuch, LocksOnly, PlansInsert};
+ghost use Rattle.std.specs.Prelude.{◌≡◌, ◌<◌, Some};
+ghost use Rattle.art_decide.specs.Plans.{Comes, IsLockedAt, LocksOnly, PlansInsert};
 ghost use Rattle.art_decide.specs.Seen.{IsSeen};
 ghost use Rattle.art_insert.specs.Puts.{inserted};
 ghost use Rattle.art_plan.specs.Changes.{targets};
@@ -15,7 +15,7 @@ use art_place::{Desk, Stand};
 use art_plan::Change;
 
 /// The change that inserts the leaf, where its key stands; all that it writes was read and checked. Where it makes a node, that
-/// has this number. False where the words are more than a change takes.
+/// has this number.
 pub fn plan_insert(
     change: &mut Change,
     bodies: &mut Bodies,
@@ -23,15 +23,14 @@ pub fn plan_insert(
     desk: &Desk,
     new: &NewLeaf,
     made: u32,
-) -> bool
+)
     requires comes { Comes stand.now.verdict }
     requires seen { (z : Sizes) × IsSeen z new.now.key.items stand.now desk.now }
-    ensures planned { result ≡ true → PlansInsert stand.now desk.now new.now made change.new }
-    ensures targets { result ≡ true → 0 < targets change.new }
-    ensures locks { result ≡ true → LocksOnly (IsLockedAt stand.now) change.new }
+    ensures planned { PlansInsert stand.now desk.now new.now made change.new }
+    ensures targets { 0 < targets change.new }
+    ensures locks { LocksOnly (IsLockedAt stand.now) change.new }
     ensures deed { change.new.deed ≡ inserted new.now }
     ensures leaf { change.new.leaf ≡ Some new.now.number }
-    ensures refused { result ≡ false → IsTooMuch stand.now desk.now new.now made }
 {
     match stand.verdict {
         Verdict::Empty => to_anchor(change, stand, new),

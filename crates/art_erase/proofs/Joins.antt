@@ -1,11 +1,11 @@
--- Where a lower node was read and checked, its change is refused only for its many words: it is no cell above, and its prefix is short.
-use Rattle.std.proofs.Common.{◌≡◌, ◌⊎◌, ℕ, List, length, Option, ap, ◌∙◌, arith, ⊎_elim}
+-- A lower node that was read and checked takes the node's place: it is no cell above, and the joined prefix is short.
+use Rattle.std.proofs.Common.{◌≡◌, ℕ, List, length, Option, ap, ◌∙◌, arith, ⊎_elim}
 use Rattle.std.specs.Option.{unwrap_or}
 use Rattle.art_cell.specs.Reads.{Agrees, word_of}
 use Rattle.art_cell.specs.declared.bodies.Body.{Body}
 use Rattle.art_cell.specs.declared.cells.Cell.TheVariants as cell
 use Rattle.art_cell.specs.declared.cells.Node.{Node}
-use Rattle.art_choose.specs.Plans.{ArePartsOf, IsAlsoAbove, JoinsTooMuch, MayNotMerge}
+use Rattle.art_choose.specs.Plans.{ArePartsOf, IsAlsoAbove, MayNotMerge}
 use Rattle.art_choose.specs.declared.lowers.Lower.{Lower}
 use Rattle.art_decide.specs.Bodies.{HasWords}
 use Rattle.art_lower.proofs.LowerNames.{body_read, has_over, has_read}
@@ -22,10 +22,6 @@ use Rattle.art_step.specs.declared.views.View.{View}
 words_agree : (n : Node) (reads : List (Option ℕ)) (body : Body) → HasWords n reads body → Agrees reads (word_of body)
 words_agree n reads body has place value is = has.words place ∙ ap (λ (o : Option ℕ). unwrap_or o 0) is
 
--- the words that are too many
-abbrev pub JoinsMany : Stand → Desk → Lower → List (Option ℕ) → Type 0
-JoinsMany t desk lower reads = (parts : Parts) × ArePartsOf desk lower reads parts × JoinsTooMuch t desk lower reads parts
-
 module _ (z : Sizes) (k : List ℕ) (t : Stand) (lower : Lower) (desk : Desk) (reads : List (Option ℕ)) (u v : View) (lowering : IsLowering z k t lower.node desk u v)
     (seen : IsReadBelow z t desk lower.node lower.stamp reads v) (on : lower.stamp.cell ≡ cell.Node lower.node) where
   not_long : (parts : Parts) → ArePartsOf desk lower reads parts → IsTooLong parts → ⊥
@@ -40,11 +36,8 @@ module _ (z : Sizes) (k : List ℕ) (t : Stand) (lower : Lower) (desk : Desk) (r
       let rest = ap length (are.rest (word_of below) (words_agree lower.node reads below below_has)) in
       omega (arith, short, front, rest, long)
 
-  pub joins_many : MayNotMerge t desk lower reads → JoinsMany t desk lower reads
-  joins_many refused = ⊎_elim
-      (λ (q : IsAlsoAbove t lower). absurd (seen.third q.above q.is (q.same ∙ on)))
-      (λ (q : (parts : Parts) × ArePartsOf desk lower reads parts × (IsTooLong parts ⊎ JoinsTooMuch t desk lower reads parts)). ⊎_elim
-      (λ (long : IsTooLong q.0). absurd (not_long q.0 q.1 long))
-      (λ (many : JoinsTooMuch t desk lower reads q.0). (q.0, q.1, many))
-      q.2)
+  pub may_merge : MayNotMerge t desk lower reads → ⊥
+  may_merge refused = ⊎_elim
+      (λ (q : IsAlsoAbove t lower). seen.third q.above q.is (q.same ∙ on))
+      (λ (q : (parts : Parts) × ArePartsOf desk lower reads parts × IsTooLong parts). not_long q.0 q.1 q.2)
       refused

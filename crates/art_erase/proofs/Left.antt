@@ -27,7 +27,6 @@ free_few left stage.Making m is = let same = making_free left m is in omega arit
 free_few left (stage.Ended (erased.Gone x)) m is = omega arith
 free_few left (stage.Ended erased.Absent) m is = omega arith
 free_few left (stage.Ended (erased.Exhausted x)) m is = omega arith
-free_few left (stage.Ended erased.TooMany) m is = omega arith
 free_few left (stage.Ended erased.Anew) m is = omega arith
 
 -- one step was made, and nothing is held after it

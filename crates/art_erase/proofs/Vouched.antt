@@ -25,7 +25,7 @@ use Rattle.art_choose.specs.Seen.{AreSeen, IsLowerSeen, IsSeen, StillKnown}
 use Rattle.art_erase.specs.declared.erasing.Way.{Way}
 use Rattle.art_erase.specs.declared.erasing.Way.TheVariants as way
 use Rattle.art_decide.specs.Plans.{LocksOnly}
-use Rattle.art_erase.proofs.Joins.{JoinsMany, joins_many}
+use Rattle.art_erase.proofs.Joins.{may_merge}
 use Rattle.art_lower.proofs.LowerSeen.{ended_fits, ends_known, ends_seen}
 use Rattle.art_erase.proofs.Finds.{within_so}
 use Rattle.art_erase.specs.Erasing.{EndFits, EndsSo, EndsWithin, HasErased, HasLower, HasMade, HasNumbers, HasSupplies, HasVouched}
@@ -293,10 +293,10 @@ module _ (z : Sizes) (u : View) (m : Erasing) (r : Room) (v : View) (h : HasLowe
       (λ (e : target.stamp ≡ x). inr (subst (λ (a : Stamp). lowering.ended_at m.lowering ≡ Some (lowered.Unchanged a)) (sym e) ended))
       (only i target at))
 
-  -- where it is refused its words are too many
-  pub lower_many : MayNotMerge m.stand r.desk child r.lower → JoinsMany m.stand r.desk child r.lower
-  lower_many refused =
-      joins_many z r.gone.key.items m.stand child r.desk r.lower h.early v lower_ended.0
+  -- and it is not refused
+  pub lower_merges : MayNotMerge m.stand r.desk child r.lower → ⊥
+  lower_merges refused =
+      may_merge z r.gone.key.items m.stand child r.desk r.lower h.early v lower_ended.0
       (ends_seen z r.gone.key.items m.stand n m.lowering r.desk r.lower h.early v x ended knows_lower.1) lower_ended.2.below.on.cell refused
 
   pub lower_other : HasOther m.stand r.desk r.gone byte (node n)

@@ -16,9 +16,8 @@ use Rattle.art_choose.specs.Plans.{HasFound, HasOther, IsEitherAt, IsNodeAt}
 use Rattle.art_choose.specs.Seen.{IsSeen}
 use Rattle.art_choose.specs.declared.losses.Loss.TheVariants as loss
 use Rattle.art_decide.specs.Plans.{LocksOnly}
-use Rattle.art_erase.specs.Refused.{IsTooMuch}
 use Rattle.art_erase.specs.declared.erasing.Erased.{Erased}
-use Rattle.art_erase.specs.declared.erasing.Erased.TheVariants.{Gone, Absent, Exhausted, TooMany, Anew}
+use Rattle.art_erase.specs.declared.erasing.Erased.TheVariants.{Gone, Absent, Exhausted, Anew}
 use Rattle.art_erase.specs.declared.erasing.Erasing.{Erasing}
 use Rattle.art_erase.specs.declared.erasing.Stage.{Stage}
 use Rattle.art_erase.specs.declared.erasing.Stage.TheVariants as stage
@@ -367,16 +366,10 @@ pub record IsExhausted (z : Sizes) (u : View) (t : Stand) (w : Way) (l : Lowerin
   pub locked : IsLockedBy w t l failed.target.stamp
   pub checked : IsChecked z u t r failed.target.stamp early
 
--- each cell that the change locks was checked in this attempt, and its words are more than a change takes
-pub record IsTooLarge (z : Sizes) (u : View) (t : Stand) (w : Way) (l : Lowering) (r : Room) (v : View) : Type 0 where
-  pub each : (x : Stamp) → IsLockedBy w t l x → IsChecked z u t r x v
-  pub much : IsTooMuch w t r
-
 abbrev pub EndFits : Sizes → View → Stand → Way → Lowering → Room → Erased → View → Type 0
 EndFits z u t w l r (Gone value) v = HasErased z u r value v
 EndFits z u t w l r Absent v = IsAbsent z u r v
 EndFits z u t w l r (Exhausted c) v = EndsSo z u r v × IsExhausted z u t w l r c v
-EndFits z u t w l r TooMany v = EndsSo z u r v × IsTooLarge z u t w l r v
 EndFits z u t w l r Anew v = EndsSo z u r v × (u.failures < v.failures)
 
 -- ---- why it is tried anew

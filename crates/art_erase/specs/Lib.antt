@@ -1,2 +1,1 @@
 pub mod Erasing
-pub mod Refused

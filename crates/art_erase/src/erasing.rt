@@ -43,8 +43,6 @@ pub enum Erased {
     Absent,
     /// The counter of a cell that was to be locked is at its end.
     Exhausted(Cell),
-    /// The change has more words than one takes.
-    TooMany,
     /// A version word was locked, obsolete or changed: it may be tried anew.
     Anew,
 }

@@ -10,10 +10,10 @@
 //!
 //! ```text
 //! Finding ──► the check of the place ──► what goes with the leaf (`lost` of `art_choose`)
-//!    │           │ Absent                  │ the leaf alone ─────────────────────────────► Vouching ──► plan ──► Making ──► Gone
-//!    │           │                         │ a smaller node would do ──► Supplying ──────►    │          │ TooMany │ Exhausted
-//!    │           │                         │ the node too ──► Reading ─┬─ other child: leaf ► │          │         │
-//!    │           │                         │                           └─ a node ► Lowering ──┼──► plan ─┘         │
+//!    │           │ Absent                  │ the leaf alone ─────────────────────────────► Vouching ─┬► plan ──► Making ──► Gone
+//!    │           │                         │ a smaller node would do ──► Supplying ──────►    │      │             │ Exhausted
+//!    │           │                         │ the node too ──► Reading ─┬─ other child: leaf ► │      │             │
+//!    │           │                         │                           └─ a node ► Lowering ──┼──────┘             │
 //!    └── Anew ◄──┴─────────────────────────┴──────────────────────────────────────────────────┴────────────────────┴──► Anew
 //! ```
 //!
@@ -22,6 +22,9 @@
 //!
 //! The words that tell which child a node keeps were read under a stamp, and may be torn from one another until its check. Where they
 //! tell of none, they are those of no node, and the check is about to fail (`Torn`): no step is made for it but that.
+//!
+//! Once all is read and checked, there is a plan of each: its words are few, and a lower node is no cell above and has room for the
+//! longer prefix.
 //!
 //! An attempt that meets a version word that is locked, obsolete or another ends as `Anew`. The numbers that it took stay in hand.
 //!

@@ -5,7 +5,6 @@ ghost use Rattle.art_attempt.specs.Inserting.{is_begun, making_left};
 ghost use Rattle.art_decide.specs.Plans.{LocksOnly};
 ghost use Rattle.art_erase.specs.Erasing.{EndsWithin, Fits, HasLower, HasMade, HasVouched, IsChecked, IsKept, IsLockedBy, IsRemoval, IsRoom};
 ghost use Rattle.art_erase.specs.Erasing.{absent, ended_at, erased_so, is_free, lower_asks, made_asks, steps_left, vouching_asks};
-ghost use Rattle.art_erase.specs.Refused.{IsTooMuch};
 ghost use Rattle.art_erase.specs.declared.erasing.Erased.TheVariants.{Anew as anew};
 ghost use Rattle.art_erase.specs.declared.erasing.Stage.TheVariants as stages;
 ghost use Rattle.art_erase.specs.declared.erasing.Way.TheVariants as ways;
@@ -94,8 +93,8 @@ impl Erasing {
             change,
             ..
         } = room;
-        let planned = plan_drop(change, bodies, &self.stand, desk, gone);
-        self.begin(room, planned);
+        plan_drop(change, bodies, &self.stand, desk, gone);
+        self.begin(room);
     }
 
     /// The node gives way to a smaller one.
@@ -117,8 +116,8 @@ impl Erasing {
             change,
             ..
         } = room;
-        let planned = plan_shrink(change, bodies, &self.stand, desk, gone, made);
-        self.begin(room, planned);
+        plan_shrink(change, bodies, &self.stand, desk, gone, made);
+        self.begin(room);
     }
 
     /// The node gives way to its other child, a leaf.
@@ -139,8 +138,8 @@ impl Erasing {
             change,
             ..
         } = room;
-        let planned = plan_merge_leaf(change, bodies, &self.stand, desk, gone, other);
-        self.begin(room, planned);
+        plan_merge_leaf(change, bodies, &self.stand, desk, gone, other);
+        self.begin(room);
     }
 
     /// The lower node was stamped or read, or one of the three cells was.
@@ -189,25 +188,23 @@ impl Erasing {
             ..
         } = room;
         let stand = &self.stand;
-        let planned = plan_merge_node(change, bodies, lower_body, stand, desk, &child, lower, gone);
-        self.begin(room, planned);
+        if !plan_merge_node(change, bodies, lower_body, stand, desk, &child, lower, gone) {
+            // the lower node is a third cell, and the joined prefix is short
+            unreachable!();
+        }
+        self.begin(room);
     }
 
-    /// The change is planned, and is made; or it is too much.
-    fn begin(&mut self, room: &Room, planned: bool)
-        requires { planned ≡ true → 0 < targets room.now.change }
+    /// The change is planned, and is made.
+    fn begin(&mut self, room: &Room)
+        requires { 0 < targets room.now.change }
         ensures not_anew { ended_at self.new ≢ Some anew }
         ensures free { is_free self.new ≡ true }
         ensures fits { (z : Sizes) (u v : View) → IsRoom z room.now → EndsWithin z u 25400 room.now v →
-            (planned ≡ true → IsRemoval z room.now v) →
-            (planned ≡ true → LocksOnly (IsLockedBy self.old.way self.old.stand self.old.lowering) room.now.change) →
+            IsRemoval z room.now v → LocksOnly (IsLockedBy self.old.way self.old.stand self.old.lowering) room.now.change →
             ((x : StampOf) → IsLockedBy self.old.way self.old.stand self.old.lowering x → IsChecked z u self.old.stand room.now x v) →
-            (planned ≡ false → IsTooMuch self.old.way self.old.stand room.now) → Fits z u self.new room.now v }
+            Fits z u self.new room.now v }
     {
-        if !planned {
-            self.stage = Stage::Ended(Erased::TooMany);
-            return;
-        }
         self.making = Making::new(&room.change);
         self.stage = Stage::Making;
     }

@@ -1,11 +1,12 @@
 -- What each step that a machine asks for needs of the pass's view, and what its answer says of the view after it.
-use Rattle.std.specs.Prelude.{◌<◌, Bool, true, false, Option, None, Some, Ok, Err, ⊤}
+use Rattle.std.specs.Prelude.{◌<◌, ℕ, List, Bool, true, false, Option, None, Some, Ok, Err, OnOk, ⊤}
 use Rattle.art_find.specs.declared.asked.Answer.{Answer}
 use Rattle.art_find.specs.declared.asked.Answer.TheVariants.{Begun, Word, Checked}
 use Rattle.art_find.specs.declared.asked.Asked.{Asked}
 use Rattle.art_find.specs.declared.asked.Asked.TheVariants.{Begin, Read, ReadLeaf, Check, Settle}
 use Rattle.art_cell.specs.declared.cells.Link.{Link}
 use Rattle.art_cell.specs.declared.cells.Link.TheVariants.{Leaf as leaf}
+use Rattle.art_step.specs.Knowledge.{HoldsAmong}
 use Rattle.art_step.specs.Shows.{Shows}
 use Rattle.art_step.specs.Steps.Begin as begin
 use Rattle.art_step.specs.Steps.Check as check
@@ -49,6 +50,12 @@ Answers z d (ReadLeaf x l i) (Word a) v w = read.LeafOutcome v w x l i a
 Answers z d (Check x) (Checked r) v w = check.Outcome z v w x None r
 Answers z d (Settle x) (Checked r) v w = check.Outcome z v w x (Some d) r
 Answers z d asked answer v w = ⊥
+
+-- where it was a check that succeeded, what was noted under the stamp held of a tree whose keys are all admitted
+abbrev pub PassesAmong : (List ℕ → Type 0) → Sizes → View → Asked → Answer → Type 0
+PassesAmong A z v (Check x) (Checked r) = OnOk r (HoldsAmong A z v x)
+PassesAmong A z v (Settle x) (Checked r) = OnOk r (HoldsAmong A z v x)
+PassesAmong A z v asked answer = ⊤
 
 -- whether it lets the machine go on: a version word was clear, or unchanged
 abbrev pub goes_on : Answer → Bool

@@ -1,11 +1,9 @@
 //! A leaf comes to a free place.
-ghost use Rattle.std.specs.Prelude.{◌≡◌, ◌<◌, ◌∷◌, ℕ, [], true, false, Some};
-ghost use Rattle.art_cell.specs.Children.{child_word as word_of_link};
-ghost use Rattle.art_cell.specs.declared.cells.Link.TheVariants.{Leaf as leaf};
+ghost use Rattle.std.specs.Prelude.{◌≡◌, ◌∷◌, ℕ, [], Some};
 ghost use Rattle.art_insert.specs.Cases.{IsAdd};
 ghost use Rattle.art_insert.specs.Puts.{inserted};
 ghost use Rattle.art_plan.specs.Changes.{IsPlanned, targets};
-ghost use Rattle.art_plan.specs.Puts.{IsFree, TakesMany};
+ghost use Rattle.art_plan.specs.Puts.{IsFree};
 ghost use Rattle.art_plan.specs.Seen.{kept, site_stamp};
 ghost use Rattle.art_step.specs.declared.views.Sizes.{Sizes};
 ghost use Rattle.art_step.specs.declared.views.View.{View};
@@ -15,20 +13,17 @@ use art_cell::Link;
 use art_node::child_word;
 use art_plan::{Change, Site, added, lock, put};
 
-/// The leaf comes to the site, which is free: the anchor that names nothing, or a byte of a node that is not full. False where
-/// the words are more than a change takes.
-pub fn add(change: &mut Change, site: &Site, new: &NewLeaf) -> bool
+/// The leaf comes to the site, which is free: the anchor that names nothing, or a byte of a node that is not full.
+pub fn add(change: &mut Change, site: &Site, new: &NewLeaf)
     requires { IsFree site.now }
-    ensures planned { result ≡ true → (z : Sizes) (u : View) (depth : ℕ) → IsAdd z u site.now new.now depth
-        → IsPlanned z u change.new }
-    ensures targets { result ≡ true → targets change.new ≡ 1 }
-    ensures locks { result ≡ true → change.new.targets.items ≡ kept (site_stamp site.now) ∷ [] }
+    ensures planned { (z : Sizes) (u : View) (depth : ℕ) → IsAdd z u site.now new.now depth → IsPlanned z u change.new }
+    ensures targets { targets change.new ≡ 1 }
+    ensures locks { change.new.targets.items ≡ kept (site_stamp site.now) ∷ [] }
     ensures deed { change.new.deed ≡ inserted new.now }
     ensures leaf { change.new.leaf ≡ Some new.now.number }
-    ensures refused { result ≡ false → TakesMany site.now (word_of_link (leaf new.now.number)) }
 {
     added(site, child_word(Link::Leaf(new.number)), &mut change.writes);
     begin(change, new);
     lock(change, site.stamp(), false);
-    put(change, 0)
+    put(change, 0);
 }

@@ -1,13 +1,11 @@
 //! A node comes between a site and what stands there.
-ghost use Rattle.std.specs.Prelude.{◌≡◌, ◌≢◌, ◌+◌, ◌<◌, ◌≤◌, ◌∷◌, [], drop, length, slice_index, true, false, Some};
+ghost use Rattle.std.specs.Prelude.{◌≡◌, ◌≢◌, ◌+◌, ◌<◌, ◌≤◌, ◌∷◌, [], length, slice_index, Some};
 ghost use Rattle.art_cell.specs.Bodies.{IsBody};
-ghost use Rattle.art_cell.specs.Children.{child_word as word_of_link};
 ghost use Rattle.art_cell.specs.Reads.{word_of};
-ghost use Rattle.art_cell.specs.declared.cells.Link.TheVariants.{Node as node_link};
 ghost use Rattle.art_insert.specs.Cases.{IsForkLeaf, IsForkPrefix};
-ghost use Rattle.art_insert.specs.Puts.{inserted, node4};
+ghost use Rattle.art_insert.specs.Puts.{inserted};
 ghost use Rattle.art_plan.specs.Changes.{IsPlanned, targets};
-ghost use Rattle.art_plan.specs.Puts.{BothTakeMany, IsTaken, TakesMany};
+ghost use Rattle.art_plan.specs.Puts.{IsTaken};
 ghost use Rattle.art_plan.specs.Seen.{kept, site_stamp};
 ghost use Rattle.art_step.specs.declared.views.Sizes.{Sizes};
 ghost use Rattle.art_step.specs.declared.views.View.{View};
@@ -19,7 +17,7 @@ use art_path::split;
 use art_plan::{Below, Change, Site, lock, make, put, replaced};
 
 /// Another leaf stands at the site, with this byte where the keys part: a new Node4 has what the keys have in common as its
-/// prefix, and both leaves. False where the words are more than a change takes.
+/// prefix, and both leaves.
 pub fn fork_leaf(
     change: &mut Change,
     site: &Site,
@@ -28,17 +26,15 @@ pub fn fork_leaf(
     other: u32,
     byte: u8,
     made: u32,
-) -> bool
+)
     requires taken { IsTaken site.now }
     requires inside { parting.depth + parting.common < length new.now.key.items }
     requires apart { byte ≢ slice_index new.now.key.items (parting.depth + parting.common) }
-    ensures planned { result ≡ true → (z : Sizes) (u : View) → IsForkLeaf z u site.now new.now parting other byte made
-        → IsPlanned z u change.new }
-    ensures targets { result ≡ true → targets change.new ≡ 1 }
-    ensures locks { result ≡ true → change.new.targets.items ≡ kept (site_stamp site.now) ∷ [] }
+    ensures planned { (z : Sizes) (u : View) → IsForkLeaf z u site.now new.now parting other byte made → IsPlanned z u change.new }
+    ensures targets { targets change.new ≡ 1 }
+    ensures locks { change.new.targets.items ≡ kept (site_stamp site.now) ∷ [] }
     ensures deed { change.new.deed ≡ inserted new.now }
     ensures leaf { change.new.leaf ≡ Some new.now.number }
-    ensures refused { result ≡ false → TakesMany site.now (word_of_link (node_link (node4 made))) }
 {
     let key = new.key.as_slice();
     let at = parting.depth + parting.common;
@@ -60,11 +56,11 @@ pub fn fork_leaf(
     begin(change, new);
     lock(change, site.stamp(), false);
     make(change, made);
-    put(change, 0)
+    put(change, 0);
 }
 
 /// The node below the site has this prefix, which parts from the key: a new Node4 has what both have in common as its prefix, the
-/// node, which keeps the bytes after that one, and the leaf. False where the words are more than a change takes.
+/// node, which keeps the bytes after that one, and the leaf.
 pub fn fork_prefix(
     change: &mut Change,
     site: &Site,
@@ -73,21 +69,19 @@ pub fn fork_prefix(
     new: &NewLeaf,
     parting: Parting,
     made: u32,
-) -> bool
+)
     requires taken { IsTaken site.now }
     requires meaning { IsBody below.now.body.now.layout (word_of below.now.body.now) }
     requires short { length prefix.now ≤ 64 }
     requires within { parting.common < length prefix.now }
     requires inside { parting.depth + parting.common < length new.now.key.items }
     requires apart { slice_index prefix.now parting.common ≢ slice_index new.now.key.items (parting.depth + parting.common) }
-    ensures planned { result ≡ true → (z : Sizes) (u : View) → IsForkPrefix z u site.now new.now parting below.now prefix.now made
+    ensures planned { (z : Sizes) (u : View) → IsForkPrefix z u site.now new.now parting below.now prefix.now made
         → IsPlanned z u change.new }
-    ensures targets { result ≡ true → targets change.new ≡ 2 }
-    ensures locks { result ≡ true → change.new.targets.items ≡ kept (site_stamp site.now) ∷ kept below.now.stamp ∷ [] }
+    ensures targets { targets change.new ≡ 2 }
+    ensures locks { change.new.targets.items ≡ kept (site_stamp site.now) ∷ kept below.now.stamp ∷ [] }
     ensures deed { change.new.deed ≡ inserted new.now }
     ensures leaf { change.new.leaf ≡ Some new.now.number }
-    ensures refused { result ≡ false → BothTakeMany site.now (word_of_link (node_link (node4 made))) below.now.body.now
-        (drop (parting.common + 1) prefix.now) }
 {
     let parts = split(prefix, parting.common);
     let key = new.key.as_slice();
@@ -110,7 +104,7 @@ pub fn fork_prefix(
     lock(change, site.stamp(), false);
     lock(change, below.stamp, false);
     make(change, made);
-    let comes_between = put(change, 0);
+    put(change, 0);
     plan_prefix(below.body, parts.rest.as_slice(), &mut change.writes);
-    comes_between && put(change, 1)
+    put(change, 1);
 }

@@ -1,16 +1,14 @@
 //! A full node gives way to a larger one.
-ghost use Rattle.std.specs.Prelude.{◌≡◌, ◌<◌, ◌∷◌, ℕ, [], None, true, false, Some};
+ghost use Rattle.std.specs.Prelude.{◌≡◌, ◌<◌, ◌∷◌, ℕ, [], None, Some};
 ghost use Rattle.art_cell.specs.Bodies.{Becomes, IsFull};
-ghost use Rattle.art_cell.specs.Children.{child_word as word_of_link};
 ghost use Rattle.art_cell.specs.Reads.{IsBodyOf, with_child, word_of};
 ghost use Rattle.art_cell.specs.Words.{child_of, prefix_of};
-ghost use Rattle.art_cell.specs.declared.cells.Link.TheVariants.{Node as node_link};
 ghost use Rattle.art_insert.specs.Cases.{IsGrow};
 ghost use Rattle.art_insert.specs.Puts.{inserted, larger_node};
 ghost use Rattle.art_node.specs.Prefixes.{IsNodeOf};
 ghost use Rattle.art_node.specs.Sizes.{larger};
 ghost use Rattle.art_plan.specs.Changes.{IsPlanned, targets};
-ghost use Rattle.art_plan.specs.Puts.{IsCrowded, IsTaken, TakesMany};
+ghost use Rattle.art_plan.specs.Puts.{IsCrowded, IsTaken};
 ghost use Rattle.art_plan.specs.Seen.{gone, kept, site_stamp};
 ghost use Rattle.art_step.specs.declared.views.Sizes.{Sizes};
 ghost use Rattle.art_step.specs.declared.views.View.{View};
@@ -24,24 +22,16 @@ use art_node256::Node256;
 use art_plan::{Below, Change, Site, lock, make, put, replaced, unlink};
 
 /// The node below the site has no place for the leaf at the byte: the next larger one has its children and the leaf, and takes
-/// its place. False where the words are more than a change takes.
-pub fn grow(
-    change: &mut Change,
-    site: &Site,
-    below: &Below,
-    byte: u8,
-    new: &NewLeaf,
-    made: u32,
-) -> bool
+/// its place.
+pub fn grow(change: &mut Change, site: &Site, below: &Below, byte: u8, new: &NewLeaf, made: u32)
     requires taken { IsTaken site.now }
     requires crowded { IsCrowded below.now.body.now byte }
-    ensures planned { result ≡ true → (z : Sizes) (u : View) (depth : ℕ)
+    ensures planned { (z : Sizes) (u : View) (depth : ℕ)
         → IsGrow z u site.now new.now depth below.now byte (larger_node below.now.body.now made) → IsPlanned z u change.new }
-    ensures targets { result ≡ true → targets change.new ≡ 2 }
-    ensures locks { result ≡ true → change.new.targets.items ≡ kept (site_stamp site.now) ∷ gone below.now.stamp ∷ [] }
+    ensures targets { targets change.new ≡ 2 }
+    ensures locks { change.new.targets.items ≡ kept (site_stamp site.now) ∷ gone below.now.stamp ∷ [] }
     ensures deed { change.new.deed ≡ inserted new.now }
     ensures leaf { change.new.leaf ≡ Some new.now.number }
-    ensures refused { result ≡ false → TakesMany site.now (word_of_link (node_link (larger_node below.now.body.now made))) }
 {
     let new_leaf = child_word(Link::Leaf(new.number));
     grown(below.body, byte, new_leaf, &mut change.body);
@@ -56,7 +46,7 @@ pub fn grow(
     lock(change, below.stamp, true);
     unlink(change, old_node);
     make(change, made);
-    put(change, 0)
+    put(change, 0);
 }
 
 /// Makes the second body the next larger node, with this child too.

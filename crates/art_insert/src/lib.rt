@@ -32,8 +32,8 @@
 //!
 //! Where the node at the site is not full, the leaf comes to that node: its byte is the site then, and the case is `add`.
 //!
-//! A change takes 32 words at most. The contracts of the nodes do not say how many words they change, though they are few; so
-//! each case answers whether the words fit, and says of what did not fit that it was really more (`TakesMany`).
+//! A change takes 32 words at most, and those of each case fit: one for a child that is set, at most 19 for a new one, and at most 9
+//! for the prefix of the node, as the contracts of `art_node` say.
 //!
 //! # What is proved
 //!

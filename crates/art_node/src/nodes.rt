@@ -1,8 +1,8 @@
 //! The operations on a node, by its layout.
-ghost use Rattle.std.specs.Prelude.{◌≡◌, ◌≢◌, ◌≤◌, ◌<◌, ◌↔◌, ℕ, Some, None, false, true};
+ghost use Rattle.std.specs.Prelude.{◌≡◌, ◌≢◌, ◌≤◌, ◌<◌, ◌↔◌, ℕ, Some, None, false, true, length};
 ghost use Rattle.art_cell.specs.Words.{Words, count_of, places, child_of, entries};
 ghost use Rattle.art_cell.specs.Bodies.{IsBody, IsFull, IsRelaid};
-ghost use Rattle.art_cell.specs.Reads.{Agrees, ProbeNeeds, ProbeTells, NextNeeds, NextTells, IsPlan, word_of, with_child, without_child};
+ghost use Rattle.art_cell.specs.Reads.{Agrees, ProbeNeeds, ProbeTells, NextNeeds, NextTells, IsPlan, word_of, with_child, without_child, most_writes};
 ghost use Rattle.art_node.specs.Sizes.{larger, smaller};
 
 use crate::relaid::relaid;
@@ -50,6 +50,7 @@ pub fn plan_add(body: &Body, byte: u8, child: u64, writes: &mut Writes) -> bool
     ensures plan { result ≡ true → IsPlan body.now.layout (word_of body.now) writes.new.items
         (with_child (child_of body.now.layout (word_of body.now)) byte child) }
     ensures refused { result ≡ false → writes.new ≡ writes.old }
+    ensures few { result ≡ true → length writes.new.items ≤ most_writes }
 {
     art_node!(body.layout, plan_add(body, byte, child, writes))
 }
@@ -59,8 +60,9 @@ pub fn plan_set(body: &Body, byte: u8, child: u64, writes: &mut Writes)
     requires body { IsBody body.now.layout (word_of body.now) }
     requires there { (c : ℕ) × (child_of body.now.layout (word_of body.now) byte ≡ Some c) }
     requires child { 0 < child }
-    ensures { IsPlan body.now.layout (word_of body.now) writes.new.items
+    ensures plan { IsPlan body.now.layout (word_of body.now) writes.new.items
         (with_child (child_of body.now.layout (word_of body.now)) byte child) }
+    ensures one { length writes.new.items ≤ 1 }
 {
     art_node!(body.layout, plan_set(body, byte, child, writes));
 }
@@ -69,8 +71,9 @@ pub fn plan_set(body: &Body, byte: u8, child: u64, writes: &mut Writes)
 pub fn plan_drop(body: &Body, byte: u8, writes: &mut Writes)
     requires body { IsBody body.now.layout (word_of body.now) }
     requires there { (c : ℕ) × (child_of body.now.layout (word_of body.now) byte ≡ Some c) }
-    ensures { IsPlan body.now.layout (word_of body.now) writes.new.items
+    ensures plan { IsPlan body.now.layout (word_of body.now) writes.new.items
         (without_child (child_of body.now.layout (word_of body.now)) byte) }
+    ensures few { length writes.new.items ≤ most_writes }
 {
     art_node!(body.layout, plan_drop(body, byte, writes));
 }

@@ -1,7 +1,7 @@
 //! A node with another prefix, and a node of a prefix and two children.
 ghost use Rattle.std.specs.Prelude.{◌≡◌, ◌≢◌, ◌<◌, ◌≤◌, ℕ, length, None};
 ghost use Rattle.art_cell.specs.Bodies.{IsBody};
-ghost use Rattle.art_cell.specs.Reads.{SameOutside, word_of};
+ghost use Rattle.art_cell.specs.Reads.{SameOutside, most_prefix_writes, word_of};
 ghost use Rattle.art_cell.specs.Words.{child_of};
 ghost use Rattle.art_cell.specs.declared.layouts.Layout.TheVariants as layouts;
 ghost use Rattle.art_node.specs.Prefixes.{IsNodeOf, IsPrefixPlan, two_of};
@@ -14,7 +14,8 @@ use art_node4::Node4;
 pub fn plan_prefix(body: &Body, prefix: &[u8], writes: &mut Writes)
     requires body { IsBody body.now.layout (word_of body.now) }
     requires short { length prefix.now ≤ 64 }
-    ensures { IsPrefixPlan body.now.layout (word_of body.now) writes.new.items prefix.now }
+    ensures plan { IsPrefixPlan body.now.layout (word_of body.now) writes.new.items prefix.now }
+    ensures few { length writes.new.items ≤ most_prefix_writes }
 {
     let mut after = *body;
     set_prefix(&mut after, prefix);
@@ -53,6 +54,7 @@ fn set_prefix(body: &mut Body, prefix: &[u8])
     ensures layout { body.new.layout ≡ body.old.layout }
     ensures node { IsNodeOf body.old.layout (word_of body.new) prefix.now (child_of body.old.layout (word_of body.old)) }
     ensures outside { SameOutside body.old.layout (word_of body.old) (word_of body.new) }
+    ensures rest { (place : ℕ) → 10 ≤ place → word_of body.new place ≡ word_of body.old place }
 {
     let header = body.words[1];
     body.words[1] = header / 65536 * 65536 + 512 * prefix.len() as u64 + header % 512;

@@ -1,10 +1,11 @@
 -- What the words mean after the child word of a byte, and the header, were written.
-use Rattle.std.proofs.Common.{◌≡◌, ◌≢◌, ℕ, ◌+◌, ◌-◌, ◌/◌, ◌%◌, ◌^◌, ◌<◌, List, length, set, get_or, cond, eqb, Option, Some, None, refl, ap, subst, ◌∙◌, inl, inr, arith, eq-eqb, ne_eqb, get_or-set_same, get_or-set_other, length-set}
+use Rattle.std.proofs.Common.{◌≡◌, ◌≢◌, ◌⊎◌, ℕ, ◌+◌, ◌-◌, ◌/◌, ◌%◌, ◌^◌, ◌<◌, ◌≤◌, List, length, set, get_or, cond, eqb, Option, Some, None, refl, sym, ap, subst, ◌∙◌, inl, inr, arith, eq-eqb, ne_eqb, get_or-set_same, get_or-set_other, length-set}
 use Rattle.std.proofs.lemmas.Bool.{cases_eq}
 use Rattle.art_cell.specs.declared.layouts.Layout.TheVariants.{Node256}
 use Rattle.art_cell.specs.Words.{Words, nonzero, child_of}
 use Rattle.art_cell.specs.Bodies.{IsBody, Becomes}
-use Rattle.art_cell.specs.Reads.{with_child, without_child}
+use Rattle.art_cell.specs.Reads.{changes, most_writes, with_child, without_child}
+use Rattle.art_cell.specs.Lemmas.Differing.{after_prefix, differing_most, differing_one, one_differs}
 use Rattle.art_cell.specs.Lemmas.Headers.{KeepsRest, count_more, count_less, prefix_len_kept, header_below}
 use Rattle.art_cell.specs.Lemmas.Entries.{Changed, listed_room, listed_some, nonzero_some, becomes_with, becomes_other, becomes_without}
 
@@ -93,3 +94,21 @@ removed w after byte low body there written =
     let some = taken_some w byte there.0 low body there.1 in
     let count = count_less (w 1) (w 1 - 1) (omega arith) some in
     becomes_without Node256 w after byte there.0 low there.1 body (ap (λ (h : ℕ). h % 512 + 1) written.head ∙ count.0) (changed w after byte 0 (w 1 - 1) None refl (omega arith) body count.1 written)
+
+-- ---- how many words differ
+
+-- the header and a child word at most
+pub few_written : (w after : Words) (byte c header : ℕ) → IsWritten w after byte c header → length (changes Node256 w after) ≤ most_writes
+few_written w after byte c header written =
+    let all = after_prefix w after Node256 0 256 refl (λ p low high. sym (written.others p (λ e. omega arith) (λ e. omega arith))) in
+    let keys = differing_most w after 10 0 in
+    let children = differing_one w after (10 + byte) 10 256 (λ p low high apart. sym (written.others p apart (λ e. omega arith))) in
+    omega arith
+
+-- a child word alone, where the header is as it was
+pub one_written : (w after : Words) (byte c : ℕ) → IsWritten w after byte c (w 1) → length (changes Node256 w after) ≤ 1
+one_written w after byte c written = one_differs w after Node256 (10 + byte) (λ p some within apart. same p apart (cases_eq p 1))
+  where
+    same : (p : ℕ) → p ≢ 10 + byte → (p ≡ 1) ⊎ (p ≢ 1) → w p ≡ after p
+    same p apart (inl first) = ap w first ∙ sym written.head ∙ ap after (sym first)
+    same p apart (inr later) = sym (written.others p apart later)

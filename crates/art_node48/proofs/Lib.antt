@@ -1,3 +1,4 @@
+pub mod Differing
 pub mod Index
 pub mod Steps
 pub mod Writes

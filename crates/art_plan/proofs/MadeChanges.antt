@@ -1,5 +1,5 @@
 -- What the functions that fill in a change make of it, one after another.
-use Rattle.std.proofs.Common.{◌≡◌, ℕ, Bool, true, false, List, [], ◌∷◌, ◌++◌, Some, refl, ap}
+use Rattle.std.proofs.Common.{ℕ, ◌+◌, ◌≤◌, Bool, List, [], ◌∷◌, ◌++◌, length, Some}
 use Rattle.art_cell.specs.declared.writes.Write.{Write}
 use Rattle.art_plan.specs.Puts.{IsFree, IsTaken, puts_of}
 use Rattle.art_plan.specs.declared.changes.Change.{Change}
@@ -25,20 +25,9 @@ with_writes ws c = record c { writes = record { items = ws } }
 abbrev pub with_puts_of : ℕ → Change → Change
 with_puts_of i c = record c { puts = record { items = c.puts.items ++ puts_of i c.writes.items } }
 
--- what was put, or refused
-pub record IsPut (was now : Change) (i : ℕ) (done : Bool) : Type 0 where
-  pub put : done ≡ true → now ≡ with_puts_of i was
-  pub same : done ≡ false → now ≡ was
-
--- either way the targets and the deed are as they were
-pub put_deed : (was now : Change) (i : ℕ) (done : Bool) → IsPut was now i done → now.deed ≡ was.deed
-put_deed was now i true p = ap (λ (c : Change). c.deed) (p.put refl)
-put_deed was now i false p = ap (λ (c : Change). c.deed) (p.same refl)
-
--- and so is the leaf
-pub put_leaf : (was now : Change) (i : ℕ) (done : Bool) → IsPut was now i done → now.leaf ≡ was.leaf
-put_leaf was now i true p = ap (λ (c : Change). c.leaf) (p.put refl)
-put_leaf was now i false p = ap (λ (c : Change). c.leaf) (p.same refl)
+-- there is room for the words that are planned
+abbrev pub WordsFit : Change → Type 0
+WordsFit c = length c.puts.items + length c.writes.items ≤ 32
 
 -- ---- a site
 

@@ -1,11 +1,10 @@
 -- What is written where a child word stands, and a change with all its parts.
-use Rattle.std.specs.Prelude.{◌≡◌, ◌<◌, ℕ, ◌+◌, List, [], ◌∷◌, length, map, Option, Some, None, ⊤}
+use Rattle.std.specs.Prelude.{◌≡◌, ℕ, List, [], ◌∷◌, map, Option, Some, None, ⊤}
 use Rattle.art_cell.specs.Bodies.{IsBody, IsFull}
 use Rattle.art_cell.specs.Reads.{IsPlan, with_child, without_child, word_of}
 use Rattle.art_cell.specs.Words.{child_of}
 use Rattle.art_cell.specs.declared.bodies.Body.{Body}
 use Rattle.art_cell.specs.declared.writes.Write.{Write}
-use Rattle.art_node.specs.Prefixes.{IsPrefixPlan}
 use Rattle.art_plan.specs.declared.changes.Change.{Change}
 use Rattle.art_plan.specs.declared.changes.Put.{Put}
 use Rattle.art_plan.specs.declared.changes.Target.{Target}
@@ -54,19 +53,6 @@ abbrev pub IsDropPlan : Site → List Write → Type 0
 IsDropPlan (Root x) writes = writes ≡ record { place = 1; value = 0 } ∷ []
 IsDropPlan (Slot x body byte) writes =
     IsPlan body.now.layout (word_of body.now) writes (without_child (child_of body.now.layout (word_of body.now)) byte)
-
--- the words by which the site gets the child word are more than a change takes
-abbrev pub TakesMany : Site → ℕ → Type 0
-TakesMany site child = (writes : List Write) × IsSitePlan site child writes × (32 < length writes)
-
--- so are those by which it loses its child
-abbrev pub DropTakesMany : Site → Type 0
-DropTakesMany site = (writes : List Write) × IsDropPlan site writes × (32 < length writes)
-
--- so are those by which it gets the child word and those by which the node gets the prefix, together
-abbrev pub BothTakeMany : Site → ℕ → Body → List ℕ → Type 0
-BothTakeMany site child body p = (writes : List Write) × (others : List Write) × IsSitePlan site child writes
-    × IsPrefixPlan body.layout (word_of body) others p × (32 < length writes + length others)
 
 -- ---- a change
 

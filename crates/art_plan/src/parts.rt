@@ -1,5 +1,5 @@
 //! The parts of a change, filled in one after another.
-ghost use Rattle.std.specs.Prelude.{◌≡◌, ◌+◌, ◌<◌, ◌≤◌, ◌∷◌, ◌++◌, [], None, Some, length, true, false};
+ghost use Rattle.std.specs.Prelude.{◌≡◌, ◌+◌, ◌<◌, ◌≤◌, ◌∷◌, ◌++◌, [], None, Some, length};
 ghost use Rattle.art_plan.specs.Puts.{change_of, puts_of};
 
 use crate::{Change, Put, Target};
@@ -51,19 +51,14 @@ pub fn make(change: &mut Change, number: u32)
     change.node = Some(number);
 }
 
-/// Writes the words that were planned into the target with an index, after those of before. False, with nothing changed, where there
-/// is no room.
-pub fn put(change: &mut Change, target: usize) -> bool
-    ensures put { result ≡ true → change.new ≡ record change.old {
+/// Writes the words that were planned into the target with an index, after those of before.
+pub fn put(change: &mut Change, target: usize)
+    requires { length change.old.puts.items + length change.old.writes.items ≤ 32 }
+    ensures { change.new ≡ record change.old {
       puts = record { items = change.old.puts.items ++ puts_of target change.old.writes.items };
     } }
-    ensures kept { result ≡ false → change.new ≡ change.old }
-    ensures refused { result ≡ false → 32 < length change.old.puts.items + length change.old.writes.items }
 {
     let Change { puts, writes, .. } = change;
-    if puts.len() + writes.len() > 32 {
-        return false;
-    }
     for write in writes.as_slice() {
         puts.push(Put {
             target,
@@ -71,5 +66,4 @@ pub fn put(change: &mut Change, target: usize) -> bool
             value: write.value,
         });
     }
-    true
 }

@@ -1,5 +1,6 @@
 //! Where a child word stands that a change writes, and the words that write it.
-ghost use Rattle.std.specs.Prelude.{◌≡◌, ◌<◌, ◌∷◌, []};
+ghost use Rattle.std.specs.Prelude.{◌≡◌, ◌<◌, ◌≤◌, ◌∷◌, [], length};
+ghost use Rattle.art_cell.specs.Reads.{most_writes};
 ghost use Rattle.art_plan.specs.Puts.{IsDropPlan, IsFree, IsSitePlan, IsTaken};
 ghost use Rattle.art_plan.specs.Seen.{site_stamp};
 
@@ -31,7 +32,8 @@ impl Site<'_> {
 pub fn added(site: &Site, child: u64, writes: &mut Writes)
     requires free { IsFree site.now }
     requires child { 0 < child }
-    ensures { IsSitePlan site.now child writes.new.items }
+    ensures plan { IsSitePlan site.now child writes.new.items }
+    ensures few { length writes.new.items ≤ most_writes }
 {
     match *site {
         Site::Root(_) => root_word(child, writes),
@@ -45,7 +47,8 @@ pub fn added(site: &Site, child: u64, writes: &mut Writes)
 pub fn replaced(site: &Site, child: u64, writes: &mut Writes)
     requires taken { IsTaken site.now }
     requires child { 0 < child }
-    ensures { IsSitePlan site.now child writes.new.items }
+    ensures plan { IsSitePlan site.now child writes.new.items }
+    ensures one { length writes.new.items ≤ 1 }
 {
     match *site {
         Site::Root(_) => root_word(child, writes),
@@ -56,7 +59,8 @@ pub fn replaced(site: &Site, child: u64, writes: &mut Writes)
 /// Makes the writes the words by which the site, which has a child, loses it.
 pub fn dropped(site: &Site, writes: &mut Writes)
     requires { IsTaken site.now }
-    ensures { IsDropPlan site.now writes.new.items }
+    ensures plan { IsDropPlan site.now writes.new.items }
+    ensures few { length writes.new.items ≤ most_writes }
 {
     match *site {
         Site::Root(_) => root_word(0, writes),

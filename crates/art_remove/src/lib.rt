@@ -43,10 +43,9 @@
 //! The leaf has this key and this value in each tree that is as the stamp of the cell says that names it: that is what a descent
 //! shows of what it found. So the answer of the removal, which is the value, is the tree's when the change is committed.
 //!
-//! A change takes 32 words at most. The contracts of the nodes do not say how many words they change, though they are few; so
-//! each case answers whether the words fit, and says of what did not fit that it was really more (`TakesMany`). `merge_node`
-//! answers `false` also where the joined prefix has more than 64 bytes (`IsTooLong`), which no tree has, since its paths are
-//! shorter than that.
+//! A change takes 32 words at most, and those of each case fit: one for a child that is set, at most 19 for one that goes, and at
+//! most 9 for the prefix of the lower node, as the contracts of `art_node` say. `merge_node` answers `false` where the joined prefix
+//! has more than 64 bytes (`IsTooLong`), which no tree has, since its paths are shorter than that.
 //!
 //! # What is proved
 //!

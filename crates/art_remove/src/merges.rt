@@ -1,14 +1,12 @@
 //! A node that one child is left of gives way to that child.
-ghost use Rattle.std.specs.Prelude.{◌≡◌, ◌⊎◌, ◌∷◌, ℕ, [], None, true, false};
+ghost use Rattle.std.specs.Prelude.{◌≡◌, ◌∷◌, ℕ, [], None, true, false};
 ghost use Rattle.art_cell.specs.Bodies.{IsBody};
-ghost use Rattle.art_cell.specs.Children.{child_word as word_of_link};
 ghost use Rattle.art_cell.specs.Reads.{word_of};
-ghost use Rattle.art_cell.specs.declared.cells.Link.TheVariants.{Leaf as leaf_link, Node as node_link};
 ghost use Rattle.art_plan.specs.Changes.{IsPlanned, targets};
-ghost use Rattle.art_plan.specs.Puts.{BothTakeMany, IsTaken, TakesMany};
+ghost use Rattle.art_plan.specs.Puts.{IsTaken};
 ghost use Rattle.art_plan.specs.Seen.{gone, kept, site_stamp};
 ghost use Rattle.art_remove.specs.Cases.{IsMergeLeaf, IsMergeNode};
-ghost use Rattle.art_remove.specs.Removals.{IsTooLong, joined, removed};
+ghost use Rattle.art_remove.specs.Removals.{IsTooLong, removed};
 ghost use Rattle.art_step.specs.declared.views.Sizes.{Sizes};
 ghost use Rattle.art_step.specs.declared.views.View.{View};
 
@@ -18,23 +16,15 @@ use art_node::{child_word, plan_prefix};
 use art_path::{Parts, join};
 use art_plan::{Below, Change, Site, lock, put, replaced, unlink};
 
-/// The leaf goes from the node below the site, which has one other child, a leaf: that one takes the node's place. False where the
-/// words are more than a change takes.
-pub fn merge_leaf(
-    change: &mut Change,
-    site: &Site,
-    below: &Below,
-    other: u32,
-    old: &OldLeaf,
-) -> bool
+/// The leaf goes from the node below the site, which has one other child, a leaf: that one takes the node's place.
+pub fn merge_leaf(change: &mut Change, site: &Site, below: &Below, other: u32, old: &OldLeaf)
     requires { IsTaken site.now }
-    ensures planned { result ≡ true → (z : Sizes) (u : View) (depth byte beside : ℕ)
+    ensures planned { (z : Sizes) (u : View) (depth byte beside : ℕ)
         → IsMergeLeaf z u site.now old.now depth below.now byte beside other → IsPlanned z u change.new }
-    ensures targets { result ≡ true → targets change.new ≡ 2 }
-    ensures locks { result ≡ true → change.new.targets.items ≡ kept (site_stamp site.now) ∷ gone below.now.stamp ∷ [] }
+    ensures targets { targets change.new ≡ 2 }
+    ensures locks { change.new.targets.items ≡ kept (site_stamp site.now) ∷ gone below.now.stamp ∷ [] }
     ensures deed { change.new.deed ≡ removed old.now }
     ensures leaf { change.new.leaf ≡ None }
-    ensures refused { result ≡ false → TakesMany site.now (word_of_link (leaf_link other)) }
 {
     let old_leaf = child_word(Link::Leaf(old.number));
     let old_node = child_word(Link::Node(below.node));
@@ -44,12 +34,11 @@ pub fn merge_leaf(
     lock(change, below.stamp, true);
     unlink(change, old_leaf);
     unlink(change, old_node);
-    put(change, 0)
+    put(change, 0);
 }
 
 /// The leaf goes from the node below the site, which has one other child, a node: that one takes its place, and has the node's
-/// prefix, its own byte and its own prefix as its prefix, which are the parts. False where these are more than 64 bytes, or the
-/// words more than a change takes.
+/// prefix, its own byte and its own prefix as its prefix, which are the parts. False where these are more than 64 bytes.
 pub fn merge_node(
     change: &mut Change,
     site: &Site,
@@ -67,8 +56,7 @@ pub fn merge_node(
         change.new.targets.items ≡ kept (site_stamp site.now) ∷ gone below.now.stamp ∷ kept lower.now.stamp ∷ [] }
     ensures deed { change.new.deed ≡ removed old.now }
     ensures leaf { change.new.leaf ≡ None }
-    ensures refused { result ≡ false → IsTooLong parts.now
-        ⊎ BothTakeMany site.now (word_of_link (node_link lower.now.node)) lower.now.body.now (joined parts.now) }
+    ensures refused { result ≡ false → IsTooLong parts.now }
 {
     begin(change, old);
     if parts.front.len() + 1 + parts.rest.len() > 64 {
@@ -83,7 +71,8 @@ pub fn merge_node(
     unlink(change, old_leaf);
     unlink(change, old_node);
     replaced(site, child_word(Link::Node(lower.node)), &mut change.writes);
-    let takes_its_place = put(change, 0);
+    put(change, 0);
     plan_prefix(lower.body, prefix.as_slice(), &mut change.writes);
-    takes_its_place && put(change, 2)
+    put(change, 2);
+    true
 }

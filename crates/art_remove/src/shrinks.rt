@@ -1,14 +1,12 @@
 //! A node that few children are left of gives way to a smaller one.
-ghost use Rattle.std.specs.Prelude.{◌≡◌, ◌∷◌, ℕ, [], Some, None, true, false};
+ghost use Rattle.std.specs.Prelude.{◌≡◌, ◌∷◌, ℕ, [], Some, None};
 ghost use Rattle.art_cell.specs.Bodies.{Becomes, IsBody};
-ghost use Rattle.art_cell.specs.Children.{child_word as word_of_link};
 ghost use Rattle.art_cell.specs.Reads.{IsBodyOf, without_child, word_of};
 ghost use Rattle.art_cell.specs.Words.{child_of, prefix_of};
-ghost use Rattle.art_cell.specs.declared.cells.Link.TheVariants.{Node as node_link};
 ghost use Rattle.art_node.specs.Prefixes.{IsNodeOf};
 ghost use Rattle.art_node.specs.Sizes.{smaller};
 ghost use Rattle.art_plan.specs.Changes.{IsPlanned, targets};
-ghost use Rattle.art_plan.specs.Puts.{HasChild, IsTaken, TakesMany};
+ghost use Rattle.art_plan.specs.Puts.{HasChild, IsTaken};
 ghost use Rattle.art_plan.specs.Seen.{gone, kept, site_stamp};
 ghost use Rattle.art_remove.specs.Cases.{IsShrink};
 ghost use Rattle.art_remove.specs.Removals.{IsSparse, removed, smaller_node};
@@ -24,25 +22,16 @@ use art_node48::Node48;
 use art_node256::Node256;
 use art_plan::{Below, Change, Site, lock, make, put, replaced, unlink};
 
-/// The leaf goes from a byte of the node below the site: the next smaller one has the other children, and takes its place. False
-/// where the words are more than a change takes.
-pub fn shrink(
-    change: &mut Change,
-    site: &Site,
-    below: &Below,
-    byte: u8,
-    old: &OldLeaf,
-    made: u32,
-) -> bool
+/// The leaf goes from a byte of the node below the site: the next smaller one has the other children, and takes its place.
+pub fn shrink(change: &mut Change, site: &Site, below: &Below, byte: u8, old: &OldLeaf, made: u32)
     requires taken { IsTaken site.now }
     requires sparse { IsSparse below.now.body.now byte }
-    ensures planned { result ≡ true → (z : Sizes) (u : View) (depth : ℕ)
+    ensures planned { (z : Sizes) (u : View) (depth : ℕ)
         → IsShrink z u site.now old.now depth below.now byte (smaller_node below.now.body.now made) → IsPlanned z u change.new }
-    ensures targets { result ≡ true → targets change.new ≡ 2 }
-    ensures locks { result ≡ true → change.new.targets.items ≡ kept (site_stamp site.now) ∷ gone below.now.stamp ∷ [] }
+    ensures targets { targets change.new ≡ 2 }
+    ensures locks { change.new.targets.items ≡ kept (site_stamp site.now) ∷ gone below.now.stamp ∷ [] }
     ensures deed { change.new.deed ≡ removed old.now }
     ensures leaf { change.new.leaf ≡ None }
-    ensures refused { result ≡ false → TakesMany site.now (word_of_link (node_link (smaller_node below.now.body.now made))) }
 {
     shrunk(below.body, byte, &mut change.body);
     let new_node = child_word(Link::Node(Node {
@@ -58,7 +47,7 @@ pub fn shrink(
     unlink(change, old_leaf);
     unlink(change, old_node);
     make(change, made);
-    put(change, 0)
+    put(change, 0);
 }
 
 /// Makes the second body the next smaller node, without the child of the byte.

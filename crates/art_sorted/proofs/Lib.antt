@@ -1,3 +1,4 @@
 pub mod Ascending
+pub mod Differing
 pub mod NodeWords
 pub mod Writing

@@ -1,8 +1,8 @@
 //! One child more, another child, and one less.
-ghost use Rattle.std.specs.Prelude.{◌≡◌, ◌<◌, ◌↔◌, ℕ, Some, None, true, false};
+ghost use Rattle.std.specs.Prelude.{◌≡◌, ◌<◌, ◌≤◌, ◌↔◌, ℕ, Some, None, true, false, length};
 ghost use Rattle.art_cell.specs.Words.{child_of};
 ghost use Rattle.art_cell.specs.Bodies.{IsFull, Becomes};
-ghost use Rattle.art_cell.specs.Reads.{word_of, IsBodyOf, SameOutside, with_child, without_child};
+ghost use Rattle.art_cell.specs.Reads.{word_of, IsBodyOf, SameOutside, changes, with_child, without_child, most_writes};
 ghost use Rattle.art_sorted.specs.Sorted.{layout_of};
 
 use crate::Sorted;
@@ -21,6 +21,7 @@ pub fn add(sorted: Sorted, body: &mut Body, byte: u8, child: u64) -> bool
     ensures refused { result ≡ false → body.new ≡ body.old }
     ensures layout { body.new.layout ≡ body.old.layout }
     ensures outside { SameOutside (layout_of sorted) (word_of body.old) (word_of body.new) }
+    ensures few { result ≡ true → length (changes (layout_of sorted) (word_of body.old) (word_of body.new)) ≤ most_writes }
 {
     let mut children: Children = listed(sorted, body);
     if children.len() == sorted.positions() {
@@ -41,6 +42,7 @@ pub fn set(sorted: Sorted, body: &mut Body, byte: u8, child: u64)
         (with_child (child_of (layout_of sorted) (word_of body.old)) byte child) }
     ensures layout { body.new.layout ≡ body.old.layout }
     ensures outside { SameOutside (layout_of sorted) (word_of body.old) (word_of body.new) }
+    ensures one { length (changes (layout_of sorted) (word_of body.old) (word_of body.new)) ≤ 1 }
 {
     let index = position(&listed(sorted, body), byte);
     body.words[sorted.first_child() + index] = child;
@@ -54,6 +56,7 @@ pub fn take(sorted: Sorted, body: &mut Body, byte: u8)
         (without_child (child_of (layout_of sorted) (word_of body.old)) byte) }
     ensures layout { body.new.layout ≡ body.old.layout }
     ensures outside { SameOutside (layout_of sorted) (word_of body.old) (word_of body.new) }
+    ensures few { length (changes (layout_of sorted) (word_of body.old) (word_of body.new)) ≤ most_writes }
 {
     let mut children: Children = listed(sorted, body);
     let index = position(&children, byte);

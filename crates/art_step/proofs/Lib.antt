@@ -1,3 +1,4 @@
+pub mod AdmittedRows
 pub mod AnyStep
 pub mod AtSteps
 pub mod Changing

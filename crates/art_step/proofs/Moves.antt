@@ -236,6 +236,7 @@ module _ (z : Sizes) (ws : List ℕ) (f : Views) (p : ℕ) (v : View) (r : IsSou
         stamped = λ y i. let a = paths y i in (a.0, (a.1.0, a.1.1));
         led = λ d q i leads. k.each d (note_of d (Starts q)) i (q, refl, leads r.logical r.shows.shape holds);
         vouched = (r.logical, r.shows.shape, holds);
+        below = λ d i here. subst (λ (n : ℕ). d.version ≤ n) (ap m.version here ∙ same) ((r.vouch p v at).stamps d i).below;
         told = told (with_view f p w) x k.list o may.tells holds (with_turned f p w);
       }
       (λ g t. IsUnchanged record { stamp = x; paths = k.list; event = o; may = may; found = same; led = paths; words = refl; view = t })

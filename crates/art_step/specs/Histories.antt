@@ -14,6 +14,7 @@ use Rattle.art_step.specs.declared.views.Event.{Event}
 use Rattle.art_step.specs.Views.{Member}
 use Rattle.art_tree.specs.Looks.{InRange}
 use Rattle.art_tree.specs.Rows.{ByteMap}
+use Rattle.art_tree.specs.Tree.{Begins}
 
 -- ---- what a map answers
 
@@ -85,3 +86,7 @@ StartsWith log seen = (rest : List Event) × (log ≡ seen ++ rest)
 -- all commands of the history have keys that are admitted
 abbrev pub AreAdmitted : (List ℕ → Type 0) → List Event → Type 0
 AreAdmitted A log = (e : Event) → Member e log → IsAdmitted A e.what
+
+-- no admitted key begins another
+abbrev pub AreApart : (List ℕ → Type 0) → Type 0
+AreApart A = (k j : List ℕ) → A k → A j → Begins k j → k ≡ j

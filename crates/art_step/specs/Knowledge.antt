@@ -18,7 +18,7 @@ use Rattle.art_tree.specs.Heaps.{Cells, heap_of}
 use Rattle.art_step.specs.Histories.{IsAnswered, becomes}
 use Rattle.art_cell.specs.Leaves.{IsLeaf}
 use Rattle.art_tree.specs.Rows.{ByteMap, HasRows}
-use Rattle.art_tree.specs.Tree.{Heap, StandsAt, IsTree}
+use Rattle.art_tree.specs.Tree.{Heap, Row, StandsAt, IsTree}
 use Rattle.art_step.specs.Views.{Member, IsNumber}
 use Rattle.art_cell.specs.Words.{Words, child_of}
 
@@ -73,6 +73,13 @@ Holds s c (LeafWord l place value) = NamesLeaf s c l × (s (cell.Leaf l) place �
 -- what was noted under the stamp holds
 abbrev pub HoldsAll : View → Stamp → Cells → Type 0
 HoldsAll v x s = (y : Note) → Member y v.notes → y.stamp ≡ x → Holds s x.cell y.fact
+
+-- it holds of cells that mean a tree, and the keys of all its rows are admitted
+pub record HoldsAmong (A : List ℕ → Type 0) (z : Sizes) (v : View) (x : Stamp) : Type 0 where
+  pub cells : Cells
+  pub shape : IsShape z cells
+  pub holds : HoldsAll v x cells
+  pub keys : (k : List ℕ) (value : ℕ) → Row (heap_of cells) k value → A k
 
 -- ---- what follows from the notes under a stamp, in whatever tree
 

@@ -1,5 +1,5 @@
 //! The atomic steps of one pass, whoever keeps the words.
-ghost use Rattle.std.specs.Prelude.{◌≡◌, ◌<◌, ◌≤◌, ℕ, List, length, map, filter_map, IfSome, MatchResult};
+ghost use Rattle.std.specs.Prelude.{◌≡◌, ◌<◌, ◌≤◌, ℕ, List, length, map, filter_map, IfSome, MatchResult, OnOk};
 ghost use Rattle.std.specs.Option.{option_map};
 ghost use Rattle.art_cell.specs.declared.cells.Cell.TheVariants.{Leaf as leaf_cell, Node as node_cell};
 ghost use Rattle.art_cell.specs.declared.cells.Link.TheVariants.{Leaf as leaf, Node as node};
@@ -10,6 +10,7 @@ ghost use Rattle.art_step.specs.declared.views.Holding.{Holding as HoldingOf};
 ghost use Rattle.art_step.specs.declared.views.InHand.{InHand as NumberInHand};
 ghost use Rattle.art_step.specs.Deeds.{IsAdmitted};
 ghost use Rattle.art_step.specs.Effects.{FindsVersion, FindsWord, LocksClaimed, LocksStamped, PutsWord, Unlocks};
+ghost use Rattle.art_step.specs.Knowledge.{HoldsAmong};
 ghost use Rattle.art_step.specs.Steps.{AtStep, LocksNothing};
 ghost use Rattle.art_step.specs.Steps.Begin as begin;
 ghost use Rattle.art_step.specs.Steps.Check as check;
@@ -82,7 +83,7 @@ pub trait Steps {
         ensures row { read.LeafOutcome (view self.old) (view self.new) stamp leaf place result };
 
     /// Whether the stamp's version word is unchanged: then what was read under the stamp is what the cell says at this
-    /// step, and the deed is done at it.
+    /// step, in a tree whose keys are all admitted, and the deed is done at it.
     fn check(&mut self, stamp: Stamp, deed: Option<&Deed>) -> Result<(), Changed>
         requires inside { HasVersion (sizes self.old) stamp.cell }
         requires may { check.May (sizes self.old) (view self.old) stamp (option_map (λ d. d.now) deed) }
@@ -91,7 +92,8 @@ pub trait Steps {
         ensures at_once { AtStep (sizes self.old) (view self.old) (view self.new) (instants self.old self.new)
             (check.Finds (sizes self.old) (view self.old) stamp result) }
         ensures row { check.Outcome (sizes self.old) (view self.old) (view self.new) stamp
-            (option_map (λ d. d.now) deed.entry) result };
+            (option_map (λ d. d.now) deed.entry) result }
+        ensures keys { OnOk result (HoldsAmong (admits self.old) (sizes self.old) (view self.old) stamp) };
 
     /// Locks the stamp's cell, whose path is known, if its version word is unchanged.
     fn upgrade(&mut self, stamp: Stamp) -> Result<Held, UpgradeFault>

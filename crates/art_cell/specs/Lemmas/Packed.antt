@@ -1,6 +1,7 @@
 -- Bytes packed eight a word, the first in the highest byte.
 use Rattle.std.proofs.Common.{◌≡◌, ◌≢◌, inl, inr, ℕ, zero, suc, ◌+◌, ◌*◌, ◌/◌, ◌%◌, ◌^◌, ◌<◌, List, length, get_or, set, refl, sym, ap, ◌∙◌, arith, get_or-set_other, get_or-set_same}
-use Rattle.std.proofs.lemmas.Nat.{be_bytes_8}
+use Rattle.std.proofs.lemmas.Nat.{be_bytes_8, from_be_bytes-to_be_bytes_8}
+use Rattle.std.proofs.lemmas.Grind.{same_number_lists}
 use Rattle.std.proofs.lemmas.List.{length-set}
 use Rattle.std.proofs.lemmas.Bool.{cases_eq}
 use Rattle.std.specs.Int.{w64, to_be_bytes, from_be_bytes}
@@ -55,6 +56,19 @@ eight-to_be_bytes word = record { eight = refl; small = small }
     small (suc (suc (suc (suc (suc (suc zero)))))) = omega arith
     small (suc (suc (suc (suc (suc (suc (suc zero))))))) = omega arith
     small (suc (suc (suc (suc (suc (suc (suc (suc i)))))))) = omega arith
+
+-- words with the same bytes are the same
+pub same_word : (word other : ℕ) → word < 2 ^ 64 → other < 2 ^ 64 → ((i : ℕ) → i < 8 → byte_of word i ≡ byte_of other i) → word ≡ other
+same_word word other fits other_fits same =
+    sym (from_be_bytes-to_be_bytes_8 word fits) ∙ ap (from_be_bytes w64) bytes ∙ from_be_bytes-to_be_bytes_8 other other_fits
+  where
+    each : (i : ℕ) → i < 8 → get_or (to_be_bytes w64 word) i 0 ≡ get_or (to_be_bytes w64 other) i 0
+    each i low = sym (byte_of-to_be_bytes word i low) ∙ same i low ∙ byte_of-to_be_bytes other i low
+
+    bytes : to_be_bytes w64 word ≡ to_be_bytes w64 other
+    bytes = same_number_lists (to_be_bytes w64 word) (to_be_bytes w64 other)
+        ((eight-to_be_bytes word).eight ∙ sym (eight-to_be_bytes other).eight)
+        (λ i low. each i (omega (arith, low, (eight-to_be_bytes word).eight)))
 
 -- eight bytes with one replaced
 pub eight-set : (bytes : List ℕ) (i byte : ℕ) → IsEight bytes → i < 8 → byte < 256 → IsEight (set bytes i byte)

@@ -1,6 +1,6 @@
 -- Check: a version word is compared with the stamped one. Where it is unchanged, what was noted under the stamp holds at this
 -- step, and an event may be made. Where it is changed, the stamp goes.
-use Rattle.std.specs.Prelude.{Option, None, ⊤, Some, List, ℕ, ◌≡◌, ◌+◌, ◌++◌, ◌∷◌, [], length, ◌↔◌, ◌≢◌, Result, Ok, Err}
+use Rattle.std.specs.Prelude.{Option, None, ⊤, Some, List, ℕ, ◌≡◌, ◌≤◌, ◌+◌, ◌++◌, ◌∷◌, [], length, ◌↔◌, ◌≢◌, Result, Ok, Err}
 use Rattle.art_step.specs.Effects.{Instant, FindsUnchanged, FindsVersion}
 use Rattle.art_step.specs.Events.{SeesEvent}
 use Rattle.art_step.specs.Histories.{event}
@@ -58,14 +58,15 @@ pub record UnchangedStep (z : Sizes) (p : ℕ) (v : View) (m : Memory) (f : View
   pub words : m' ≡ m
   pub view : SetsView f p (with_event (view_unchanged v stamp paths) log event) f'
 
--- stamped cells gain their paths, those to which the notes lead among them; the notes hold of a tree that stands at this step; and
--- an event is made, if one was decided
+-- stamped cells gain their paths, those to which the notes lead among them; the notes hold of a tree that stands at this step; no
+-- stamp of the cell is above its word, which is the stamped one; and an event is made, if one was decided
 pub record Unchanged (z : Sizes) (v w : View) (x : Stamp) (o : Option Deed) : Type 0 where
   pub paths : List Note
   pub is : w ≡ record (view_unchanged v x paths) { seen = w.seen; own = w.own }
   pub stamped : (y : Note) → Member y paths → Member y.stamp v.stamps × ((q : List ℕ) × (y.fact ≡ Starts q))
   pub led : (d : Stamp) (q : List ℕ) → Member d v.stamps → KnowsPath z v x d.cell q → Member (note_of d (Starts q)) paths
   pub vouched : (s : Cells) × IsShape z s × HoldsAll v x s
+  pub below : (d : Stamp) → Member d v.stamps → d.cell ≡ x.cell → d.version ≤ x.version
   pub told : SeesEvent v w o
 
 -- ---- a changed word, at a check or at an upgrade

@@ -1,9 +1,13 @@
-use Rattle.std.proofs.Common.{◌∙◌, sym, subst}
+use Rattle.std.proofs.Common.{◌≡◌, ◌∙◌, ⊎_elim, sym, subst}
+use Rattle.art_attempt.specs.Asking.{cell_in}
+use Rattle.art_change.proofs.Overlaps.{never_overlaps}
 use Rattle.art_change.proofs.Steps.{write_few}
 use Rattle.art_change.proofs.driver.step.Goals as goal
-use Rattle.art_change.specs.Asking.{Answers}
-use Rattle.art_change.specs.Tries.{deed_at}
+use Rattle.art_change.specs.Asking.{Answers, attempt_in}
+use Rattle.art_change.specs.Tries.{IsOverlapBy, deed_at}
 use Rattle.art_change.specs.declared.tries.Trying.{Trying}
+use Rattle.art_change.specs.declared.writes.Outcome.TheVariants.{Overlaps}
+use Rattle.art_change.specs.declared.writes.Stage.TheVariants.{Trying as trying}
 use Rattle.art_epoch.specs.Limbo.{places_of}
 
 pub returns-clause-one : goal.returns-clause-one
@@ -25,3 +29,16 @@ returns-clause-fits g c u ps fits =
     let r = c.args.room.now in
     let row = subst (λ (t : Trying). Answers z (deed_at t r) r.change c.in-Some.asked c.make-answer.result v w) c.trying.ensures c.make-answer.ensures.row in
     c.told.ensures.fits z u v w ps c.in-Some.asked fits (sym c.next.ensures.asks ∙ c.in-Some.is) row
+
+pub returns-clause-apart : goal.returns-clause-apart
+returns-clause-apart g c apart was now =
+    let z = g.S.Steps.sizes c.args.steps.now in
+    let v = g.S.Steps.view c.args.steps.now in
+    let m = c.args.write.now in
+    let q = c.requires.fits in
+    ⊎_elim
+    (λ (had : m.outcome ≡ Overlaps). was had)
+    (λ (here : (m.stage ≡ trying) × IsOverlapBy m.trying (cell_in (attempt_in c.make-answer.result))).
+    never_overlaps (g.S.Steps.admits c.args.steps.now) apart z v q.0 q.1 m c.args.room.now (places_of c.args.limbo.now) c.in-Some.asked c.make-answer.result q.2 c.requires.admitted
+    (sym c.next.ensures.asks ∙ c.in-Some.is) c.make-answer.ensures.keys here)
+    (c.told.ensures.overlaps now)

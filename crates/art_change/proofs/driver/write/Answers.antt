@@ -1,5 +1,6 @@
 use Rattle.std.proofs.Common.{◌∙◌, ℕ, List, Option, refl, sym, subst, arith}
 use Rattle.std.specs.Prelude.{IfSome}
+use Rattle.art_change.proofs.Overlaps.{ended_apart, still_apart}
 use Rattle.art_change.proofs.Ready.{ends_with, ready_again, ready_may}
 use Rattle.art_change.proofs.driver.write.Goals as goal
 use Rattle.art_change.specs.Tries.{SameKey, key_of, value_of}
@@ -23,6 +24,7 @@ loop-outcome-init g c =
       sizes = refl;
       job = c.new-write.ensures.job;
       turns = c.new-write.ensures.turns.0;
+      apart = λ _. c.new-write.ensures.apart;
       key = record { key = refl; value = refl };
       fits = c.new-write.ensures.fits z u may;
       steps = let few = c.new-write.ensures.left z u may in omega (arith, few);
@@ -72,6 +74,7 @@ returns-in-Some-clause-grounds g c =
       job_is = k.job_is ∙ l.invariant.job;
       turns_are = k.turns_are ∙ l.invariant.turns;
       restarts_are = k.restarts_are ∙ sym c.restarts-restarts.ensures;
+      outcome_is = k.outcome_is;
       done = k.done;
     }
 
@@ -122,8 +125,14 @@ loop-outcome-preserved g c =
       sizes = g.met.S.Steps.only_sizes l.steps c.step.new.steps c.step.ensures.only ∙ i.sizes;
       job = c.step.ensures.job ∙ i.job;
       turns = c.step.ensures.turns ∙ i.turns;
+      apart = λ keys. c.step.ensures.apart (still_apart (g.S.Steps.admits c.args.steps.now) (g.S.Steps.admits l.steps) (λ k. (g.met.S.Steps.only_admits c.args.steps.now l.steps k i.only).0) keys) (i.apart keys);
       key = let same = subst (λ (j : JobOf). SameKey j l.room c.step.new.room) i.job c.step.ensures.key in record { key = same.key ∙ i.key.key; value = same.value ∙ i.key.value };
       fits = subst (λ (z : Sizes). Fits z u ps c.step.new.write c.step.new.room (places_of c.step.new.limbo) w) i.sizes
           (c.step.ensures.fits u ps (subst (λ (z : Sizes). Fits z u ps l.write l.room (places_of l.limbo) (g.S.Steps.view l.steps)) (sym i.sizes) i.fits));
       steps = let one = c.step.ensures.one in let less = c.step.ensures.left in let before = i.steps in omega (arith, one, less, before);
     }
+
+pub returns-in-Some-clause-apart : goal.returns-in-Some-clause-apart
+returns-in-Some-clause-apart g c keys =
+    let l = c.loop-outcome in
+    ended_apart l.write.stage l.write.outcome c.in-Some.outcome (sym c.ended.ensures.at ∙ c.in-Some.is) (l.invariant.apart keys)

@@ -1,6 +1,6 @@
 use Rattle.std.proofs.Common.{◌∙◌, sym, subst}
 use Rattle.art_change.specs.Writes.{IsReady}
-use Rattle.art_change_uses.proofs.Ready.{looked_ready}
+use Rattle.art_change.proofs.Looked.{looked_ready}
 use Rattle.art_change_uses.proofs.clients.looks_up.Goals as goal
 use Rattle.art_epoch.specs.Limbo.{places_of}
 use Rattle.art_step.specs.declared.views.Sizes.{Sizes}

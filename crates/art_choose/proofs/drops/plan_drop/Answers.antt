@@ -1,5 +1,5 @@
 use Rattle.std.proofs.Common.{◌<◌, ◌-◌, ◌≡◌, ◌∙◌, ℕ, List, Option, get_or, subst, sym, ap}
-use Rattle.art_choose.proofs.FoundLeaves.{drop_knows, drop_refused, found_deep, found_taken}
+use Rattle.art_choose.proofs.FoundLeaves.{drop_knows, found_deep, found_taken}
 use Rattle.art_choose.proofs.LeftChildren.{keeps_two}
 use Rattle.art_choose.specs.Plans.{IsNodeAt}
 use Rattle.art_decide.proofs.ChildSites.{site_named, stamp_in}
@@ -37,24 +37,16 @@ drop-requires-clause-two c =
     subst KeepsTwo (sym c.site_at-site.ensures.site) (keeps_two t c.args.desk.now _ _ filled c.requires.stays)
 
 pub returns-clause-planned : goal.returns-clause-planned
-returns-clause-planned c = λ done z u seen standing.
+returns-clause-planned c = λ z u seen standing.
     let t = c.args.stand.now in
     let old = c.args.old.now in
     let is = site_named t.stamp _ c.as_slice.result.now old.key.items t.depth c.site_at-site.result c.site_at-site.ensures.site c.as_slice.ensures.value in
     let filled = subst (λ (reads : List (Option ℕ)). IsFilled t.stamp.cell reads c.fill.new.body) c.node.ensures c.fill.ensures in
     let low = subst (λ (bytes : List ℕ). get_or bytes (t.depth - 1) 0 < 256) c.as_slice.ensures.value c.site_at-site.ensures.low in
-    c.drop.ensures.planned done z u t.depth (subst (λ (site : Site). IsDrop z u site old t.depth) (sym is) (drop_knows z t c.args.desk.now old c.requires.found _ filled u seen standing low))
-
-pub returns-clause-refused : goal.returns-clause-refused
-returns-clause-refused c = λ refused.
-    let t = c.args.stand.now in
-    let old = c.args.old.now in
-    let is = site_named t.stamp _ c.as_slice.result.now old.key.items t.depth c.site_at-site.result c.site_at-site.ensures.site c.as_slice.ensures.value in
-    let filled = subst (λ (reads : List (Option ℕ)). IsFilled t.stamp.cell reads c.fill.new.body) c.node.ensures c.fill.ensures in
-    drop_refused c.requires.seen.0 t c.args.desk.now old c.requires.found _ filled c.site_at-site.result is (c.drop.ensures.refused refused)
+    c.drop.ensures.planned z u t.depth (subst (λ (site : Site). IsDrop z u site old t.depth) (sym is) (drop_knows z t c.args.desk.now old c.requires.found _ filled u seen standing low))
 
 pub returns-clause-locks : goal.returns-clause-locks
-returns-clause-locks c = λ done.
+returns-clause-locks c =
     let t = c.args.stand.now in
     let upper : site_stamp c.site_at-site.result ≡ t.stamp = ap site_stamp c.site_at-site.ensures.site ∙ stamp_in t.stamp _ _ in
-    one_locked (IsNodeAt t) c.drop.new.change (kept (site_stamp c.site_at-site.result)) upper (c.drop.ensures.locks done)
+    one_locked (IsNodeAt t) c.drop.new.change (kept (site_stamp c.site_at-site.result)) upper (c.drop.ensures.locks)

@@ -1,5 +1,5 @@
 use Rattle.std.proofs.Common.{◌<◌, ◌-◌, ◌≡◌, ◌∙◌, ℕ, List, Option, get_or, inl, rules, subst, sym, ap, inr, refl}
-use Rattle.art_choose.proofs.LowerNodes.{lower_bytes, lower_meaning, merge_node_knows, merge_refused, node_bytes}
+use Rattle.art_choose.proofs.LowerNodes.{lower_bytes, lower_meaning, merge_node_knows, node_bytes}
 use Rattle.art_choose.specs.Plans.{IsAnyAt}
 use Rattle.art_decide.proofs.AboveSites.{above_deep, above_taken}
 use Rattle.art_decide.proofs.ChildSites.{site_named, stamp_in}
@@ -49,13 +49,7 @@ pub returns-then-merge_node-clause-refused : goal.returns-then-merge_node-clause
 returns-then-merge_node-clause-refused c = λ same. inl (record { above = c.in-Some.above; is = c.in-Some.is; same = search rules })
 
 pub returns-else-merge_node-clause-refused : goal.returns-else-merge_node-clause-refused
-returns-else-merge_node-clause-refused c = λ refused.
-    let a = c.in-Some.above in
-    let old = c.args.old.now in
-    let is = site_named a.stamp _ c.as_slice.result.now old.key.items a.depth c.site_at-site.result c.site_at-site.ensures.site c.as_slice.ensures.value in
-    let upper = subst (λ (reads : List (Option ℕ)). IsFilled a.stamp.cell reads c.fill-2.new.body) c.above.ensures c.fill-2.ensures in
-    merge_refused c.args.stand.now c.args.desk.now old a c.in-Some.is _ upper c.site_at-site.result is c.args.lower.now c.args.reads.now c.requires.seen.2.known.cell
-    c.parts_of-parts.result c.parts_of-parts.ensures c.fill-3.new.body c.fill-3.ensures (c.merge_node.ensures.refused refused)
+returns-else-merge_node-clause-refused c = λ refused. inr (c.parts_of-parts.result, c.parts_of-parts.ensures, c.merge_node.ensures.refused refused)
 
 pub returns-then-merge_node-clause-locks : goal.returns-then-merge_node-clause-locks
 returns-then-merge_node-clause-locks c = λ apart.

@@ -1,6 +1,5 @@
 use Rattle.std.proofs.Common.{◌<◌, ◌-◌, ◌≡◌, ◌∙◌, ℕ, List, Option, get_or, subst, sym, ap, inl, inr, refl}
-use Rattle.art_cell.specs.declared.cells.Link.TheVariants.{Leaf as leaf}
-use Rattle.art_choose.proofs.OtherChildren.{merge_leaf_knows, other_refused}
+use Rattle.art_choose.proofs.OtherChildren.{merge_leaf_knows}
 use Rattle.art_choose.specs.Plans.{IsEitherAt}
 use Rattle.art_decide.proofs.AboveSites.{above_deep, above_taken}
 use Rattle.art_decide.proofs.ChildSites.{site_named, stamp_in}
@@ -40,7 +39,7 @@ merge_leaf-requires c =
     (above_taken c.requires.seen.0 c.args.old.now.key.items c.args.stand.now c.args.desk.now c.in-Node.node c.in-Node.is a c.in-Some.is (c.requires.seen.1.above a c.in-Some.is) _ filled)
 
 pub returns-clause-planned : goal.returns-clause-planned
-returns-clause-planned c = λ done z u seen standing.
+returns-clause-planned c = λ z u seen standing.
     let t = c.args.stand.now in
     let a = c.in-Some.above in
     let old = c.args.old.now in
@@ -48,20 +47,12 @@ returns-clause-planned c = λ done z u seen standing.
     let upper = subst (λ (reads : List (Option ℕ)). IsFilled a.stamp.cell reads c.fill-2.new.body) c.above.ensures c.fill-2.ensures in
     let lower = subst (λ (reads : List (Option ℕ)). IsFilled t.stamp.cell reads c.fill.new.body) c.node.ensures c.fill.ensures in
     let low = subst (λ (bytes : List ℕ). get_or bytes (a.depth - 1) 0 < 256) c.as_slice-key.ensures.value c.site_at-site.ensures.low in
-    c.merge_leaf.ensures.planned done z u a.depth (get_or old.key.items (t.depth - 1) 0) c.requires.other.0
+    c.merge_leaf.ensures.planned z u a.depth (get_or old.key.items (t.depth - 1) 0) c.requires.other.0
     (merge_leaf_knows t c.args.desk.now old a c.in-Some.is _ upper c.site_at-site.result is z u c.requires.found c.in-Node.node c.in-Node.is c.requires.other.0 c.args.other c.requires.other.1 _ lower seen standing low)
 
-pub returns-clause-refused : goal.returns-clause-refused
-returns-clause-refused c = λ refused.
-    let a = c.in-Some.above in
-    let old = c.args.old.now in
-    let is = site_named a.stamp _ c.as_slice-key.result.now old.key.items a.depth c.site_at-site.result c.site_at-site.ensures.site c.as_slice-key.ensures.value in
-    let upper = subst (λ (reads : List (Option ℕ)). IsFilled a.stamp.cell reads c.fill-2.new.body) c.above.ensures c.fill-2.ensures in
-    other_refused c.args.stand.now c.args.desk.now old a c.in-Some.is _ upper c.site_at-site.result is (leaf c.args.other) (c.merge_leaf.ensures.refused refused)
-
 pub returns-clause-locks : goal.returns-clause-locks
-returns-clause-locks c = λ done.
+returns-clause-locks c =
     let t = c.args.stand.now in
     let a = c.in-Some.above in
     let upper : site_stamp c.site_at-site.result ≡ a.stamp = ap site_stamp c.site_at-site.ensures.site ∙ stamp_in a.stamp _ _ in
-    two_locked (IsEitherAt t) c.merge_leaf.new.change (kept (site_stamp c.site_at-site.result)) (inr (a, c.in-Some.is, upper)) (gone t.stamp) (inl refl) (c.merge_leaf.ensures.locks done)
+    two_locked (IsEitherAt t) c.merge_leaf.new.change (kept (site_stamp c.site_at-site.result)) (inr (a, c.in-Some.is, upper)) (gone t.stamp) (inl refl) (c.merge_leaf.ensures.locks)

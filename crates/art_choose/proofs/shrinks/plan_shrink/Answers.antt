@@ -1,6 +1,6 @@
 use Rattle.std.proofs.Common.{◌<◌, ◌≤◌, ◌-◌, ◌∙◌, ◌≡◌, ℕ, List, Option, length, get_or, subst, sym, ap, arith, inl, inr, refl}
 use Rattle.art_choose.proofs.FoundLeaves.{found_deep}
-use Rattle.art_choose.proofs.SmallerNodes.{node_sparse, shrink_knows, shrink_refused}
+use Rattle.art_choose.proofs.SmallerNodes.{node_sparse, shrink_knows}
 use Rattle.art_choose.specs.Plans.{IsEitherAt}
 use Rattle.art_decide.proofs.AboveSites.{above_deep, above_taken}
 use Rattle.art_decide.proofs.ChildSites.{site_named, stamp_in}
@@ -49,7 +49,7 @@ shrink-requires-clause-sparse c =
     (node_sparse c.requires.seen.0 t c.args.desk.now c.args.old.now c.requires.found c.requires.shrinks.0 c.requires.shrinks.1 c.in-Node.node c.in-Node.is c.requires.seen.1.node c.fill.new.body filled)
 
 pub returns-clause-planned : goal.returns-clause-planned
-returns-clause-planned c = λ done z u seen standing hand.
+returns-clause-planned c = λ z u seen standing hand.
     let t = c.args.stand.now in
     let a = c.in-Some.above in
     let old = c.args.old.now in
@@ -58,20 +58,9 @@ returns-clause-planned c = λ done z u seen standing hand.
     let lower = subst (λ (reads : List (Option ℕ)). IsFilled t.stamp.cell reads c.fill.new.body) c.node.ensures c.fill.ensures in
     let byte = c.byte_at-byte.ensures.byte ∙ ap (λ (bytes : List ℕ). get_or bytes (t.depth - 1) 0) c.as_slice-key.ensures.value in
     let low = subst (λ (bytes : List ℕ). get_or bytes (a.depth - 1) 0 < 256) c.as_slice-key.ensures.value c.site_at-site.ensures.low in
-    c.shrink.ensures.planned done z u a.depth
+    c.shrink.ensures.planned z u a.depth
     (shrink_knows z t c.args.desk.now old c.requires.found c.requires.shrinks.0 c.requires.shrinks.1 c.in-Node.node c.in-Node.is a c.in-Some.is _ _ upper lower c.args.made c.site_at-site.result is
     u seen standing hand low c.byte_at-byte.result byte)
-
-pub returns-clause-refused : goal.returns-clause-refused
-returns-clause-refused c = λ refused.
-    let t = c.args.stand.now in
-    let a = c.in-Some.above in
-    let old = c.args.old.now in
-    let is = site_named a.stamp _ c.as_slice-key.result.now old.key.items a.depth c.site_at-site.result c.site_at-site.ensures.site c.as_slice-key.ensures.value in
-    let upper = subst (λ (reads : List (Option ℕ)). IsFilled a.stamp.cell reads c.fill-2.new.body) c.above.ensures c.fill-2.ensures in
-    let lower = subst (λ (reads : List (Option ℕ)). IsFilled t.stamp.cell reads c.fill.new.body) c.node.ensures c.fill.ensures in
-    shrink_refused c.requires.seen.0 t c.args.desk.now old c.requires.found c.requires.shrinks.0 c.requires.shrinks.1 c.in-Node.node c.in-Node.is a c.in-Some.is _ c.fill.new.body upper lower c.args.made c.site_at-site.result is
-    (c.shrink.ensures.refused refused)
 
 pub overflow_sub-stand : goal.overflow_sub-stand
 overflow_sub-stand c = found_deep c.requires.seen.0 c.args.stand.now c.args.desk.now c.args.old.now c.requires.found c.requires.seen.1.node c.in-Node.node c.in-Node.is
@@ -83,8 +72,8 @@ byte_at-byte-requires c =
     omega (arith, some, deep)
 
 pub returns-clause-locks : goal.returns-clause-locks
-returns-clause-locks c = λ done.
+returns-clause-locks c =
     let t = c.args.stand.now in
     let a = c.in-Some.above in
     let upper : site_stamp c.site_at-site.result ≡ a.stamp = ap site_stamp c.site_at-site.ensures.site ∙ stamp_in a.stamp _ _ in
-    two_locked (IsEitherAt t) c.shrink.new.change (kept (site_stamp c.site_at-site.result)) (inr (a, c.in-Some.is, upper)) (gone t.stamp) (inl refl) (c.shrink.ensures.locks done)
+    two_locked (IsEitherAt t) c.shrink.new.change (kept (site_stamp c.site_at-site.result)) (inr (a, c.in-Some.is, upper)) (gone t.stamp) (inl refl) (c.shrink.ensures.locks)

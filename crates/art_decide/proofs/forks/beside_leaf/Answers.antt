@@ -1,7 +1,7 @@
 use Rattle.std.proofs.Common.{◌≡◌, ◌+◌, ◌-◌, ◌∙◌, ℕ, List, Option, get_or, subst, sym, ap, arith, inl}
 use Rattle.art_decide.proofs.ChildSites.{site_named, stamp_in}
 use Rattle.art_decide.proofs.LockedCells.{one_locked}
-use Rattle.art_decide.proofs.OtherLeaves.{leaf_apart, leaf_behind, leaf_deep, leaf_inside, leaf_knows, leaf_refused, leaf_taken}
+use Rattle.art_decide.proofs.OtherLeaves.{leaf_apart, leaf_behind, leaf_deep, leaf_inside, leaf_knows, leaf_taken}
 use Rattle.art_decide.proofs.WholeCells.{kept_within}
 use Rattle.art_decide.specs.Bodies.{AreWithin, IsFilled}
 use Rattle.art_decide.specs.Plans.{IsLockedAt}
@@ -45,21 +45,13 @@ fork_leaf-requires-clause-apart c =
     λ e. leaf_apart c.requires.seen.0 key t c.args.desk.now c.in-OtherLeaf.other c.in-OtherLeaf.at c.in-OtherLeaf.byte c.in-OtherLeaf.is c.requires.seen.1 (e ∙ ap (λ (i : ℕ). get_or key i 0) all)
 
 pub returns-clause-planned : goal.returns-clause-planned
-returns-clause-planned c = λ done z u seen standing hand needed.
+returns-clause-planned c = λ z u seen standing hand needed.
     let t = c.args.stand.now in
     let key = c.args.new.now.key.items in
     let is = site_named t.stamp _ c.as_slice.result.now key t.depth c.site_at-site.result c.site_at-site.ensures.site c.as_slice.ensures.value in
     let filled = subst (λ (reads : List (Option ℕ)). IsFilled t.stamp.cell reads c.fill.new.body) c.node.ensures c.fill.ensures in
-    c.fork_leaf.ensures.planned done z u (subst (λ (site : Site). IsForkLeaf z u site c.args.new.now (record { depth = t.depth; common = c.in-OtherLeaf.at - t.depth }) c.in-OtherLeaf.other c.in-OtherLeaf.byte c.args.made) (sym is)
+    c.fork_leaf.ensures.planned z u (subst (λ (site : Site). IsForkLeaf z u site c.args.new.now (record { depth = t.depth; common = c.in-OtherLeaf.at - t.depth }) c.in-OtherLeaf.other c.in-OtherLeaf.byte c.args.made) (sym is)
     (leaf_knows z t c.args.desk.now c.args.new.now c.in-OtherLeaf.other c.in-OtherLeaf.at c.in-OtherLeaf.byte c.args.made c.in-OtherLeaf.is _ filled u seen standing hand needed))
-
-pub returns-clause-refused : goal.returns-clause-refused
-returns-clause-refused c = λ refused.
-    let t = c.args.stand.now in
-    let new = c.args.new.now in
-    let is = site_named t.stamp _ c.as_slice.result.now new.key.items t.depth c.site_at-site.result c.site_at-site.ensures.site c.as_slice.ensures.value in
-    let filled = subst (λ (reads : List (Option ℕ)). IsFilled t.stamp.cell reads c.fill.new.body) c.node.ensures c.fill.ensures in
-    leaf_refused c.requires.seen.0 t c.args.desk.now new c.in-OtherLeaf.other c.in-OtherLeaf.at c.in-OtherLeaf.byte c.args.made c.in-OtherLeaf.is _ filled c.site_at-site.result is (c.fork_leaf.ensures.refused refused)
 
 pub fill-requires : goal.fill-requires
 fill-requires c =
@@ -68,6 +60,6 @@ fill-requires c =
     subst (AreWithin t.stamp.cell) (sym c.node.ensures) (kept_within c.requires.seen.0 old.view t.stamp (node_of c.args.desk.now) old.standing.place.kept)
 
 pub returns-clause-locks : goal.returns-clause-locks
-returns-clause-locks c = λ done.
+returns-clause-locks c =
     let upper : site_stamp c.site_at-site.result ≡ c.args.stand.now.stamp = ap site_stamp c.site_at-site.ensures.site ∙ stamp_in c.args.stand.now.stamp _ _ in
-    one_locked (IsLockedAt c.args.stand.now) c.fork_leaf.new.change (kept (site_stamp c.site_at-site.result)) (inl upper) (c.fork_leaf.ensures.locks done)
+    one_locked (IsLockedAt c.args.stand.now) c.fork_leaf.new.change (kept (site_stamp c.site_at-site.result)) (inl upper) (c.fork_leaf.ensures.locks)

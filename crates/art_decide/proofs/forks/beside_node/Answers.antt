@@ -5,7 +5,7 @@ use Rattle.art_cell.specs.Words.{prefix_of}
 use Rattle.art_decide.proofs.AboveSites.{above_deep, above_taken}
 use Rattle.art_decide.proofs.ChildSites.{site_named, stamp_in}
 use Rattle.art_decide.proofs.LockedCells.{two_locked}
-use Rattle.art_decide.proofs.OtherPrefixes.{prefix_apart, prefix_inside, prefix_knows, prefix_meaning, prefix_on, prefix_refused, prefix_there, prefix_within, prefix_writes}
+use Rattle.art_decide.proofs.OtherPrefixes.{prefix_apart, prefix_inside, prefix_knows, prefix_meaning, prefix_on, prefix_there, prefix_within, prefix_writes}
 use Rattle.art_decide.proofs.WholeCells.{above_kept, filled_agrees, kept_within}
 use Rattle.art_decide.specs.Bodies.{AreWithin, IsFilled}
 use Rattle.art_decide.specs.Plans.{IsLockedAt}
@@ -81,25 +81,15 @@ fork_prefix-requires-clause-apart c =
     c.in-Some.above c.in-Some.is c.fill.new.body (lower_filled c) c.as_slice-2.result.now (bytes_are c)
 
 pub returns-clause-planned : goal.returns-clause-planned
-returns-clause-planned c = λ done z u seen standing hand needed.
+returns-clause-planned c = λ z u seen standing hand needed.
     let before = (goal.at.returns-clause-planned c).After-as_slice-2 in
     let t = c.args.stand.now in
     let a = c.in-Some.above in
     let new = c.args.new.now in
     let is = site_named a.stamp _ c.as_slice.result.now new.key.items a.depth c.site_at-site.result c.site_at-site.ensures.site c.as_slice.ensures.value in
-    c.fork_prefix.ensures.planned done z u
+    c.fork_prefix.ensures.planned z u
     (prefix_knows z t c.args.desk.now new c.in-OtherPrefix.node c.in-OtherPrefix.field-1 c.in-OtherPrefix.at c.args.made c.in-OtherPrefix.is a c.in-Some.is seen _ _ (upper_filled before) (lower_filled before)
     u c.site_at-site.result is standing hand needed c.as_slice-2.result.now (bytes_are before))
-
-pub returns-clause-refused : goal.returns-clause-refused
-returns-clause-refused c = λ refused.
-    let before = (goal.at.returns-clause-refused c).After-as_slice-2 in
-    let t = c.args.stand.now in
-    let a = c.in-Some.above in
-    let new = c.args.new.now in
-    let is = site_named a.stamp _ c.as_slice.result.now new.key.items a.depth c.site_at-site.result c.site_at-site.ensures.site c.as_slice.ensures.value in
-    prefix_refused c.requires.seen.0 t c.args.desk.now new c.in-OtherPrefix.node c.in-OtherPrefix.field-1 c.in-OtherPrefix.at c.args.made c.in-OtherPrefix.is a c.in-Some.is c.requires.seen.1 _ c.fill.new.body (upper_filled before) (lower_filled before)
-    c.site_at-site.result is c.as_slice-2.result.now (bytes_are before) (c.fork_prefix.ensures.refused refused)
 
 -- ---- the words of both cells were read
 
@@ -125,9 +115,9 @@ fill-requires-2 c =
 -- ---- the cells that are locked
 
 pub returns-clause-locks : goal.returns-clause-locks
-returns-clause-locks c = λ done.
+returns-clause-locks c =
     let t = c.args.stand.now in
     let a = c.in-Some.above in
     let upper : site_stamp c.site_at-site.result ≡ a.stamp = ap site_stamp c.site_at-site.ensures.site ∙ stamp_in a.stamp _ _ in
     let writes = prefix_writes c.requires.seen.0 c.args.new.now.key.items t c.args.desk.now c.in-OtherPrefix.node c.in-OtherPrefix.field-1 c.in-OtherPrefix.at c.in-OtherPrefix.is in
-    two_locked (IsLockedAt t) c.fork_prefix.new.change (kept (site_stamp c.site_at-site.result)) (inr (a, c.in-Some.is, writes, upper)) (kept t.stamp) (inl refl) (c.fork_prefix.ensures.locks done)
+    two_locked (IsLockedAt t) c.fork_prefix.new.change (kept (site_stamp c.site_at-site.result)) (inr (a, c.in-Some.is, writes, upper)) (kept t.stamp) (inl refl) (c.fork_prefix.ensures.locks)

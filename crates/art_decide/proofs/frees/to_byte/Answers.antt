@@ -1,5 +1,5 @@
 use Rattle.std.proofs.Common.{◌<◌, ◌+◌, ℕ, List, Option, get_or, subst, sym, ap, inl}
-use Rattle.art_decide.proofs.FreeBytes.{byte_knows, byte_refused, byte_room, slot_named}
+use Rattle.art_decide.proofs.FreeBytes.{byte_knows, byte_room, slot_named}
 use Rattle.art_decide.proofs.LockedCells.{one_locked}
 use Rattle.art_decide.proofs.WholeCells.{kept_within}
 use Rattle.art_decide.specs.Bodies.{AreWithin, IsFilled}
@@ -21,21 +21,13 @@ add-requires c =
     subst IsFree (sym is) (byte_room c.requires.seen.0 key t c.args.desk.now c.requires.free.0 c.requires.free.1 c.requires.free.2 c.requires.seen.1 c.fill.new.body filled low c.requires.room)
 
 pub returns-clause-planned : goal.returns-clause-planned
-returns-clause-planned c = λ done made z u seen standing hand needed.
+returns-clause-planned c = λ made z u seen standing hand needed.
     let t = c.args.stand.now in
     let new = c.args.new.now in
     let is = slot_named t.stamp _ c.as_slice-key.result.now new.key.items t.depth c.slot_at-site.result c.slot_at-site.ensures.slot c.as_slice-key.ensures.value in
     let filled = subst (λ (reads : List (Option ℕ)). IsFilled t.stamp.cell reads c.fill.new.body) c.node.ensures c.fill.ensures in
-    c.add.ensures.planned done z u (t.depth + 1) (subst (λ (site : Site). IsAdd z u site new (t.depth + 1)) (sym is)
+    c.add.ensures.planned z u (t.depth + 1) (subst (λ (site : Site). IsAdd z u site new (t.depth + 1)) (sym is)
     (byte_knows z t c.args.desk.now new c.requires.free.0 c.requires.free.1 c.requires.free.2 _ filled u seen standing hand))
-
-pub returns-clause-refused : goal.returns-clause-refused
-returns-clause-refused c = λ refused made.
-    let t = c.args.stand.now in
-    let new = c.args.new.now in
-    let is = slot_named t.stamp _ c.as_slice-key.result.now new.key.items t.depth c.slot_at-site.result c.slot_at-site.ensures.slot c.as_slice-key.ensures.value in
-    let filled = subst (λ (reads : List (Option ℕ)). IsFilled t.stamp.cell reads c.fill.new.body) c.node.ensures c.fill.ensures in
-    byte_refused c.requires.seen.0 t c.args.desk.now new c.requires.free.0 c.requires.free.1 c.requires.free.2 _ filled made c.slot_at-site.result is c.requires.room (c.add.ensures.refused refused)
 
 pub fill-requires : goal.fill-requires
 fill-requires c =
@@ -44,5 +36,5 @@ fill-requires c =
     subst (AreWithin t.stamp.cell) (sym c.node.ensures) (kept_within c.requires.seen.0 old.view t.stamp (node_of c.args.desk.now) old.standing.place.kept)
 
 pub returns-clause-locks : goal.returns-clause-locks
-returns-clause-locks c = λ done.
-    one_locked (IsLockedAt c.args.stand.now) c.add.new.change (kept (site_stamp c.slot_at-site.result)) (inl (ap site_stamp c.slot_at-site.ensures.slot)) (c.add.ensures.locks done)
+returns-clause-locks c =
+    one_locked (IsLockedAt c.args.stand.now) c.add.new.change (kept (site_stamp c.slot_at-site.result)) (inl (ap site_stamp c.slot_at-site.ensures.slot)) (c.add.ensures.locks)

@@ -2,7 +2,7 @@ use Rattle.std.proofs.Common.{◌<◌, ◌∙◌, ◌≡◌, ℕ, List, Option, 
 use Rattle.art_decide.proofs.AboveSites.{above_deep, above_taken}
 use Rattle.art_decide.proofs.ChildSites.{site_named, stamp_in}
 use Rattle.art_decide.proofs.FreeBytes.{byte_crowded, free_on}
-use Rattle.art_decide.proofs.FullNodes.{full_knows, full_refused}
+use Rattle.art_decide.proofs.FullNodes.{full_knows}
 use Rattle.art_decide.proofs.LockedCells.{two_locked}
 use Rattle.art_decide.proofs.WholeCells.{above_kept, kept_within}
 use Rattle.art_decide.specs.Bodies.{AreWithin, IsFilled}
@@ -44,7 +44,7 @@ grow-requires-clause-crowded c =
     (byte_crowded z key t c.args.desk.now c.in-Free.node c.in-Free.field-1 c.in-Free.is c.requires.seen.1 c.fill.new.body filled low c.requires.full)
 
 pub returns-clause-planned : goal.returns-clause-planned
-returns-clause-planned c = λ done z u seen standing hand needed.
+returns-clause-planned c = λ z u seen standing hand needed.
     let t = c.args.stand.now in
     let a = c.in-Some.above in
     let new = c.args.new.now in
@@ -52,20 +52,9 @@ returns-clause-planned c = λ done z u seen standing hand needed.
     let upper = subst (λ (reads : List (Option ℕ)). IsFilled a.stamp.cell reads c.fill-2.new.body) c.above.ensures c.fill-2.ensures in
     let lower = subst (λ (reads : List (Option ℕ)). IsFilled t.stamp.cell reads c.fill.new.body) c.node.ensures c.fill.ensures in
     let byte = c.byte_at-byte.ensures.byte ∙ ap (λ (bytes : List ℕ). get_or bytes t.depth 0) c.as_slice-key.ensures.value in
-    c.grow.ensures.planned done z u a.depth
+    c.grow.ensures.planned z u a.depth
     (full_knows z t c.args.desk.now new c.in-Free.node c.in-Free.field-1 c.args.made c.in-Free.is a c.in-Some.is c.requires.full seen _ _ upper lower u c.site_at-site.result is standing hand needed
     c.byte_at-byte.result byte)
-
-pub returns-clause-refused : goal.returns-clause-refused
-returns-clause-refused c = λ refused.
-    let t = c.args.stand.now in
-    let a = c.in-Some.above in
-    let new = c.args.new.now in
-    let is = site_named a.stamp _ c.as_slice-key.result.now new.key.items a.depth c.site_at-site.result c.site_at-site.ensures.site c.as_slice-key.ensures.value in
-    let upper = subst (λ (reads : List (Option ℕ)). IsFilled a.stamp.cell reads c.fill-2.new.body) c.above.ensures c.fill-2.ensures in
-    let lower = subst (λ (reads : List (Option ℕ)). IsFilled t.stamp.cell reads c.fill.new.body) c.node.ensures c.fill.ensures in
-    full_refused c.requires.seen.0 t c.args.desk.now new c.in-Free.node c.in-Free.field-1 c.args.made c.in-Free.is a c.in-Some.is c.requires.full c.requires.seen.1 _ c.fill.new.body upper lower c.site_at-site.result is
-    (c.grow.ensures.refused refused)
 
 pub fill-requires : goal.fill-requires
 fill-requires c =
@@ -86,8 +75,8 @@ fill-requires-2 c =
     (kept_within z old.view a.stamp (above_of desk) (above_kept z key t desk old.view old.standing n (free_on z key t desk n c.in-Free.field-1 c.in-Free.is c.requires.seen.1) a c.in-Some.is))
 
 pub returns-clause-locks : goal.returns-clause-locks
-returns-clause-locks c = λ done.
+returns-clause-locks c =
     let t = c.args.stand.now in
     let a = c.in-Some.above in
     let upper : site_stamp c.site_at-site.result ≡ a.stamp = ap site_stamp c.site_at-site.ensures.site ∙ stamp_in a.stamp _ _ in
-    two_locked (IsLockedAt t) c.grow.new.change (kept (site_stamp c.site_at-site.result)) (inr (a, c.in-Some.is, c.requires.full, upper)) (gone t.stamp) (inl refl) (c.grow.ensures.locks done)
+    two_locked (IsLockedAt t) c.grow.new.change (kept (site_stamp c.site_at-site.result)) (inr (a, c.in-Some.is, c.requires.full, upper)) (gone t.stamp) (inl refl) (c.grow.ensures.locks)

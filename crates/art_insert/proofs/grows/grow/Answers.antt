@@ -1,4 +1,4 @@
-use Rattle.std.proofs.Common.{◌≡◌, true, false, [], ◌∷◌, ℕ, Some, ap, ap₂, arith, length, subst, sym, ◌∙◌}
+use Rattle.std.proofs.Common.{◌≡◌, true, false, [], ◌∷◌, ℕ, Some, ap, ap₂, arith, subst, sym, ◌∙◌}
 use Rattle.art_cell.specs.Children.{child_word}
 use Rattle.art_cell.specs.Reads.{with_child, word_of}
 use Rattle.art_cell.specs.Words.{child_of, prefix_of}
@@ -6,7 +6,7 @@ use Rattle.art_cell.specs.declared.cells.Link.TheVariants.{Leaf as leaf, Node as
 use Rattle.art_cell.specs.declared.layouts.Layout.{Layout}
 use Rattle.art_insert.specs.Puts.{inserted, larger_node}
 use Rattle.art_plan.specs.Puts.{IsSitePlan, change_of, puts_of}
-use Rattle.art_plan.proofs.MadeChanges.{put_deed, put_leaf, taken_meaning, with_made, with_puts_of, with_target, with_unlinked}
+use Rattle.art_plan.proofs.MadeChanges.{WordsFit, taken_meaning, with_made, with_puts_of, with_target, with_unlinked}
 use Rattle.art_insert.proofs.PlannedGrows.{grow_planned}
 use Rattle.art_node.specs.Prefixes.{IsNodeOf}
 use Rattle.art_node.specs.Sizes.{larger}
@@ -15,17 +15,17 @@ use Rattle.art_plan.specs.Seen.{gone, kept, site_stamp}
 use Rattle.art_plan.specs.declared.changes.Change.{Change}
 use Rattle.art_step.specs.declared.views.Stamp.{Stamp}
 use Rattle.art_insert.proofs.grows.grow.Goals as goal
-use Rattle.art_insert.proofs.grows.grow.Goals.{After-put}
+use Rattle.art_insert.proofs.grows.grow.Goals.{After-make}
 
 -- the child word is that of the larger node
-site_plan : (c : After-put) → IsSitePlan c.args.site.now (child_word (node (larger_node c.args.below.now.body.now c.args.made))) c.replaced.new.writes.items
+site_plan : (c : After-make) → IsSitePlan c.args.site.now (child_word (node (larger_node c.args.below.now.body.now c.args.made))) c.replaced.new.writes.items
 site_plan c =
     let is : c.child_word-new_node.result ≡ child_word (node (larger_node c.args.below.now.body.now c.args.made)) =
     c.child_word-new_node.ensures ∙ ap (λ (l : Layout). child_word (node (record { layout = l; number = c.args.made }))) c.grown.ensures.layout in
-    subst (λ (w : ℕ). IsSitePlan c.args.site.now w c.replaced.new.writes.items) is c.replaced.ensures
+    subst (λ (w : ℕ). IsSitePlan c.args.site.now w c.replaced.new.writes.items) is c.replaced.ensures.plan
 
 -- all but the words are filled in
-filled : (c : After-put) → c.make.new.change ≡ change_of (kept (site_stamp c.args.site.now) ∷ gone c.args.below.now.stamp ∷ []) [] c.replaced.new.writes.items (Some c.args.made) c.grown.new.more (Some c.args.new.now.number) (child_word (node c.args.below.now.node) ∷ []) (inserted c.args.new.now)
+filled : (c : After-make) → c.make.new.change ≡ change_of (kept (site_stamp c.args.site.now) ∷ gone c.args.below.now.stamp ∷ []) [] c.replaced.new.writes.items (Some c.args.made) c.grown.new.more (Some c.args.new.now.number) (child_word (node c.args.below.now.node) ∷ []) (inserted c.args.new.now)
 filled c =
     let body = c.grown.new.more in
     let upper = c.lock.ensures ∙ ap (with_target c.stamp.result false) c.begin.ensures in
@@ -34,8 +34,12 @@ filled c =
     ∙ ap (with_made c.args.made) (c.unlink.ensures ∙ ap (with_unlinked c.child_word-old_node.result) both)
     ∙ ap₂ (λ (x : Stamp) (w : ℕ). change_of (kept x ∷ gone c.args.below.now.stamp ∷ []) [] c.replaced.new.writes.items (Some c.args.made) body (Some c.args.new.now.number) (w ∷ []) (inserted c.args.new.now)) c.stamp.ensures c.child_word-old_node.ensures
 
+pub put-requires : goal.put-requires
+put-requires c = subst WordsFit (sym (filled (goal.at.put-requires c).After-make)) (omega (arith, c.replaced.ensures.one))
+
 pub returns-clause-planned : goal.returns-clause-planned
-returns-clause-planned c = λ done z u depth knows.
+returns-clause-planned c = λ z u depth knows.
+    let before = (goal.at.returns-clause-planned c).After-make in
     let site = c.args.site.now in
     let new = c.args.new.now in
     let below = c.args.below.now in
@@ -44,29 +48,18 @@ returns-clause-planned c = λ done z u depth knows.
     let us = child_word (node below.node) ∷ [] in
     let ts = kept (site_stamp site) ∷ gone below.stamp ∷ [] in
     let is : c.put.new.change ≡ change_of ts (puts_of 0 writes) writes (Some c.args.made) body (Some new.number) us (inserted new) =
-    c.put.ensures.put done ∙ ap (with_puts_of 0) (filled c) in
+    c.put.ensures ∙ ap (with_puts_of 0) (filled before) in
     let grown : IsNodeOf (larger below.body.now.layout) (word_of body) (prefix_of (word_of below.body.now)) (with_child (child_of below.body.now.layout (word_of below.body.now)) c.args.byte (child_word (leaf new.number))) =
     subst (λ (w : ℕ). IsNodeOf (larger below.body.now.layout) (word_of body) (prefix_of (word_of below.body.now)) (with_child (child_of below.body.now.layout (word_of below.body.now)) c.args.byte w))
     c.child_word-new_leaf.ensures c.grown.ensures.node in
     subst (IsPlanned z u) (sym is)
-    (grow_planned z u site new depth below c.args.byte c.args.made body writes knows (site_plan c) c.requires.crowded (omega (arith, c.ranges.byte.fits)) c.grown.ensures.layout grown (taken_meaning site c.requires.taken))
+    (grow_planned z u site new depth below c.args.byte c.args.made body writes knows (site_plan before) c.requires.crowded (omega (arith, c.ranges.byte.fits)) c.grown.ensures.layout grown (taken_meaning site c.requires.taken))
 
 pub returns-clause-deed : goal.returns-clause-deed
-returns-clause-deed c =
-    put_deed c.make.new.change c.put.new.change 0 c.put.result (record { put = c.put.ensures.put; same = c.put.ensures.kept })
-    ∙ ap (λ (ch : Change). ch.deed) (filled c)
-
-pub returns-clause-refused : goal.returns-clause-refused
-returns-clause-refused c = λ refused.
-    let many = c.put.ensures.refused refused in
-    let had : length c.make.new.change.puts.items ≡ 0 = ap (λ (ch : Change). length ch.puts.items) (filled c) in
-    let more : length c.make.new.change.writes.items ≡ length c.replaced.new.writes.items = ap (λ (ch : Change). length ch.writes.items) (filled c) in
-    (c.replaced.new.writes.items, site_plan c, omega (arith, many, had, more))
+returns-clause-deed c = ap (λ (ch : Change). ch.deed) (c.put.ensures ∙ ap (with_puts_of 0) (filled (goal.at.returns-clause-deed c).After-make))
 
 pub returns-clause-leaf : goal.returns-clause-leaf
-returns-clause-leaf c =
-    put_leaf c.make.new.change c.put.new.change 0 c.put.result (record { put = c.put.ensures.put; same = c.put.ensures.kept })
-    ∙ ap (λ (ch : Change). ch.leaf) (filled c)
+returns-clause-leaf c = ap (λ (ch : Change). ch.leaf) (c.put.ensures ∙ ap (with_puts_of 0) (filled (goal.at.returns-clause-leaf c).After-make))
 
 pub returns-clause-locks : goal.returns-clause-locks
-returns-clause-locks c = λ done. ap (λ (ch : Change). ch.targets.items) (c.put.ensures.put done) ∙ ap (λ (ch : Change). ch.targets.items) (filled c)
+returns-clause-locks c = ap (λ (ch : Change). ch.targets.items) (c.put.ensures ∙ ap (with_puts_of 0) (filled (goal.at.returns-clause-locks c).After-make))

@@ -1,13 +1,15 @@
-use Rattle.std.proofs.Common.{◌≡◌, ap, subst, sym, ◌∙◌, arith}
+use Rattle.std.proofs.Common.{◌≡◌, ◌+◌, ◌-◌, List, ap, length, subst, sym, ◌∙◌, arith}
+use Rattle.art_cell.specs.Lemmas.Differing.{first_differ}
 use Rattle.art_cell.specs.Reads.{SameOutside, changes, word_of, written}
-use Rattle.art_cell.specs.Words.{Words, child_of}
+use Rattle.art_cell.specs.declared.writes.Write.{Write}
+use Rattle.art_cell.specs.Words.{Words, child_of, size}
 use Rattle.art_cell.proofs.ChangedWords.{written-changes}
 use Rattle.art_node.specs.Prefixes.{IsNodeOf}
 use Rattle.art_node.proofs.Prefixed.{past_prefix}
 use Rattle.art_node.proofs.prefixes.plan_prefix.Goals as goal
 
-pub returns : goal.returns
-returns c =
+pub returns-clause-plan : goal.returns-clause-plan
+returns-clause-plan c =
     let k = c.args.body.now.layout in
     let w = word_of c.args.body.now in
     let after = word_of c.set_prefix.new.body in
@@ -17,3 +19,11 @@ returns c =
       exact = c.changes.ensures ∙ ap (changes k w) (sym same);
       outside = subst (SameOutside k w) (sym same) c.set_prefix.ensures.outside;
     }
+
+pub returns-clause-few : goal.returns-clause-few
+returns-clause-few c =
+    let k = c.args.body.now.layout in
+    let cell : size k ≡ 1 + 9 + (size k - 10) = omega (arith, past_prefix k) in
+    let differ = first_differ (word_of c.args.body.now) (word_of c.set_prefix.new.body) k 9 (size k - 10) cell (λ place past. sym (c.set_prefix.ensures.rest place past)) in
+    let all = ap (λ (xs : List Write). length xs) c.changes.ensures in
+    omega (arith, differ, all)

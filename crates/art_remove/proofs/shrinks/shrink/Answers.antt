@@ -1,8 +1,8 @@
-use Rattle.std.proofs.Common.{◌≡◌, true, false, [], ◌∷◌, ℕ, List, Some, None, ap, arith, length, subst, sym, ◌∙◌}
+use Rattle.std.proofs.Common.{◌≡◌, true, false, [], ◌∷◌, ℕ, List, Some, None, ap, arith, subst, sym, ◌∙◌}
 use Rattle.art_cell.specs.Children.{child_word}
 use Rattle.art_cell.specs.declared.cells.Link.TheVariants.{Node as node}
 use Rattle.art_cell.specs.declared.layouts.Layout.{Layout}
-use Rattle.art_plan.proofs.MadeChanges.{put_deed, put_leaf, taken_meaning, with_made, with_puts_of, with_target, with_unlinked}
+use Rattle.art_plan.proofs.MadeChanges.{WordsFit, taken_meaning, with_made, with_puts_of, with_target, with_unlinked}
 use Rattle.art_plan.specs.Changes.{IsPlanned}
 use Rattle.art_plan.specs.Puts.{IsSitePlan, change_of, puts_of}
 use Rattle.art_plan.specs.Seen.{gone, kept, site_stamp}
@@ -12,17 +12,17 @@ use Rattle.art_remove.proofs.PlannedShrinks.{shrink_planned}
 use Rattle.art_remove.specs.Removals.{removed, smaller_node}
 use Rattle.art_step.specs.declared.views.Stamp.{Stamp}
 use Rattle.art_remove.proofs.shrinks.shrink.Goals as goal
-use Rattle.art_remove.proofs.shrinks.shrink.Goals.{After-put}
+use Rattle.art_remove.proofs.shrinks.shrink.Goals.{After-make}
 
 -- the child word is that of the smaller node
-site_plan : (c : After-put) → IsSitePlan c.args.site.now (child_word (node (smaller_node c.args.below.now.body.now c.args.made))) c.replaced.new.writes.items
+site_plan : (c : After-make) → IsSitePlan c.args.site.now (child_word (node (smaller_node c.args.below.now.body.now c.args.made))) c.replaced.new.writes.items
 site_plan c =
     let is : c.child_word-new_node.result ≡ child_word (node (smaller_node c.args.below.now.body.now c.args.made)) =
     c.child_word-new_node.ensures ∙ ap (λ (l : Layout). child_word (node (record { layout = l; number = c.args.made }))) c.shrunk.ensures.layout in
-    subst (λ (w : ℕ). IsSitePlan c.args.site.now w c.replaced.new.writes.items) is c.replaced.ensures
+    subst (λ (w : ℕ). IsSitePlan c.args.site.now w c.replaced.new.writes.items) is c.replaced.ensures.plan
 
 -- all but the words are filled in
-filled : (c : After-put) → c.make.new.change
+filled : (c : After-make) → c.make.new.change
     ≡ change_of (kept (site_stamp c.args.site.now) ∷ gone c.args.below.now.stamp ∷ []) [] c.replaced.new.writes.items (Some c.args.made) c.shrunk.new.less None (both_words c.args.old.now.number c.args.below.now.node) (removed c.args.old.now)
 filled c =
     let body = c.shrunk.new.less in
@@ -35,8 +35,12 @@ filled c =
     ∙ ap (λ (us : List ℕ). change_of (kept (site_stamp c.args.site.now) ∷ gone c.args.below.now.stamp ∷ []) [] c.replaced.new.writes.items (Some c.args.made) body None us (removed c.args.old.now))
     (words_are c.args.old.now.number c.args.below.now.node c.child_word-old_leaf.result c.child_word-old_node.result c.child_word-old_leaf.ensures c.child_word-old_node.ensures)
 
+pub put-requires : goal.put-requires
+put-requires c = subst WordsFit (sym (filled (goal.at.put-requires c).After-make)) (omega (arith, c.replaced.ensures.one))
+
 pub returns-clause-planned : goal.returns-clause-planned
-returns-clause-planned c = λ done z u depth knows.
+returns-clause-planned c = λ z u depth knows.
+    let before = (goal.at.returns-clause-planned c).After-make in
     let site = c.args.site.now in
     let old = c.args.old.now in
     let below = c.args.below.now in
@@ -45,27 +49,16 @@ returns-clause-planned c = λ done z u depth knows.
     let us = both_words old.number below.node in
     let ts = kept (site_stamp site) ∷ gone below.stamp ∷ [] in
     let is : c.put.new.change ≡ change_of ts (puts_of 0 writes) writes (Some c.args.made) body None us (removed old) =
-    c.put.ensures.put done ∙ ap (with_puts_of 0) (filled c) in
+    c.put.ensures ∙ ap (with_puts_of 0) (filled before) in
     subst (IsPlanned z u) (sym is)
-    (shrink_planned z u site old depth below c.args.byte c.args.made body writes knows (site_plan c) c.requires.sparse (omega (arith, c.ranges.byte.fits)) c.shrunk.ensures.layout c.shrunk.ensures.node
+    (shrink_planned z u site old depth below c.args.byte c.args.made body writes knows (site_plan before) c.requires.sparse (omega (arith, c.ranges.byte.fits)) c.shrunk.ensures.layout c.shrunk.ensures.node
     (taken_meaning site c.requires.taken))
 
 pub returns-clause-deed : goal.returns-clause-deed
-returns-clause-deed c =
-    put_deed c.make.new.change c.put.new.change 0 c.put.result (record { put = c.put.ensures.put; same = c.put.ensures.kept })
-    ∙ ap (λ (ch : Change). ch.deed) (filled c)
-
-pub returns-clause-refused : goal.returns-clause-refused
-returns-clause-refused c = λ refused.
-    let many = c.put.ensures.refused refused in
-    let had : length c.make.new.change.puts.items ≡ 0 = ap (λ (ch : Change). length ch.puts.items) (filled c) in
-    let more : length c.make.new.change.writes.items ≡ length c.replaced.new.writes.items = ap (λ (ch : Change). length ch.writes.items) (filled c) in
-    (c.replaced.new.writes.items, site_plan c, omega (arith, many, had, more))
+returns-clause-deed c = ap (λ (ch : Change). ch.deed) (c.put.ensures ∙ ap (with_puts_of 0) (filled (goal.at.returns-clause-deed c).After-make))
 
 pub returns-clause-leaf : goal.returns-clause-leaf
-returns-clause-leaf c =
-    put_leaf c.make.new.change c.put.new.change 0 c.put.result (record { put = c.put.ensures.put; same = c.put.ensures.kept })
-    ∙ ap (λ (ch : Change). ch.leaf) (filled c)
+returns-clause-leaf c = ap (λ (ch : Change). ch.leaf) (c.put.ensures ∙ ap (with_puts_of 0) (filled (goal.at.returns-clause-leaf c).After-make))
 
 pub returns-clause-locks : goal.returns-clause-locks
-returns-clause-locks c = λ done. ap (λ (ch : Change). ch.targets.items) (c.put.ensures.put done) ∙ ap (λ (ch : Change). ch.targets.items) (filled c)
+returns-clause-locks c = ap (λ (ch : Change). ch.targets.items) (c.put.ensures ∙ ap (with_puts_of 0) (filled (goal.at.returns-clause-locks c).After-make))

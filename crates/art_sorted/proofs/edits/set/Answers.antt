@@ -1,5 +1,6 @@
 use Rattle.std.proofs.Common.{ℕ, ◌+◌, ◌^◌, ap, arith}
 use Rattle.art_cell.specs.Reads.{word_of}
+use Rattle.art_sorted.proofs.Differing.{one_set}
 use Rattle.art_sorted.proofs.NodeWords.{in_use, room_for, was_set, set_outside_at}
 use Rattle.art_sorted.proofs.Writing.{below_set}
 use Rattle.art_sorted.proofs.edits.set.Goals as goal
@@ -22,3 +23,6 @@ returns-clause-outside c =
     let room = room_for c.args.sorted (word_of c.args.body.now) c.listed.result.items c.listed.ensures c.requires.body.meaning in
     set_outside_at c.args.sorted c.args.body.now.words c.position-index.result (c.first_child.result + c.position-index.result) c.args.child
     (ap (λ (f : ℕ). f + c.position-index.result) c.first_child.ensures.value) (omega (arith, used, room))
+
+pub returns-clause-one : goal.returns-clause-one
+returns-clause-one c = one_set c.args.sorted c.args.body.now.words (c.first_child.result + c.position-index.result) c.args.child

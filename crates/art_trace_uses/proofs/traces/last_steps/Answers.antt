@@ -1,5 +1,5 @@
 use Rattle.std.proofs.Common.{◌∙◌, sym, ap, arith}
-use Rattle.art_change_uses.proofs.Ready.{opened_ready}
+use Rattle.art_trace_uses.proofs.Ready.{opened_ready}
 use Rattle.art_trace_uses.proofs.traces.last_steps.Goals as goal
 use Rattle.art_trace_uses.specs.declared.traces.TheConstants.{SIZES}
 use Rattle.art_epoch.specs.Limbo.{places_of}

@@ -23,3 +23,11 @@ returns-in-Some-clause-fits c z u v w asked room f is row =
     let at = sym c.stand.ensures.at ∙ c.in-Some.is in
     let check : check_of t ≡ asked = same_Some {A = Asked} (check_of t) asked (sym (ap (λ (o : Option Stand). asks_place o (asks m.finding.descent.stage)) at) ∙ is) in
     c.settled.ensures.fits z u v w room f at (subst (λ (a : Asked). Answers z (deed_at m c.args.room.now) a c.args.answer v w) (sym check) row)
+
+pub returns-in-Some-clause-overlaps : goal.returns-in-Some-clause-overlaps
+returns-in-Some-clause-overlaps c is =
+    let k = c.settled.ensures.overlaps is in
+    record { finding = c.requires.stage; stand = c.in-Some.stand; there = sym c.stand.ensures.at ∙ c.in-Some.is; overlaps = k.0; succeeded = k.1 }
+
+pub returns-in-None-clause-overlaps : goal.returns-in-None-clause-overlaps
+returns-in-None-clause-overlaps c is = absurd (c.read_on.ensures.not_overlaps is)

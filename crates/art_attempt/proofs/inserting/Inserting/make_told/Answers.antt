@@ -2,13 +2,14 @@ use Rattle.std.proofs.Common.{◌≡◌, ◌∙◌, ◌-◌, ◌<◌, Some, ap, 
 use Rattle.std.specs.Prelude.{Result, ⊤}
 use Rattle.std.proofs.lemmas.Option.{same_Some}
 use Rattle.art_attempt.proofs.Left.{anew_fault, ended_less, fault_ended, going_less, last_stays, step_or_last, still_made}
+use Rattle.art_attempt.proofs.Overlaps.{made_apart}
 use Rattle.art_attempt.proofs.Steps.{change_later}
 use Rattle.art_attempt.proofs.Tries.{later_then}
 use Rattle.art_attempt.proofs.inserting.Inserting.make_told.Goals as goal
 use Rattle.art_attempt.specs.Asking.{steps_of}
 use Rattle.art_attempt.specs.Inserting.{HasMade, StageFits, entered_at, entered_so, left_at, making_left}
 use Rattle.art_attempt.specs.declared.inserting.Entered.{Entered}
-use Rattle.art_attempt.specs.declared.inserting.Entered.TheVariants.{Anew}
+use Rattle.art_attempt.specs.declared.inserting.Entered.TheVariants.{Anew, Overlaps}
 use Rattle.art_attempt.specs.declared.inserting.Inserting.{Inserting}
 use Rattle.art_attempt.specs.declared.inserting.Stage.{Stage as StageOf}
 use Rattle.art_make.proofs.Told.{allowed, few_steps}
@@ -87,3 +88,8 @@ returns-in-Some-clause-anew c anew =
     let at : entered_so made ≡ Anew = same_Some {A = Entered} (entered_so made) Anew (sym (ap entered_at c.made.ensures.stage) ∙ anew) in
     let why = anew_fault made at in
     (why.0, ap fault_of c.made.ensures.making ∙ fault_ended c.told.new.self (Changed why.0) (sym c.ended.ensures ∙ (c.in-Some.is ∙ ap (λ (r : Result ⊤ UpgradeFault). Some r) why.1)))
+
+pub returns-in-Some-clause-not_overlaps : goal.returns-in-Some-clause-not_overlaps
+returns-in-Some-clause-not_overlaps c overlaps =
+    let made = c.in-Some.made in
+    made_apart made (same_Some {A = Entered} (entered_so made) Overlaps (sym (ap entered_at c.made.ensures.stage) ∙ overlaps))

@@ -11,22 +11,6 @@ plan_insert-requires-clause-seen c =
     let q = c.requires in
     (q.0, vouched_seen q.0 q.1 c.args.self.now c.args.room.now q.2 q.4 q.5)
 
-pub returns-then-not-plan_insert-clause-fits : goal.returns-then-not-plan_insert-clause-fits
-returns-then-not-plan_insert-clause-fits c z u v room h is =
-    let so = vouched_so z u c.args.self.now c.args.room.now v h is in
-    record {
-      room = record { sizes = room.sizes; key = room.key };
-      stage = (
-        record { still = so.still; spent = so.spent; has = so.has },
-        record {
-          seen = vouched_seen z u c.args.self.now c.args.room.now v h is;
-          each = vouched_each z u c.args.self.now c.args.room.now v h is;
-          made = c.number_for-made.result;
-          much = c.plan_insert.ensures.refused c.if-not-plan_insert.true;
-        },
-      );
-    }
-
 pub returns-clause-fits : goal.returns-clause-fits
 returns-clause-fits c z u v room h is =
     let m = c.args.self.now in
@@ -35,7 +19,7 @@ returns-clause-fits c z u v room h is =
     let at = sym c.leaf.ensures ∙ c.in-Some.is in
     let number = c.number_for-made.ensures ∙ ap (λ (n : Needs). number_for r.stock n.node) c.needed.ensures in
     let needed : HasNeeded z v m.stand.verdict c.number_for-made.result = subst (HasNeeded z v m.stand.verdict) (sym number) (node_ready z u m r v h is) in
-    let planned = c.plan_insert.ensures.planned c.if-not-plan_insert.false z v (vouched_seen z u m r v h is) (vouched_standing z u m r v h is)
+    let planned = c.plan_insert.ensures.planned z v (vouched_seen z u m r v h is) (vouched_standing z u m r v h is)
     (leaf_ready z u m r v h is room.key c.in-Some.leaf at) needed in
     record {
       room = record { sizes = room.sizes; key = room.key };
@@ -45,12 +29,12 @@ returns-clause-fits c z u v room h is =
           base = so.still;
           later = later_first v;
           spent = vouched_spent z u m r v h;
-          locks = record { only = c.plan_insert.ensures.locks c.if-not-plan_insert.false; each = vouched_each z u m r v h is };
+          locks = record { only = c.plan_insert.ensures.locks; each = vouched_each z u m r v h is };
           has = so.has;
           leaf = c.plan_insert.ensures.leaf ∙ sym at;
           deed = c.plan_insert.ensures.deed;
           fits = c.new-self.ensures.fits z v planned so.still.free;
         },
-        c.new-self.ensures.going (c.plan_insert.ensures.targets c.if-not-plan_insert.false),
+        c.new-self.ensures.going c.plan_insert.ensures.targets,
       );
     }

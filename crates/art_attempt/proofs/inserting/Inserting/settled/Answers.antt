@@ -1,5 +1,6 @@
 use Rattle.std.proofs.Common.{◌∙◌, sym}
 use Rattle.art_attempt.proofs.Finds.{comes_there, deed_there, ends_so, ends_there, fails_there, finding_spent, place_checked, place_off, stands_still, stands_there}
+use Rattle.art_attempt.proofs.Overlaps.{overlap_there}
 use Rattle.art_attempt.proofs.Steps.{cell_later, cell_step}
 use Rattle.art_attempt.proofs.inserting.Inserting.settled.Goals as goal
 use Rattle.art_attempt.specs.Inserting.{check_of, deed_at, present_of}
@@ -57,3 +58,15 @@ returns-then-not-passed-clause-anew c is =
     let q = c.requires in
     let t = c.args.stand in
     place_off q.0 (deed_at c.args.self.now c.args.room.now) t.verdict t c.args.answer q.2 q.3 q.7 (sym c.passed.ensures ∙ c.if-not-passed.true)
+
+pub returns-then-not-passed-clause-overlaps : goal.returns-then-not-passed-clause-overlaps
+returns-then-not-passed-clause-overlaps c is = absurd (cc)
+
+pub returns-in-Some-clause-overlaps : goal.returns-in-Some-clause-overlaps
+returns-in-Some-clause-overlaps c is = (
+  overlap_there c.args.stand.verdict (sym c.entered_by.ensures ∙ (c.in-Some.is ∙ is)),
+  sym c.passed.ensures ∙ c.if-not-passed.false,
+)
+
+pub returns-in-None-clause-overlaps : goal.returns-in-None-clause-overlaps
+returns-in-None-clause-overlaps c is = absurd (c.supply.ensures.not_overlaps is)

@@ -3,7 +3,7 @@ use Rattle.art_attempt.proofs.Left.{free_less, once_cell, once_change, once_supp
 use Rattle.art_attempt.proofs.Steps.{cell_told, change_told, supply_told}
 use Rattle.art_attempt.proofs.inserting.Inserting.told.Goals as goal
 use Rattle.art_attempt.specs.Asking.{steps_in, steps_of}
-use Rattle.art_attempt.specs.Inserting.{StageFits, asks_at, deed_at, finding_asks, free_at, left_at, making_asks, making_left, steps_left, supply_asks, vouching_asks}
+use Rattle.art_attempt.specs.Inserting.{IsOverlapBy, StageFits, asks_at, deed_at, finding_asks, free_at, left_at, making_asks, making_left, steps_left, supply_asks, vouching_asks}
 use Rattle.art_attempt.specs.declared.inserting.Stage.{Stage as StageOf}
 use Rattle.art_find.specs.Asking.{Answers as CellAnswers}
 use Rattle.art_find.specs.declared.asked.Answer.{Answer as CellAnswer}
@@ -102,3 +102,22 @@ supply_told-requires c =
     let at = sym (ap (λ (s : StageOf). asks_at s m r) c.in-Supplying.is) ∙ q.6 in
     let k = supply_told q.0 (deed_at m r) r.change q.2 q.3 (supply_asks m r) q.4 c.args.answer at q.7 in
     (q.0, q.1, q.2, q.3, k.0, q.5.room, stage.0, k.1, subst (λ (x : ℕ). SupplyAnswers q.0 k.0 x q.2 q.3) (sym c.word_in.ensures) k.2)
+
+pub returns-in-Finding-clause-overlaps : goal.returns-in-Finding-clause-overlaps
+returns-in-Finding-clause-overlaps c is = subst (IsOverlapBy c.args.self.now) c.cell_in.ensures (c.find_told.ensures.overlaps is)
+
+pub returns-in-Supplying-clause-overlaps : goal.returns-in-Supplying-clause-overlaps
+returns-in-Supplying-clause-overlaps c is = absurd (c.supply_told.ensures.not_overlaps is)
+
+pub returns-in-Vouching-clause-overlaps : goal.returns-in-Vouching-clause-overlaps
+returns-in-Vouching-clause-overlaps c is = absurd (c.vouch_told.ensures.not_overlaps is)
+
+pub returns-in-Making-clause-overlaps : goal.returns-in-Making-clause-overlaps
+returns-in-Making-clause-overlaps c is = absurd (c.make_told.ensures.not_overlaps is)
+
+pub returns-in-Ended-clause-overlaps : goal.returns-in-Ended-clause-overlaps
+returns-in-Ended-clause-overlaps c is =
+    let m = c.args.self.now in
+    let r = c.args.room.now in
+    let at = sym (ap (λ (s : StageOf). asks_at s m r) c.in-Ended.is) ∙ c.requires.6 in
+    absurd (cc)

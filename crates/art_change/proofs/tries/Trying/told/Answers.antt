@@ -1,8 +1,9 @@
 use Rattle.std.proofs.Common.{◌≡◌, Some, sym, subst}
 use Rattle.art_attempt.specs.Asking.{Answers, cell_in}
 use Rattle.art_change.proofs.EitherKind.{erase_anew, erases_on, insert_anew, inserts_on}
+use Rattle.art_change.proofs.Overlaps.{erase_apart, insert_overlaps}
 use Rattle.art_change.proofs.tries.Trying.told.Goals as goal
-use Rattle.art_change.specs.Tries.{Fits, IsAnewBy, asks, deed_at}
+use Rattle.art_change.specs.Tries.{Fits, IsAnewBy, IsOverlapBy, asks, deed_at}
 use Rattle.art_change.specs.declared.tries.Trying.{Trying as TryingOf}
 use Rattle.art_change.specs.declared.tries.Trying.TheVariants.{Inserting, Erasing}
 
@@ -29,3 +30,10 @@ returns-in-Inserting-clause-anew c is =
 pub returns-in-Erasing-clause-anew : goal.returns-in-Erasing-clause-anew
 returns-in-Erasing-clause-anew c is =
     subst (λ (t : TryingOf). IsAnewBy t (Erasing c.told-in-Erasing.new.self) (cell_in c.args.answer)) (sym c.in-Erasing.is) (c.told-in-Erasing.ensures.anew (erase_anew c.told-in-Erasing.new.self is))
+
+pub returns-in-Inserting-clause-overlaps : goal.returns-in-Inserting-clause-overlaps
+returns-in-Inserting-clause-overlaps c is =
+    subst (λ (t : TryingOf). IsOverlapBy t (cell_in c.args.answer)) (sym c.in-Inserting.is) (c.told.ensures.overlaps (insert_overlaps c.told.new.self is))
+
+pub returns-in-Erasing-clause-overlaps : goal.returns-in-Erasing-clause-overlaps
+returns-in-Erasing-clause-overlaps c is = absurd (erase_apart c.told-in-Erasing.new.self is)

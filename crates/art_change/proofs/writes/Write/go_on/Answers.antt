@@ -1,4 +1,4 @@
-use Rattle.std.proofs.Common.{arith}
+use Rattle.std.proofs.Common.{◌∙◌, sym, arith}
 use Rattle.art_change.proofs.Frames.{begun_so, begun_tries}
 use Rattle.art_change.proofs.writes.Write.go_on.Goals as goal
 
@@ -31,3 +31,9 @@ returns-clause-fits c z u opened v ps qs room frame begun has counted = record {
     λ is. let some = c.if-self-eq0.false in omega (arith, some),
   );
 }
+
+pub returns-then-self-eq0-clause-overlaps : goal.returns-then-self-eq0-clause-overlaps
+returns-then-self-eq0-clause-overlaps c is = absurd (let no = sym c.close.ensures.outcome ∙ is in cc)
+
+pub returns-clause-overlaps : goal.returns-clause-overlaps
+returns-clause-overlaps c is = is

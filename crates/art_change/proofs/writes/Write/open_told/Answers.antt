@@ -65,3 +65,9 @@ returns-in-None-clause-fits c z u v w ps asked room o is row =
       fresh = o.fresh;
     } in
     record { room = room; stage = subst (λ (s : StageOf). StageFits z u ps s next r qs w) (sym c.requires.stage) opening }
+
+pub returns-in-Some-Pinned-clause-overlaps : goal.returns-in-Some-Pinned-clause-overlaps
+returns-in-Some-Pinned-clause-overlaps c is = c.go_on.ensures.overlaps is
+
+pub returns-in-Some-Crowded-clause-overlaps : goal.returns-in-Some-Crowded-clause-overlaps
+returns-in-Some-Crowded-clause-overlaps c is = absurd (cc)

@@ -4,7 +4,7 @@ use Rattle.art_change.proofs.writes.Write.told.Goals as goal
 use Rattle.art_attempt.specs.Asking.{Answers as AttemptAnswers}
 use Rattle.art_change.specs.Tries.{asks as attempt_asks}
 use Rattle.art_attempt.specs.declared.asked.Answer.{Answer as AttemptAnswer}
-use Rattle.art_change.specs.Writes.{RestartsBy, StageFits, asks_at, deed_at, left_at, steps_left}
+use Rattle.art_change.specs.Writes.{OverlapsBy, RestartsBy, StageFits, asks_at, deed_at, left_at, steps_left}
 use Rattle.art_change.specs.declared.writes.Stage.{Stage as StageOf}
 use Rattle.art_epoch.specs.Asking.{Answers as FrameAnswers}
 use Rattle.art_epoch.specs.Limbo.{places_of}
@@ -97,3 +97,16 @@ returns-in-Trying-clause-restarts c =
 
 pub returns-in-Closing-clause-restarts : goal.returns-in-Closing-clause-restarts
 returns-in-Closing-clause-restarts c = inl c.close_told.ensures.restarts
+
+pub returns-in-Opening-clause-overlaps : goal.returns-in-Opening-clause-overlaps
+returns-in-Opening-clause-overlaps c is = inl (c.open_told.ensures.overlaps is)
+
+pub returns-in-Trying-clause-overlaps : goal.returns-in-Trying-clause-overlaps
+returns-in-Trying-clause-overlaps c =
+    subst (λ (a : AttemptAnswer). OverlapsBy c.args.self.now c.try_told.new.self a) c.attempt_in.ensures c.try_told.ensures.overlaps
+
+pub returns-in-Closing-clause-overlaps : goal.returns-in-Closing-clause-overlaps
+returns-in-Closing-clause-overlaps c is = inl (sym c.close_told.ensures.outcome ∙ is)
+
+pub returns-in-Ended-clause-overlaps : goal.returns-in-Ended-clause-overlaps
+returns-in-Ended-clause-overlaps c is = inl is

@@ -1,5 +1,6 @@
 use Rattle.std.proofs.Common.{◌∙◌, inl, inr, sym, arith}
 use Rattle.art_change.proofs.Frames.{anew_ends, anew_left, begun_again, none_anew, tried_ends}
+use Rattle.art_change.proofs.Overlaps.{outcome_overlaps}
 use Rattle.art_change.proofs.writes.Write.tried.Goals as goal
 
 pub returns-in-Some-clause-fits : goal.returns-in-Some-clause-fits
@@ -31,3 +32,10 @@ returns-in-Some-clause-restarts c = inl c.close.ensures.restarts
 
 pub returns-in-None-clause-restarts : goal.returns-in-None-clause-restarts
 returns-in-None-clause-restarts c = inr (none_anew c.args.self.now.left c.args.tried (sym c.outcome_of.ensures ∙ c.in-None.is))
+
+pub returns-in-Some-clause-overlaps : goal.returns-in-Some-clause-overlaps
+returns-in-Some-clause-overlaps c is =
+    inr (outcome_overlaps c.args.self.now.left c.args.tried c.in-Some.outcome (sym c.outcome_of.ensures ∙ c.in-Some.is) (sym c.close.ensures.outcome ∙ is))
+
+pub returns-in-None-clause-overlaps : goal.returns-in-None-clause-overlaps
+returns-in-None-clause-overlaps c is = inl (c.go_on.ensures.overlaps is)

@@ -3,7 +3,8 @@ use Rattle.art_change.proofs.Frames.{still_counted}
 use Rattle.art_change.proofs.EitherKind.{ended_steps, ends_as, try_counts, try_room}
 use Rattle.art_change.specs.Tries.{steps_left}
 use Rattle.art_change.specs.declared.tries.Tried.{Tried}
-use Rattle.art_change.specs.declared.tries.Tried.TheVariants.{Anew}
+use Rattle.art_change.specs.declared.tries.Tried.TheVariants.{Anew, Overlaps}
+use Rattle.art_change.specs.declared.writes.Outcome.TheVariants.{Overlaps as overlaps}
 use Rattle.art_change.proofs.writes.Write.try_told.Goals as goal
 
 pub returns-in-None-clause-fits : goal.returns-in-None-clause-fits
@@ -62,3 +63,12 @@ returns-in-Some-clause-restarts c = ⊎_elim
     (λ (same : c.tried.new.self.restarts ≡ c.args.self.now.restarts). inl same)
     (λ (anew : c.in-Some.tried ≡ Anew). inr (c.told.new.self, c.told.ensures.anew (sym c.ended.ensures.at ∙ (c.in-Some.is ∙ ap (λ (e : Tried). Some e) anew))))
     c.tried.ensures.restarts
+
+pub returns-in-None-clause-overlaps : goal.returns-in-None-clause-overlaps
+returns-in-None-clause-overlaps c is = inl (c.turn.ensures.overlaps is)
+
+pub returns-in-Some-clause-overlaps : goal.returns-in-Some-clause-overlaps
+returns-in-Some-clause-overlaps c is = ⊎_elim
+    (λ (had : c.args.self.now.outcome ≡ overlaps). inl had)
+    (λ (now : c.in-Some.tried ≡ Overlaps). inr (c.requires.stage, c.told.ensures.overlaps (sym c.ended.ensures.at ∙ (c.in-Some.is ∙ ap (λ (e : Tried). Some e) now))))
+    (c.tried.ensures.overlaps is)

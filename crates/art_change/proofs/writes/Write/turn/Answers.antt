@@ -43,3 +43,6 @@ returns-else-self-eq0-clause-fits c z u v ps qs room t =
       stage = subst (λ (s : StageOf). StageFits z u ps s m r qs v) (sym c.requires.stage)
           (t, λ is. let some = c.if-self-eq0.false in omega (arith, some));
     }
+
+pub returns-then-is_free-clause-overlaps : goal.returns-then-is_free-clause-overlaps
+returns-then-is_free-clause-overlaps c is = absurd (let no = sym c.close.ensures.outcome ∙ is in cc)

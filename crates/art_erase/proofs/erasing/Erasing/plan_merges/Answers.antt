@@ -4,12 +4,11 @@ use Rattle.art_decide.specs.Plans.{LocksOnly}
 use Rattle.art_erase.proofs.Vouched.{seen_both, vouched_each, vouched_so, vouched_standing}
 use Rattle.art_erase.proofs.erasing.Erasing.plan_merges.Goals as goal
 use Rattle.art_erase.specs.Erasing.{IsLockedBy, goes}
-use Rattle.art_erase.specs.Refused.{IsTooMuch}
 use Rattle.art_erase.specs.declared.erasing.Way.{Way as WayOf}
 use Rattle.art_erase.specs.declared.erasing.Way.TheVariants as way
 
-pub plan_merge_leaf-planned-requires-clause-seen : goal.plan_merge_leaf-planned-requires-clause-seen
-plan_merge_leaf-planned-requires-clause-seen c =
+pub plan_merge_leaf-requires-clause-seen : goal.plan_merge_leaf-requires-clause-seen
+plan_merge_leaf-requires-clause-seen c =
     let q = c.requires.vouched in
     (q.0, seen_both q.0 q.1 c.args.self.now c.args.room.now q.2 q.4 q.5 (ap goes c.requires.way))
 
@@ -18,14 +17,13 @@ returns-clause-fits c z u v room h is =
     let m = c.args.self.now in
     let r = c.args.room.now in
     let so = vouched_so z u m r v h is in
-    let plan = c.plan_merge_leaf-planned.ensures in
-    let then : Room = record r { bodies = c.plan_merge_leaf-planned.new.bodies; change = c.plan_merge_leaf-planned.new.change } in
+    let plan = c.plan_merge_leaf.ensures in
+    let then : Room = record r { bodies = c.plan_merge_leaf.new.bodies; change = c.plan_merge_leaf.new.change } in
     c.begin.ensures.fits z u v (record { sizes = room.sizes; key = room.key }) (record { still = so.still; spent = so.spent; has = so.has })
-    (λ done. record {
-      planned = plan.planned done z v (seen_both z u m r v h is (ap goes c.requires.way)) (vouched_standing z u m r v h is);
+    (record {
+      planned = plan.planned z v (seen_both z u m r v h is (ap goes c.requires.way)) (vouched_standing z u m r v h is);
       leaf = plan.leaf;
       deed = plan.deed;
     })
-    (λ done. subst (λ (w : WayOf). LocksOnly (IsLockedBy w m.stand m.lowering) then.change) (sym c.requires.way) (plan.locks done))
+    (subst (λ (w : WayOf). LocksOnly (IsLockedBy w m.stand m.lowering) then.change) (sym c.requires.way) plan.locks)
     (vouched_each z u m r v h is (way.Merges c.args.other) c.requires.way tt)
-    (λ refused. subst (λ (w : WayOf). IsTooMuch w m.stand then) (sym c.requires.way) (plan.refused refused))

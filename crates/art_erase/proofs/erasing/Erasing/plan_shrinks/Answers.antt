@@ -4,12 +4,11 @@ use Rattle.art_decide.specs.Plans.{LocksOnly}
 use Rattle.art_erase.proofs.Vouched.{seen_both, smaller_ready, vouched_each, vouched_so, vouched_standing}
 use Rattle.art_erase.proofs.erasing.Erasing.plan_shrinks.Goals as goal
 use Rattle.art_erase.specs.Erasing.{IsChosen, IsLockedBy, goes}
-use Rattle.art_erase.specs.Refused.{IsTooMuch}
 use Rattle.art_erase.specs.declared.erasing.Way.{Way as WayOf}
 use Rattle.art_erase.specs.declared.erasing.Way.TheVariants as way
 
-pub plan_shrink-planned-requires-clause-seen : goal.plan_shrink-planned-requires-clause-seen
-plan_shrink-planned-requires-clause-seen c =
+pub plan_shrink-requires-clause-seen : goal.plan_shrink-requires-clause-seen
+plan_shrink-requires-clause-seen c =
     let q = c.requires.vouched in
     (q.0, seen_both q.0 q.1 c.args.self.now c.args.room.now q.2 q.4 q.5 (ap goes c.requires.way))
 
@@ -18,16 +17,15 @@ returns-clause-fits c z u v room h is =
     let m = c.args.self.now in
     let r = c.args.room.now in
     let so = vouched_so z u m r v h is in
-    let plan = c.plan_shrink-planned.ensures in
-    let then : Room = record r { bodies = c.plan_shrink-planned.new.bodies; change = c.plan_shrink-planned.new.change } in
+    let plan = c.plan_shrink.ensures in
+    let then : Room = record r { bodies = c.plan_shrink.new.bodies; change = c.plan_shrink.new.change } in
     let chosen = subst (λ (w : WayOf). IsChosen z w m.stand r.desk r.gone r.stock u h.early) c.requires.way h.chosen in
     let ready = smaller_ready z v m.stand r c.args.layout c.number_for-made.result so.has chosen.0 chosen.1 c.number_for-made.ensures in
     c.begin.ensures.fits z u v (record { sizes = room.sizes; key = room.key }) (record { still = so.still; spent = so.spent; has = so.has })
-    (λ done. record {
-      planned = plan.planned done z v (seen_both z u m r v h is (ap goes c.requires.way)) (vouched_standing z u m r v h is) ready;
+    (record {
+      planned = plan.planned z v (seen_both z u m r v h is (ap goes c.requires.way)) (vouched_standing z u m r v h is) ready;
       leaf = plan.leaf;
       deed = plan.deed;
     })
-    (λ done. subst (λ (w : WayOf). LocksOnly (IsLockedBy w m.stand m.lowering) then.change) (sym c.requires.way) (plan.locks done))
+    (subst (λ (w : WayOf). LocksOnly (IsLockedBy w m.stand m.lowering) then.change) (sym c.requires.way) plan.locks)
     (vouched_each z u m r v h is (way.Shrinks c.args.layout) c.requires.way tt)
-    (λ refused. subst (λ (w : WayOf). IsTooMuch w m.stand then) (sym c.requires.way) (c.number_for-made.result, plan.refused refused))

@@ -4,7 +4,6 @@ use Rattle.art_decide.specs.Plans.{LocksOnly}
 use Rattle.art_erase.proofs.Vouched.{seen_here, vouched_each, vouched_so, vouched_standing}
 use Rattle.art_erase.proofs.erasing.Erasing.plan_stays.Goals as goal
 use Rattle.art_erase.specs.Erasing.{IsLockedBy}
-use Rattle.art_erase.specs.Refused.{IsTooMuch}
 use Rattle.art_erase.specs.declared.erasing.Way.{Way as WayOf}
 use Rattle.art_erase.specs.declared.erasing.Way.TheVariants as way
 
@@ -13,10 +12,9 @@ returns-clause-fits c z u v room h is =
     let m = c.args.self.now in
     let r = c.args.room.now in
     let so = vouched_so z u m r v h is in
-    let plan = c.plan_drop-planned.ensures in
-    let then : Room = record r { bodies = c.plan_drop-planned.new.bodies; change = c.plan_drop-planned.new.change } in
+    let plan = c.plan_drop.ensures in
+    let then : Room = record r { bodies = c.plan_drop.new.bodies; change = c.plan_drop.new.change } in
     c.begin.ensures.fits z u v (record { sizes = room.sizes; key = room.key }) (record { still = so.still; spent = so.spent; has = so.has })
-    (λ done. record { planned = plan.planned done z v (seen_here z u m r v h is) (vouched_standing z u m r v h is); leaf = plan.leaf; deed = plan.deed })
-    (λ done. subst (λ (w : WayOf). LocksOnly (IsLockedBy w m.stand m.lowering) then.change) (sym c.requires.way) (plan.locks done))
+    (record { planned = plan.planned z v (seen_here z u m r v h is) (vouched_standing z u m r v h is); leaf = plan.leaf; deed = plan.deed })
+    (subst (λ (w : WayOf). LocksOnly (IsLockedBy w m.stand m.lowering) then.change) (sym c.requires.way) plan.locks)
     (vouched_each z u m r v h is way.Stays c.requires.way tt)
-    (λ refused. subst (λ (w : WayOf). IsTooMuch w m.stand then) (sym c.requires.way) (plan.refused refused))

@@ -1,5 +1,6 @@
 use Rattle.std.proofs.Common.{◌-◌, ◌+◌, ◌*◌, ◌^◌, ◌%◌, ◌<◌, sym, refl, arith}
 use Rattle.art_cell.specs.Reads.{word_of}
+use Rattle.art_node48.proofs.Differing.{few_wrote}
 use Rattle.art_node48.proofs.Steps.{entry_some, stands, header_less, header_frees, becomes_taken}
 use Rattle.art_node48.proofs.node48.Node48NodeKind.take.Goals as goal
 
@@ -35,3 +36,12 @@ returns-clause-taken c =
     becomes_taken w (word_of c.write.new.body) header c.args.byte place c.requires.body.meaning c.ranges.byte.fits c.requires.there stand (
     header_frees w c.args.byte place header c.requires.body.meaning c.ranges.byte.fits c.requires.there stand refl
     ) fits c.write.ensures.wrote
+
+pub returns-clause-few : goal.returns-clause-few
+returns-clause-few c =
+    let w = word_of c.args.body.now in
+    let place = c.entry_of-place.result - 1 in
+    let header = w 1 - 1 * 2 ^ (16 + place) % 2 ^ 64 - 1 in
+    let was = c.requires.body.meaning.words in
+    let low : header < 2 ^ 64 = omega (arith, was 1) in
+    few_wrote w (word_of c.write.new.body) was (c.write.ensures.wrote.below was low (omega arith)) header c.args.byte 0 place 0 c.write.ensures.wrote

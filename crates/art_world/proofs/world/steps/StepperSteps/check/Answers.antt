@@ -24,3 +24,8 @@ returns-then-found-stamp-clause-at_once c = rw c.changed.ensures (at_step_then (
 
 pub returns-clause-at_once : goal.returns-clause-at_once
 returns-clause-at_once c = at_step_then (λ m f m' f' s. s.0 c.if-found-stamp.false) c.find.ensures.at_once
+
+pub returns-clause-keys : goal.returns-clause-keys
+returns-clause-keys c =
+    let vouched = (c.find.ensures.row.0 c.if-found-stamp.false).vouched in
+    record { cells = vouched.0; shape = vouched.1; holds = vouched.2; keys = λ k value row. tt }

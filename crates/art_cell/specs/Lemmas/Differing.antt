@@ -1,0 +1,108 @@
+-- How many words differ, of a stretch of places and of a cell.
+use Rattle.std.proofs.Common.{◌≡◌, ◌≢◌, ℕ, zero, suc, ◌+◌, ◌-◌, ◌<◌, ◌≤◌, Bool, true, false, cond, eqb, List, ◌∷◌, ◌++◌, length, Some, None, refl, ap, ap₂, ◌∙◌, inl, inr, arith, eq-eqb, length-append}
+use Rattle.std.proofs.lemmas.Bool.{cases_eq}
+use Rattle.std.proofs.lemmas.List.Elements.{filter_map-append}
+use Rattle.std.specs.List.{range_with_len, cons_option, filter_map}
+use Rattle.art_cell.specs.declared.layouts.Layout.{Layout}
+use Rattle.art_cell.specs.declared.writes.Write.{Write}
+use Rattle.art_cell.specs.Reads.{change_at, changes}
+use Rattle.art_cell.specs.Words.{Words, size}
+
+-- a stretch of places, and the next one
+range_both : (a m n : ℕ) → range_with_len a (m + n) ≡ range_with_len a m ++ range_with_len (a + m) n
+range_both a zero n =
+    let start : a ≡ a + 0 = omega arith in
+    let count : 0 + n ≡ n = omega arith in
+    ap₂ (λ (b k : ℕ). range_with_len b k) start count
+range_both a (suc m) n =
+    let count : suc m + n ≡ suc (m + n) = omega arith in
+    let start : a + 1 + m ≡ a + suc m = omega arith in
+    let rest = range_both (a + 1) m n ∙ ap (λ (b : ℕ). range_with_len (a + 1) m ++ range_with_len b n) start in
+    ap (range_with_len a) count ∙ ap (λ (ps : List ℕ). a ∷ ps) rest
+
+module _ (w after : Words) where
+  -- the words that differ, of so many places from one on
+  abbrev pub differing : ℕ → ℕ → List Write
+  differing from n = filter_map (change_at w after) (range_with_len from n)
+
+  -- one place more is one word more at most
+  one_more : (place : ℕ) (others : List Write) → length (cons_option (change_at w after place) others) ≤ length others + 1
+  one_more place others = by_change (eqb (w place) (after place))
+    where
+      by_change : (same : Bool)
+          → length (cons_option (cond same None (Some (record { place = place; value = after place }))) others) ≤ length others + 1
+      by_change true = omega arith
+      by_change false = omega arith
+
+  -- and none where the word is the same
+  none_more : (place : ℕ) (others : List Write) → w place ≡ after place
+      → length (cons_option (change_at w after place) others) ≡ length others
+  none_more place others same = rw (eq-eqb (w place) (after place) same) refl
+
+  -- ---- a stretch of places
+
+  pub differing_most : (from n : ℕ) → length (differing from n) ≤ n
+  differing_most from zero = omega arith
+  differing_most from (suc n) =
+      let more = one_more from (differing (from + 1) n) in
+      let rest = differing_most (from + 1) n in
+      omega arith
+
+  -- no word differs
+  pub differing_none : (from n : ℕ) → ((p : ℕ) → from ≤ p → p < from + n → w p ≡ after p) → length (differing from n) ≡ 0
+  differing_none from zero same = refl
+  differing_none from (suc n) same =
+      none_more from (differing (from + 1) n) (same from (omega arith) (omega arith))
+      ∙ differing_none (from + 1) n (λ p low high. same p (omega arith) (omega arith))
+
+  -- no word but that at this place differs
+  pub differing_one : (at from n : ℕ) → ((p : ℕ) → from ≤ p → p < from + n → p ≢ at → w p ≡ after p) → length (differing from n) ≤ 1
+  differing_one at from zero same = omega arith
+  differing_one at from (suc n) same =
+      elim (cases_eq from at) [
+        | inl here ↦
+            let more = one_more from (differing (from + 1) n) in
+            let rest = differing_none (from + 1) n (λ p low high. same p (omega arith) (omega arith) (λ e. omega arith)) in
+            omega arith
+        | inr other ↦
+            let none = none_more from (differing (from + 1) n) (same from (omega arith) (omega arith) other) in
+            let rest = differing_one at (from + 1) n (λ p low high apart. same p (omega arith) (omega arith) apart) in
+            omega arith
+      ]
+
+  -- a stretch and the next one
+  differing_both : (from m n : ℕ) → length (differing from (m + n)) ≡ length (differing from m) + length (differing (from + m) n)
+  differing_both from m n =
+      ap (λ (ps : List ℕ). length (filter_map (change_at w after) ps)) (range_both from m n)
+      ∙ ap (λ (xs : List Write). length xs) (filter_map-append (change_at w after) (range_with_len from m) (range_with_len (from + m) n))
+      ∙ length-append (differing from m) (differing (from + m) n)
+
+  -- ---- a cell
+
+  -- no word but that at this place differs
+  pub one_differs : (k : Layout) (at : ℕ) → ((p : ℕ) → 0 < p → p < size k → p ≢ at → w p ≡ after p) → length (changes k w after) ≤ 1
+  one_differs k at same = differing_one at 1 (size k - 1) (λ p low high apart. same p (omega arith) (omega arith) apart)
+
+  -- none after these differs
+  pub first_differ : (k : Layout) (n rest : ℕ) → size k ≡ 1 + n + rest → ((p : ℕ) → 1 + n ≤ p → w p ≡ after p)
+      → length (changes k w after) ≤ n
+  first_differ k n rest is same =
+      let count : size k - 1 ≡ n + rest = omega arith in
+      let all = ap (λ (m : ℕ). length (differing 1 m)) count in
+      let both = differing_both 1 n rest in
+      let first = differing_most 1 n in
+      let past = differing_none (1 + n) rest (λ p low high. same p low) in
+      omega arith
+
+  -- the prefix stays: the header may differ, and words of the two stretches after the prefix
+  pub after_prefix : (k : Layout) (keys children : ℕ) → size k ≡ 10 + keys + children → ((p : ℕ) → 2 ≤ p → p < 10 → w p ≡ after p)
+      → length (changes k w after) ≤ 1 + length (differing 10 keys) + length (differing (10 + keys) children)
+  after_prefix k keys children is same =
+      let count : size k - 1 ≡ 1 + (8 + (keys + children)) = omega arith in
+      let all = ap (λ (m : ℕ). length (differing 1 m)) count in
+      let past_header = differing_both 1 1 (8 + (keys + children)) in
+      let past_prefix = differing_both 2 8 (keys + children) in
+      let past_keys = differing_both 10 keys children in
+      let header = differing_most 1 1 in
+      let prefix = differing_none 2 8 same in
+      omega arith

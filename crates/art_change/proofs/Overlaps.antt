@@ -1,0 +1,118 @@
+-- Where no admitted key begins another, no write ends as an overlap.
+use Rattle.std.proofs.Common.{◌≡◌, ◌≢◌, ◌∙◌, ◌==◌, ℕ, List, Some, refl, sym, ap, subst}
+use Rattle.std.proofs.lemmas.Bool.{cond_both}
+use Rattle.std.proofs.lemmas.Option.{same_Some}
+use Rattle.art_attempt.proofs.Overlaps as attempts
+use Rattle.art_attempt.specs.Asking as attempt_asking
+use Rattle.art_attempt.specs.Asking.{cell_in}
+use Rattle.art_attempt.specs.Inserting as inserts
+use Rattle.art_attempt.specs.declared.asked.Answer.{Answer as AttemptAnswer}
+use Rattle.art_attempt.specs.declared.asked.Answer.TheVariants as attempt_told
+use Rattle.art_attempt.specs.declared.asked.Asked.{Asked as AttemptAsked}
+use Rattle.art_attempt.specs.declared.asked.Asked.TheVariants.{Cell, Supply, Change}
+use Rattle.art_attempt.specs.declared.inserting.Entered.{Entered}
+use Rattle.art_attempt.specs.declared.inserting.Entered.TheVariants as entered
+use Rattle.art_attempt.specs.declared.inserting.Inserting.{Inserting as Insertion}
+use Rattle.art_attempt.specs.declared.rooms.Room.{Room}
+use Rattle.art_change.specs.Asking.{PassesAmong, attempt_in}
+use Rattle.art_change.specs.Tries as tries
+use Rattle.art_change.specs.Tries.{IsOverlapBy, ended_at, key_of, of_entered, of_erased}
+use Rattle.art_change.specs.Writes.{Fits, StageFits, asks, asks_at, or_busy, outcome_at, outcome_of}
+use Rattle.art_change.specs.declared.asked.Answer.{Answer}
+use Rattle.art_change.specs.declared.asked.Answer.TheVariants as told
+use Rattle.art_change.specs.declared.asked.Asked.{Asked}
+use Rattle.art_change.specs.declared.asked.Asked.TheVariants.{Attempt}
+use Rattle.art_change.specs.declared.tries.Job.{Job}
+use Rattle.art_change.specs.declared.tries.Job.TheVariants.{Insert, Remove}
+use Rattle.art_change.specs.declared.tries.Tried.{Tried}
+use Rattle.art_change.specs.declared.tries.Tried.TheVariants as tried
+use Rattle.art_change.specs.declared.tries.Trying.{Trying}
+use Rattle.art_change.specs.declared.tries.Trying.TheVariants.{Inserting, Erasing}
+use Rattle.art_change.specs.declared.writes.Outcome.{Outcome}
+use Rattle.art_change.specs.declared.writes.Outcome.TheVariants.{Busy, Full, Overlaps}
+use Rattle.art_change.specs.declared.writes.Stage.{Stage}
+use Rattle.art_change.specs.declared.writes.Stage.TheVariants as stage
+use Rattle.art_change.specs.declared.writes.Write.{Write}
+use Rattle.art_epoch.specs.declared.limbo.Place.{Place}
+use Rattle.art_erase.specs.Erasing as erases
+use Rattle.art_erase.specs.declared.erasing.Erased.{Erased}
+use Rattle.art_erase.specs.declared.erasing.Erased.TheVariants as erased
+use Rattle.art_erase.specs.declared.erasing.Erasing.{Erasing as Erasure}
+use Rattle.art_make.proofs.Told.{map_some}
+use Rattle.art_step.specs.Histories.{AreApart}
+use Rattle.art_step.specs.declared.views.Sizes.{Sizes}
+use Rattle.art_step.specs.declared.views.View.{View}
+
+-- ---- how an attempt ends so
+
+overlaps_entered : (e : Entered) → of_entered e ≡ tried.Overlaps → e ≡ entered.Overlaps
+overlaps_entered entered.New is = cc
+overlaps_entered (entered.Present stands) is = cc
+overlaps_entered (entered.Full pool) is = cc
+overlaps_entered (entered.Exhausted c) is = cc
+overlaps_entered entered.Overlaps is = refl
+overlaps_entered entered.Anew is = cc
+
+overlaps_erased : (e : Erased) → of_erased e ≡ tried.Overlaps → ⊥
+overlaps_erased (erased.Gone value) is = cc
+overlaps_erased erased.Absent is = cc
+overlaps_erased (erased.Exhausted c) is = cc
+overlaps_erased erased.Anew is = cc
+
+pub insert_overlaps : (m : Insertion) → ended_at (Inserting m) ≡ Some tried.Overlaps → inserts.ended_at m ≡ Some entered.Overlaps
+insert_overlaps m is = let k = map_some of_entered (inserts.ended_at m) tried.Overlaps is in k.1 ∙ ap (λ (e : Entered). Some e) (overlaps_entered k.0 k.2)
+
+pub erase_apart : (m : Erasure) → ended_at (Erasing m) ≡ Some tried.Overlaps → ⊥
+erase_apart m is = let k = map_some of_erased (erases.ended_at m) tried.Overlaps is in overlaps_erased k.0 k.2
+
+-- ---- how a write ends so
+
+busy_apart : (left : ℕ) (o : Outcome) → o ≢ Overlaps → or_busy left o ≢ Overlaps
+busy_apart left o apart = cond_both (left == 0) Busy o (λ (a : Outcome). a ≢ Overlaps) (λ _ is. cc) (λ _. apart)
+
+pub outcome_overlaps : (left : ℕ) (e : Tried) (o : Outcome) → outcome_of left e ≡ Some o → o ≡ Overlaps → e ≡ tried.Overlaps
+outcome_overlaps left tried.New o is overlaps = cc
+outcome_overlaps left (tried.Present stands) o is overlaps = cc
+outcome_overlaps left (tried.Gone value) o is overlaps = cc
+outcome_overlaps left tried.Absent o is overlaps = cc
+outcome_overlaps left (tried.Full pool) o is overlaps = absurd (busy_apart left (Full pool) (λ e. cc) (same_Some {A = Outcome} (or_busy left (Full pool)) o is ∙ overlaps))
+outcome_overlaps left (tried.Exhausted c) o is overlaps = cc
+outcome_overlaps left tried.Overlaps o is overlaps = refl
+outcome_overlaps left tried.Anew o is overlaps = cc
+
+-- a write that has ended has its outcome
+pub ended_apart : (s : Stage) (had o : Outcome) → outcome_at s had ≡ Some o → had ≢ Overlaps → o ≢ Overlaps
+ended_apart stage.Opening had o is apart overlaps = cc
+ended_apart stage.Trying had o is apart overlaps = cc
+ended_apart stage.Closing had o is apart overlaps = cc
+ended_apart stage.Ended had o is apart overlaps = apart (same_Some {A = Outcome} had o is ∙ overlaps)
+
+-- ---- where keys are apart
+
+-- so are keys of which no others are admitted
+pub still_apart : (A B : List ℕ → Type 0) → ((k : List ℕ) → B k → A k) → AreApart A → AreApart B
+still_apart A B back apart = λ k j a b begins. apart k j (back k a) (back j b) begins
+
+module _ (A : List ℕ → Type 0) (apart : AreApart A) (z : Sizes) (v : View) where
+  try_apart : (u : View) (job : Job) (t : Trying) (r : Room) (asked : AttemptAsked) (answer : AttemptAnswer) → tries.Fits z u job t r v → A (key_of job r).items → tries.asks t r ≡ Some asked
+      → attempt_asking.PassesAmong A z v asked answer → IsOverlapBy t (cell_in answer) → ⊥
+  try_apart u Insert (Inserting m) r asked answer fits is at among o = attempts.never_overlaps A z v apart u m r fits is asked answer at among o
+  try_apart u Remove (Inserting m) r asked answer fits is at among o = fits
+  try_apart u job (Erasing m) r asked answer fits is at among o = o
+
+  word_among : (a : AttemptAsked) (x : ℕ) → attempt_asking.PassesAmong A z v a (attempt_told.Word x)
+  word_among (Cell c) x = tt
+  word_among (Supply s) x = tt
+  word_among (Change c) x = tt
+
+  among_in : (a : AttemptAsked) (answer : Answer) → PassesAmong A z v (Attempt a) answer → attempt_asking.PassesAmong A z v a (attempt_in answer)
+  among_in a (told.Attempt r) among = among
+  among_in a (told.Word x) among = word_among a 0
+
+  pub never_overlaps : (u : View) (ps : List Place) (m : Write) (r : Room) (qs : List Place) (asked : Asked) (answer : Answer) → Fits z u ps m r qs v → A (key_of m.job r).items → asks m r qs ≡ Some asked
+      → PassesAmong A z v asked answer → (m.stage ≡ stage.Trying) × IsOverlapBy m.trying (cell_in (attempt_in answer)) → ⊥
+  never_overlaps u ps m r qs asked answer fits is at among o =
+      let t = subst (λ (s : Stage). StageFits z u ps s m r qs v) o.0 fits.stage in
+      let k = map_some Attempt (tries.asks m.trying r) asked (sym (ap (λ (s : Stage). asks_at s m r qs) o.0) ∙ at) in
+      let here = subst (λ (a : Asked). PassesAmong A z v a answer) (sym k.2) among in
+      try_apart t.0.began m.job m.trying r k.0 (attempt_in answer) t.0.fits is k.1 (among_in k.0 answer here) o.1
