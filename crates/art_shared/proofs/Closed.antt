@@ -1,7 +1,7 @@
 -- The end of a table: the seat that is left has the views of all passes that are closed.
 use Rattle.art_key.specs.Spelling.{IsKeyOf}
 use Rattle.art_step.specs.Histories.{AreAdmitted}
-use Rattle.std.proofs.Common.{◌≡◌, ◌≢◌, ◌⊎◌, ◌↔◌, ℕ, zero, suc, ◌<◌, true, false, List, [], ◌∷◌, ◌++◌, length, map, get_or, inl, inr, ⊎_elim, sym, refl, ap, ap₂, ◌∙◌, subst, arith, eqb, ne_eqb}
+use Rattle.std.proofs.Common.{◌≡◌, ◌≢◌, ◌⊎◌, ◌↔◌, ℕ, zero, suc, ◌<◌, true, false, List, [], ◌∷◌, ◌++◌, length, map, inl, inr, ⊎_elim, sym, refl, ap, ◌∙◌, subst, arith, eqb, ne_eqb}
 use Rattle.std.proofs.lemmas.Bool.{cases_eq, false≢true}
 use Rattle.std.proofs.lemmas.Map.Steps.{length-le_from_distinct_below}
 use Rattle.std.proofs.lemmas.Option.{same_Some}
@@ -19,11 +19,11 @@ use Rattle.atomic_table.proofs.Lists.{at_map}
 use Rattle.art_shared.specs.declared.law.Basis.{Basis}
 use Rattle.art_shared.specs.declared.law.Known.{Known}
 use Rattle.art_shared.specs.declared.pass.Pass.{Pass}
-use Rattle.art_shared.specs.Closing.{Closes}
+use Rattle.art_shared.specs.Closing.{Closes, numbers_of}
 use Rattle.art_shared.specs.Passes.{view_in}
 use Rattle.art_shared.specs.Rule.{Apart, Kept, Words, joined, passes_of, seated}
-use Rattle.art_shared.proofs.Ended.{closes_by}
-use Rattle.art_shared.proofs.Lists.{joined_here}
+use Rattle.art_shared.proofs.Ending.{closes_by}
+use Rattle.art_shared.proofs.Lists.{apart_too, joined_here}
 use Rattle.art_shared.proofs.Moving.{views_in}
 use Rattle.art_shared.proofs.Seated.{apart_right, member_found}
 
@@ -49,12 +49,6 @@ joins_last v a b c = (
       (λ (j : Member v b). member_back v a (b ++ c) (member_front v b c j))
       (member_append v (a ++ c) b i),
 )
-
-pub same_words : (xs ys : List ℕ) → length xs ≡ length ys → ((k : ℕ) → k < length xs → get_elem? ys k ≡ some (get_or xs k 0)) → xs ≡ ys
-same_words [] [] n h = refl
-same_words [] (y ∷ ys) n h = absurd (omega arith)
-same_words (x ∷ xs) [] n h = absurd (omega arith)
-same_words (x ∷ xs) (y ∷ ys) n h = ap₂ (λ (a : ℕ) (l : List ℕ). a ∷ l) (sym (some-injective y x (h 0 (omega arith)))) (same_words xs ys (omega arith) (λ k low. h (suc k) (omega arith)))
 
 -- the last of a list, and the others
 pub get_end : {A : Type 0} (xs : List A) (x : A) → slice_get (xs ++ x ∷ []) (length xs) ≡ Some x
@@ -131,6 +125,21 @@ length_passes : (vs : List View) → length (passes_of vs) ≡ length vs
 length_passes [] = refl
 length_passes (v ∷ vs) = ap suc (length_passes vs)
 
+same_passes : (ps : List Pass) → passes_of (pass_views ps) ≡ numbers_of ps
+same_passes [] = refl
+same_passes (a ∷ ps) = ap (λ (l : List ℕ). (view_in a.seat.me.0).pass ∷ l) (same_passes ps)
+
+member_pass : (p : ℕ) (vs us : List View) → ((v : View) → Member v vs → Member v us) → Member p (passes_of vs) → Member p (passes_of us)
+member_pass p vs us sub i = let u = pass_of_view vs p i in subst (λ (q : ℕ). Member q (passes_of us)) u.2 (pass_here u.0 us (sub u.0 u.1))
+  where
+    pass_here : (v : View) (us : List View) → Member v us → Member v.pass (passes_of us)
+    pass_here v [] i = absurd i
+    pass_here v (u ∷ us) i = ⊎_elim (λ (e : v ≡ u). inl (ap (λ (w : View). w.pass) e)) (λ (j : Member v us). inr (pass_here v us j)) i
+
+length_views : (ps : List Pass) → length (pass_views ps) ≡ length ps
+length_views [] = refl
+length_views (a ∷ ps) = ap suc (length_views ps)
+
 -- ---- the end
 
 pub closes : (b : Basis) (id : ℕ) (s : Words) (k : Kept b s) (known : Known) (ps : List Pass) (ws : List ℕ) → get_elem? s.views id ≡ some known → ((v : View) → Member v (pass_views ps) ↔ Member v known.views)
@@ -142,7 +151,11 @@ closes b id s k known ps ws at all long is =
     let found : (u : View) → Member u known.views → seated s.views u.pass ≡ Some u = λ u i. member_found (joined vss) u k.apart (joined_here u vss id known.views here i) in
     let both : (r : IsSound z (memory_of z ws) (seated s.views)) × AreAdmitted (IsKeyOf b.schema) r.log =
     subst (λ (l : List ℕ). (r : IsSound z (memory_of z l) (seated s.views)) × AreAdmitted (IsKeyOf b.schema) r.log) (sym is) (k.sound, k.typed) in
-    closes_by b ws (seated s.views) ps both.0 both.1 (λ a i. found (view_in a.seat.me.0) ((all (view_in a.seat.me.0)).0 (view_of_pass ps a i))) (λ count p v e.
+    let apart : Apart (numbers_of ps) = subst Apart (same_passes ps)
+    (apart_too (passes_of known.views) (passes_of (pass_views ps)) (apart_here vss id known.views here k.apart)
+    (λ p i. member_pass p known.views (pass_views ps) (λ v j. (all v).1 j) i)
+    (length_passes (pass_views ps) ∙ (length_views ps ∙ (sym long ∙ sym (length_passes known.views))))) in
+    closes_by b ws (seated s.views) ps both.0 (ap length is ∙ k.long) apart both.1 (λ a i. found (view_in a.seat.me.0) ((all (view_in a.seat.me.0)).0 (view_of_pass ps a i))) (λ count p v e.
     let low = (k.sound.unstamped.pinned p v e).inside in
     let there = all_there z.passes (passes_of known.views) (apart_here vss id known.views here k.apart)
     (λ q i. let u = pass_of_view known.views q i in subst (λ (n : ℕ). n < z.passes) u.2 (k.sound.unstamped.pinned u.0.pass u.0 (found u.0 u.1)).inside)

@@ -1,7 +1,8 @@
 pub mod CellTurns
 pub mod Closed
-pub mod Ended
+pub mod Ending
 pub mod EpochTurns
+pub mod Lent
 pub mod Lists
 pub mod Marking
 pub mod Moving
@@ -10,3 +11,4 @@ pub mod Seated
 pub mod Stamps
 pub mod Turning
 pub mod Typed
+pub mod TypedRows

@@ -1,6 +1,6 @@
 -- The end of a table: one history, the tree with its rows, and where each number is.
 use Rattle.art_key.specs.Spelling.{IsKeyOf}
-use Rattle.std.specs.Prelude.{◌≡◌, ℕ, List, [], length, true, Some}
+use Rattle.std.specs.Prelude.{◌≡◌, ℕ, List, [], length, map, true, Some}
 use Rattle.art_cell.specs.declared.cells.Link.{Link}
 use Rattle.art_step.specs.declared.views.Event.{Event}
 use Rattle.art_step.specs.declared.views.Sizes.{Sizes}
@@ -8,12 +8,18 @@ use Rattle.art_step.specs.declared.views.View.{View}
 use Rattle.art_step.specs.Histories.{AreAdmitted, IsLegal, StartsWith, places}
 use Rattle.art_step.specs.Sound.{IsSound, ShowsReplay}
 use Rattle.art_step.specs.Views.{IsInLimbo, IsNumber, IsOnce, Member, Memory, Views, is_free, links_in_limbo}
+use Rattle.art_step.specs.WordPlaces.{word_count}
 use Rattle.art_step.specs.WordRows.{memory_of}
 use Rattle.art_tree.specs.Heaps.{heap_of}
 use Rattle.art_tree.specs.Tree.{StandsAt}
 use Rattle.art_shared.specs.declared.law.Basis.{Basis}
 use Rattle.art_shared.specs.declared.pass.Pass.{Pass}
+use Rattle.art_shared.specs.Rule.{Apart}
 use Rattle.art_shared.specs.Tables.{view_of_pass}
+
+-- the numbers of the passes
+abbrev pub numbers_of : List Pass → List ℕ
+numbers_of passes = map (λ (a : Pass). (view_of_pass a).pass) passes
 
 -- these are as many passes as the table has: all of them
 abbrev pub AreAll : Basis → List Pass → Type 0
@@ -60,10 +66,13 @@ pub record IsAccounted (z : Sizes) (m : Memory) (passes : List Pass) : Type 0 wh
 
 -- ---- the end
 
--- the words are those of a sound world, in which each of these passes knows just what it knows; and where they are all passes of the
--- table, there are no others. Its history is that of these passes. Where they are all, and none holds a cell, the words mean a tree
--- with the rows that the history leaves; and where none has a number in hand either, each number is accounted for
+-- there are as many words as the sizes say, and no pass is there twice. The words are those of a sound world, in which each of these
+-- passes knows just what it knows; and where they are all passes of the table, there are no others. Its history is that of these
+-- passes. Where they are all, and none holds a cell, the words mean a tree with the rows that the history leaves; and where none has
+-- a number in hand either, each number is accounted for
 pub record Closes (b : Basis) (ws : List ℕ) (passes : List Pass) : Type 0 where
+  pub long : length ws ≡ word_count b.sizes
+  pub apart : Apart (numbers_of passes)
   pub views : Views
   pub sound : IsSound b.sizes (memory_of b.sizes ws) views
   pub each : (a : Pass) → Member a passes → views (view_of_pass a).pass ≡ Some (view_of_pass a)

@@ -1,4 +1,6 @@
 pub mod Closing
+pub mod Ended
+pub mod Laws
 pub mod Marks
 pub mod Opening
 pub mod Passes

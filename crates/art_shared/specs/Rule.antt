@@ -42,10 +42,10 @@ seated ks p = find (all_views ks) p
 abbrev pub passes_of : List View → List ℕ
 passes_of vs = map (λ (v : View). v.pass) vs
 
--- no number stands twice
-abbrev pub Apart : List ℕ → Type 0
+-- nothing stands twice in the list
+abbrev pub Apart : {A : Type 0} → List A → Type 0
 Apart [] = ⊤
-Apart (p ∷ ps) = (Member p ps → ⊥) × Apart ps
+Apart (x ∷ xs) = (Member x xs → ⊥) × Apart xs
 
 -- the rule of the table
 pub record Kept (b : Basis) (s : Words) : Type 0 where

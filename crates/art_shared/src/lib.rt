@@ -46,6 +46,9 @@
 //! before the call, and one that the step made of it. That such a state was one of this run is no contract's matter: it is what
 //! `atomic_table` says of each of its steps.
 //!
+//! A pass that is lent is changed by its steps alone (`OnlyStepped`), so that it is one of its table still when the borrow ends
+//! (`lent_passes_stay`).
+//!
 //! Outside its steps a pass knows nothing of the words, since the next thread may have changed them. A `Pass` carries two lasting
 //! facts alone: its stamps have the places of their cells, and its numbers in hand and in limbo are numbers that there are.
 //!
@@ -71,8 +74,9 @@
 //!
 //! # The end
 //!
-//! `Shared::close` takes the table and passes of it, and gives all words, in their places (`Closes`): they are those of a sound
-//! world, in which each of the passes knows what it knew at its last step. What is left is said in the table's own words:
+//! `Shared::close` takes the table and passes of it, and gives all words, in their places (`Ended`). It takes no memory, so it is not
+//! refused. The words (`words_of`) are those of a sound world, in which each of the passes knows what it knew at its last step (`Closes`).
+//! What is left is said in the table's own words:
 //!
 //! - one history (`TellsAll`). It is legal, of commands with keys of the schema, begins with what each of the passes has seen, and has
 //!   the events of each at their places. Where all passes of the table are closed, it has no others.
@@ -83,8 +87,10 @@
 #![tactic(auto)]
 
 mod closing;
+mod ended;
 mod epoch_steps;
 mod law;
+mod laws;
 mod lending;
 mod mark;
 mod marks;
@@ -96,7 +102,9 @@ mod stepper;
 mod steps;
 mod words;
 
+pub use ended::Ended;
 pub use law::{Basis, Known, Law};
+pub use laws::lent_passes_stay;
 pub use mark::Mark;
 pub use pass::Pass;
 pub use shared::Shared;

@@ -1,7 +1,5 @@
 -- A pass that was lent to its table is one of it still, and ready if it is ready as it was lent.
-use Rattle.art_key.specs.Spelling.{IsKeyOf}
-use Rattle.art_step.specs.Histories.{AreAdmitted}
-use Rattle.std.proofs.Common.{◌≡◌, ◌∙◌, [], ap, subst, sym}
+use Rattle.std.proofs.Common.{◌≡◌, ◌∙◌, [], ap, subst}
 use Rattle.art_change.specs.Writes.{IsWriter}
 use Rattle.art_change.specs.declared.writers.Writer.{Writer}
 use Rattle.art_shared.specs.declared.law.Basis.{Basis}
@@ -10,6 +8,7 @@ use Rattle.art_shared.specs.declared.shared.Shared.{Shared}
 use Rattle.art_shared.specs.declared.stepper.Stepper.{Stepper}
 use Rattle.art_shared.specs.Stepper.{OnlyStepped, basis_of, pass_of, sizes_of, view_of}
 use Rattle.art_shared.specs.Tables.{IsPassOf, basis_in}
+use Rattle.art_shared.proofs.Lent.{lent_passes_stay}
 use Rattle.art_shared_uses.specs.Clients.{IsIdle, Writes}
 use Rattle.art_step.specs.declared.views.Sizes.{Sizes}
 use Rattle.art_step.specs.declared.views.View.{View}
@@ -17,13 +16,7 @@ use Rattle.art_step.specs.Steps.Pin as pin
 
 module _ (t : Shared) (p : Pass) (a b : Stepper) (of : IsPassOf t p) (lent : pass_of a ≡ p) (same : basis_of a ≡ basis_in t) (only : OnlyStepped a b) where
   stays : IsPassOf t (pass_of b)
-  stays =
-      let is : IsPassOf t (pass_of a) = subst (IsPassOf t) (sym lent) of in
-      record {
-        table = only.pass.table ∙ is.table;
-        basis = only.pass.basis ∙ is.basis;
-        typed = subst (λ (s : Basis). AreAdmitted (IsKeyOf s.schema) (view_of b).seen) (only.basis ∙ same) (only.typed (subst (λ (s : Basis). AreAdmitted (IsKeyOf s.schema) (view_of a).seen) (sym same) is.typed));
-      }
+  stays = lent_passes_stay t p a b of lent same only
 
   pub writes_still : (w : Writer) → IsWriter (sizes_of a) (view_of b) w → Writes t (pass_of b) w
   writes_still w may = record { of = stays; may = subst (λ (z : Sizes). IsWriter z (view_of b) w) (ap (λ (s : Basis). s.sizes) same) may }

@@ -1,12 +1,13 @@
 //! A table closes, and its numbers are counted: free, named in the tree, or waiting.
-ghost use Rattle.std.specs.Prelude.{◌≡◌, ◌<◌};
+ghost use Rattle.std.specs.Prelude.{◌≡◌, ◌<◌, ◌≤◌, length};
+ghost use Rattle.art_shared.specs.Ended.{words_of};
 ghost use Rattle.art_shared.specs.Tables.{IsPassOf};
 ghost use Rattle.art_shared_uses.specs.Clients.{AreOf};
 
 use art_cell::{Cell, Link, Node, Pool};
 use art_epoch::Limbo;
 use art_model::NoMemory;
-use art_shared::{Pass, Shared};
+use art_shared::{Ended, Pass, Shared};
 use art_step::{Sizes, free_words, pool_of_layout};
 use std::alloc::Global;
 
@@ -90,8 +91,20 @@ pub(crate) fn ended(
     let sizes = shared.sizes();
     let mut passes = passes;
     passes.push(last)?;
-    let words = shared.close(alloc, passes)?;
+    let end = shared.close(passes);
+    let words = copied(alloc, &end, sizes.word_count())?;
     Ok(Closed { sizes, words })
+}
+
+/// So many words of a table that is closed, from the first one on.
+pub(crate) fn copied(alloc: Global, end: &Ended, count: usize) -> Result<Vec<u64>, NoMemory>
+    requires { count ≤ length (words_of end.now) }
+{
+    let mut words = Vec::with_capacity(alloc, count)?;
+    for place in 0..count {
+        words.push(end.word(place))?;
+    }
+    Ok(words)
 }
 
 impl Closed {

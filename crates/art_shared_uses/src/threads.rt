@@ -4,6 +4,7 @@ ghost use Rattle.art_shared.specs.Tables.{IsPassOf};
 ghost use Rattle.art_shared_uses.specs.Clients.{IsIdle, IsNew, Writes};
 
 use crate::clients::{finds, key_of, last_of, puts, takes, two_bytes, writer_of};
+use crate::closing::copied;
 use art_change::{Outcome, Writer};
 use art_find::Got;
 use art_model::NoMemory;
@@ -121,7 +122,9 @@ fn ended(
     passes.push(one)?;
     passes.push(two)?;
     passes.push(three)?;
-    shared.close(alloc, passes)
+    let count = shared.sizes().word_count();
+    let end = shared.close(passes);
+    copied(alloc, &end, count)
 }
 
 #[test]

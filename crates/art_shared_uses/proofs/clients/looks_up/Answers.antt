@@ -1,6 +1,6 @@
 use Rattle.std.proofs.Common.{◌∙◌, sym, subst}
 use Rattle.art_change.specs.Writes.{IsReady}
-use Rattle.art_change_uses.proofs.Ready.{looked_ready}
+use Rattle.art_change.proofs.Looked.{looked_ready}
 use Rattle.art_epoch.specs.Limbo.{places_of}
 use Rattle.art_shared.specs.Stepper.{only_sizes, only_then, sizes_of, view_of}
 use Rattle.art_shared_uses.proofs.clients.looks_up.Goals as goal

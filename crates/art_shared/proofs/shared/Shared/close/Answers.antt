@@ -2,6 +2,7 @@
 use Rattle.std.proofs.Common.{rules, ◌≡◌, ◌++◌, List, [], ◌∷◌, length, Some, sym, ap, ◌∙◌, subst, arith, append-nil, length-append}
 use Rattle.std.proofs.lemmas.List.{map-append}
 use Rattle.std.specs.List.{slice_get}
+use Rattle.std.specs.Mem.Slots.{slots_items}
 use Rattle.art_step.specs.declared.views.View.{View}
 use Rattle.art_step.specs.Views.{Member}
 use Rattle.art_shared.specs.declared.law.Basis.{Basis}
@@ -49,8 +50,8 @@ loop-pass-preserved c =
           omega (arith, k, n, m);
     }
 
-pub returns : goal.returns
-returns c =
+pub returns-clause-closes : goal.returns-clause-closes
+returns-clause-closes c =
     let z = c.close_with.ensures.values in
     let s : Words = z.2.0 in
     let seen = z.2.1 in
@@ -59,7 +60,7 @@ returns c =
     let none : c.loop-pass.passes.items ≡ [] = no_items c.loop-pass.passes.items (search rules) in
     let us : List View = c.loop-pass.seat.me.0.views in
     let left : us ++ pass_views c.loop-pass.passes.items ≡ us = ap (λ (l : List Pass). us ++ pass_views l) none ∙ append-nil us in
-    closes c.args.self.basis c.loop-pass.seat.id s k c.loop-pass.seat.me.0 c.args.passes.items c.copied.result.items seen.1
+    closes c.args.self.basis c.loop-pass.seat.id s k c.loop-pass.seat.me.0 c.args.passes.items (slots_items c.close_with.result.words) seen.1
     (λ v. (λ m. subst (Member v) left ((i.keeps v).0 m), λ m. (i.keeps v).1 (subst (Member v) (sym left) m)))
     (let e = ap (λ (l : List Pass). length l) none in let n = i.count in omega (arith, e, n))
-    (c.copied.ensures ∙ sym z.2.2)
+    (sym z.2.2)

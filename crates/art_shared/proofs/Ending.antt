@@ -12,11 +12,13 @@ use Rattle.art_step.specs.declared.views.View.{View}
 use Rattle.art_step.specs.Histories.{AreAdmitted, places_from}
 use Rattle.art_step.specs.Sound.{InHandOf, InLimboOf, InTree, IsFree, IsSound, Nowhere, NumbersAccounted, ShowsReplay, Whereabouts}
 use Rattle.art_step.specs.Views.{IsInLimbo, IsLocked, Member, Memory, Views}
+use Rattle.art_step.specs.WordPlaces.{word_count}
 use Rattle.art_step.specs.WordRows.{memory_of}
 use Rattle.art_tree.specs.Heaps.{Cells}
 use Rattle.art_shared.specs.declared.law.Basis.{Basis}
 use Rattle.art_shared.specs.declared.pass.Pass.{Pass}
-use Rattle.art_shared.specs.Closing.{AreAll, Closes, Fate, Free, HasFate, HaveNoNumber, HoldNoCell, InLimbo, IsAccounted, Linked, TellsAll}
+use Rattle.art_shared.specs.Closing.{AreAll, Closes, Fate, Free, HasFate, HaveNoNumber, HoldNoCell, InLimbo, IsAccounted, Linked, TellsAll, numbers_of}
+use Rattle.art_shared.specs.Rule.{Apart}
 use Rattle.art_shared.specs.Tables.{view_of_pass}
 
 -- an event of a history has a place in it
@@ -123,11 +125,13 @@ module _ (b : Basis) (m : Memory) (f : Views) (passes : List Pass) (r : IsSound 
       let numbers : NumbersAccounted z m f m.words r.at = subst (λ (s : Cells). NumbersAccounted z m f s r.at) (logical_words all held) r.numbers in
       accounted z m f passes r.at numbers (λ p v e. (r.history.tells p v e).pass) known (others all) hand
 
-pub closes_by : (b : Basis) (ws : List ℕ) (f : Views) (passes : List Pass) (r : IsSound b.sizes (memory_of b.sizes ws) f) → AreAdmitted (IsKeyOf b.schema) r.log
-    → ((a : Pass) → Member a passes → f (view_of_pass a).pass ≡ Some (view_of_pass a))
+pub closes_by : (b : Basis) (ws : List ℕ) (f : Views) (passes : List Pass) (r : IsSound b.sizes (memory_of b.sizes ws) f) → length ws ≡ word_count b.sizes
+    → Apart (numbers_of passes) → AreAdmitted (IsKeyOf b.schema) r.log → ((a : Pass) → Member a passes → f (view_of_pass a).pass ≡ Some (view_of_pass a))
     → (AreAll b passes → (p : ℕ) (v : View) → f p ≡ Some v → (a : Pass) × Member a passes × (view_of_pass a ≡ v))
     → Closes b ws passes
-closes_by b ws f passes r typed known others = record {
+closes_by b ws f passes r long apart typed known others = record {
+  long = long;
+  apart = apart;
   views = f;
   sound = r;
   each = known;
