@@ -1,7 +1,7 @@
 pub mod Answered
 pub mod Closes
 mod Counted
-mod Ends
+pub mod Ends
 mod GivenUp
 mod Parts
 mod Pinned

@@ -1,0 +1,4 @@
+pub mod Events
+pub mod GivenUp
+pub mod Sought
+pub mod Written

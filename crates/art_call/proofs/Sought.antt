@@ -1,0 +1,191 @@
+-- A seek that has ended, as its call sees it.
+use Rattle.std.proofs.Common.{◌≡◌, ◌+◌, ◌<◌, ◌≤◌, ℕ, true, List, Option, Some, None, get_or, refl, sym, ap, ◌∙◌, subst, arith}
+use Rattle.std.specs.Option.{option_map}
+use Rattle.arrayvec.specs.ArrayVec.{ArrayVec}
+use Rattle.art_call.specs.Calls.{GoesOn, Get, HasCalled, HasUsed, Insert, IsCaller, IsSeeking, Look, Remove, SeesRange, Wish, may_end, restarts_in, restarts_of, told_by}
+use Rattle.art_call.specs.Outcomes.{of_seek}
+use Rattle.art_call.specs.declared.callers.Call.TheVariants as call
+use Rattle.art_call.specs.declared.callers.Caller.{Caller}
+use Rattle.art_call.specs.declared.outcomes.Outcome.{Outcome as OutcomeOf}
+use Rattle.art_call.specs.declared.outcomes.Outcome.TheVariants as outcome
+use Rattle.art_epoch.specs.Limbo.{places_of}
+use Rattle.art_key.specs.Bounds.{is_before}
+use Rattle.art_key.specs.declared.bounds.Bound.{Bound}
+use Rattle.art_look.proofs.Driven.{sees_after, sees_within}
+use Rattle.art_look.specs.Driven.{LookEnds}
+use Rattle.art_look.specs.Seen.{bound_at, look_done}
+use Rattle.art_look.specs.declared.looks.Seen.{Seen as SeenOf}
+use Rattle.art_look.specs.declared.trails.Trail.{Trail}
+use Rattle.art_seek.proofs.Answered.{ended_closed, ended_end, ended_sought, look_ends, look_told, seen_busy}
+use Rattle.art_seek.proofs.Ends.{key_not_seen, range_not_absent, range_not_found}
+use Rattle.art_seek.specs.Seeks as seeks
+use Rattle.art_seek.specs.Seeks.{Fits, HasSought, seen_by}
+use Rattle.art_seek.specs.Walks.{IsEnd, aim_of, told_of}
+use Rattle.art_seek.specs.declared.seeks.Seek.{Seek}
+use Rattle.art_seek.specs.declared.walks.Aim.{Aim}
+use Rattle.art_seek.specs.declared.walks.Aim.TheVariants as aim
+use Rattle.art_seek.specs.declared.walks.Outcome.{Outcome}
+use Rattle.art_seek.specs.declared.walks.Outcome.TheVariants.{Found, Absent, Seen, Busy}
+use Rattle.art_seek.specs.declared.walks.Walk.{Walk}
+use Rattle.art_seek.specs.declared.walks.Walk.TheVariants.{Key, Range}
+use Rattle.art_step.specs.Events.{SeesEvent}
+use Rattle.art_step.specs.declared.views.Sizes.{Sizes}
+use Rattle.art_step.specs.declared.views.View.{View}
+use Rattle.art_tree.specs.declared.bounds.Bound.TheVariants.{To}
+
+-- ---- a get
+
+module _ (k : ArrayVec ℕ) (hi : Bound) (t : Trail) (left : ℕ) where
+  key_told : (w : Walk) (o : Outcome) (s : Option SeenOf) → aim_of w ≡ aim.Key → IsEnd w left o → told_of o k.items hi t w ≡ told_by (Get k) (of_seek o s)
+  key_told w (Found value) s is ends = refl
+  key_told w Absent s is ends = refl
+  key_told w Busy s is ends = refl
+  key_told (Key m) Seen s is ends = absurd (key_not_seen m left ends)
+  key_told (Range m) Seen s is ends = cc
+
+  key_may : (w : Walk) (o : Outcome) (s : Option SeenOf) → aim_of w ≡ aim.Key → IsEnd w left o → may_end (Get k) (of_seek o s) ≡ true
+  key_may w (Found value) s is ends = refl
+  key_may w Absent s is ends = refl
+  key_may w Busy s is ends = refl
+  key_may (Key m) Seen s is ends = absurd (key_not_seen m left ends)
+  key_may (Range m) Seen s is ends = cc
+
+  key_busy : (w : Walk) (o : Outcome) (s : Option SeenOf) → aim_of w ≡ aim.Key → IsEnd w left o → of_seek o s ≡ outcome.Busy → o ≡ Busy
+  key_busy w (Found value) s is ends told = cc
+  key_busy w Absent s is ends told = cc
+  key_busy w Busy s is ends told = refl
+  key_busy (Key m) Seen s is ends told = absurd (key_not_seen m left ends)
+  key_busy (Range m) Seen s is ends told = cc
+
+-- ---- a look
+
+-- how it ends, by what it has seen
+looked : Option SeenOf → OutcomeOf
+looked (Some seen) = outcome.Seen seen
+looked None = outcome.Busy
+
+module _ (k : List ℕ) (hi : Bound) (t : Trail) (left : ℕ) where
+  seen_ends : (s : Option SeenOf) → of_seek Seen s ≡ looked s
+  unfolding looked
+  seen_ends (Some seen) = refl
+  seen_ends None = refl
+
+  range_ends : (w : Walk) (o : Outcome) → aim_of w ≡ aim.Range → IsEnd w left o → of_seek o (seen_by (Some o) w k hi t) ≡ looked (seen_by (Some o) w k hi t)
+  unfolding looked
+  range_ends w Seen is ends = seen_ends (seen_by (Some Seen) w k hi t)
+  range_ends w Busy is ends = refl
+  range_ends (Key m) (Found value) is ends = cc
+  range_ends (Key m) Absent is ends = cc
+  range_ends (Range m) (Found value) is ends = absurd (range_not_found m left value ends)
+  range_ends (Range m) Absent is ends = absurd (range_not_absent m left ends)
+
+module _ (lo : ArrayVec ℕ) (hi : Bound) where
+  seen_tells : (s : Option SeenOf) → told_by (Look lo hi) (looked s) ≡ option_map look_done s
+  unfolding looked
+  seen_tells (Some seen) = refl
+  seen_tells None = refl
+
+  seen_may : (s : Option SeenOf) → may_end (Look lo hi) (looked s) ≡ true
+  unfolding looked
+  seen_may (Some seen) = refl
+  seen_may None = refl
+
+  seen_range : (z : Sizes) (u v : View) (s : Option SeenOf) → ((i : ℕ) → get_or lo.items i 0 < 256) → is_before (bound_at (To lo.items)) hi ≡ true → LookEnds z lo.items hi u v s
+      → SeesRange z (Look lo hi) (looked s)
+  unfolding looked
+  seen_range z u v (Some seen) small before ends = record {
+    stood = ends.2;
+    after = sees_after z lo.items hi u v (Some seen) small before ends;
+    within = sees_within z lo.items hi u v (Some seen) ends;
+  }
+  seen_range z u v None small before ends = tt
+
+none_seen : (s : Option SeenOf) → looked s ≡ outcome.Busy → s ≡ None
+unfolding looked
+none_seen (Some seen) is = cc
+none_seen None is = refl
+
+-- ---- what a client sees
+
+module _ (z : Sizes) (u : View) (c : Caller) (m : Seek) (v : View) (o : Outcome) (is : c.call ≡ call.Seek m) (ended : seeks.ended_at m ≡ Some o) where
+  restarts_are : m.restarts ≡ restarts_in c
+  restarts_are = sym (ap restarts_of is)
+
+  module _ (a : Aim) (k : ArrayVec ℕ) (hi : Bound) (turns : ℕ) (on : IsSeeking z a k hi turns u c m v) where
+    sought : HasSought k.items hi u m c.trail o v
+    sought = ended_sought z k.items hi u m c.trail v o ended on.fits on.short
+
+    ends : IsEnd m.walk m.left o
+    ends = ended_end z k.items hi u m c.trail v o ended on.fits
+
+    caller : IsCaller z v c
+    caller =
+        let i = sought.idle in
+        let r = on.caller.ready in
+        record {
+          few = on.caller.few;
+          sizes = on.caller.sizes;
+          ready = record {
+            frame = record {
+              own_is = r.frame.own_is ∙ sym i.pass;
+              inside = r.frame.inside;
+              passes_are = r.frame.passes_are;
+              may = i.may;
+              limbo = i.waits (places_of c.limbo) r.frame.limbo;
+            };
+            hand = i.hand ∙ r.hand;
+            stock = r.stock;
+          };
+        }
+
+    failed : u.failures + restarts_in c ≤ v.failures
+    failed =
+        let a = sought.counted.failed in
+        let same = restarts_are in
+        omega (arith, a, same)
+
+    used : o ≡ Busy → HasUsed z turns u v
+    used busy =
+        let all = (sought.busy busy).all in
+        let few = (sought.busy busy).few in
+        let met = sought.counted.failed in
+        let same = on.turns_are in
+        record { counted = omega (arith, all, same); few = λ _. omega (arith, few, met, same) }
+
+  pub seek_called : (w : Wish) (given turns : ℕ) → ((i : ℕ) → get_or c.key.items i 0 < 256) → GoesOn z w turns u c (call.Seek m) v → v.steps ≤ u.steps + given + 1000
+      → HasCalled z w given turns u c (of_seek o (seeks.seen_at m c.key.items c.hi c.trail)) v
+  seek_called (Get k) given turns small on few =
+      let s = seeks.seen_at m c.key.items c.hi c.trail in
+      let e = ends aim.Key k c.hi turns on in
+      record {
+        may = key_may k c.hi c.trail m.left m.walk o s on.aim_is e;
+        tells = subst (SeesEvent u v) (key_told k c.hi c.trail m.left m.walk o s on.aim_is e) (sought aim.Key k c.hi turns on).tells;
+        caller = caller aim.Key k c.hi turns on;
+        range = tt;
+        ground = tt;
+        failed = failed aim.Key k c.hi turns on;
+        busy = λ told. used aim.Key k c.hi turns on (key_busy k c.hi c.trail m.left m.walk o s on.aim_is e told);
+        steps = few;
+      }
+  seek_called (Look lo hi) given turns small on few =
+      let n = on.0 in
+      let s = seen_by (Some o) m.walk lo.items hi c.trail in
+      let e = ends aim.Range lo hi turns n in
+      let closed = ended_closed z lo.items hi u m c.trail v o ended n.fits in
+      let looks = look_ends lo.items hi c.trail m.left z closed.over.walking.opened closed.before m.restarts m.walk o n.aim_is e closed.over.walking.walk in
+      let same : of_seek o (seeks.seen_at m c.key.items c.hi c.trail) ≡ looked s =
+      ap (λ (k : ArrayVec ℕ). of_seek o (seeks.seen_at m k.items c.hi c.trail)) n.key_is ∙ (ap (λ (b : Bound). of_seek o (seeks.seen_at m lo.items b c.trail)) n.bound_is
+      ∙ (ap (λ (p : Option Outcome). of_seek o (seen_by p m.walk lo.items hi c.trail)) ended ∙ range_ends lo.items hi c.trail m.left m.walk o n.aim_is e)) in
+      let bytes = subst (λ (k : ArrayVec ℕ). (i : ℕ) → get_or k.items i 0 < 256) n.key_is small in
+      subst (λ (x : OutcomeOf). HasCalled z (Look lo hi) given turns u c x v) (sym same) (record {
+        may = seen_may lo hi s;
+        tells = subst (SeesEvent u v) (look_told lo.items hi c.trail m.left m.walk o n.aim_is e ∙ sym (seen_tells lo hi s)) (sought aim.Range lo hi turns n).tells;
+        caller = caller aim.Range lo hi turns n;
+        range = seen_range lo hi z closed.over.walking.opened closed.before s bytes on.1 looks;
+        ground = tt;
+        failed = failed aim.Range lo hi turns n;
+        busy = λ told. used aim.Range lo hi turns n (seen_busy lo.items hi c.trail m.left m.walk o n.aim_is e (none_seen s told));
+        steps = few;
+      })
+  seek_called (Insert k value) given turns small on few = absurd on
+  seek_called (Remove k) given turns small on few = absurd on

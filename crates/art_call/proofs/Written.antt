@@ -1,0 +1,217 @@
+-- A write that has ended, as its call sees it.
+use Rattle.std.proofs.Common.{◌≡◌, ◌+◌, ◌≤◌, ℕ, true, List, refl, sym, ap, ◌∙◌, subst, arith}
+use Rattle.arrayvec.specs.ArrayVec.{ArrayVec}
+use Rattle.art_attempt.specs.declared.rooms.Room.{Room}
+use Rattle.art_call.specs.Calls.{GoesOn, Get, HasCalled, Insert, IsCaller, IsGround, IsWriting, Look, Remove, Wish, may_end, restarts_in, restarts_of, told_by}
+use Rattle.art_call.specs.Outcomes.{of_write}
+use Rattle.art_call.specs.declared.callers.Call.TheVariants as call
+use Rattle.art_call.specs.declared.callers.Caller.{Caller}
+use Rattle.art_call.specs.declared.outcomes.Outcome.TheVariants.{Busy as is_busy}
+use Rattle.art_change.specs.Tries.{key_of, value_of}
+use Rattle.art_change.specs.Writes as writes
+use Rattle.art_change.specs.Writes.{Fits, HasAnswered, HasCounted, HasGround, HasOutcome, IsDone, IsReady, UsedTurns}
+use Rattle.art_change.specs.declared.tries.Job.{Job}
+use Rattle.art_change.specs.declared.tries.Job.TheVariants as job
+use Rattle.art_change.specs.declared.tries.Trying.{Trying}
+use Rattle.art_change.specs.declared.tries.Trying.TheVariants.{Inserting, Erasing}
+use Rattle.art_change.specs.declared.writes.Outcome.{Outcome}
+use Rattle.art_change.specs.declared.writes.Outcome.TheVariants.{New, Present, Gone, Absent, Full, Exhausted, Overlaps, Busy, Crowded}
+use Rattle.art_change.specs.declared.writes.Write.{Write}
+use Rattle.art_epoch.specs.Limbo.{places_of}
+use Rattle.art_epoch.specs.declared.limbo.Place.{Place}
+use Rattle.art_frame.specs.declared.stocks.Stock.{Stock}
+use Rattle.art_step.specs.Events.{SeesEvent}
+use Rattle.art_step.specs.declared.views.Sizes.{Sizes}
+use Rattle.art_step.specs.declared.views.View.{View}
+
+-- ---- its event
+
+insert_tells : (k : ArrayVec ℕ) (value : ℕ) (o : Outcome) → writes.told_by o job.Insert k value ≡ told_by (Insert k value) (of_write o)
+insert_tells k value New = refl
+insert_tells k value (Present stands) = refl
+insert_tells k value (Gone had) = refl
+insert_tells k value Absent = refl
+insert_tells k value (Full pool) = refl
+insert_tells k value (Exhausted c) = refl
+insert_tells k value Overlaps = refl
+insert_tells k value Busy = refl
+insert_tells k value (Crowded b) = refl
+
+remove_tells : (k : ArrayVec ℕ) (value : ℕ) (o : Outcome) → writes.told_by o job.Remove k value ≡ told_by (Remove k) (of_write o)
+remove_tells k value New = refl
+remove_tells k value (Present stands) = refl
+remove_tells k value (Gone had) = refl
+remove_tells k value Absent = refl
+remove_tells k value (Full pool) = refl
+remove_tells k value (Exhausted c) = refl
+remove_tells k value Overlaps = refl
+remove_tells k value Busy = refl
+remove_tells k value (Crowded b) = refl
+
+busy_told : (o : Outcome) → of_write o ≡ is_busy → o ≡ Busy
+busy_told New is = cc
+busy_told (Present stands) is = cc
+busy_told (Gone had) is = cc
+busy_told Absent is = cc
+busy_told (Full pool) is = cc
+busy_told (Exhausted c) is = cc
+busy_told Overlaps is = cc
+busy_told Busy is = refl
+busy_told (Crowded b) is = cc
+
+-- ---- how it may end
+
+module _ (z : Sizes) (u : View) (r : Room) (left : ℕ) (v : View) where
+  insert_not_gone : (t : Trying) (had : ℕ) → HasOutcome z u job.Insert t r (Gone had) left v → ⊥
+  insert_not_gone (Inserting m) had fits = fits
+  insert_not_gone (Erasing m) had fits = fits
+
+  insert_not_absent : (t : Trying) → HasOutcome z u job.Insert t r Absent left v → ⊥
+  insert_not_absent (Inserting m) fits = fits
+  insert_not_absent (Erasing m) fits = fits
+
+  remove_not_new : (t : Trying) → HasOutcome z u job.Remove t r New left v → ⊥
+  remove_not_new (Inserting m) fits = fits
+  remove_not_new (Erasing m) fits = fits
+
+  remove_not_present : (t : Trying) (stands : ℕ) → HasOutcome z u job.Remove t r (Present stands) left v → ⊥
+  remove_not_present (Inserting m) stands fits = fits
+  remove_not_present (Erasing m) stands fits = fits
+
+  remove_not_full : (t : Trying) → (pool : _) → HasOutcome z u job.Remove t r (Full pool) left v → ⊥
+  remove_not_full (Inserting m) pool fits = fits
+  remove_not_full (Erasing m) pool fits = fits
+
+  remove_not_overlaps : (t : Trying) → HasOutcome z u job.Remove t r Overlaps left v → ⊥
+  remove_not_overlaps (Inserting m) fits = fits
+  remove_not_overlaps (Erasing m) fits = fits
+
+module _ (z : Sizes) (u : View) (ps : List Place) (m : Write) (r : Room) (qs : List Place) (v : View) where
+  same_outcome : (j : Job) (o : Outcome) → m.job ≡ j → m.outcome ≡ o → (began : View) (s : Room) (left : ℕ) (w : View) → HasOutcome z began m.job m.trying s m.outcome left w
+      → HasOutcome z began j m.trying s o left w
+  same_outcome j o is so began s left w fits =
+      subst (λ (a : Outcome). HasOutcome z began j m.trying s a left w) so (subst (λ (i : Job). HasOutcome z began i m.trying s m.outcome left w) is fits)
+
+  insert_may : (k : ArrayVec ℕ) (value : ℕ) (o : Outcome) → m.job ≡ job.Insert → m.outcome ≡ o → IsDone z u ps o m r qs v → may_end (Insert k value) (of_write o) ≡ true
+  insert_may k value New is so done = refl
+  insert_may k value (Present stands) is so done = refl
+  insert_may k value (Full pool) is so done = refl
+  insert_may k value (Exhausted c) is so done = refl
+  insert_may k value Overlaps is so done = refl
+  insert_may k value Busy is so done = refl
+  insert_may k value (Crowded b) is so done = refl
+  insert_may k value (Gone had) is so done =
+      let d = done.0 in
+      let s = record r { stock = d.stock } in
+      absurd (insert_not_gone z d.began s m.left d.ended m.trying had (same_outcome job.Insert (Gone had) is so d.began s m.left d.ended d.outcome))
+  insert_may k value Absent is so done =
+      let d = done.0 in
+      let s = record r { stock = d.stock } in
+      absurd (insert_not_absent z d.began s m.left d.ended m.trying (same_outcome job.Insert Absent is so d.began s m.left d.ended d.outcome))
+
+  remove_may : (k : ArrayVec ℕ) (o : Outcome) → m.job ≡ job.Remove → m.outcome ≡ o → IsDone z u ps o m r qs v → may_end (Remove k) (of_write o) ≡ true
+  remove_may k (Gone had) is so done = refl
+  remove_may k Absent is so done = refl
+  remove_may k (Exhausted c) is so done = refl
+  remove_may k Busy is so done = refl
+  remove_may k (Crowded b) is so done = refl
+  remove_may k New is so done =
+      let d = done.0 in
+      let s = record r { stock = d.stock } in
+      absurd (remove_not_new z d.began s m.left d.ended m.trying (same_outcome job.Remove New is so d.began s m.left d.ended d.outcome))
+  remove_may k (Present stands) is so done =
+      let d = done.0 in
+      let s = record r { stock = d.stock } in
+      absurd (remove_not_present z d.began s m.left d.ended m.trying stands (same_outcome job.Remove (Present stands) is so d.began s m.left d.ended d.outcome))
+  remove_may k (Full pool) is so done =
+      let d = done.0 in
+      let s = record r { stock = d.stock } in
+      absurd (remove_not_full z d.began s m.left d.ended m.trying pool (same_outcome job.Remove (Full pool) is so d.began s m.left d.ended d.outcome))
+  remove_may k Overlaps is so done =
+      let d = done.0 in
+      let s = record r { stock = d.stock } in
+      absurd (remove_not_overlaps z d.began s m.left d.ended m.trying (same_outcome job.Remove Overlaps is so d.began s m.left d.ended d.outcome))
+
+-- ---- what a client sees
+
+-- what a write says when it has ended so
+pub record Says (m : Write) (o : Outcome) : Type 0 where
+  pub answered : (z : Sizes) (u v : View) (ps qs : List Place) (r : Room) → Fits z u ps m r qs v → HasAnswered z u m.job o (key_of m.job r) (value_of m.job r) qs v
+  pub counted : (z : Sizes) (u v : View) (ps qs : List Place) (r : Room) → Fits z u ps m r qs v → HasCounted z u m.turns m.restarts o v
+  pub grounds : (z : Sizes) (u v : View) (ps qs : List Place) (r : Room) → Fits z u ps m r qs v → HasGround z u m.job ps m.turns m.restarts o r qs v
+  pub ready : (z : Sizes) (u v : View) (own : ℕ) (ps qs : List Place) (s : Stock) (r : Room) → IsReady z u own ps s → Fits z u ps m r qs v → IsReady z v own qs r.stock
+
+module _ (z : Sizes) (u : View) (c : Caller) (m : Write) (v : View) (o : Outcome) (is : c.call ≡ call.Write m) (says : Says m o) where
+  restarts_are : m.restarts ≡ restarts_in c
+  restarts_are = sym (ap restarts_of is)
+
+  module _ (j : Job) (k : ArrayVec ℕ) (value turns : ℕ) (on : IsWriting z j k value turns u c m v) where
+    tells : SeesEvent u v (writes.told_by o j k value)
+    tells =
+        let a = says.answered z u v on.waited (places_of c.limbo) c.room on.fits in
+        subst (λ (i : Job). SeesEvent u v (writes.told_by o i k value)) on.job_is
+        (subst (λ (n : ℕ). SeesEvent u v (writes.told_by o m.job k n)) (same_value on)
+        (subst (λ (q : ArrayVec ℕ). SeesEvent u v (writes.told_by o m.job q (value_of m.job c.room))) (same_key on) a.tells))
+      where
+        same_key : IsWriting z j k value turns u c m v → key_of m.job c.room ≡ k
+        same_key on = ap (λ (i : Job). key_of i c.room) on.job_is ∙ on.key_is
+
+        same_value : IsWriting z j k value turns u c m v → value_of m.job c.room ≡ value
+        same_value on = ap (λ (i : Job). value_of i c.room) on.job_is ∙ on.value_is
+
+    ground : IsGround z j turns u c (of_write o) v
+    ground =
+        let g = says.grounds z u v on.waited (places_of c.limbo) c.room on.fits in
+        record {
+          waited = on.waited;
+          write = o;
+          is = refl;
+          ground = record {
+            machine = g.machine;
+            job_is = g.job_is ∙ on.job_is;
+            turns_are = g.turns_are ∙ on.turns_are;
+            restarts_are = g.restarts_are ∙ restarts_are;
+            outcome_is = g.outcome_is;
+            done = g.done;
+          };
+        }
+
+    caller : IsCaller z v c
+    caller = record { few = on.few; sizes = on.fits.room.sizes; ready = says.ready z u v c.own on.waited (places_of c.limbo) on.stock c.room on.ready on.fits }
+
+    failed : u.failures + restarts_in c ≤ v.failures
+    failed =
+        let a = (says.counted z u v on.waited (places_of c.limbo) c.room on.fits).failed in
+        let same = restarts_are in
+        omega (arith, a, same)
+
+    busy : of_write o ≡ is_busy → UsedTurns z u turns v
+    busy told = subst (λ (n : ℕ). UsedTurns z u n v) on.turns_are ((says.counted z u v on.waited (places_of c.limbo) c.room on.fits).busy (busy_told o told))
+
+  pub write_called : (w : Wish) (given turns : ℕ) → GoesOn z w turns u c (call.Write m) v → v.steps ≤ u.steps + given + 1000 → HasCalled z w given turns u c (of_write o) v
+  write_called (Insert k value) given turns on few =
+      let g = ground job.Insert k value turns on in
+      record {
+        may = ap (may_end (Insert k value)) g.is ∙ insert_may z u g.waited g.ground.machine c.room (places_of c.limbo) v k value g.write g.ground.job_is g.ground.outcome_is g.ground.done;
+        tells = subst (SeesEvent u v) (insert_tells k value o) (tells job.Insert k value turns on);
+        caller = caller job.Insert k value turns on;
+        range = tt;
+        ground = g;
+        failed = failed job.Insert k value turns on;
+        busy = busy job.Insert k value turns on;
+        steps = few;
+      }
+  write_called (Remove k) given turns on few =
+      let g = ground job.Remove k 0 turns on in
+      record {
+        may = ap (may_end (Remove k)) g.is ∙ remove_may z u g.waited g.ground.machine c.room (places_of c.limbo) v k g.write g.ground.job_is g.ground.outcome_is g.ground.done;
+        tells = subst (SeesEvent u v) (remove_tells k 0 o) (tells job.Remove k 0 turns on);
+        caller = caller job.Remove k 0 turns on;
+        range = tt;
+        ground = g;
+        failed = failed job.Remove k 0 turns on;
+        busy = busy job.Remove k 0 turns on;
+        steps = few;
+      }
+  write_called (Get k) given turns on few = absurd on
+  write_called (Look lo hi) given turns on few = absurd on

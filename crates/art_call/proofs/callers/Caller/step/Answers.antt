@@ -1,0 +1,27 @@
+use Rattle.std.proofs.Common.{◌≡◌, ◌∙◌, true, Option, Some, refl, sym, ap}
+use Rattle.std.specs.Option.{is_some, option_map}
+use Rattle.std.specs.Prelude.{IfNone, None}
+use Rattle.art_call.proofs.callers.Caller.step.Goals as goal
+use Rattle.art_call.specs.Outcomes.{of_seek, of_write}
+use Rattle.art_change.specs.declared.writes.Outcome.{Outcome as WriteOutcome}
+use Rattle.art_seek.specs.Seeks.{seen_at}
+use Rattle.art_seek.specs.declared.walks.Outcome.{Outcome as SeekOutcome}
+
+some_there : {A : Type 0} (o : Option A) → is_some o ≡ true → (x : A) × (o ≡ Some x)
+some_there (Some x) some = (x, refl)
+some_there None some = cc
+
+if_none : {A : Type 0} (P Q : Type 0) (o : Option A) → (P → Q) → IfNone o P → IfNone o Q
+if_none P Q None f p = f p
+if_none P Q (Some x) f p = p
+
+pub returns-then-is_some-clause-none : goal.returns-then-is_some-clause-none
+returns-then-is_some-clause-none g c =
+    let m = c.in-Seek.seek in
+    let a = c.args.self.now in
+    let s = some_there c.ended.result (sym c.is_some.ensures ∙ c.if-is_some.true) in
+    (refl, (of_seek s.0 (seen_at m a.key.items a.hi a.trail), ap (λ (o : Option SeekOutcome). option_map (λ e. of_seek e (seen_at m a.key.items a.hi a.trail)) o) (sym c.ended.ensures.at ∙ s.1)))
+
+pub returns-in-Write-clause-none : goal.returns-in-Write-clause-none
+returns-in-Write-clause-none g c =
+    if_none _ _ c.step_of_write.result (λ e. (e.0, (of_write e.1.0, ap (λ (o : Option WriteOutcome). option_map of_write o) e.1.1))) c.step_of_write.ensures.none

@@ -1,0 +1,178 @@
+//! Makes the steps of a call.
+ghost use Rattle.std.specs.Prelude.{◌≡◌, ◌≢◌, ℕ, ◌+◌, ◌≤◌, IfSome, IfNone, List, Some, true};
+ghost use Rattle.art_call.specs.Calls.{HasCalled, IsAdmitted, IsCalling, Refuses, StaysApart, Wish, is_refusal, outcome_at, steps_left};
+ghost use Rattle.art_call.specs.Made.{MakesStep, tells};
+ghost use Rattle.art_call.specs.declared.outcomes.Outcome.{Outcome as OutcomeOf};
+ghost use Rattle.art_call.specs.declared.outcomes.Outcome.TheVariants.{Overlaps as overlaps};
+ghost use Rattle.art_change.specs.Asking.{Answers as WriteAnswers, IsAllowed};
+ghost use Rattle.art_change.specs.Tries.{SameKey, key_of};
+ghost use Rattle.art_change.specs.Writes as writes;
+ghost use Rattle.art_change.specs.Writes.{IsApart};
+ghost use Rattle.art_change.specs.declared.writes.Outcome.{Outcome as WriteOutcome};
+ghost use Rattle.art_epoch.specs.Limbo.{places_of};
+ghost use Rattle.art_epoch.specs.declared.limbo.Place.{Place};
+ghost use Rattle.art_plan.specs.declared.changes.Change.{Change};
+ghost use Rattle.art_seek.specs.Asking.{Answers as SeekAnswers, stepped_by};
+ghost use Rattle.art_seek.specs.declared.asked.Answer.{Answer as SeekAnswer};
+ghost use Rattle.art_step.specs.Histories.{AreApart};
+ghost use Rattle.art_step.specs.declared.deeds.Deed.{Deed};
+ghost use Rattle.art_step.specs.declared.views.Sizes.{Sizes};
+ghost use Rattle.art_step.specs.declared.views.View.{View};
+
+use crate::callers::Call;
+use crate::kinds::{kind_of_attempt, kind_of_frame, kind_of_look};
+use crate::{Caller, Outcome};
+use art_attempt::{Answer as AttemptAnswer, Asked as AttemptAsked, Room, steps_in};
+use art_change::{Answer, Asked, Write, step as step_write};
+use art_epoch::Limbo;
+use art_find::{Answer as CellAnswer, Asked as CellAsked};
+use art_make::Asked as ChangeAsked;
+use art_seek::{Stepped as Sought, step as step_seek};
+use art_step::{EpochSteps, StepKind};
+
+/// A step that was made: of which kind it was, and whether it made the event of its call.
+#[derive(Clone, Copy, Debug, PartialEq, Eq)]
+pub struct Made {
+    pub kind: StepKind,
+    pub event: bool,
+}
+
+/// Whether such a step of an attempt made the event.
+fn tells(asked: AttemptAsked, told: AttemptAnswer) -> bool
+    ensures { result ≡ tells asked told }
+{
+    matches!(
+        (asked, told),
+        (
+            AttemptAsked::Cell(CellAsked::Settle(_)),
+            AttemptAnswer::Cell(CellAnswer::Checked(Ok(())))
+        ) | (AttemptAsked::Change(ChangeAsked::Commit(_, _)), _)
+    )
+}
+
+/// The step that a write made, if it made one.
+fn made_by_write(stepped: art_change::Stepped) -> Option<Made>
+    ensures some { IfSome result (λ made. (z : Sizes) (d : Deed) (c : Change) (v w : View) → IsAllowed z d c v stepped.asked →
+        WriteAnswers z d c stepped.asked stepped.answer v w → MakesStep z v w made) }
+    ensures none { IfNone result ((z : Sizes) (d : Deed) (c : Change) (v w : View) →
+        WriteAnswers z d c stepped.asked stepped.answer v w → w ≡ v) }
+{
+    match (stepped.asked, stepped.answer) {
+        (Asked::Frame(asked), _) => Some(Made {
+            kind: kind_of_frame(asked),
+            event: false,
+        }),
+        (Asked::Attempt(asked), Answer::Attempt(told)) => {
+            if steps_in(told) == 0 {
+                return None;
+            }
+            Some(Made {
+                kind: kind_of_attempt(asked),
+                event: tells(asked, told),
+            })
+        }
+        (Asked::Attempt(_), Answer::Word(_)) => None,
+    }
+}
+
+/// The step that a seek made.
+fn made_by_seek(made: art_seek::Made) -> Made
+    ensures { (z : Sizes) (d : Deed) (answer : SeekAnswer) (v w : View) → made.stepped ≡ stepped_by made.asked answer →
+        SeekAnswers z d made.asked answer v w → MakesStep z v w result }
+{
+    let kind = match made.asked {
+        art_seek::Asked::Frame(asked) => kind_of_frame(asked),
+        art_seek::Asked::Cell(asked) => kind_of_look(asked),
+    };
+    Made {
+        kind,
+        event: made.stepped == Sought::Told,
+    }
+}
+
+/// Makes the next step of a write, or none where it has ended.
+fn step_of_write<S: EpochSteps>(
+    steps: &mut S,
+    write: &mut Write,
+    room: &mut Room,
+    limbo: &mut Limbo,
+) -> Option<Made>
+    requires admitted { S.admits steps.old (key_of write.old.job room.old).items }
+    requires fits { (u : View) × (ps : List Place) ×
+        writes.Fits (S.sizes steps.old) u ps write.old room.old (places_of limbo.old) (S.view steps.old) }
+    ensures only { S.only steps.old steps.new }
+    ensures some { IfSome result (MakesStep (S.sizes steps.old) (S.view steps.old) (S.view steps.new)) }
+    ensures none { IfNone result ((S.view steps.new ≡ S.view steps.old) × ((o : WriteOutcome) × (writes.ended_at write.new ≡ Some o))) }
+    ensures job { write.new.job ≡ write.old.job }
+    ensures turns { write.new.turns ≡ write.old.turns }
+    ensures key { SameKey write.old.job room.old room.new }
+    ensures refuses { writes.WillRefuse write.old → writes.WillRefuse write.new }
+    ensures apart { AreApart (S.admits steps.old) → IsApart write.old → IsApart write.new }
+    ensures left { (S.view steps.new).steps + writes.steps_left write.new room.new (places_of limbo.new) ≤
+        (S.view steps.old).steps + writes.steps_left write.old room.old (places_of limbo.old) }
+    ensures fits { (u : View) (ps : List Place) →
+        writes.Fits (S.sizes steps.old) u ps write.old room.old (places_of limbo.old) (S.view steps.old) →
+        writes.Fits (S.sizes steps.old) u ps write.new room.new (places_of limbo.new) (S.view steps.new) }
+{
+    loop {
+        if write.ended().is_some() {
+            return None;
+        }
+        let stepped = step_write(steps, write, room, limbo);
+        if let Some(made) = made_by_write(stepped) {
+            return Some(made);
+        }
+    }
+}
+
+impl Caller {
+    /// Makes the next step, or none where the call has ended.
+    pub fn step<S: EpochSteps>(&mut self, steps: &mut S) -> Option<Made>
+        requires { (w : Wish) × (given : ℕ) × (turns : ℕ) × (u : View) ×
+            IsCalling (S.sizes steps.old) w given turns u self.old (S.view steps.old) × IsAdmitted (S.admits steps.old) w }
+        ensures only { S.only steps.old steps.new }
+        ensures some { IfSome result (MakesStep (S.sizes steps.old) (S.view steps.old) (S.view steps.new)) }
+        ensures none { IfNone result ((S.view steps.new ≡ S.view steps.old) × ((o : OutcomeOf) × (outcome_at self.new ≡ Some o))) }
+        ensures refuses { Refuses self.old → Refuses self.new }
+        ensures apart { AreApart (S.admits steps.old) → StaysApart self.old → StaysApart self.new }
+        ensures left { (S.view steps.new).steps + steps_left self.new ≤ (S.view steps.old).steps + steps_left self.old }
+        ensures calling { (w : Wish) (given turns : ℕ) (u : View) →
+            IsCalling (S.sizes steps.old) w given turns u self.old (S.view steps.old) →
+            IsCalling (S.sizes steps.old) w given turns u self.new (S.view steps.new) }
+    {
+        let Caller {
+            room,
+            limbo,
+            key,
+            hi,
+            trail,
+            call,
+            ..
+        } = self;
+        match call {
+            Call::Write(write) => step_of_write(steps, write, room, limbo),
+            Call::Seek(seek) => {
+                if seek.ended().is_some() {
+                    return None;
+                }
+                let made = step_seek(steps, seek, key.as_slice(), hi, trail);
+                Some(made_by_seek(made))
+            }
+        }
+    }
+
+    /// Makes all steps that are left, and says how the call ended.
+    pub fn run<S: EpochSteps>(&mut self, steps: &mut S) -> Outcome
+        requires { (w : Wish) × (given : ℕ) × (turns : ℕ) × (u : View) ×
+            IsCalling (S.sizes steps.old) w given turns u self.old (S.view steps.old) × IsAdmitted (S.admits steps.old) w }
+        ensures only { S.only steps.old steps.new }
+        ensures called { (w : Wish) (given turns : ℕ) (u : View) →
+            IsCalling (S.sizes steps.old) w given turns u self.old (S.view steps.old) →
+            HasCalled (S.sizes steps.old) w given turns u self.new result (S.view steps.new) }
+        ensures refused { Refuses self.old → is_refusal result ≡ true }
+        ensures apart { AreApart (S.admits steps.old) → StaysApart self.old → result ≢ overlaps }
+    {
+        while self.step(steps).is_some() {}
+        self.outcome().unwrap()
+    }
+}

@@ -1,0 +1,63 @@
+//! How a call ends.
+ghost use Rattle.std.specs.Prelude.{◌≡◌, ℕ, IfSome, Option};
+ghost use Rattle.art_call.specs.Outcomes.{of_seek, of_write};
+
+use art_cell::{Cell, Pool};
+use art_frame::Blocker;
+use art_look::Seen;
+
+/// How a call ended.
+#[derive(Clone, Debug, PartialEq, Eq, Drop)]
+pub enum Outcome {
+    /// The row is in the tree.
+    New,
+    /// The key is there, and keeps this value.
+    Present(u64),
+    /// The row is out of the tree; it had this value.
+    Gone(u64),
+    /// No row has the key.
+    Absent,
+    /// The key has this value.
+    Found(u64),
+    /// What a look has seen.
+    Seen(Seen),
+    /// All turns were used.
+    Busy,
+    /// No number of the pool was found.
+    Full(Pool),
+    /// Limbo had fewer than four places.
+    Crowded(Blocker),
+    /// The counter of a cell that was to be locked is at its end.
+    Exhausted(Cell),
+    /// A key begins the other.
+    Overlaps,
+}
+
+/// How a call ends by how its write did.
+pub(crate) fn of_write(outcome: art_change::Outcome) -> Outcome
+    ensures { result ≡ of_write outcome }
+{
+    match outcome {
+        art_change::Outcome::New => Outcome::New,
+        art_change::Outcome::Present(value) => Outcome::Present(value),
+        art_change::Outcome::Gone(value) => Outcome::Gone(value),
+        art_change::Outcome::Absent => Outcome::Absent,
+        art_change::Outcome::Full(pool) => Outcome::Full(pool),
+        art_change::Outcome::Exhausted(cell) => Outcome::Exhausted(cell),
+        art_change::Outcome::Overlaps => Outcome::Overlaps,
+        art_change::Outcome::Busy => Outcome::Busy,
+        art_change::Outcome::Crowded(blocker) => Outcome::Crowded(blocker),
+    }
+}
+
+/// How a call ends by how its seek did, and what that has seen.
+pub(crate) fn of_seek(outcome: art_seek::Outcome, seen: Option<Seen>) -> Outcome
+    ensures { result ≡ of_seek outcome seen }
+{
+    match (outcome, seen) {
+        (art_seek::Outcome::Found(value), _) => Outcome::Found(value),
+        (art_seek::Outcome::Absent, _) => Outcome::Absent,
+        (art_seek::Outcome::Seen, Some(seen)) => Outcome::Seen(seen),
+        _ => Outcome::Busy,
+    }
+}
