@@ -9,11 +9,11 @@ use Rattle.art_model.specs.Places.{IsPlaceOf, IsGapFor}
 use Rattle.art_model.specs.Laws.{RowsAnswerAtPlaces, RowsAnswerInGaps}
 use Rattle.art_key.specs.declared.columns.Column.{Column}
 use Rattle.art_key.specs.Columns.{tuple_fault}
-use Rattle.art_table.specs.declared.configs.Config.{Config}
-use Rattle.art_table.specs.declared.faults.Fault.TheVariants.{Full}
-use Rattle.art_table.specs.declared.faults.Pool.TheVariants.{Leaves}
-use Rattle.art_table.specs.Contents.{Contents, IsLookedUp}
-use Rattle.art_table.specs.Answers.{table_answer, unless_refused, lacks_leaf}
+use Rattle.art_list.specs.declared.configs.Config.{Config}
+use Rattle.art_list.specs.declared.faults.Fault.TheVariants.{Full}
+use Rattle.art_list.specs.declared.faults.Pool.TheVariants.{Leaves}
+use Rattle.art_list.specs.Contents.{Contents, IsLookedUp}
+use Rattle.art_list.specs.Answers.{table_answer, unless_refused, lacks_leaf}
 
 -- a search that ended at a place of the rows is a look-up
 pub looked_up : RowsAnswerAtPlaces → RowsAnswerInGaps → (rows : List Row) (t : Tuple) (r : Result ℕ ℕ) → MatchResult r (IsPlaceOf rows t) (IsGapFor rows t) → IsLookedUp rows t r

@@ -13,8 +13,8 @@ use Rattle.art_model.specs.Laws.{SearchesEndAtPlaces}
 use Rattle.art_key.specs.declared.columns.Column.{Column}
 use Rattle.art_key.specs.Spelling.{IsSpelling, tuple_spelled, spelling}
 use Rattle.art_key.specs.Laws.{KeysStandAsTuples, TuplesAreReadBack}
-use Rattle.art_table.specs.declared.tables.Entry.{Entry}
-use Rattle.art_table.specs.Contents.{HasKey, IsLookedUp, values_of, row_of, rows_of}
+use Rattle.art_list.specs.declared.tables.Entry.{Entry}
+use Rattle.art_list.specs.Contents.{HasKey, IsLookedUp, values_of, row_of, rows_of}
 
 module _ (as_tuples : KeysStandAsTuples) (schema : List Column) (tuple : Tuple) (key : List ℕ) (spelled : IsSpelling schema tuple.items key) where
   -- an entry's key stands to the key as its row to the tuple

@@ -11,12 +11,12 @@ use Rattle.art_model.specs.Answers.{Outcome, answer}
 use Rattle.art_key.specs.declared.columns.Column.{Column}
 use Rattle.art_key.specs.declared.faults.ValueFault.{ValueFault}
 use Rattle.art_key.specs.Columns.{tuple_fault}
-use Rattle.art_table.specs.declared.faults.Fault.{Fault}
-use Rattle.art_table.specs.declared.faults.Fault.TheVariants.{Value, Full}
-use Rattle.art_table.specs.declared.faults.Pool.TheVariants.{Leaves}
-use Rattle.art_table.specs.declared.tables.Inserted.{Inserted}
-use Rattle.art_table.specs.declared.tables.Inserted.TheVariants.{New, Present}
-use Rattle.art_table.specs.Contents.{Contents}
+use Rattle.art_list.specs.declared.faults.Fault.{Fault}
+use Rattle.art_list.specs.declared.faults.Fault.TheVariants.{Value, Full}
+use Rattle.art_list.specs.declared.faults.Pool.TheVariants.{Leaves}
+use Rattle.art_list.specs.declared.tables.Inserted.{Inserted}
+use Rattle.art_list.specs.declared.tables.Inserted.TheVariants.{New, Present}
+use Rattle.art_list.specs.Contents.{Contents}
 
 -- what is wrong with the first tuple of a command that does not stand in the schema
 abbrev pub command_fault : List Column → Command → Option ValueFault

@@ -1,10 +1,10 @@
 -- What closing a table gives.
 use Rattle.std.specs.Prelude.{◌≡◌, ℕ, ◌-◌, ◌<◌, List, length, Contains}
-use Rattle.art_table.specs.declared.closing.Closed.{Closed}
-use Rattle.art_table.specs.declared.closing.PoolCount.{PoolCount}
-use Rattle.art_table.specs.declared.closing.CloseRefusal.{CloseRefusal}
-use Rattle.art_table.specs.declared.closing.CloseRefusal.TheVariants.{PassesMissing, NoMemory}
-use Rattle.art_table.specs.Contents.{Contents}
+use Rattle.art_list.specs.declared.closing.Closed.{Closed}
+use Rattle.art_list.specs.declared.closing.PoolCount.{PoolCount}
+use Rattle.art_list.specs.declared.closing.CloseRefusal.{CloseRefusal}
+use Rattle.art_list.specs.declared.closing.CloseRefusal.TheVariants.{PassesMissing, NoMemory}
+use Rattle.art_list.specs.Contents.{Contents}
 
 -- each pass of the table is among these
 abbrev pub AreAllPasses : Contents → List ℕ → Type 0

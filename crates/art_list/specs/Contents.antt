@@ -7,9 +7,9 @@ use Rattle.art_model.specs.Rows.{Tuple, IsSortedRows, value_at}
 use Rattle.art_model.specs.Places.{IsPlaceOf, IsGapFor}
 use Rattle.art_key.specs.declared.columns.Column.{Column}
 use Rattle.art_key.specs.Spelling.{IsSpelling, tuple_spelled}
-use Rattle.art_table.specs.declared.configs.Config.{Config}
-use Rattle.art_table.specs.declared.tables.Entry.{Entry}
-use Rattle.art_table.specs.Sizes.{IsConfig}
+use Rattle.art_list.specs.declared.configs.Config.{Config}
+use Rattle.art_list.specs.declared.tables.Entry.{Entry}
+use Rattle.art_list.specs.Sizes.{IsConfig}
 
 -- a table: its schema, its sizes and its rows
 pub record Contents : Type 0 where

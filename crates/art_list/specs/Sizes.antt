@@ -1,6 +1,6 @@
 -- Which sizes a table may have.
 use Rattle.std.specs.Prelude.{◌≤◌, ◌-◌, ◌^◌}
-use Rattle.art_table.specs.declared.configs.Config.{Config}
+use Rattle.art_list.specs.declared.configs.Config.{Config}
 
 -- each size is in its range
 pub record IsConfig (sizes : Config) : Type 0 where

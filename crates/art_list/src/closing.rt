@@ -1,7 +1,7 @@
 //! Closing a table: its rows, and what became of its numbers.
 ghost use Rattle.std.specs.Prelude.{◌≡◌, ◌-◌, ◌≤◌, [], All, IfOk, IfErr, OnOk, vec_capacity};
-ghost use Rattle.art_table.specs.Contents.{IsPassOf};
-ghost use Rattle.art_table.specs.Closing.{IsClosed, AreAllPasses, Explains};
+ghost use Rattle.art_list.specs.Contents.{IsPassOf};
+ghost use Rattle.art_list.specs.Closing.{IsClosed, AreAllPasses, Explains};
 
 use crate::passes::are_all_here;
 use crate::{Pass, Table};

@@ -1,6 +1,6 @@
 //! The sizes of a table.
 ghost use Rattle.std.specs.Prelude.{◌≤◌, ◌↔◌, IsTrue};
-ghost use Rattle.art_table.specs.Sizes.{IsConfig};
+ghost use Rattle.art_list.specs.Sizes.{IsConfig};
 
 /// The sizes of a table: how many numbers each pool has, how many passes there are, and where version counters start.
 #[derive(Clone, Copy, Debug, PartialEq, Eq)]

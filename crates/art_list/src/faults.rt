@@ -48,7 +48,7 @@ impl Error for OpenFault {}
 
 impl From<AllocError> for OpenFault {
     ghost use Rattle.std.specs.Prelude.{◌≡◌};
-    ghost use Rattle.art_table.specs.declared.faults.OpenFault.TheVariants.{NoMemory};
+    ghost use Rattle.art_list.specs.declared.faults.OpenFault.TheVariants.{NoMemory};
 
     ghost from_gives = { λ _ e. e ≡ NoMemory };
 
@@ -79,7 +79,7 @@ impl Error for Fault {}
 
 impl From<ValueFault> for Fault {
     ghost use Rattle.std.specs.Prelude.{◌≡◌};
-    ghost use Rattle.art_table.specs.declared.faults.Fault.TheVariants.{Value};
+    ghost use Rattle.art_list.specs.declared.faults.Fault.TheVariants.{Value};
 
     ghost from_gives = { λ v e. e ≡ Value v };
 

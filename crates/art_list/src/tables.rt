@@ -5,12 +5,12 @@ ghost use Rattle.std.specs.List.Sorted.{IsSearchInRange, IsBinarySearchResult};
 ghost use Rattle.std.specs.Ordering.{nat_cmp};
 ghost use Rattle.std.specs.Cmp.Lexicographic.{slice_cmp};
 ghost use Rattle.art_model.specs.declared.commands.Command.TheVariants.{Insert, Remove, Get};
-ghost use Rattle.art_table.specs.Sizes.{IsConfig};
+ghost use Rattle.art_list.specs.Sizes.{IsConfig};
 ghost use Rattle.art_model.specs.Rows.{IsSortedRows};
 ghost use Rattle.art_key.specs.Columns.{tuple_fault};
 ghost use Rattle.art_key.specs.Spelling.{IsSpelling};
-ghost use Rattle.art_table.specs.Contents.{IsPassOf, HasKey, IsLookedUp, rows_of};
-ghost use Rattle.art_table.specs.Answers.{table_answer, replied, insert_reply, remove_reply, get_reply};
+ghost use Rattle.art_list.specs.Contents.{IsPassOf, HasKey, IsLookedUp, rows_of};
+ghost use Rattle.art_list.specs.Answers.{table_answer, replied, insert_reply, remove_reply, get_reply};
 
 use crate::passes::all_passes;
 use crate::{Config, Fault, OpenFault, Pass, Pool};
@@ -36,7 +36,7 @@ pub struct Table {
 }
 
 impl Model for Table {
-    ghost use Rattle.art_table.specs.Contents.{Contents, IsTable, rows_of};
+    ghost use Rattle.art_list.specs.Contents.{Contents, IsTable, rows_of};
 
     ghost Value = { Contents };
 

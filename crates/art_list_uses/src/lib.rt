@@ -1,4 +1,4 @@
-//! Tests of what no clause of `art_table` says: that each call succeeds where memory is there.
+//! Tests of what no clause of `art_list` says: that each call succeeds where memory is there.
 #![tactic(auto)]
 
 #[cfg(test)]

@@ -1,12 +1,12 @@
 //! Calls on a table of one `u64` column.
-ghost use Rattle.art_table.specs.Contents.{IsPassOf};
+ghost use Rattle.art_list.specs.Contents.{IsPassOf};
 
 use art_key::{Schema, ValueFault};
-use art_model::{Tuple, Value};
-use art_table::{
+use art_list::{
     CloseRefusal, Config, Fault, Inserted, OpenFault, Pass, Pool, PoolCount, Table, close, get,
     insert, open, remove,
 };
+use art_model::{Tuple, Value};
 use std::alloc::Global;
 use std::process::Abort;
 use std::test::Fail;

@@ -4,8 +4,8 @@ use Rattle.std.proofs.lemmas.List.{take_at, length_push}
 use Rattle.std.proofs.lemmas.List.Concat.{flat_map-append}
 use Rattle.art_model.specs.declared.commands.Command.{Command}
 use Rattle.art_model.specs.declared.commands.Reply.{Reply}
-use Rattle.art_table.specs.Answers.{table_answer, unless_refused, command_fault, lacks_leaf}
-use Rattle.art_table.specs.Contents.{Contents}
+use Rattle.art_list.specs.Answers.{table_answer, unless_refused, command_fault, lacks_leaf}
+use Rattle.art_list.specs.Contents.{Contents}
 use Rattle.art_key.specs.declared.faults.ValueFault.{ValueFault}
 use Rattle.art_server.specs.declared.lines.LineFault.{LineFault}
 use Rattle.art_server.specs.declared.refusals.Refusal.{Refusal}

@@ -5,7 +5,7 @@ use Rattle.std.proofs.lemmas.List.{length_push, take_all, take_more, take-take, 
 use Rattle.std.specs.Io.KnownBytes.{Appends}
 use Rattle.std.proofs.KnownBytes.{Appends-nil, Appends-trans}
 use Rattle.art_model.specs.declared.commands.Reply.{Reply}
-use Rattle.art_table.specs.Contents.{Contents}
+use Rattle.art_list.specs.Contents.{Contents}
 use Rattle.art_server.specs.declared.refusals.Refusal.{Refusal}
 use Rattle.art_server.specs.declared.sessions.EndCause.{EndCause}
 use Rattle.art_server.specs.declared.sessions.EndCause.TheVariants.{Ended, ReadFault, WriteFault, NoMemory, ReadsUsed}

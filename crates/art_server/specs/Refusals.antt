@@ -6,12 +6,12 @@ use Rattle.art_key.specs.declared.faults.SchemaFault.{SchemaFault}
 use Rattle.art_key.specs.declared.faults.SchemaFault.TheVariants as schema
 use Rattle.art_key.specs.declared.faults.ValueFault.{ValueFault}
 use Rattle.art_key.specs.declared.faults.ValueFault.TheVariants as value
-use Rattle.art_table.specs.declared.closing.CloseRefusal.{CloseRefusal}
-use Rattle.art_table.specs.declared.closing.CloseRefusal.TheVariants as close
-use Rattle.art_table.specs.declared.faults.Fault.{Fault}
-use Rattle.art_table.specs.declared.faults.Fault.TheVariants as table
-use Rattle.art_table.specs.declared.faults.OpenFault.{OpenFault}
-use Rattle.art_table.specs.declared.faults.OpenFault.TheVariants as opening
+use Rattle.art_list.specs.declared.closing.CloseRefusal.{CloseRefusal}
+use Rattle.art_list.specs.declared.closing.CloseRefusal.TheVariants as close
+use Rattle.art_list.specs.declared.faults.Fault.{Fault}
+use Rattle.art_list.specs.declared.faults.Fault.TheVariants as table
+use Rattle.art_list.specs.declared.faults.OpenFault.{OpenFault}
+use Rattle.art_list.specs.declared.faults.OpenFault.TheVariants as opening
 use Rattle.art_server.specs.declared.lines.LineFault.{LineFault}
 use Rattle.art_server.specs.declared.lines.LineFault.TheVariants as line
 

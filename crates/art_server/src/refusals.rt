@@ -1,7 +1,7 @@
 //! The numbered refusals.
 use crate::LineFault;
 use art_key::{SchemaFault, ValueFault};
-use art_table::{CloseRefusal, Fault, OpenFault};
+use art_list::{CloseRefusal, Fault, OpenFault};
 use std::fmt;
 
 /// Why a command, or the start of the server, was refused.

@@ -2,8 +2,8 @@
 ghost use Rattle.std.specs.Prelude.{◌≡◌, ◌≢◌, ◌+◌, ◌<◌, ◌≤◌, ◌^◌, [], ◌∷◌, ◌++◌, length, take, true, false, Ok};
 ghost use Rattle.std.specs.Io.KnownBytes.{IsAtEnd};
 ghost use Rattle.art_model.specs.declared.commands.Command.TheVariants.{Insert, Remove, Get};
-ghost use Rattle.art_table.specs.Answers.{table_answer};
-ghost use Rattle.art_table.specs.Contents.{IsPassOf};
+ghost use Rattle.art_list.specs.Answers.{table_answer};
+ghost use Rattle.art_list.specs.Contents.{IsPassOf};
 ghost use Rattle.art_server.specs.Lines.{line_says};
 ghost use Rattle.art_server.specs.Counted.{reader_of, reads_of};
 ghost use Rattle.art_server.specs.Reads.{EndsAtInput, MakesReads};
@@ -15,8 +15,8 @@ use crate::replies::print_answer;
 use crate::streams::write_text;
 use crate::{Counted, LineFault, Refusal, parse_line};
 use arrayvec::ArrayVec;
+use art_list::{Inserted, Pass, Table, get, insert, remove};
 use art_model::{Answer, Command, NoMemory, Tuple};
-use art_table::{Inserted, Pass, Table, get, insert, remove};
 use std::alloc::Global;
 use std::io::{self, Read, Write};
 

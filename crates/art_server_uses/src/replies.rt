@@ -3,9 +3,9 @@ ghost use Rattle.art_server.specs.Replies.{IsPrintable, IsPrintableRow};
 
 use arrayvec::ArrayVec;
 use art_key::{SchemaFault, ValueFault};
+use art_list::{CloseRefusal, Fault, OpenFault, Pool};
 use art_model::{Reply, Row, Text, Tuple, Value};
 use art_server::{LineFault, Refusal, print_reply};
-use art_table::{CloseRefusal, Fault, OpenFault, Pool};
 use std::alloc::Global;
 use std::process::Abort;
 use std::test::Fail;

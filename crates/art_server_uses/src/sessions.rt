@@ -1,9 +1,9 @@
 //! Sessions over readers and writers that fail, are interrupted, or give and take a little at a time.
-ghost use Rattle.art_table.specs.Contents.{IsPassOf};
+ghost use Rattle.art_list.specs.Contents.{IsPassOf};
 
 use art_key::Schema;
+use art_list::{Config, Pass, Table, open};
 use art_server::{Counted, EndCause, SessionEnd, session};
-use art_table::{Config, Pass, Table, open};
 use std::alloc::Global;
 use std::io::{self, ErrorKind, Read, Write};
 use std::process::Abort;

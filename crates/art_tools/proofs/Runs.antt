@@ -4,7 +4,7 @@ use Rattle.std.proofs.Math.Seq.{take-length}
 use Rattle.std.specs.Option.{option_or}
 use Rattle.std.specs.Io.KnownBytes.{Appends, IsAtEnd}
 use Rattle.art_key.specs.declared.columns.Column.{Column}
-use Rattle.art_table.specs.Contents.{Contents}
+use Rattle.art_list.specs.Contents.{Contents}
 use Rattle.art_server.specs.declared.sessions.EndCause.{EndCause}
 use Rattle.art_server.specs.declared.sessions.EndCause.TheVariants as end
 use Rattle.art_server.specs.declared.sessions.SessionEnd.{SessionEnd}

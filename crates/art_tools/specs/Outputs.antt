@@ -3,8 +3,8 @@ use Rattle.std.specs.Prelude.{ℕ, List, [], Option, IfSome, Result, Ok, Err}
 use Rattle.std.specs.Io.KnownBytes.{Appends}
 use Rattle.art_key.specs.declared.columns.Column.{Column}
 use Rattle.art_key.specs.declared.faults.SchemaFault.{SchemaFault}
-use Rattle.art_table.specs.Contents.{Contents}
-use Rattle.art_table.specs.declared.configs.Config.{Config}
+use Rattle.art_list.specs.Contents.{Contents}
+use Rattle.art_list.specs.declared.configs.Config.{Config}
 use Rattle.art_server.specs.Sessions.{replies_to, texts}
 use Rattle.art_server.specs.Streams.{lines_of}
 

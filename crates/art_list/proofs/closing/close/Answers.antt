@@ -1,7 +1,7 @@
 use Rattle.std.proofs.Common.{◌≡◌, ap, sym, subst, ◌∙◌, arith, Contains}
 use Rattle.std.proofs.lemmas.Bool.{false≢true}
-use Rattle.art_table.specs.Contents.{Contents}
-use Rattle.art_table.proofs.closing.close.Goals as goal
+use Rattle.art_list.specs.Contents.{Contents}
+use Rattle.art_list.proofs.closing.close.Goals as goal
 
 pub returns-then-not-are_all_here-clause-why : goal.returns-then-not-are_all_here-clause-why
 returns-then-not-are_all_here-clause-why c = λ whole.

@@ -1,6 +1,6 @@
 use Rattle.std.proofs.Common.{◌≡◌, ◌≤◌, take, vec_len, vec_capacity}
-use Rattle.art_table.specs.Contents.{rows_of}
-use Rattle.art_table.proofs.closing.list_rows.Given as goal
+use Rattle.art_list.specs.Contents.{rows_of}
+use Rattle.art_list.proofs.closing.list_rows.Given as goal
 
 -- the rows of the entries so far, and room for the others
 abbrev pub invariant-loop-entry : goal.invariant-loop-entry

@@ -1,8 +1,8 @@
 use Rattle.std.proofs.Common.{◌∷◌, ◌++◌, [], ◌∙◌, ap, sym, arith}
 use Rattle.std.proofs.Math.Numerals.{add-one}
 use Rattle.std.specs.List.{range_with_len}
-use Rattle.art_table.proofs.Numbers.{range_more}
-use Rattle.art_table.proofs.passes.all_passes.Goals as goal
+use Rattle.art_list.proofs.Numbers.{range_more}
+use Rattle.art_list.proofs.passes.all_passes.Goals as goal
 
 pub loop-number-preserved : goal.loop-number-preserved
 loop-number-preserved c =

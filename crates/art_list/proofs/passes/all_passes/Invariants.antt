@@ -1,6 +1,6 @@
 use Rattle.std.proofs.Common.{◌≡◌}
 use Rattle.std.specs.List.{range_with_len}
-use Rattle.art_table.proofs.passes.all_passes.Given as goal
+use Rattle.art_list.proofs.passes.all_passes.Given as goal
 
 -- the passes so far
 abbrev pub invariant-loop-number : goal.invariant-loop-number

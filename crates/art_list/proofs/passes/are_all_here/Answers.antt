@@ -1,6 +1,6 @@
 use Rattle.std.proofs.Common.{◌≡◌, inl, inr, subst, arith, Contains}
 use Rattle.std.proofs.lemmas.Bool.{cases_lt}
-use Rattle.art_table.proofs.passes.are_all_here.Goals as goal
+use Rattle.art_list.proofs.passes.are_all_here.Goals as goal
 
 pub loop-number-preserved : goal.loop-number-preserved
 loop-number-preserved c = λ n below. elim (cases_lt n c.loop-number.number) [

@@ -1,6 +1,6 @@
 use Rattle.std.proofs.Common.{ℕ, ◌<◌}
 use Rattle.std.specs.List.{Contains}
-use Rattle.art_table.proofs.passes.are_all_here.Given as goal
+use Rattle.art_list.proofs.passes.are_all_here.Given as goal
 
 -- the numbers so far are here
 abbrev pub invariant-loop-number : goal.invariant-loop-number

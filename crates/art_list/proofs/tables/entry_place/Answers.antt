@@ -2,7 +2,7 @@ use Rattle.std.proofs.Common.{rules}
 use Rattle.std.proofs.lemmas.Fn.{always_returns_same}
 use Rattle.std.specs.Ordering.{nat_cmp}
 use Rattle.std.specs.Cmp.Lexicographic.{slice_cmp}
-use Rattle.art_table.proofs.tables.entry_place.Goals as goal
+use Rattle.art_list.proofs.tables.entry_place.Goals as goal
 
 -- the closure compares an entry's key with the one that is looked for
 pub returns-clause-searched : goal.returns-clause-searched

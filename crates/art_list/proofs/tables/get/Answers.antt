@@ -1,10 +1,10 @@
 use Rattle.std.proofs.Common.{sym, ap, subst, ◌∙◌}
 use Rattle.art_model.specs.declared.commands.Command.TheVariants.{Get}
-use Rattle.art_table.specs.Contents.{IsLookedUp, rows_of}
-use Rattle.art_table.specs.Answers.{table_answer}
-use Rattle.art_table.proofs.Answering.{get_there}
-use Rattle.art_table.proofs.Entries.{entry_there}
-use Rattle.art_table.proofs.tables.get.Goals as goal
+use Rattle.art_list.specs.Contents.{IsLookedUp, rows_of}
+use Rattle.art_list.specs.Answers.{table_answer}
+use Rattle.art_list.proofs.Answering.{get_there}
+use Rattle.art_list.proofs.Entries.{entry_there}
+use Rattle.art_list.proofs.tables.get.Goals as goal
 
 pub returns-clause-reply : goal.returns-clause-reply
 returns-clause-reply c =

@@ -4,13 +4,13 @@ use Rattle.std.proofs.lemmas.Bool.Decides.{nat_tests}
 use Rattle.art_model.specs.declared.commands.Command.TheVariants.{Insert}
 use Rattle.art_model.specs.declared.commands.Reply.TheVariants.{Present}
 use Rattle.art_model.specs.Rows.{IsSortedRows, with_row}
-use Rattle.art_table.specs.declared.tables.Entry.{Entry}
-use Rattle.art_table.specs.Contents.{Contents, HasKey, IsLookedUp, row_of, rows_of}
-use Rattle.art_table.specs.Answers.{table_answer}
-use Rattle.art_table.proofs.Answering.{insert_there, insert_new}
-use Rattle.art_table.proofs.Entries.{entry_key, entry_there, keys_with, rows_with}
-use Rattle.art_table.proofs.tables.insert.Goals as goal
-use Rattle.art_table.proofs.tables.insert.Goals.{After-index, After-unwrap}
+use Rattle.art_list.specs.declared.tables.Entry.{Entry}
+use Rattle.art_list.specs.Contents.{Contents, HasKey, IsLookedUp, row_of, rows_of}
+use Rattle.art_list.specs.Answers.{table_answer}
+use Rattle.art_list.proofs.Answering.{insert_there, insert_new}
+use Rattle.art_list.proofs.Entries.{entry_key, entry_there, keys_with, rows_with}
+use Rattle.art_list.proofs.tables.insert.Goals as goal
+use Rattle.art_list.proofs.tables.insert.Goals.{After-index, After-unwrap}
 
 -- a row with the tuple stands, and its value is answered
 present : (c : After-index) → table_answer (Insert c.args.tuple.now c.args.value) c.args.table.now ≡ (Ok (Present c.index.result.now.value), c.args.table.now)

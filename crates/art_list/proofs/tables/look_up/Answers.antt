@@ -1,9 +1,9 @@
 use Rattle.std.proofs.Common.{sym, subst}
 use Rattle.art_key.specs.Spelling.{IsSpelling}
-use Rattle.art_table.specs.Contents.{rows_of}
-use Rattle.art_table.proofs.Answering.{looked_up}
-use Rattle.art_table.proofs.Entries.{rows_found}
-use Rattle.art_table.proofs.tables.look_up.Goals as goal
+use Rattle.art_list.specs.Contents.{rows_of}
+use Rattle.art_list.proofs.Answering.{looked_up}
+use Rattle.art_list.proofs.Entries.{rows_found}
+use Rattle.art_list.proofs.tables.look_up.Goals as goal
 
 pub returns-clause-place : goal.returns-clause-place
 returns-clause-place c =

@@ -2,9 +2,9 @@ use Rattle.std.proofs.Common.{◌<◌, All, sym, subst, arith}
 use Rattle.std.proofs.lemmas.List.Elements.{All-nil}
 use Rattle.std.specs.List.Sorted.{IsStrictlySortedBy}
 use Rattle.art_model.specs.Rows.{IsSortedRows}
-use Rattle.art_table.specs.Contents.{HasKey, rows_of}
-use Rattle.art_table.proofs.Numbers.{range_below}
-use Rattle.art_table.proofs.tables.open.Goals as goal
+use Rattle.art_list.specs.Contents.{HasKey, rows_of}
+use Rattle.art_list.proofs.Numbers.{range_below}
+use Rattle.art_list.proofs.tables.open.Goals as goal
 
 pub invariant_of-table : goal.invariant_of-table
 unfolding IsStrictlySortedBy

@@ -2,12 +2,12 @@ use Rattle.std.proofs.Common.{◌≡◌, All, Ok, sym, ap, subst, ◌∙◌, ari
 use Rattle.art_model.specs.declared.commands.Command.TheVariants.{Remove}
 use Rattle.art_model.specs.declared.commands.Reply.TheVariants.{Removed}
 use Rattle.art_model.specs.Rows.{IsSortedRows, without_row}
-use Rattle.art_table.specs.Contents.{HasKey, IsLookedUp, rows_of}
-use Rattle.art_table.specs.Answers.{table_answer}
-use Rattle.art_table.proofs.Answering.{remove_there}
-use Rattle.art_table.proofs.Entries.{entry_there, keys_without, rows_without}
-use Rattle.art_table.proofs.tables.remove.Goals as goal
-use Rattle.art_table.proofs.tables.remove.Goals.{After-remove}
+use Rattle.art_list.specs.Contents.{HasKey, IsLookedUp, rows_of}
+use Rattle.art_list.specs.Answers.{table_answer}
+use Rattle.art_list.proofs.Answering.{remove_there}
+use Rattle.art_list.proofs.Entries.{entry_there, keys_without, rows_without}
+use Rattle.art_list.proofs.tables.remove.Goals as goal
+use Rattle.art_list.proofs.tables.remove.Goals.{After-remove}
 
 looked_up : (c : After-remove) → IsLookedUp (rows_of c.table.inside.schema c.table.inside.entries.items) c.args.tuple.now (Ok c.in_default-Ok.at)
 looked_up c =

@@ -1,8 +1,8 @@
 use Rattle.std.proofs.Common.{◌≡◌, ℕ, List, refl, sym, subst, ◌∙◌}
-use Rattle.art_table.specs.Contents.{Contents}
-use Rattle.art_table.specs.Closing.{AreAllPasses, Explains}
-use Rattle.art_table.specs.declared.closing.CloseRefusal.{CloseRefusal}
-use Rattle.art_table.specs.declared.closing.CloseRefusal.TheVariants as close
+use Rattle.art_list.specs.Contents.{Contents}
+use Rattle.art_list.specs.Closing.{AreAllPasses, Explains}
+use Rattle.art_list.specs.declared.closing.CloseRefusal.{CloseRefusal}
+use Rattle.art_list.specs.declared.closing.CloseRefusal.TheVariants as close
 use Rattle.art_tools.specs.declared.run_faults.RunFault.TheVariants.{NoMemory}
 use Rattle.art_tools.specs.Statuses.{unclosed}
 use Rattle.art_tools.proofs.program.give_back.Goals as goal
