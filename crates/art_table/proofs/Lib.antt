@@ -1,0 +1,10 @@
+mod Answered
+mod Begun
+mod Ended
+mod GivenUp
+mod Here
+mod Histories
+mod Looked
+mod Opened
+mod Stepped
+mod Whole

@@ -1,0 +1,102 @@
+//! Calls that are made step by step.
+ghost use Rattle.std.specs.Prelude.{◌≡◌, ◌⊎◌, ℕ, ◌≤◌, IfErr, IfOk, Option, None, Some, true};
+ghost use Rattle.art_call.specs.Calls.{restarts_in};
+ghost use Rattle.art_call.specs.Made.{MakesStep};
+ghost use Rattle.art_change.specs.Writes.{HoldsOrTold};
+ghost use Rattle.art_table.specs.Attempts.{Progresses};
+ghost use Rattle.art_table.specs.Calls.{Ends, IsAttempt, Sees};
+ghost use Rattle.art_table.specs.Jobs.{IsRange};
+ghost use Rattle.art_table.specs.Tables.{IsPassOf, caller_of, sizes_in, view_of};
+ghost use Rattle.art_table.specs.declared.jobs.Job.{Job as JobOf};
+ghost use Rattle.art_table.specs.declared.passes.Pass.{Pass as PassOf};
+
+use crate::{Fault, Job, Outcome, Pass, Table};
+use art_call::Made;
+use art_key::ValueFault;
+use art_step::StepKind;
+
+/// A call that is under way, with the pass that makes it. It must be finished or abandoned.
+pub struct Attempt {
+    pub(crate) pass: Pass,
+    /// The fault of its tuple: then no step is made.
+    pub(crate) refused: Option<ValueFault>,
+}
+
+/// What became of an attempt that was to make a step.
+#[derive(Clone, Copy, Debug, PartialEq, Eq)]
+pub enum Progress {
+    /// It made one of this kind, and with it its event, or not.
+    Made(StepKind, bool),
+    /// It has ended, and made none.
+    Ended,
+}
+
+/// Begins a call of the job by the pass, in so many turns. It makes no step.
+pub fn start(table: &Table, pass: Pass, job: Job, turns: u32) -> Attempt
+    requires pass { IsPassOf table.now pass }
+    requires range { IsRange job }
+    ensures { IsAttempt table.now job turns pass result }
+{
+    let mut pass = pass;
+    let refused = pass.begin(table, &job, turns).err();
+    Attempt { pass, refused }
+}
+
+impl Attempt {
+    /// Makes the next step, or none where it has ended.
+    pub fn step(&mut self, table: &Table) -> Progress
+        requires { (j : JobOf) × (turns : ℕ) × (p : PassOf) × IsAttempt table.now j turns p self.old }
+        ensures made { Progresses (sizes_in table.now) (view_of self.old.pass) (view_of self.new.pass) result }
+        ensures goes_on { (j : JobOf) (turns : ℕ) (p : PassOf) → IsAttempt table.now j turns p self.old → IsAttempt table.now j turns p self.new }
+    {
+        if self.refused.is_some() {
+            return Progress::Ended;
+        }
+        match self.pass.step(table) {
+            Some(Made { kind, event }) => Progress::Made(kind, event),
+            None => Progress::Ended,
+        }
+    }
+
+    /// Makes all steps that are left: the pass comes back, with the answer.
+    pub fn finish(self, table: &Table) -> (Pass, Result<Outcome, Fault>)
+        requires { (j : JobOf) × (turns : ℕ) × (p : PassOf) × IsAttempt table.now j turns p self }
+        ensures pass { IsPassOf table.now result.0 }
+        ensures ends { (j : JobOf) (turns : ℕ) (p : PassOf) → IsAttempt table.now j turns p self → Ends table.now j turns p result.1 result.0 }
+    {
+        let Attempt { mut pass, refused } = self;
+        if let Some(fault) = refused {
+            return (pass, Err(Fault::Value(fault)));
+        }
+        let result = pass.run(table);
+        (pass, result)
+    }
+
+    /// Gives up, as if the turns that were used had been all: the pass comes back, and nothing was told. Where a cell is held or the
+    /// event was made, the attempt comes back as it was.
+    pub fn abandon(self, table: &Table) -> Result<Pass, Attempt>
+        requires { (j : JobOf) × (turns : ℕ) × (p : PassOf) × IsAttempt table.now j turns p self }
+        ensures pass { IfOk result (λ q. (j : JobOf) (turns : ℕ) (p : PassOf) → IsAttempt table.now j turns p self →
+            IsPassOf table.now q × Sees table.now p q None) }
+        ensures back { IfErr result (λ a. a ≡ self) }
+        ensures why { IfErr result (λ a. (j : JobOf) (turns : ℕ) (p : PassOf) → IsAttempt table.now j turns p self →
+            HoldsOrTold (view_of p) (view_of a.pass)) }
+    {
+        let Attempt { mut pass, refused } = self;
+        if refused.is_some() {
+            return Ok(pass);
+        }
+        if !pass.caller.give_up() {
+            return Err(Attempt { pass, refused });
+        }
+        let _ = pass.run(table);
+        Ok(pass)
+    }
+
+    /// How often it began anew.
+    pub fn restarts(&self) -> u64
+        ensures { result ≡ restarts_in (caller_of self.now.pass) }
+    {
+        self.pass.caller.restarts()
+    }
+}

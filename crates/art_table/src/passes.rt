@@ -1,0 +1,82 @@
+//! A pass: who may call a table.
+ghost use Rattle.std.specs.Prelude.{◌≡◌, ℕ, IfErr, IfSome, IsErr, IsNone, OnErr, OnOk, Some};
+ghost use Rattle.art_call.specs.Calls.{Refuses};
+ghost use Rattle.art_call.specs.Made.{MakesStep};
+ghost use Rattle.art_table.specs.Calls.{HasEnded, IsUnderWay};
+ghost use Rattle.art_table.specs.Jobs.{IsRange, job_fault};
+ghost use Rattle.art_table.specs.Tables.{IsPassOf, caller_of, number_of, schema_in, sizes_in, view_of};
+ghost use Rattle.art_table.specs.declared.jobs.Job.{Job as JobOf};
+ghost use Rattle.art_table.specs.declared.passes.Pass.{Pass as PassOf};
+
+use crate::jobs::result_of;
+use crate::{Fault, Job, Outcome, Table};
+use art_call::{Caller, Made};
+use art_key::{Bound, ValueFault, encode};
+
+/// The right to call a table, one call at a time, and what its calls need.
+#[derive(Drop)]
+pub struct Pass {
+    pub(crate) seat: art_shared::Pass,
+    pub(crate) caller: Box<Caller>,
+}
+
+impl Pass {
+    /// Passes of a table are numbered from 0.
+    pub fn number(&self) -> u32
+        ensures { result ≡ number_of self.now }
+    {
+        self.seat.number()
+    }
+
+    /// Begins a call of the job, unless its tuple does not stand in the schema.
+    pub(crate) fn begin(&mut self, table: &Table, job: &Job, turns: u32) -> Result<(), ValueFault>
+        requires pass { IsPassOf table.now self.old }
+        requires range { IsRange job.now }
+        ensures begun { OnOk result (IsUnderWay table.now job.now turns turns self.old self.new) }
+        ensures fault { IfErr result (λ f. job_fault (schema_in table.now) job.now ≡ Some f) }
+        ensures kept { OnErr result (self.new ≡ self.old) }
+    {
+        let schema = table.schema();
+        match job {
+            Job::Insert(tuple, value) => {
+                let key = encode(schema, tuple)?;
+                self.caller.insert(&key, *value, turns);
+            }
+            Job::Remove(tuple) => {
+                let key = encode(schema, tuple)?;
+                self.caller.remove(&key, turns);
+            }
+            Job::Get(tuple) => {
+                let key = encode(schema, tuple)?;
+                self.caller.get(&key, turns);
+            }
+            Job::Look(Bound::At(key), hi) => self.caller.look(key, hi, turns),
+            Job::Look(Bound::End, _) => unreachable!(),
+        }
+        Ok(())
+    }
+
+    /// Makes the next step of the call, or none where it has ended.
+    pub(crate) fn step(&mut self, table: &Table) -> Option<Made>
+        requires { (j : JobOf) × (given : ℕ) × (turns : ℕ) × (p : PassOf) × IsUnderWay table.now j given turns p self.old }
+        ensures some { IfSome result (MakesStep (sizes_in table.now) (view_of self.old) (view_of self.new)) }
+        ensures none { IsNone result → view_of self.new ≡ view_of self.old }
+        ensures goes_on { (j : JobOf) (given turns : ℕ) (p : PassOf) → IsUnderWay table.now j given turns p self.old →
+            IsUnderWay table.now j given turns p self.new }
+    {
+        let mut stepper = table.shared.at(&mut self.seat);
+        self.caller.step(&mut stepper)
+    }
+
+    /// Makes all steps that are left of the call, and says how it ended.
+    pub(crate) fn run(&mut self, table: &Table) -> Result<Outcome, Fault>
+        requires { (j : JobOf) × (given : ℕ) × (turns : ℕ) × (p : PassOf) × IsUnderWay table.now j given turns p self.old }
+        ensures ended { (j : JobOf) (given turns : ℕ) (p : PassOf) → IsUnderWay table.now j given turns p self.old →
+            HasEnded table.now j given turns p result self.new }
+        ensures refused { Refuses (caller_of self.old) → IsErr result }
+    {
+        let mut stepper = table.shared.at(&mut self.seat);
+        let outcome = self.caller.run(&mut stepper);
+        result_of(table.schema(), outcome)
+    }
+}
