@@ -2,10 +2,10 @@
 use Rattle.std.proofs.Common.{◌≡◌, ◌++◌, ◌∙◌, ℕ, List, None, refl, sym, ap, subst, append-nil}
 use Rattle.std.specs.Box.{with_value}
 use Rattle.arrayvec.specs.ArrayVec.{ArrayVec}
-use Rattle.art_call.specs.Calls as calls
 use Rattle.art_call.specs.Calls.{IsAdmitted, IsCaller, IsCalling, StaysApart, Wish}
 use Rattle.art_call.specs.declared.callers.Caller.{Caller}
 use Rattle.art_key.proofs.TupleLaws.{none_begins}
+use Rattle.art_key.specs.Columns.{tuple_fault}
 use Rattle.art_key.specs.Spelling.{IsKeyOf, IsSpelling, spelling}
 use Rattle.art_key.specs.declared.columns.Column.{Column}
 use Rattle.art_model.specs.Rows.{Tuple}
@@ -52,16 +52,15 @@ begun t p turns j old new wish is same wish_is stands range calls apart = record
   apart = apart;
 }
 
-module _ (t : Table) (p : Pass) (turns : ℕ) (tuple : Tuple) (k : ArrayVec ℕ) (old new : Caller) (is : IsPassOf t p) (same : old ≡ caller_of p) (spelt : IsSpelling (schema_in t) tuple.items k.items) (apart : StaysApart new) where
-  pub insert_begins : (value : ℕ) → ((z : Sizes) (u : View) → IsCaller z u old → IsCalling z (calls.Insert k value) turns turns u new u)
-      → IsUnderWay t (Insert tuple value) turns turns p (record { seat = p.seat; caller = with_value p.caller new })
-  insert_begins value begins =
-      begun t p turns (Insert tuple value) old new (calls.Insert k value) is same (ap (λ (x : ArrayVec ℕ). calls.Insert x value) (spelled (schema_in t) tuple k spelt)) spelt.stands tt begins apart
-
-  pub remove_begins : ((z : Sizes) (u : View) → IsCaller z u old → IsCalling z (calls.Remove k) turns turns u new u)
-      → IsUnderWay t (Remove tuple) turns turns p (record { seat = p.seat; caller = with_value p.caller new })
-  remove_begins begins = begun t p turns (Remove tuple) old new (calls.Remove k) is same (ap (λ (x : ArrayVec ℕ). calls.Remove x) (spelled (schema_in t) tuple k spelt)) spelt.stands tt begins apart
-
-  pub get_begins : ((z : Sizes) (u : View) → IsCaller z u old → IsCalling z (calls.Get k) turns turns u new u)
-      → IsUnderWay t (Get tuple) turns turns p (record { seat = p.seat; caller = with_value p.caller new })
-  get_begins begins = begun t p turns (Get tuple) old new (calls.Get k) is same (ap (λ (x : ArrayVec ℕ). calls.Get x) (spelled (schema_in t) tuple k spelt)) spelt.stands tt begins apart
+-- a call of a job of one tuple, whose key was spelt, begins
+module _ (t : Table) (p : Pass) (turns : ℕ) (tuple : Tuple) (k : ArrayVec ℕ) (old new : Caller)
+    (is : IsPassOf t p) (same : old ≡ caller_of p) (schema : List Column) (schema_is : schema ≡ schema_in t)
+    (spelt : IsSpelling schema tuple.items k.items) (apart : StaysApart new) where
+  pub tuple_begins : (j : Job) (wish : ArrayVec ℕ → Wish) → wish (key_of (schema_in t) tuple) ≡ wish_of (schema_in t) j
+      → job_fault (schema_in t) j ≡ tuple_fault (schema_in t) tuple.items → IsRange j
+      → ((z : Sizes) (u : View) → IsCaller z u old → IsCalling z (wish k) turns turns u new u)
+      → IsUnderWay t j turns turns p (record { seat = p.seat; caller = with_value p.caller new })
+  tuple_begins j wish wish_is fault range begins =
+      let here = subst (λ (s : List Column). IsSpelling s tuple.items k.items) schema_is spelt in
+      begun t p turns j old new (wish k) is same (ap wish (spelled (schema_in t) tuple k here) ∙ wish_is)
+      (fault ∙ here.stands) range begins apart

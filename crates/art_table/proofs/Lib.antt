@@ -1,5 +1,6 @@
 mod Answered
 mod Begun
+mod Called
 mod Ended
 mod GivenUp
 mod Here

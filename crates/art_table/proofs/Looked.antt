@@ -1,14 +1,18 @@
 -- A pass that has looked at the anchor may call on.
-use Rattle.std.proofs.Common.{◌≡◌, ◌∙◌, ℕ, List, [], sym, ap, subst}
+use Rattle.std.proofs.Common.{◌≡◌, ◌∙◌, ◌+◌, ℕ, List, [], refl, sym, ap, subst}
 use Rattle.art_call.specs.Calls.{IsCaller}
+use Rattle.art_shared.specs.Marks.{Meets}
+use Rattle.art_shared.specs.SamePass.{SameSeat}
 use Rattle.art_shared.specs.Tables as shared
+use Rattle.art_shared.specs.Tables.{view_of_pass}
+use Rattle.art_shared.specs.declared.pass.Pass.{Pass as Seat}
 use Rattle.art_step.specs.Histories as bytes
 use Rattle.art_step.specs.Histories.{IsLegal, places}
 use Rattle.art_step.specs.declared.views.Event.{Event as ByteEvent}
 use Rattle.art_step.specs.declared.views.View.{View}
 use Rattle.art_table.proofs.Ended.{typed_legal}
 use Rattle.art_table.proofs.Histories.{map_both}
-use Rattle.art_table.specs.Marks.{HasLooked, StartsWith}
+use Rattle.art_table.specs.Marks.{HasLooked, HasMet, StartsWith}
 use Rattle.art_table.specs.Tables.{IsPassOf, caller_of, schema_in, sizes_in, view_of}
 use Rattle.art_table.specs.declared.passes.Pass.{Pass}
 use Rattle.art_table.specs.declared.tables.Table.{Table}
@@ -58,3 +62,18 @@ module _ (t : Table) (p q : Pass) (is : IsPassOf t p) (of : shared.IsPassOf t.sh
     legal = typed_legal t q is_pass;
     own = ap (λ (v : View). v.own) same;
   }
+
+-- two passes have met whose seats have
+pub met : (t : Table) (p o : Pass) (q r : Seat) → IsPassOf t p → IsPassOf t o
+    → Meets (view_of p) (view_of_pass q) (view_of o) (view_of_pass r)
+    → SameSeat p.seat q × shared.IsPassOf t.shared q → SameSeat o.seat r × shared.IsPassOf t.shared r
+    → HasMet t p (record { seat = q; caller = p.caller }) o (record { seat = r; caller = o.caller })
+met t p o q r one other m q_is r_is = record {
+  one = has_looked t p (record { seat = q; caller = p.caller }) one q_is.1 refl
+      ((view_of p).steps + 2) m.one.is m.one.grows m.one.legal m.one.own;
+  other = has_looked t o (record { seat = r; caller = o.caller }) other r_is.1 refl
+      ((view_of o).steps + 2) m.other.is m.other.grows m.other.legal m.other.own;
+  learns = typed_starts t (view_of_pass q).seen (view_of o).seen m.learns;
+  tells = typed_starts t (view_of_pass r).seen (view_of p).seen m.tells;
+  begins = typed_starts t (view_of_pass r).seen (view_of_pass q).seen m.begins;
+}

@@ -1,68 +1,52 @@
-use Rattle.std.proofs.Common.{Ok, Err, subst, sym}
-use Rattle.std.specs.Prelude.{List}
-use Rattle.art_key.specs.Spelling.{IsSpelling}
-use Rattle.art_key.specs.declared.columns.Column.{Column}
-use Rattle.art_table.proofs.Answered.{ends, remove_ends}
-use Rattle.art_table.proofs.Begun.{remove_begins}
+use Rattle.std.proofs.Common.{Ok, Err, refl}
+use Rattle.art_call.specs.Calls as calls
+use Rattle.art_table.proofs.Answered.{remove_ends}
+use Rattle.art_table.proofs.Begun.{tuple_begins}
+use Rattle.art_table.proofs.Called.{comes_back, comes_back_as, has_ended_so, runs}
 use Rattle.art_table.proofs.calls.remove.Goals as goal
-use Rattle.art_table.specs.Calls.{Ends}
+use Rattle.art_table.specs.Jobs.{of_removed}
 use Rattle.art_table.specs.declared.jobs.Job.TheVariants.{Remove}
-use Rattle.art_table.specs.declared.jobs.Outcome.{Outcome}
 
 pub run-requires : goal.run-requires
 run-requires c =
     let t = c.args.table.now in
-    let spelt = subst (λ (s : List Column). IsSpelling s c.args.tuple.now.items c.in_ok-key.key.items) c.schema.ensures c.in_ok-key.ensures.key in (
-      Remove c.args.tuple.now,
-      c.args.turns,
-      c.args.turns,
-      c.args.pass.now,
-      remove_begins t c.args.pass.now c.args.turns c.args.tuple.now c.in_ok-key.key c.deref_mut.result.now c.remove.new.self c.requires c.deref_mut.ensures.value spelt c.remove.ensures.apart c.remove.ensures.calling,
-    )
+    let p = c.args.pass.now in
+    let j = Remove c.args.tuple.now in
+    let way = tuple_begins t p c.args.turns c.args.tuple.now c.in_ok-key.key c.deref_mut.result.now c.remove.new.self c.requires
+    c.deref_mut.ensures.value c.schema.result.now c.schema.ensures c.in_ok-key.ensures.key c.remove.ensures.apart
+    j calls.Remove refl refl tt c.remove.ensures.calling in
+    runs t j c.args.turns p _ way
 
 pub removed_of-requires : goal.removed_of-requires
 removed_of-requires c =
     let t = c.args.table.now in
     let p = c.args.pass.now in
     let j = Remove c.args.tuple.now in
-    let spelt = subst (λ (s : List Column). IsSpelling s c.args.tuple.now.items c.in_ok-key.key.items) c.schema.ensures c.in_ok-key.ensures.key in
-    let way = remove_begins t p c.args.turns c.args.tuple.now c.in_ok-key.key c.deref_mut.result.now c.remove.new.self c.requires c.deref_mut.ensures.value spelt c.remove.ensures.apart c.remove.ensures.calling in
-    let e = c.in-Ok.ensures.ended j c.args.turns c.args.turns p way in
+    let way = tuple_begins t p c.args.turns c.args.tuple.now c.in_ok-key.key c.deref_mut.result.now c.remove.new.self c.requires
+    c.deref_mut.ensures.value c.schema.result.now c.schema.ensures c.in_ok-key.ensures.key c.remove.ensures.apart
+    j calls.Remove refl refl tt c.remove.ensures.calling in
+    let e = has_ended_so t j c.args.turns p _ way (Ok c.in-Ok.outcome) c.run.new.self c.in-Ok.ensures.ended in
     remove_ends t c.args.turns p c.in-Ok.outcome c.run.new.self c.args.tuple.now e
 
-pub returns-in-Ok-clause-ends : goal.returns-in-Ok-clause-ends
-returns-in-Ok-clause-ends c =
+pub returns-in-Ok : goal.returns-in-Ok
+returns-in-Ok c =
     let t = c.args.table.now in
     let p = c.args.pass.now in
     let j = Remove c.args.tuple.now in
-    let spelt = subst (λ (s : List Column). IsSpelling s c.args.tuple.now.items c.in_ok-key.key.items) c.schema.ensures c.in_ok-key.ensures.key in
-    let way = remove_begins t p c.args.turns c.args.tuple.now c.in_ok-key.key c.deref_mut.result.now c.remove.new.self c.requires c.deref_mut.ensures.value spelt c.remove.ensures.apart c.remove.ensures.calling in
-    let e = c.in-Ok.ensures.ended j c.args.turns c.args.turns p way in
-    subst (λ (x : Outcome). Ends t j c.args.turns p (Ok x) c.run.new.self) (sym c.removed_of.ensures) (ends t j c.args.turns p (Ok c.in-Ok.outcome) c.run.new.self spelt.stands e)
+    let way = tuple_begins t p c.args.turns c.args.tuple.now c.in_ok-key.key c.deref_mut.result.now c.remove.new.self c.requires
+    c.deref_mut.ensures.value c.schema.result.now c.schema.ensures c.in_ok-key.ensures.key c.remove.ensures.apart
+    j calls.Remove refl refl tt c.remove.ensures.calling in
+    let back = comes_back_as t j c.args.turns p _ way of_removed c.removed_of.result c.in-Ok.outcome c.run.new.self
+    c.removed_of.ensures c.in-Ok.ensures.ended in
+    record { pass = back.0; ends = back.1 }
 
-pub returns-in-Err-clause-ends : goal.returns-in-Err-clause-ends
-returns-in-Err-clause-ends c =
+pub returns-in-Err : goal.returns-in-Err
+returns-in-Err c =
     let t = c.args.table.now in
     let p = c.args.pass.now in
     let j = Remove c.args.tuple.now in
-    let spelt = subst (λ (s : List Column). IsSpelling s c.args.tuple.now.items c.in_ok-key.key.items) c.schema.ensures c.in_ok-key.ensures.key in
-    let way = remove_begins t p c.args.turns c.args.tuple.now c.in_ok-key.key c.deref_mut.result.now c.remove.new.self c.requires c.deref_mut.ensures.value spelt c.remove.ensures.apart c.remove.ensures.calling in
-    ends t j c.args.turns p (Err c.in-Err.fault) c.run.new.self spelt.stands (c.in-Err.ensures.ended j c.args.turns c.args.turns p way)
-
-pub returns-in-Ok-clause-pass : goal.returns-in-Ok-clause-pass
-returns-in-Ok-clause-pass c =
-    let t = c.args.table.now in
-    let p = c.args.pass.now in
-    let j = Remove c.args.tuple.now in
-    let spelt = subst (λ (s : List Column). IsSpelling s c.args.tuple.now.items c.in_ok-key.key.items) c.schema.ensures c.in_ok-key.ensures.key in
-    let way = remove_begins t p c.args.turns c.args.tuple.now c.in_ok-key.key c.deref_mut.result.now c.remove.new.self c.requires c.deref_mut.ensures.value spelt c.remove.ensures.apart c.remove.ensures.calling in
-    (c.in-Ok.ensures.ended j c.args.turns c.args.turns p way).pass
-
-pub returns-in-Err-clause-pass : goal.returns-in-Err-clause-pass
-returns-in-Err-clause-pass c =
-    let t = c.args.table.now in
-    let p = c.args.pass.now in
-    let j = Remove c.args.tuple.now in
-    let spelt = subst (λ (s : List Column). IsSpelling s c.args.tuple.now.items c.in_ok-key.key.items) c.schema.ensures c.in_ok-key.ensures.key in
-    let way = remove_begins t p c.args.turns c.args.tuple.now c.in_ok-key.key c.deref_mut.result.now c.remove.new.self c.requires c.deref_mut.ensures.value spelt c.remove.ensures.apart c.remove.ensures.calling in
-    (c.in-Err.ensures.ended j c.args.turns c.args.turns p way).pass
+    let way = tuple_begins t p c.args.turns c.args.tuple.now c.in_ok-key.key c.deref_mut.result.now c.remove.new.self c.requires
+    c.deref_mut.ensures.value c.schema.result.now c.schema.ensures c.in_ok-key.ensures.key c.remove.ensures.apart
+    j calls.Remove refl refl tt c.remove.ensures.calling in
+    let back = comes_back t j c.args.turns p _ way (Err c.in-Err.fault) c.run.new.self c.in-Err.ensures.ended in
+    record { pass = back.0; ends = back.1 }

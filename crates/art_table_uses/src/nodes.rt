@@ -1,0 +1,117 @@
+//! Worked rows on nodes and their prefixes, and what of them is left at the close.
+ghost use Rattle.art_table.specs.Tables.{IsPassOf};
+
+use crate::tables::{SIZES, alone, closed_alone, empties, fills, finds, puts, takes};
+use art_closed::PoolCount;
+use art_table::{Closed, Config, Inserted};
+use std::alloc::Global;
+use std::process::Abort;
+use std::test::*;
+
+/// How many nodes of each kind are linked: Node4, Node16, Node48, Node256.
+fn nodes_of(end: &Closed) -> [u32; 4] {
+    [
+        end.n4.linked,
+        end.n16.linked,
+        end.n48.linked,
+        end.n256.linked,
+    ]
+}
+
+/// Whether each number of the pool, of so many, is linked, free or in limbo.
+fn is_whole(count: &PoolCount, size: u32) -> bool {
+    let held = count.linked.wrapping_add(count.in_limbo);
+    held.wrapping_add(count.free) == size
+}
+
+/// What is left where so many rows were inserted, and the first `gone` of them removed again.
+fn left(rt: &impl Abort, alloc: Global, rows: u64, gone: u64) -> Closed {
+    let (table, mut pass) = alone(rt, alloc, "u8", SIZES);
+    fills(rt, &table, &mut pass, 0, rows);
+    empties(rt, &table, &mut pass, 0, gone);
+    let end = closed_alone(rt, alloc, table, pass);
+    let linked = u64::from(end.leaves.linked);
+    assert_eq!(rt; linked, rows.wrapping_sub(gone));
+    assert!(rt; is_whole(&end.leaves, SIZES.leaves) && is_whole(&end.n4, SIZES.n4));
+    assert!(rt; is_whole(&end.n16, SIZES.n16) && is_whole(&end.n48, SIZES.n48));
+    assert!(rt; is_whole(&end.n256, SIZES.n256));
+    end
+}
+
+#[test]
+fn nodes_grow_at_five_seventeen_and_forty_nine(rt: HostRuntime) -> Result<(), Fail> {
+    for (rows, nodes) in [
+        (1, [0, 0, 0, 0]),
+        (4, [1, 0, 0, 0]),
+        (5, [0, 1, 0, 0]),
+        (16, [0, 1, 0, 0]),
+        (17, [0, 0, 1, 0]),
+        (48, [0, 0, 1, 0]),
+        (49, [0, 0, 0, 1]),
+    ] {
+        let end = left(&rt, rt.alloc(), rows, 0);
+        assert_eq!(rt; nodes_of(&end), nodes);
+    }
+    Ok(())
+}
+
+#[test]
+fn nodes_shrink_at_thirty_six_twelve_three_and_one(rt: HostRuntime) -> Result<(), Fail> {
+    for (gone, nodes) in [
+        (219, [0, 0, 0, 1]),
+        (220, [0, 0, 1, 0]),
+        (243, [0, 0, 1, 0]),
+        (244, [0, 1, 0, 0]),
+        (252, [0, 1, 0, 0]),
+        (253, [1, 0, 0, 0]),
+        (254, [1, 0, 0, 0]),
+        (255, [0, 0, 0, 0]),
+        (256, [0, 0, 0, 0]),
+    ] {
+        let end = left(&rt, rt.alloc(), 256, gone);
+        assert_eq!(rt; nodes_of(&end), nodes);
+    }
+    Ok(())
+}
+
+/// Two keys begin with one byte, and a third with another: a node comes above, and goes again with the third.
+#[test]
+fn a_prefix_is_split_and_a_node_merged(rt: HostRuntime) -> Result<(), Fail> {
+    let (table, mut pass) = alone(&rt, rt.alloc(), "u16", SIZES);
+    for (number, value) in [(257, 1), (258, 2), (515, 3)] {
+        assert_eq!(rt; puts(&table, &mut pass, number, value), Ok(Inserted::New));
+    }
+    for (number, value) in [(257, 1), (258, 2), (515, 3)] {
+        assert_eq!(rt; finds(&table, &mut pass, number), Ok(Some(value)));
+    }
+    assert_eq!(rt; takes(&table, &mut pass, 515), Ok(Some(3)));
+    assert_eq!(rt; finds(&table, &mut pass, 257), Ok(Some(1)));
+    assert_eq!(rt; finds(&table, &mut pass, 258), Ok(Some(2)));
+    let end = closed_alone(&rt, rt.alloc(), table, pass);
+    assert_eq!(rt; nodes_of(&end), [1, 0, 0, 0]);
+    assert_eq!(rt; end.rows.len(), 2);
+    Ok(())
+}
+
+/// A Node16 stays with three children and with two, since no Node4 is free, and is merged away with one.
+#[test]
+fn a_node_shrinks_only_where_a_smaller_one_is_free(rt: HostRuntime) -> Result<(), Fail> {
+    let config = Config {
+        n4: 1,
+        n16: 1,
+        ..SIZES
+    };
+    let (table, mut pass) = alone(&rt, rt.alloc(), "u16", config);
+    fills(&rt, &table, &mut pass, 1, 6);
+    assert_eq!(rt; puts(&table, &mut pass, 257, 6), Ok(Inserted::New));
+    let full = puts(&table, &mut pass, 258, 7);
+    assert_eq!(rt; full, Err(art_table::Fault::Full(art_cell::Pool::N4)));
+    for number in [5, 4, 3, 2] {
+        assert_eq!(rt; takes(&table, &mut pass, number), Ok(Some(number)));
+    }
+    assert_eq!(rt; finds(&table, &mut pass, 1), Ok(Some(1)));
+    assert_eq!(rt; finds(&table, &mut pass, 257), Ok(Some(6)));
+    let end = closed_alone(&rt, rt.alloc(), table, pass);
+    assert_eq!(rt; nodes_of(&end), [1, 0, 0, 0]);
+    Ok(())
+}

@@ -1,0 +1,171 @@
+//! Worked rows of single calls, looks and the close.
+ghost use Rattle.art_table.specs.Tables.{IsPassOf};
+ghost use Rattle.art_table_uses.specs.Clients.{AreOf};
+
+use crate::tables::{
+    SIZES, TURNS, alone, closed, closed_alone, finds, last_of, opened, puts, row_of, takes,
+    tuple_of, with_last,
+};
+use art_key::{Bound, ValueFault, encode};
+use art_model::{Tuple, Value};
+use art_table::{
+    CloseFault, CloseRefusal, Config, Fault, Inserted, OpenFault, Pass, Seen, Table, close, get,
+    insert, look, open,
+};
+use std::alloc::Global;
+use std::process::Abort;
+use std::test::*;
+
+const TWO_PASSES: Config = Config { passes: 2, ..SIZES };
+
+#[test]
+fn a_get_takes_three_steps_of_an_empty_table_and_seven_to_a_leaf(
+    rt: HostRuntime,
+) -> Result<(), Fail> {
+    let (table, mut pass) = alone(&rt, rt.alloc(), "u64", SIZES);
+    let five = tuple_of(5);
+    assert_eq!(rt; get(&table, &mut pass, &five, 0), Err(Fault::Busy));
+    assert_eq!(rt; get(&table, &mut pass, &five, 2), Err(Fault::Busy));
+    assert_eq!(rt; get(&table, &mut pass, &five, 3), Ok(None));
+    assert_eq!(rt; puts(&table, &mut pass, 5, 9), Ok(Inserted::New));
+    assert_eq!(rt; get(&table, &mut pass, &five, 6), Err(Fault::Busy));
+    assert_eq!(rt; get(&table, &mut pass, &five, 7), Ok(Some(9)));
+    let end = closed_alone(&rt, rt.alloc(), table, pass);
+    assert_eq!(rt; end.rows.first(), Some(&row_of(5, 9)));
+    assert_eq!(rt; end.rows.len(), 1);
+    Ok(())
+}
+
+#[test]
+fn a_row_that_stands_keeps_its_value(rt: HostRuntime) -> Result<(), Fail> {
+    let (table, mut pass) = alone(&rt, rt.alloc(), "u8", SIZES);
+    assert_eq!(rt; puts(&table, &mut pass, 5, u64::MAX), Ok(Inserted::New));
+    assert_eq!(rt;
+        puts(&table, &mut pass, 5, 10),
+        Ok(Inserted::Present(u64::MAX))
+    );
+    assert_eq!(rt; finds(&table, &mut pass, 5), Ok(Some(u64::MAX)));
+    assert_eq!(rt; takes(&table, &mut pass, 5), Ok(Some(u64::MAX)));
+    assert_eq!(rt; takes(&table, &mut pass, 5), Ok(None));
+    assert_eq!(rt; puts(&table, &mut pass, 5, 10), Ok(Inserted::New));
+    Ok(())
+}
+
+/// No step is made, so no turn is wanted.
+#[test]
+fn what_is_wrong_with_a_tuple_comes_first(rt: HostRuntime) -> Result<(), Fail> {
+    let (table, mut pass) = alone(&rt, rt.alloc(), "u8", SIZES);
+    let wide = Fault::Value(ValueFault::OutOfRange(0));
+    assert_eq!(rt; get(&table, &mut pass, &tuple_of(256), 0), Err(wide));
+    assert_eq!(rt; insert(&table, &mut pass, &tuple_of(256), 1, 0), Err(wide));
+    let none = Fault::Value(ValueFault::WrongColumns);
+    assert_eq!(rt; get(&table, &mut pass, &Tuple::new(), 0), Err(none));
+    let mut truth = Tuple::new();
+    truth.push(Value::Bool(true));
+    let other = Fault::Value(ValueFault::WrongType(0));
+    assert_eq!(rt; get(&table, &mut pass, &truth, 0), Err(other));
+    assert_eq!(rt; get(&table, &mut pass, &tuple_of(255), 0), Err(Fault::Busy));
+    Ok(())
+}
+
+#[test]
+fn a_size_out_of_its_range_is_refused(rt: HostRuntime) -> Result<(), Fail> {
+    for config in [
+        Config { leaves: 0, ..SIZES },
+        Config {
+            n256: 4097,
+            ..SIZES
+        },
+        Config {
+            passes: 33,
+            ..SIZES
+        },
+        Config {
+            counter_start: 1 << 62,
+            ..SIZES
+        },
+    ] {
+        let schema = crate::tables::schema_of(&rt, "u8");
+        let fault = open(rt.alloc(), schema, config).err();
+        assert_eq!(rt; fault, Some(OpenFault::BadConfig));
+    }
+    Ok(())
+}
+
+/// The bound at the key of a number.
+fn at(rt: &impl Abort, table: &Table, number: u64) -> Bound {
+    let key = encode(table.schema(), &tuple_of(number));
+    Bound::At(key.expect(rt, "a number of the column"))
+}
+
+/// A look from the one number on, before the other.
+fn sees(rt: &impl Abort, table: &Table, pass: &mut Pass, lo: u64, hi: u64) -> Result<Seen, Fault>
+    requires { IsPassOf table.now pass.old }
+    ensures { IsPassOf table.now pass.new }
+{
+    let (lo, hi) = (at(rt, table, lo), at(rt, table, hi));
+    assert!(rt; lo.before(&hi));
+    look(table, pass, &lo, &hi, TURNS)
+}
+
+#[test]
+fn three_looks_tile_a_range(rt: HostRuntime) -> Result<(), Fail> {
+    let (table, mut pass) = alone(&rt, rt.alloc(), "u8", SIZES);
+    assert_eq!(rt; puts(&table, &mut pass, 1, 1), Ok(Inserted::New));
+    assert_eq!(rt; puts(&table, &mut pass, 5, 5), Ok(Inserted::New));
+    let first = Seen {
+        lo: at(&rt, &table, 0),
+        hi: at(&rt, &table, 2),
+        row: Some(row_of(1, 1)),
+    };
+    assert_eq!(rt; sees(&rt, &table, &mut pass, 0, 10), Ok(first));
+    let second = Seen {
+        lo: at(&rt, &table, 2),
+        hi: at(&rt, &table, 6),
+        row: Some(row_of(5, 5)),
+    };
+    assert_eq!(rt; sees(&rt, &table, &mut pass, 2, 10), Ok(second));
+    let last = Seen {
+        lo: at(&rt, &table, 6),
+        hi: at(&rt, &table, 10),
+        row: None,
+    };
+    assert_eq!(rt; sees(&rt, &table, &mut pass, 6, 10), Ok(last));
+    Ok(())
+}
+
+/// A close with the one pass alone: all comes back.
+fn refused(
+    rt: &impl Abort,
+    alloc: Global,
+    table: Table,
+    one: Pass,
+    other: Pass,
+) -> (Table, Vec<Pass>)
+    requires one { IsPassOf table one }
+    requires other { IsPassOf table other }
+    ensures { AreOf result.0 result.1.items }
+{
+    let passes = with_last(rt, &table, Vec::new(alloc), one);
+    let fault = close(alloc, table, passes)
+        .err()
+        .expect(rt, "a pass is missing");
+    let CloseFault { table, passes, why } = fault;
+    assert_eq!(rt; why, CloseRefusal::PassesMissing);
+    let passes = with_last(rt, &table, passes, other);
+    (table, passes)
+}
+
+#[test]
+fn a_close_wants_all_passes(rt: HostRuntime) -> Result<(), Fail> {
+    let (table, mut passes) = opened(&rt, rt.alloc(), "u64", TWO_PASSES);
+    let other = last_of(&rt, &table, &mut passes);
+    let mut one = last_of(&rt, &table, &mut passes);
+    assert_eq!(rt; (one.number(), other.number()), (0, 1));
+    assert_eq!(rt; puts(&table, &mut one, 5, 9), Ok(Inserted::New));
+    let (table, passes) = refused(&rt, rt.alloc(), table, one, other);
+    let end = closed(&rt, rt.alloc(), table, passes);
+    assert_eq!(rt; end.rows.first(), Some(&row_of(5, 9)));
+    assert_eq!(rt; (end.leaves.linked, end.leaves.free), (1, SIZES.leaves - 1));
+    Ok(())
+}

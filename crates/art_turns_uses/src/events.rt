@@ -1,0 +1,95 @@
+//! What passes did, as events of a history.
+use art_key::{Deed, Event, Schema, legal};
+use art_model::{Command, NoMemory, Reply, Row, SortedRows};
+use art_table::{Inserted, Job, Outcome, Seen};
+use std::alloc::Global;
+use std::process::Abort;
+
+/// What the map replies where an insert answered so.
+pub(crate) fn reply_of_insert(told: Inserted) -> Reply {
+    match told {
+        Inserted::New => Reply::Inserted,
+        Inserted::Present(value) => Reply::Present(value),
+    }
+}
+
+/// What the map replies where a removal answered so.
+pub(crate) fn reply_of_remove(told: Option<u64>) -> Reply {
+    match told {
+        Some(value) => Reply::Removed(value),
+        None => Reply::Absent,
+    }
+}
+
+/// What the map replies where a get answered so.
+pub(crate) fn reply_of_get(told: Option<u64>) -> Reply {
+    match told {
+        Some(value) => Reply::Found(value),
+        None => Reply::Absent,
+    }
+}
+
+/// What a look saw, as a deed.
+pub(crate) fn deed_of_look(seen: Seen) -> Deed {
+    let Seen { lo, hi, row } = seen;
+    Deed::Look(lo, hi, row)
+}
+
+/// What an outcome other than a look's is to the map.
+fn reply_of(outcome: &Outcome) -> Option<Reply> {
+    match outcome {
+        Outcome::New => Some(Reply::Inserted),
+        Outcome::Present(value) => Some(Reply::Present(*value)),
+        Outcome::Removed(value) => Some(Reply::Removed(*value)),
+        Outcome::Absent => Some(Reply::Absent),
+        Outcome::Found(value) => Some(Reply::Found(*value)),
+        Outcome::Seen(_) => None,
+    }
+}
+
+/// What an attempt of the job did that ended so.
+pub(crate) fn deed_of(rt: &impl Abort, job: Job, outcome: Outcome) -> Deed {
+    if let Outcome::Seen(seen) = outcome {
+        return deed_of_look(seen);
+    }
+    let reply = reply_of(&outcome).expect(rt, "a reply");
+    match job {
+        Job::Insert(tuple, value) => Deed::Done(Command::Insert(tuple, value), reply),
+        Job::Remove(tuple) => Deed::Done(Command::Remove(tuple), reply),
+        Job::Get(tuple) => Deed::Done(Command::Get(tuple), reply),
+        Job::Look(lo, hi) => Deed::Look(lo, hi, None),
+    }
+}
+
+/// What the map replies to the command, of which no scan lists more rows than one may.
+pub(crate) fn reply(rt: &impl Abort, rows: &mut SortedRows, command: &Command) -> Reply {
+    if let Command::Scan(_, _, limit) = command {
+        assert!(rt; *limit <= 100);
+    }
+    rows.apply(command).expect(rt, "memory")
+}
+
+/// The rows that the events leave.
+fn rows_after(rt: &impl Abort, alloc: Global, events: &[Event]) -> SortedRows {
+    let mut rows = SortedRows::new(alloc);
+    for event in events {
+        if let Deed::Done(command, _) = &event.what {
+            let _ = reply(rt, &mut rows, command);
+        }
+    }
+    rows
+}
+
+/// Whether the events, in this order, are a legal history, which leaves these rows.
+pub(crate) fn explains(
+    rt: &impl Abort,
+    alloc: Global,
+    schema: &Schema,
+    events: &[Event],
+    rows: &[Row],
+) -> Result<bool, NoMemory> {
+    if !legal(alloc, schema, events)? {
+        return Ok(false);
+    }
+    Ok(rows_after(rt, alloc, events).rows() == rows)
+}

@@ -1,0 +1,15 @@
+//! Attempts on the typed table, step by step: stopped, given up, crowded, and by drawn turns. Nothing stands above this crate.
+#![tactic(auto)]
+
+#[cfg(test)]
+mod attempts;
+#[cfg(test)]
+mod crowded;
+#[cfg(test)]
+mod events;
+#[cfg(test)]
+mod stopped;
+#[cfg(test)]
+mod tables;
+#[cfg(test)]
+mod turns;
