@@ -1,9 +1,10 @@
--- A call that is given up goes on with the turns that it has used.
+-- A call that is given up goes on with the turns that it has used; it held nothing, and had told nothing.
 use Rattle.std.proofs.Common.{◌≡◌, ◌+◌, ◌≤◌, ◌∙◌, ℕ, List, refl, ap, subst, arith}
 use Rattle.art_call.specs.Calls.{GoesOn, Get, Insert, IsCalling, Look, Remove, Wish, left_in}
 use Rattle.art_call.specs.declared.callers.Call.{Call}
 use Rattle.art_call.specs.declared.callers.Call.TheVariants as call
 use Rattle.art_call.specs.declared.callers.Caller.{Caller}
+use Rattle.art_change.proofs.GivenUp.{free_untold, refusing_is_free}
 use Rattle.art_change.specs.Writes as writes
 use Rattle.art_change.specs.Writes.{HoldsOrTold}
 use Rattle.art_change.specs.declared.writes.Stage.{Stage}
@@ -13,6 +14,7 @@ use Rattle.art_epoch.specs.Limbo.{places_of}
 use Rattle.art_epoch.specs.declared.limbo.Place.{Place}
 use Rattle.art_key.specs.declared.bounds.Bound.{Bound}
 use Rattle.art_look.specs.declared.trails.Trail.{Trail}
+use Rattle.art_seek.proofs.GivenUp.{busy_is_free}
 use Rattle.art_seek.specs.Seeks as seeks
 use Rattle.art_seek.specs.Walks.{aim_of}
 use Rattle.art_seek.specs.declared.seeks.Seek.{Seek}
@@ -163,3 +165,25 @@ module _ (z : Sizes) (u : View) (c : Caller) (m n : Seek) (v : View) (walk : n.w
           )
       by (Insert k value) on few within = absurd on
       by (Remove k) on few within = absurd on
+
+-- ---- one that is given up was free
+
+pub write_free : (z : Sizes) (u : View) (c : Caller) (m n : Write) (v : View) → writes.WillRefuse n
+    → ((z : Sizes) (u v : View) (ps qs : List Place) → writes.Fits z u ps m c.room qs v → writes.Fits z u ps n c.room qs v)
+    → (w : Wish) (turns : ℕ) → GoesOn z w turns u c (call.Write m) v → HoldsOrTold u v → ⊥
+write_free z u c m n v refuses fits (Insert k value) turns on = refusing_is_free z u on.waited n c.room (places_of c.limbo) v refuses (fits z u v on.waited (places_of c.limbo) on.fits)
+write_free z u c m n v refuses fits (Remove k) turns on = refusing_is_free z u on.waited n c.room (places_of c.limbo) v refuses (fits z u v on.waited (places_of c.limbo) on.fits)
+write_free z u c m n v refuses fits (Get k) turns on = absurd on
+write_free z u c m n v refuses fits (Look lo hi) turns on = absurd on
+
+pub seek_free : (z : Sizes) (u : View) (c : Caller) (m n : Seek) (v : View) → seeks.WillBeBusy n
+    → ((z : Sizes) (k : List ℕ) (hi : Bound) (u v : View) (t : Trail) → seeks.Fits z k hi u m t v → seeks.Fits z k hi u n t v)
+    → (w : Wish) (turns : ℕ) → GoesOn z w turns u c (call.Seek m) v → HoldsOrTold u v → ⊥
+seek_free z u c m n v busy fits (Get k) turns on =
+    let free = busy_is_free z k.items c.hi u n c.trail v busy (fits z k.items c.hi u v c.trail on.fits) in
+    free_untold u v free.0 free.1
+seek_free z u c m n v busy fits (Look lo hi) turns on =
+    let free = busy_is_free z lo.items hi u n c.trail v busy (fits z lo.items hi u v c.trail on.0.fits) in
+    free_untold u v free.0 free.1
+seek_free z u c m n v busy fits (Insert k value) turns on = absurd on
+seek_free z u c m n v busy fits (Remove k) turns on = absurd on

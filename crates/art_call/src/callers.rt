@@ -139,6 +139,8 @@ impl Caller {
         ensures kept { result ≡ false → self.new ≡ self.old }
         ensures why { result ≡ false → (z : SizesOf) (w : Wish) (given turns : ℕ) (u v : View) →
             IsCalling z w given turns u self.old v → HoldsOrTold u v }
+        ensures free { result ≡ true → (z : SizesOf) (w : Wish) (given turns : ℕ) (u v : View) →
+            IsCalling z w given turns u self.old v → ¬ (HoldsOrTold u v) }
     {
         let Caller { room, call, .. } = self;
         match call {

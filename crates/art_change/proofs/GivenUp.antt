@@ -1,5 +1,6 @@
--- A write that cannot be given up holds a cell, or has made its event; one that can ends as a refusal.
-use Rattle.std.proofs.Common.{◌≡◌, ◌≢◌, ℕ, zero, suc, ◌+◌, ◌<◌, ◌≤◌, ◌==◌, false, true, List, [], Option, Some, None, inl, inr, refl, sym, ap, ◌∙◌, subst, arith}
+-- A write that cannot be given up holds a cell, or has made its event; one that will refuse holds none, and has made none.
+use Rattle.std.proofs.Common.{◌≡◌, ◌≢◌, ◌++◌, ℕ, zero, suc, ◌+◌, ◌<◌, ◌==◌, false, true, List, [], ◌∷◌, length, Option, Some, None, inl, inr, refl, sym, ap, ◌∙◌, subst, arith}
+use Rattle.std.proofs.lemmas.List.{length-append}
 use Rattle.std.proofs.lemmas.Option.{slice_get-get_or}
 use Rattle.std.specs.Prelude.{get_or}
 use Rattle.std.specs.Option.{option_map}
@@ -14,14 +15,15 @@ use Rattle.art_cell.specs.declared.cells.Cell.TheVariants as cell
 use Rattle.art_cell.specs.declared.cells.Link.{Link}
 use Rattle.art_cell.specs.declared.cells.Node.{Node}
 use Rattle.art_change.proofs.Answered.{left_opened, sees_all}
-use Rattle.art_change.specs.Tries.{EndFits, Fits as TryFits, ended_at as try_ended, is_free, key_of, of_entered, of_erased, value_of}
-use Rattle.art_change.specs.Writes.{Fits, HasOutcome, HoldsOrTold, IsClosing, IsDone, StageFits, gone_by, is_refusal, told_by}
+use Rattle.art_change.specs.Tries.{Fits as TryFits, ended_at as try_ended, is_free, key_of, of_entered, of_erased, value_of}
+use Rattle.art_change.specs.Writes.{Fits, HasOutcome, HoldsOrTold, IsClosing, IsDone, StageFits, WillRefuse, gone_by, is_refusal, refuses_at, told_by}
 use Rattle.art_change.specs.declared.tries.Job.{Job}
 use Rattle.art_change.specs.declared.tries.Job.TheVariants.{Insert, Remove}
 use Rattle.art_change.specs.declared.tries.Trying.{Trying}
 use Rattle.art_change.specs.declared.tries.Trying.TheVariants.{Inserting, Erasing}
 use Rattle.art_change.specs.declared.writes.Outcome.{Outcome}
 use Rattle.art_change.specs.declared.writes.Outcome.TheVariants.{New, Present, Gone, Absent, Full, Exhausted, Overlaps, Busy, Crowded}
+use Rattle.art_change.specs.declared.writes.Stage.{Stage}
 use Rattle.art_change.specs.declared.writes.Stage.TheVariants as stages
 use Rattle.art_change.specs.declared.writes.Write.{Write}
 use Rattle.art_epoch.specs.declared.limbo.Place.{Place}
@@ -29,6 +31,7 @@ use Rattle.art_erase.specs.Erasing as erases
 use Rattle.art_erase.specs.declared.erasing.Erasing.{Erasing as Erasure}
 use Rattle.art_erase.specs.declared.erasing.Stage.{Stage as EraseStage}
 use Rattle.art_erase.specs.declared.erasing.Stage.TheVariants as erase
+use Rattle.art_frame.proofs.Opens.{opening_same}
 use Rattle.art_frame.specs.Closings.{ClosingFits}
 use Rattle.art_frame.specs.declared.closings.Closing.{Closing}
 use Rattle.art_frame.specs.declared.closings.Closing.TheVariants as closing
@@ -41,7 +44,7 @@ use Rattle.art_plan.specs.Changes.{Holds, filled_at, filled_end, node_made, targ
 use Rattle.art_plan.specs.declared.changes.Change.{Change}
 use Rattle.art_plan.specs.declared.changes.Put.{Put}
 use Rattle.art_plan.specs.declared.changes.Target.{Target}
-use Rattle.art_step.specs.Events.{MakesEvent, SeesEvent}
+use Rattle.art_step.specs.Events.{SeesEvent}
 use Rattle.art_step.specs.Tokens.{links_of}
 use Rattle.art_step.specs.Views.{Member}
 use Rattle.art_step.specs.declared.deeds.Deed.{Deed}
@@ -184,3 +187,62 @@ module _ (z : Sizes) (u : View) (ps : List Place) (m : Write) (r : Room) (qs : L
 
   pub held_in_try : StageFits z u ps stages.Trying m r qs v → is_free m.trying ≡ false → HoldsOrTold u v
   held_in_try fits untold = inl (held_in z fits.0.began r v m.job m.trying fits.0.fits fits.0.going untold)
+
+-- ---- what will refuse is free, and has told nothing
+
+no_longer : (xs : List ℕ) (x : ℕ) → xs ≡ xs ++ x ∷ [] → ⊥
+no_longer xs x same = let long : length xs ≡ length xs + 1 = ap length same ∙ length-append xs (x ∷ []) in absurd (omega (arith, long))
+
+pub free_untold : (u v : View) → v.held ≡ [] → v.own ≡ u.own → HoldsOrTold u v → ⊥
+free_untold u v free own (inl holds) = holds free
+free_untold u v free own (inr told) = no_longer u.own (length (u.seen ++ told.1.between)) (sym own ∙ told.1.own)
+
+refusal_tells : (o : Outcome) (j : Job) (k : ArrayVec ℕ) (value : ℕ) → is_refusal o ≡ true → told_by o j k value ≡ None
+refusal_tells New j k value refuses = cc
+refusal_tells (Present stands) j k value refuses = cc
+refusal_tells (Gone had) j k value refuses = cc
+refusal_tells Absent j k value refuses = cc
+refusal_tells (Full pool) j k value refuses = refl
+refusal_tells (Exhausted c) j k value refuses = refl
+refusal_tells Overlaps j k value refuses = refl
+refusal_tells Busy j k value refuses = refl
+refusal_tells (Crowded b) j k value refuses = refl
+
+module _ (z : Sizes) (k : List ℕ) (value : ℕ) (u v : View) (ps qs : List Place) (us : List Link) (s : Stock) where
+  close_frees : (c : Closing) → ClosingFits z k value u ps us c qs s v → v.held ≡ []
+  close_frees closing.Labelling fits = ap (λ (t : View). t.held) fits.is ∙ fits.may.free
+  close_frees closing.Giving fits = ap (λ (t : View). t.held) fits.is ∙ fits.free
+  close_frees closing.Ended fits = fits.0.free
+
+module _ (z : Sizes) (u : View) (ps : List Place) (m : Write) (r : Room) (qs : List Place) (v : View) where
+  closing_free : IsClosing z u ps m r qs v → is_refusal m.outcome ≡ true → HoldsOrTold u v → ⊥
+  closing_free k refuses =
+      let bytes = (key_of m.job r).items in
+      let same = close_tells z bytes (value_of m.job r) k.ended v k.waiting qs (links_of (gone_by m.outcome r.change)) r.stock m.closing k.fits in
+      let free = close_frees z bytes (value_of m.job r) k.ended v k.waiting qs (links_of (gone_by m.outcome r.change)) r.stock m.closing k.fits in
+      let sees = sees_all u k.opened k.ended v (ap (λ (t : View). t.seen) k.frame.frame.is) (ap (λ (t : View). t.own) k.frame.frame.is) (ap (λ (t : View). t.pass) k.frame.frame.is)
+      same.0 same.1 (told_by m.outcome m.job (key_of m.job r) (value_of m.job r)) (left_opened z u ps m r qs v k).tells in
+      let none = subst (SeesEvent u v) (refusal_tells m.outcome m.job (key_of m.job r) (value_of m.job r) refuses) sees in
+      free_untold u v free none.1
+
+  done_free : (o : Outcome) → m.outcome ≡ o → IsDone z u ps o m r qs v → is_refusal o ≡ true → HoldsOrTold u v → ⊥
+  done_free New is done refuses = cc
+  done_free (Present stands) is done refuses = cc
+  done_free (Gone had) is done refuses = cc
+  done_free Absent is done refuses = cc
+  done_free (Full pool) is done refuses = closing_free done.0 (ap is_refusal is)
+  done_free (Exhausted c) is done refuses = closing_free done.0 (ap is_refusal is)
+  done_free Overlaps is done refuses = closing_free done.0 (ap is_refusal is)
+  done_free Busy is done refuses = closing_free done.0 (ap is_refusal is)
+  done_free (Crowded b) is done refuses = free_untold u v (ap (λ (t : View). t.held) done.0.only ∙ done.1) (ap (λ (t : View). t.own) done.0.only)
+
+  refused_free : (s : Stage) → refuses_at s m → StageFits z u ps s m r qs v → HoldsOrTold u v → ⊥
+  refused_free stages.Opening refuses fits =
+      let same = opening_same z u v ps qs m.opening fits.opening fits.going in
+      free_untold u v (same.0 ∙ fits.free) same.1
+  refused_free stages.Trying refuses fits = absurd refuses
+  refused_free stages.Closing refuses fits = closing_free fits.0 refuses
+  refused_free stages.Ended refuses fits = done_free m.outcome refl fits refuses
+
+  pub refusing_is_free : WillRefuse m → Fits z u ps m r qs v → HoldsOrTold u v → ⊥
+  refusing_is_free refuses fits = refused_free m.stage refuses fits.stage

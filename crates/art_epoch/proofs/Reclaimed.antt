@@ -488,3 +488,18 @@ only_reclaims z v w ps qs count k =
     let seen = subst (OnlyReclaims v) (sym k.seen) (only_then v (view_advanced v k.found) _ (only_advanced v k.found) (only_watched (view_advanced v k.found) k.looks)) in
     let last : OnlyReclaims k.watched w = k.is ∙ ap (λ (y : View). record k.watched { steps = y.steps; noted = y.noted; found = y.found; limbo = y.limbo }) (sym k.is) in
     only_then v k.watched w seen last
+
+-- and where it goes on
+pub only_so_far : (z : Sizes) (u v : View) (ps qs : List Place) (m : Reclaiming) → Fits z u ps m qs v → OnlyReclaims u v
+only_so_far z u v ps qs m fits = by m.stage fits.stage
+  where
+    watched_only : (w : View) (q : ℕ) (least : Option ℕ) → IsWatched u w q least → OnlyReclaims u w
+    watched_only w q least k = subst (OnlyReclaims u) (sym k.is) (only_then u (view_advanced u k.found) _ (only_advanced u k.found) (only_watched (view_advanced u k.found) k.looks))
+
+    by : (s : ReclaimStage) → StageFits z u ps s qs v → OnlyReclaims u v
+    by Noting k = subst (OnlyReclaims u) (sym k.0) refl
+    by Raising k = subst (OnlyReclaims u) (sym k.is) refl
+    by (Watching q least) k = watched_only v q least k.seen
+    by (Freeing least n) k =
+        let last : OnlyReclaims k.watched v = k.is ∙ ap (λ (y : View). record k.watched { steps = y.steps; noted = y.noted; found = y.found; limbo = y.limbo }) (sym k.is) in
+        only_then u k.watched v (watched_only k.watched z.passes least k.all) last

@@ -16,8 +16,9 @@ use Rattle.art_epoch.specs.declared.pins.Pinning.TheVariants.{Noting}
 use Rattle.art_epoch.specs.declared.reclaiming.ReclaimStage.{ReclaimStage}
 use Rattle.art_epoch.specs.declared.reclaiming.ReclaimStage.TheVariants as stage
 use Rattle.art_epoch.specs.declared.reclaiming.Reclaiming.{Reclaiming}
-use Rattle.art_epoch.proofs.Reclaimed.{only_reclaims, reclaim_ends, reclaim_steps, reclaim_told}
-use Rattle.art_frame.specs.Openings.{IsBlocked, IsBlocker, IsCrowded, IsOpened, IsPinnedOn, IsPinning, IsReclaimed, IsReclaiming, OpeningFits, blocker_after, first_label, going_on, reclaimed, reclaiming_after, steps_left, words_found}
+use Rattle.art_epoch.proofs.Pinned.{pinning_same}
+use Rattle.art_epoch.proofs.Reclaimed.{only_reclaims, only_so_far, reclaim_ends, reclaim_steps, reclaim_told}
+use Rattle.art_frame.specs.Openings.{IsBlocked, IsBlocker, IsCrowded, IsOpened, IsPinnedOn, IsPinning, IsReclaimed, IsReclaiming, OpeningFits, blocker_after, ended_at, first_label, going_on, reclaimed, reclaiming_after, steps_left, words_found}
 use Rattle.art_frame.specs.declared.openings.Blocker.{Blocker}
 use Rattle.art_frame.specs.declared.openings.Opened.TheVariants.{Pinned, Crowded}
 use Rattle.art_frame.specs.declared.openings.Opening.{Opening}
@@ -162,3 +163,15 @@ told_pinning z u v w ps qs p m k row = by_stage m (row k.early k.fits)
     by_stage (at.Pinning q) i = record { early = k.early; reclaimed = k.reclaimed; room = k.room; fits = i.0; going = i.1 }
     by_stage (at.Ended Pinned) i = opens z u k.early w ps qs k.reclaimed k.room i
     by_stage (at.Ended (Crowded b)) i = absurd i
+
+-- ---- nothing is locked and nothing told by then
+
+pub opening_same : (z : Sizes) (u v : View) (ps qs : List Place) (m : Opening) → OpeningFits z u ps m qs v → ended_at m ≡ None → (v.held ≡ u.held) × (v.own ≡ u.own)
+opening_same z u v ps qs (at.Reclaiming r b) fits on =
+    let only = only_so_far z u v ps qs r fits.fits in
+    (ap (λ (t : View). t.held) only, ap (λ (t : View). t.own) only)
+opening_same z u v ps qs (at.Pinning p) fits on =
+    let only = fits.reclaimed.only in
+    let same = pinning_same z fits.early v p fits.fits fits.going in
+    (same.0 ∙ ap (λ (t : View). t.held) only, same.1 ∙ ap (λ (t : View). t.own) only)
+opening_same z u v ps qs (at.Ended o) fits on = cc

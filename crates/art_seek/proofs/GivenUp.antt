@@ -1,5 +1,5 @@
--- A seek that cannot be given up has made its event.
-use Rattle.std.proofs.Common.{◌≡◌, ◌≢◌, ℕ, ◌≤◌, List, length, Option, Some, None, refl, ap, subst}
+-- A seek that cannot be given up has made its event; one that will be busy holds nothing, and has made none.
+use Rattle.std.proofs.Common.{◌≡◌, ◌≢◌, ℕ, ◌≤◌, List, [], length, Option, Some, None, refl, ap, ◌∙◌, subst}
 use Rattle.std.specs.Option.{option_map}
 use Rattle.art_key.specs.declared.bounds.Bound.{Bound as KeyBound}
 use Rattle.art_look.proofs.Stages.{has_seen}
@@ -7,12 +7,15 @@ use Rattle.art_look.specs.Looks as looks
 use Rattle.art_look.specs.Seen.{look_done}
 use Rattle.art_look.specs.declared.looks.Seen.{Seen as SeenOf}
 use Rattle.art_look.specs.declared.trails.Trail.{Trail}
-use Rattle.art_seek.proofs.Closes.{closed_sought, over_told, sees_all}
+use Rattle.art_epoch.proofs.Pinned.{pinning_same}
+use Rattle.art_seek.proofs.Closes.{closed_sought, over_free, over_told, sees_all}
 use Rattle.art_seek.proofs.Ends.{key_not_seen, range_seen}
 use Rattle.art_seek.proofs.Pinned.{pinned_is}
-use Rattle.art_seek.specs.Seeks.{IsOver, WentIdle}
+use Rattle.art_seek.specs.Seeks.{Fits, IsOver, StageFits, WentIdle, WillBeBusy, busy_at}
 use Rattle.art_seek.specs.Walks.{IsEnd, told_of}
 use Rattle.art_seek.specs.declared.seeks.Seek.{Seek}
+use Rattle.art_seek.specs.declared.seeks.SeekStage.{SeekStage}
+use Rattle.art_seek.specs.declared.seeks.SeekStage.TheVariants as stage
 use Rattle.art_seek.specs.declared.walks.Outcome.{Outcome}
 use Rattle.art_seek.specs.declared.walks.Outcome.TheVariants.{Found, Absent, Seen, Busy}
 use Rattle.art_seek.specs.declared.walks.Walk.{Walk}
@@ -48,3 +51,29 @@ module _ (z : Sizes) (k : List ℕ) (hi : KeyBound) (u : View) (m : Seek) (t : T
   told_idle short c idle =
       let told = is_told k hi t m.walk m.left m.outcome c.over.ends idle in
       (told.0, subst (SeesEvent u v) told.1 (closed_sought z k hi u m t v c short).tells)
+
+-- ---- one that will be busy
+
+-- nothing is locked, and its own events are those that were
+abbrev pub IsUntold : View → View → Type 0
+IsUntold u v = (v.held ≡ []) × (v.own ≡ u.own)
+
+module _ (z : Sizes) (k : List ℕ) (hi : KeyBound) (u : View) (m : Seek) (t : Trail) where
+  busy_over : (v : View) → IsOver z k hi u m t v → m.outcome ≡ Busy → IsUntold u v
+  busy_over v over busy =
+      let opened = pinned_is z u over.walking.opened over.walking.may over.walking.pins_to in
+      let none = subst (SeesEvent over.walking.opened v) (ap (λ (o : Outcome). told_of o k hi t m.walk) busy) (over_told z k hi u m t v over).tells in
+      (over_free z k hi u m t v over, none.1 ∙ ap (λ (a : View). a.own) opened)
+
+  busy_free : (v : View) (s : SeekStage) → busy_at s m → StageFits z k hi u s m t v → IsUntold u v
+  busy_free v stage.Pinning busy fits =
+      let same = pinning_same z u v m.pinning fits.pinning fits.going in
+      (same.0 ∙ fits.may.free, same.1)
+  busy_free v stage.Walking busy fits = absurd busy
+  busy_free v stage.Closing busy fits = busy_over v fits busy
+  busy_free v stage.Ended busy fits =
+      let before = busy_over fits.before fits.over busy in
+      (ap (λ (a : View). a.held) fits.is ∙ before.0, ap (λ (a : View). a.own) fits.is ∙ before.1)
+
+  pub busy_is_free : (v : View) → WillBeBusy m → Fits z k hi u m t v → IsUntold u v
+  busy_is_free v busy fits = busy_free v m.stage busy fits

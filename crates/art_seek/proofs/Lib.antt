@@ -2,7 +2,7 @@ pub mod Answered
 pub mod Closes
 mod Counted
 pub mod Ends
-mod GivenUp
+pub mod GivenUp
 mod Parts
 mod Pinned
 pub mod Told

@@ -1,15 +1,16 @@
 -- An attempt that is given up, or that is not.
-use Rattle.std.proofs.Common.{◌≡◌, ◌≤◌, ℕ, None, sym, subst}
+use Rattle.std.proofs.Common.{◌≡◌, ◌≤◌, ℕ, None, refl, sym, subst}
 use Rattle.std.specs.Box.{with_value}
 use Rattle.std.specs.Prelude.{Result, Ok, Err, IsErr}
 use Rattle.art_call.specs.Calls.{IsCalling, StaysApart, Wish}
 use Rattle.art_call.specs.declared.callers.Caller.{Caller}
+use Rattle.art_change.proofs.GivenUp.{free_untold}
 use Rattle.art_change.specs.Writes.{HoldsOrTold}
 use Rattle.art_step.specs.declared.views.Sizes.{Sizes}
 use Rattle.art_step.specs.declared.views.View.{View}
 use Rattle.art_table.specs.Calls.{IsUnderWay, Sees}
 use Rattle.art_table.specs.Jobs.{told_by, wish_of}
-use Rattle.art_table.specs.Tables.{caller_of, schema_in, sizes_in, view_of}
+use Rattle.art_table.specs.Tables.{IsPassOf, caller_of, schema_in, sizes_in, view_of}
 use Rattle.art_table.specs.declared.faults.Fault.{Fault}
 use Rattle.art_table.specs.declared.jobs.Job.{Job}
 use Rattle.art_table.specs.declared.jobs.Outcome.{Outcome}
@@ -40,6 +41,14 @@ module _ (t : Table) (a : Pass) (old : Caller) (same : old ≡ caller_of a) (j :
   -- it cannot be given up
   pub why_not : ((z : Sizes) (w : Wish) (given turns : ℕ) (u v : View) → IsCalling z w given turns u old v → HoldsOrTold u v) → HoldsOrTold (view_of p) (view_of a)
   why_not why = why (sizes_in t) (wish_of (schema_in t) j) turns turns (view_of p) (view_of a) calling
+
+  -- or it can, and was free
+  pub was_free : ((z : Sizes) (w : Wish) (given turns : ℕ) (u v : View) → IsCalling z w given turns u old v → HoldsOrTold u v → ⊥) → HoldsOrTold (view_of p) (view_of a) → ⊥
+  was_free free = free (sizes_in t) (wish_of (schema_in t) j) turns turns (view_of p) (view_of a) calling
+
+-- a pass that makes no call is free
+pub idle_free : (t : Table) (p : Pass) → IsPassOf t p → HoldsOrTold (view_of p) (view_of p) → ⊥
+idle_free t p of = free_untold (view_of p) (view_of p) of.caller.ready.frame.may.free refl
 
 -- what is refused was not told
 pub refused_none : (t : Table) (j : Job) (p q : Pass) (r : Result Outcome Fault) → IsErr r → Sees t p q (told_by j r) → Sees t p q None

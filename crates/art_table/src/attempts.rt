@@ -1,5 +1,5 @@
 //! Calls that are made step by step.
-ghost use Rattle.std.specs.Prelude.{◌≡◌, ◌⊎◌, ℕ, ◌≤◌, IfErr, IfOk, Option, None, Some, true};
+ghost use Rattle.std.specs.Prelude.{◌≡◌, ◌⊎◌, ℕ, ◌≤◌, IfErr, IfOk, OnOk, Option, None, Some, true};
 ghost use Rattle.art_call.specs.Calls.{restarts_in};
 ghost use Rattle.art_call.specs.Made.{MakesStep};
 ghost use Rattle.art_change.specs.Writes.{HoldsOrTold};
@@ -81,6 +81,8 @@ impl Attempt {
         ensures back { IfErr result (λ a. a ≡ self) }
         ensures why { IfErr result (λ a. (j : JobOf) (turns : ℕ) (p : PassOf) → IsAttempt table.now j turns p self →
             HoldsOrTold (view_of p) (view_of a.pass)) }
+        ensures free { OnOk result ((j : JobOf) (turns : ℕ) (p : PassOf) → IsAttempt table.now j turns p self →
+            ¬ (HoldsOrTold (view_of p) (view_of self.pass))) }
     {
         let Attempt { mut pass, refused } = self;
         if refused.is_some() {

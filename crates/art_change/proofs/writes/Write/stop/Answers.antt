@@ -1,4 +1,4 @@
-use Rattle.std.proofs.Common.{◌≡◌, ◌+◌, ◌≤◌, true, refl, subst, arith}
+use Rattle.std.proofs.Common.{refl, subst, arith}
 use Rattle.art_change.proofs.writes.Write.stop.Goals as goal
 use Rattle.art_change.specs.Writes.{StageFits}
 use Rattle.art_change.specs.declared.writes.Stage.{Stage as StageOf}

@@ -3,10 +3,11 @@ use Rattle.std.specs.Option.{is_some}
 use Rattle.std.specs.Prelude.{Option}
 use Rattle.std.specs.Box.{with_value}
 use Rattle.art_call.specs.declared.callers.Caller.{Caller}
-use Rattle.art_table.proofs.GivenUp.{given_way, refused_none, why_not}
+use Rattle.art_change.specs.Writes.{HoldsOrTold}
+use Rattle.art_table.proofs.GivenUp.{given_way, idle_free, refused_none, was_free, why_not}
 use Rattle.art_table.proofs.attempts.Attempt.abandon.Goals as goal
 use Rattle.art_table.specs.Calls.{Sees}
-use Rattle.art_table.specs.Tables.{IsPassOf}
+use Rattle.art_table.specs.Tables.{IsPassOf, view_of}
 use Rattle.art_table.specs.declared.passes.Pass.{Pass}
 
 none_is : {A : Type 0} (o : Option A) → is_some o ≡ false → o ≡ None
@@ -50,3 +51,14 @@ returns-clause-pass c j turns p at =
     let way = given_way c.args.table.now a.pass c.deref_mut.result.now c.deref_mut.ensures.value j turns p (at.goes_on none) c.give_up.new.self (e.given c.if-not-give_up.false) e.apart in
     let k = c.run.ensures.ended j turns way.0 p way.1 in
     (k.pass, refused_none c.args.table.now j p c.run.new.self c.run.result (c.run.ensures.refused (e.refuses c.if-not-give_up.false)) k.sees)
+
+pub returns-then-is_some-clause-free : goal.returns-then-is_some-clause-free
+returns-then-is_some-clause-free c j turns p at =
+    let some = some_is c.args.self.refused (sym c.is_some.ensures ∙ c.if-is_some.true) in
+    subst (λ (q : Pass). HoldsOrTold (view_of p) (view_of q) → ⊥) (sym (at.refused some.0 some.1)) (idle_free c.args.table.now p at.began)
+
+pub returns-clause-free : goal.returns-clause-free
+returns-clause-free c j turns p at =
+    let a = c.args.self in
+    let none = none_is a.refused (sym c.is_some.ensures ∙ c.if-is_some.false) in
+    was_free c.args.table.now a.pass c.deref_mut.result.now c.deref_mut.ensures.value j turns p (at.goes_on none) (c.give_up.ensures.free c.if-not-give_up.false)
