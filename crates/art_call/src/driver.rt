@@ -23,11 +23,11 @@ use crate::callers::Call;
 use crate::kinds::{kind_of_attempt, kind_of_frame, kind_of_look};
 use crate::{Caller, Outcome};
 use art_attempt::{Answer as AttemptAnswer, Asked as AttemptAsked, Room, steps_in};
-use art_change::{Answer, Asked, Write, step as step_write};
+use art_change::{Answer, Asked, Write, finish as finish_write, step as step_write};
 use art_epoch::Limbo;
 use art_find::{Answer as CellAnswer, Asked as CellAsked};
 use art_make::Asked as ChangeAsked;
-use art_seek::{Stepped as Sought, step as step_seek};
+use art_seek::{Stepped as Sought, finish as finish_seek, step as step_seek};
 use art_step::{EpochSteps, StepKind};
 
 /// A step that was made: of which kind it was, and whether it made the event of its call.
@@ -172,7 +172,34 @@ impl Caller {
         ensures refused { Refuses self.old → is_refusal result ≡ true }
         ensures apart { AreApart (S.admits steps.old) → StaysApart self.old → result ≢ overlaps }
     {
-        while self.step(steps).is_some() {}
+        self.finish(steps);
         self.outcome().unwrap()
+    }
+
+    /// Makes all steps that are left: each machine has its own way to its end.
+    fn finish<S: EpochSteps>(&mut self, steps: &mut S)
+        requires { (w : Wish) × (given : ℕ) × (turns : ℕ) × (u : View) ×
+            IsCalling (S.sizes steps.old) w given turns u self.old (S.view steps.old) × IsAdmitted (S.admits steps.old) w }
+        ensures only { S.only steps.old steps.new }
+        ensures ended { (o : OutcomeOf) × (outcome_at self.new ≡ Some o) }
+        ensures refuses { Refuses self.old → Refuses self.new }
+        ensures apart { AreApart (S.admits steps.old) → StaysApart self.old → StaysApart self.new }
+        ensures calling { (w : Wish) (given turns : ℕ) (u : View) →
+            IsCalling (S.sizes steps.old) w given turns u self.old (S.view steps.old) →
+            IsCalling (S.sizes steps.old) w given turns u self.new (S.view steps.new) }
+    {
+        let Caller {
+            room,
+            limbo,
+            key,
+            hi,
+            trail,
+            call,
+            ..
+        } = self;
+        match call {
+            Call::Write(write) => *write = finish_write(steps, *write, room, limbo),
+            Call::Seek(seek) => *seek = finish_seek(steps, *seek, key.as_slice(), hi, trail),
+        }
     }
 }

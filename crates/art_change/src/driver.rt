@@ -9,6 +9,7 @@ ghost use Rattle.art_change.specs.Asking.{attempt_in};
 ghost use Rattle.art_change.specs.Writes.{Fits, HasAnswered, HasCounted, HasGround, IsApart, IsReady, RestartsBy, WillRefuse, asks, deed_at as deed_of};
 ghost use Rattle.art_change.specs.Writes.{ended_at, most_steps, steps_left};
 ghost use Rattle.art_change.specs.declared.asked.Asked.TheVariants.{Attempt as attempt_asked};
+ghost use Rattle.art_change.specs.declared.writes.Outcome.{Outcome as OutcomeOf};
 ghost use Rattle.art_change.specs.declared.writes.Outcome.TheVariants.{Overlaps as overlaps};
 ghost use Rattle.art_epoch.specs.Limbo.{places_of};
 ghost use Rattle.art_epoch.specs.declared.limbo.Place.{Place};
@@ -93,6 +94,36 @@ pub fn step<S: EpochSteps>(
     Stepped { asked, answer }
 }
 
+/// Makes all steps that are left of a write.
+pub fn finish<S: EpochSteps>(
+    steps: &mut S,
+    write: Write,
+    room: &mut Room,
+    limbo: &mut Limbo,
+) -> Write
+    requires admitted { S.admits steps.old (key_of write.job room.old).items }
+    requires fits { (u : View) × (ps : List Place) ×
+        Fits (S.sizes steps.old) u ps write room.old (places_of limbo.old) (S.view steps.old) }
+    ensures only { S.only steps.old steps.new }
+    ensures ended { (o : OutcomeOf) × (ended_at result ≡ Some o) }
+    ensures job { result.job ≡ write.job }
+    ensures turns { result.turns ≡ write.turns }
+    ensures key { SameKey write.job room.old room.new }
+    ensures refuses { WillRefuse write → WillRefuse result }
+    ensures apart { AreApart (S.admits steps.old) → IsApart write → IsApart result }
+    ensures left { (S.view steps.new).steps + steps_left result room.new (places_of limbo.new) ≤
+        (S.view steps.old).steps + steps_left write room.old (places_of limbo.old) }
+    ensures fits { (u : View) (ps : List Place) →
+        Fits (S.sizes steps.old) u ps write room.old (places_of limbo.old) (S.view steps.old) →
+        Fits (S.sizes steps.old) u ps result room.new (places_of limbo.new) (S.view steps.new) }
+{
+    let mut write = write;
+    while write.ended().is_none() {
+        step(steps, &mut write, room, limbo);
+    }
+    write
+}
+
 /// Writes what the room has, in so many turns. The pass `own` is idle, with nothing in hand, before and after.
 pub(crate) fn write<S: EpochSteps>(
     steps: &mut S,
@@ -118,12 +149,10 @@ pub(crate) fn write<S: EpochSteps>(
     ensures steps { (S.view steps.new).steps ≤
         (S.view steps.old).steps + most_steps turns (S.sizes steps.old).passes (places_of limbo.old) }
 {
-    let mut write = Write::new(job, own, turns, room, limbo);
-    loop {
-        if let Some(outcome) = write.ended() {
-            let restarts = write.restarts();
-            return Written { outcome, restarts };
-        }
-        step(steps, &mut write, room, limbo);
+    let write = Write::new(job, own, turns, room, limbo);
+    let done = finish(steps, write, room, limbo);
+    Written {
+        outcome: done.ended().unwrap(),
+        restarts: done.restarts(),
     }
 }

@@ -43,7 +43,7 @@ mod writers;
 mod writes;
 
 pub use asked::{Answer, Asked};
-pub use driver::{Stepped, step};
+pub use driver::{Stepped, finish, step};
 pub use tries::{Job, Tried, Trying};
 pub use writers::{Writer, Written};
 pub use writes::{Outcome, Stage, Write};

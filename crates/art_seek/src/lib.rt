@@ -41,7 +41,7 @@ mod seeks;
 mod walks;
 
 pub use asked::{Answer, Asked};
-pub use driver::{Made, Stepped, make, step};
+pub use driver::{Made, Stepped, finish, make, step};
 pub use seekers::{KeySought, RangeSought, Seeker};
 pub use seeks::{Seek, SeekStage};
 pub use walks::{Aim, Outcome};

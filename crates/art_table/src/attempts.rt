@@ -3,7 +3,7 @@ ghost use Rattle.std.specs.Prelude.{◌≡◌, ◌⊎◌, ℕ, ◌≤◌, IfErr,
 ghost use Rattle.art_call.specs.Calls.{restarts_in};
 ghost use Rattle.art_call.specs.Made.{MakesStep};
 ghost use Rattle.art_change.specs.Writes.{HoldsOrTold};
-ghost use Rattle.art_table.specs.Attempts.{Progresses};
+ghost use Rattle.art_table.specs.Attempts.{HasStopped, Progresses};
 ghost use Rattle.art_table.specs.Calls.{Ends, IsAttempt, Sees};
 ghost use Rattle.art_table.specs.Jobs.{IsRange};
 ghost use Rattle.art_table.specs.Tables.{IsPassOf, caller_of, sizes_in, view_of};
@@ -47,6 +47,7 @@ impl Attempt {
     pub fn step(&mut self, table: &Table) -> Progress
         requires { (j : JobOf) × (turns : ℕ) × (p : PassOf) × IsAttempt table.now j turns p self.old }
         ensures made { Progresses (sizes_in table.now) (view_of self.old.pass) (view_of self.new.pass) result }
+        ensures ended { result ≡ Progress.Ended → HasStopped self.new }
         ensures goes_on { (j : JobOf) (turns : ℕ) (p : PassOf) → IsAttempt table.now j turns p self.old → IsAttempt table.now j turns p self.new }
     {
         if self.refused.is_some() {

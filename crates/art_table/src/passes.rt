@@ -1,7 +1,8 @@
 //! A pass: who may call a table.
-ghost use Rattle.std.specs.Prelude.{◌≡◌, ℕ, IfErr, IfSome, IsErr, IsNone, OnErr, OnOk, Some};
-ghost use Rattle.art_call.specs.Calls.{Refuses};
+ghost use Rattle.std.specs.Prelude.{◌≡◌, ℕ, IfErr, IfNone, IfSome, IsErr, OnErr, OnOk, Some};
+ghost use Rattle.art_call.specs.Calls.{Refuses, outcome_at};
 ghost use Rattle.art_call.specs.Made.{MakesStep};
+ghost use Rattle.art_call.specs.declared.outcomes.Outcome.{Outcome as CallOutcome};
 ghost use Rattle.art_table.specs.Calls.{HasEnded, IsUnderWay};
 ghost use Rattle.art_table.specs.Jobs.{IsRange, job_fault};
 ghost use Rattle.art_table.specs.Tables.{IsPassOf, caller_of, number_of, schema_in, sizes_in, view_of};
@@ -60,7 +61,7 @@ impl Pass {
     pub(crate) fn step(&mut self, table: &Table) -> Option<Made>
         requires { (j : JobOf) × (given : ℕ) × (turns : ℕ) × (p : PassOf) × IsUnderWay table.now j given turns p self.old }
         ensures some { IfSome result (MakesStep (sizes_in table.now) (view_of self.old) (view_of self.new)) }
-        ensures none { IsNone result → view_of self.new ≡ view_of self.old }
+        ensures none { IfNone result ((view_of self.new ≡ view_of self.old) × ((o : CallOutcome) × (outcome_at (caller_of self.new) ≡ Some o))) }
         ensures goes_on { (j : JobOf) (given turns : ℕ) (p : PassOf) → IsUnderWay table.now j given turns p self.old →
             IsUnderWay table.now j given turns p self.new }
     {
