@@ -43,6 +43,14 @@ module _ (k : ArrayVec ℕ) (hi : Bound) (t : Trail) (left : ℕ) where
   key_told (Key m) Seen s is ends = absurd (key_not_seen m left ends)
   key_told (Range m) Seen s is ends = cc
 
+  -- what a look would have seen is no part of its end
+  pub key_alone : (w : Walk) (o : Outcome) (s : Option SeenOf) → aim_of w ≡ aim.Key → IsEnd w left o → of_seek o s ≡ of_seek o None
+  key_alone w (Found value) s is ends = refl
+  key_alone w Absent s is ends = refl
+  key_alone w Busy s is ends = refl
+  key_alone (Key m) Seen s is ends = absurd (key_not_seen m left ends)
+  key_alone (Range m) Seen s is ends = cc
+
   key_may : (w : Walk) (o : Outcome) (s : Option SeenOf) → aim_of w ≡ aim.Key → IsEnd w left o → may_end (Get k) (of_seek o s) ≡ true
   key_may w (Found value) s is ends = refl
   key_may w Absent s is ends = refl
@@ -152,9 +160,9 @@ module _ (z : Sizes) (u : View) (c : Caller) (m : Seek) (v : View) (o : Outcome)
         let same = on.turns_are in
         record { counted = omega (arith, all, same); few = λ _. omega (arith, few, met, same) }
 
-  pub seek_called : (w : Wish) (given turns : ℕ) → ((i : ℕ) → get_or c.key.items i 0 < 256) → GoesOn z w turns u c (call.Seek m) v → v.steps ≤ u.steps + given + 1000
-      → HasCalled z w given turns u c (of_seek o (seeks.seen_at m c.key.items c.hi c.trail)) v
-  seek_called (Get k) given turns small on few =
+  pub get_called : (k : ArrayVec ℕ) (given turns : ℕ) → IsSeeking z aim.Key k c.hi turns u c m v → v.steps ≤ u.steps + given + 1000
+      → HasCalled z (Get k) given turns u c (of_seek o (seeks.seen_at m c.key.items c.hi c.trail)) v
+  get_called k given turns on few =
       let s = seeks.seen_at m c.key.items c.hi c.trail in
       let e = ends aim.Key k c.hi turns on in
       record {
@@ -167,6 +175,10 @@ module _ (z : Sizes) (u : View) (c : Caller) (m : Seek) (v : View) (o : Outcome)
         busy = λ told. used aim.Key k c.hi turns on (key_busy k c.hi c.trail m.left m.walk o s on.aim_is e told);
         steps = few;
       }
+
+  pub seek_called : (w : Wish) (given turns : ℕ) → ((i : ℕ) → get_or c.key.items i 0 < 256) → GoesOn z w turns u c (call.Seek m) v → v.steps ≤ u.steps + given + 1000
+      → HasCalled z w given turns u c (of_seek o (seeks.seen_at m c.key.items c.hi c.trail)) v
+  seek_called (Get k) given turns small on few = get_called k given turns on few
   seek_called (Look lo hi) given turns small on few =
       let n = on.0 in
       let s = seen_by (Some o) m.walk lo.items hi c.trail in

@@ -50,6 +50,11 @@ pub data Wish : Type 0 where
   Get : ArrayVec ℕ → Wish
   Look : ArrayVec ℕ → Bound → Wish
 
+-- a write of this key, and of this value where a row comes
+abbrev pub write_wish : Job → ArrayVec ℕ → ℕ → Wish
+write_wish job.Insert k value = Insert k value
+write_wish job.Remove k value = Remove k
+
 -- its key may be one of a command; a look may have any
 abbrev pub IsAdmitted : (List ℕ → Type 0) → Wish → Type 0
 IsAdmitted A (Insert k value) = A k.items

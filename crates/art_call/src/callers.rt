@@ -31,7 +31,7 @@ pub(crate) enum Call {
 /// What a pass keeps beside the table to call it, and the call that it makes. It is large, and never moved.
 #[derive(Drop)]
 pub struct Caller {
-    own: u32,
+    pub(crate) own: u32,
     pub(crate) room: Room,
     pub(crate) limbo: Limbo,
     /// The key of a get, or the lower end of a look.
@@ -60,7 +60,7 @@ impl Caller {
     }
 
     /// An insert of the key with the value is begun, in so many turns.
-    pub fn insert(&mut self, key: &Key, value: u64, turns: u32)
+    pub fn begin_insert(&mut self, key: &Key, value: u64, turns: u32)
         ensures calling { (z : SizesOf) (u : View) → IsCaller z u self.old → IsCalling z (insert_wish key.now value) turns turns u self.new u }
         ensures apart { StaysApart self.new }
     {
@@ -71,7 +71,7 @@ impl Caller {
     }
 
     /// A removal of the row with the key is begun, in so many turns.
-    pub fn remove(&mut self, key: &Key, turns: u32)
+    pub fn begin_remove(&mut self, key: &Key, turns: u32)
         ensures calling { (z : SizesOf) (u : View) → IsCaller z u self.old → IsCalling z (remove_wish key.now) turns turns u self.new u }
         ensures apart { StaysApart self.new }
     {
@@ -82,7 +82,7 @@ impl Caller {
     }
 
     /// A get of the key is begun, in so many turns.
-    pub fn get(&mut self, key: &Key, turns: u32)
+    pub fn begin_get(&mut self, key: &Key, turns: u32)
         ensures calling { (z : SizesOf) (u : View) → IsCaller z u self.old → IsCalling z (get_wish key.now) turns turns u self.new u }
         ensures apart { StaysApart self.new }
     {
@@ -91,7 +91,7 @@ impl Caller {
     }
 
     /// A look of the range from the key on, before the bound, is begun, in so many turns.
-    pub fn look(&mut self, lo: &Key, hi: &Bound, turns: u32)
+    pub fn begin_look(&mut self, lo: &Key, hi: &Bound, turns: u32)
         requires { is_before (bound_at (to_text lo.now.items)) hi.now ≡ true }
         ensures calling { (z : SizesOf) (u : View) → IsCaller z u self.old → IsCalling z (look_wish lo.now hi.now) turns turns u self.new u }
         ensures apart { StaysApart self.new }

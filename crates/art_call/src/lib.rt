@@ -38,6 +38,7 @@
 #![tactic(auto)]
 
 mod callers;
+mod calls;
 mod driver;
 mod kinds;
 mod outcomes;

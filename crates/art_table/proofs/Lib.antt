@@ -1,4 +1,5 @@
 mod Answered
+mod AtOnce
 mod Begun
 mod Called
 mod Ended

@@ -1,15 +1,22 @@
 //! The calls on a table.
-ghost use Rattle.std.specs.Prelude.{◌≡◌, true};
+ghost use Rattle.std.specs.Prelude.{◌≡◌, ◌≢◌, ℕ, List, None, true};
+ghost use Rattle.arrayvec.specs.ArrayVec.{ArrayVec};
+ghost use Rattle.art_call.specs.Calls.{Insert as insert_wish, Remove as remove_wish, may_end};
+ghost use Rattle.art_call.specs.Outcomes.{of_seek, of_write};
+ghost use Rattle.art_change.specs.declared.writes.Outcome.TheVariants.{Overlaps as overlaps};
 ghost use Rattle.art_key.specs.Bounds.{is_before};
+ghost use Rattle.art_key.specs.declared.columns.Column.{Column};
 ghost use Rattle.art_table.specs.Calls.{Ends};
-ghost use Rattle.art_table.specs.Jobs.{IsOf, of_got, of_inserted, of_removed, with_result};
+ghost use Rattle.art_table.specs.Jobs.{IsOf, of_got, of_inserted, of_removed, result_of, with_result};
 ghost use Rattle.art_table.specs.Tables.{IsPassOf};
 ghost use Rattle.art_table.specs.declared.jobs.Job.TheVariants as jobs;
 ghost use Rattle.art_table.specs.declared.jobs.Outcome.TheVariants.{Seen as saw};
 
 use crate::{Fault, Outcome, Pass, Seen, Table};
+use art_change::Outcome as WriteOutcome;
 use art_key::{Bound, encode};
 use art_model::Tuple;
+use art_seek::Outcome as SeekOutcome;
 
 /// What an insert did.
 #[derive(Clone, Copy, Debug, PartialEq, Eq)]
@@ -33,11 +40,8 @@ pub fn insert(
     ensures ends { Ends table.now (jobs.Insert tuple.now value) turns pass.old (with_result of_inserted result) pass.new }
 {
     let key = encode(table.schema(), tuple)?;
-    pass.caller.insert(&key, value, turns);
-    match pass.run(table) {
-        Ok(outcome) => Ok(inserted_of(outcome)),
-        Err(fault) => Err(fault),
-    }
+    let mut stepper = table.shared.at(&mut pass.seat);
+    inserted_of(pass.caller.insert(&mut stepper, &key, value, turns))
 }
 
 /// Takes the row with the tuple out, if one stands, and answers its value.
@@ -52,11 +56,8 @@ pub fn remove(
     ensures ends { Ends table.now (jobs.Remove tuple.now) turns pass.old (with_result of_removed result) pass.new }
 {
     let key = encode(table.schema(), tuple)?;
-    pass.caller.remove(&key, turns);
-    match pass.run(table) {
-        Ok(outcome) => Ok(removed_of(outcome)),
-        Err(fault) => Err(fault),
-    }
+    let mut stepper = table.shared.at(&mut pass.seat);
+    removed_of(pass.caller.remove(&mut stepper, &key, turns))
 }
 
 /// The value of the row with the tuple, if one stands.
@@ -66,11 +67,8 @@ pub fn get(table: &Table, pass: &mut Pass, tuple: &Tuple, turns: u32) -> Result<
     ensures ends { Ends table.now (jobs.Get tuple.now) turns pass.old (with_result of_got result) pass.new }
 {
     let key = encode(table.schema(), tuple)?;
-    pass.caller.get(&key, turns);
-    match pass.run(table) {
-        Ok(outcome) => Ok(got_of(outcome)),
-        Err(fault) => Err(fault),
-    }
+    let mut stepper = table.shared.at(&mut pass.seat);
+    got_of(pass.caller.get(&mut stepper, key, turns))
 }
 
 /// The first row from `lo` on, before `hi`, as far as one look sees.
@@ -87,46 +85,56 @@ pub fn look(
     ensures ends { Ends table.now (jobs.Look lo.now hi.now) turns pass.old (with_result saw result) pass.new }
 {
     let Bound::At(key) = lo else { unreachable!() };
-    pass.caller.look(key, hi, turns);
+    pass.caller.begin_look(key, hi, turns);
     match pass.run(table) {
         Ok(outcome) => Ok(looked_of(outcome)),
         Err(fault) => Err(fault),
     }
 }
 
-/// What an insert answers, by its outcome.
-fn inserted_of(outcome: Outcome) -> Inserted
-    requires { IsOf of_inserted outcome }
-    ensures { of_inserted result ≡ outcome }
+/// What an insert answers that ended so, or why it is refused.
+fn inserted_of(outcome: WriteOutcome) -> Result<Inserted, Fault>
+    requires may { (k : ArrayVec ℕ) × (value : ℕ) × (may_end (insert_wish k value) (of_write outcome) ≡ true) }
+    requires apart { outcome ≢ overlaps }
+    ensures { (schema : List Column) → with_result of_inserted result ≡ result_of schema (of_write outcome) }
 {
     match outcome {
-        Outcome::New => Inserted::New,
-        Outcome::Present(stands) => Inserted::Present(stands),
-        _ => unreachable!(),
+        WriteOutcome::New => Ok(Inserted::New),
+        WriteOutcome::Present(stands) => Ok(Inserted::Present(stands)),
+        WriteOutcome::Full(pool) => Err(Fault::Full(pool)),
+        WriteOutcome::Exhausted(cell) => Err(Fault::Exhausted(cell)),
+        WriteOutcome::Crowded(blocker) => Err(Fault::Crowded(blocker)),
+        WriteOutcome::Busy => Err(Fault::Busy),
+        WriteOutcome::Gone(_) | WriteOutcome::Absent | WriteOutcome::Overlaps => unreachable!(),
     }
 }
 
-/// What a removal answers, by its outcome.
-fn removed_of(outcome: Outcome) -> Option<u64>
-    requires { IsOf of_removed outcome }
-    ensures { of_removed result ≡ outcome }
+/// What a removal answers that ended so, or why it is refused.
+fn removed_of(outcome: WriteOutcome) -> Result<Option<u64>, Fault>
+    requires may { (k : ArrayVec ℕ) × (may_end (remove_wish k) (of_write outcome) ≡ true) }
+    ensures { (schema : List Column) → with_result of_removed result ≡ result_of schema (of_write outcome) }
 {
     match outcome {
-        Outcome::Removed(had) => Some(had),
-        Outcome::Absent => None,
-        _ => unreachable!(),
+        WriteOutcome::Gone(had) => Ok(Some(had)),
+        WriteOutcome::Absent => Ok(None),
+        WriteOutcome::Exhausted(cell) => Err(Fault::Exhausted(cell)),
+        WriteOutcome::Crowded(blocker) => Err(Fault::Crowded(blocker)),
+        WriteOutcome::Busy => Err(Fault::Busy),
+        WriteOutcome::New
+        | WriteOutcome::Present(_)
+        | WriteOutcome::Full(_)
+        | WriteOutcome::Overlaps => unreachable!(),
     }
 }
 
-/// What a get answers, by its outcome.
-fn got_of(outcome: Outcome) -> Option<u64>
-    requires { IsOf of_got outcome }
-    ensures { of_got result ≡ outcome }
+/// What a get answers that ended so, or why it is refused.
+fn got_of(outcome: SeekOutcome) -> Result<Option<u64>, Fault>
+    ensures { (schema : List Column) → with_result of_got result ≡ result_of schema (of_seek outcome None) }
 {
     match outcome {
-        Outcome::Found(value) => Some(value),
-        Outcome::Absent => None,
-        _ => unreachable!(),
+        SeekOutcome::Found(value) => Ok(Some(value)),
+        SeekOutcome::Absent => Ok(None),
+        SeekOutcome::Seen | SeekOutcome::Busy => Err(Fault::Busy),
     }
 }
 

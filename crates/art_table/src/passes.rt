@@ -41,17 +41,17 @@ impl Pass {
         match job {
             Job::Insert(tuple, value) => {
                 let key = encode(schema, tuple)?;
-                self.caller.insert(&key, *value, turns);
+                self.caller.begin_insert(&key, *value, turns);
             }
             Job::Remove(tuple) => {
                 let key = encode(schema, tuple)?;
-                self.caller.remove(&key, turns);
+                self.caller.begin_remove(&key, turns);
             }
             Job::Get(tuple) => {
                 let key = encode(schema, tuple)?;
-                self.caller.get(&key, turns);
+                self.caller.begin_get(&key, turns);
             }
-            Job::Look(Bound::At(key), hi) => self.caller.look(key, hi, turns),
+            Job::Look(Bound::At(key), hi) => self.caller.begin_look(key, hi, turns),
             Job::Look(Bound::End, _) => unreachable!(),
         }
         Ok(())

@@ -1,52 +1,43 @@
-use Rattle.std.proofs.Common.{Ok, Err, refl}
+use Rattle.std.proofs.Common.{refl}
 use Rattle.art_call.specs.Calls as calls
-use Rattle.art_table.proofs.Answered.{insert_ends}
-use Rattle.art_table.proofs.Begun.{tuple_begins}
-use Rattle.art_table.proofs.Called.{comes_back, comes_back_as, has_ended_so, runs}
+use Rattle.art_call.specs.Outcomes.{of_write}
+use Rattle.art_shared.specs.Stepper.{schema_of}
+use Rattle.art_table.proofs.AtOnce.{key_admitted, lent_caller, tuple_ends}
+use Rattle.art_table.proofs.Begun.{keys_apart}
 use Rattle.art_table.proofs.calls.insert.Goals as goal
-use Rattle.art_table.specs.Jobs.{of_inserted}
+use Rattle.art_table.specs.Jobs.{of_inserted, with_result}
+use Rattle.art_table.specs.Tables.{schema_in}
 use Rattle.art_table.specs.declared.jobs.Job.TheVariants.{Insert}
 
-pub run-requires : goal.run-requires
-run-requires c =
+pub insert-requires-clause-admitted : goal.insert-requires-clause-admitted
+insert-requires-clause-admitted c =
     let t = c.args.table.now in
     let p = c.args.pass.now in
-    let j = Insert c.args.tuple.now c.args.value in
-    let way = tuple_begins t p c.args.turns c.args.tuple.now c.in_ok-key.key c.deref_mut.result.now c.insert.new.self c.requires
-    c.deref_mut.ensures.value c.schema.result.now c.schema.ensures c.in_ok-key.ensures.key c.insert.ensures.apart
-    j (λ (k : _). calls.Insert k c.args.value) refl refl tt c.insert.ensures.calling in
-    runs t j c.args.turns p _ way
+    let s = c.at-stepper.result in
+    let at = c.at-stepper.ensures in
+    key_admitted t p s c.deref_mut.result.now c.deref_mut.ensures.value at.pass at.basis c.requires c.args.tuple.now c.in_ok-key.key c.schema.result.now c.schema.ensures c.in_ok-key.ensures.key
 
-pub inserted_of-requires : goal.inserted_of-requires
-inserted_of-requires c =
+pub insert-requires-clause-caller : goal.insert-requires-clause-caller
+insert-requires-clause-caller c =
     let t = c.args.table.now in
     let p = c.args.pass.now in
-    let j = Insert c.args.tuple.now c.args.value in
-    let way = tuple_begins t p c.args.turns c.args.tuple.now c.in_ok-key.key c.deref_mut.result.now c.insert.new.self c.requires
-    c.deref_mut.ensures.value c.schema.result.now c.schema.ensures c.in_ok-key.ensures.key c.insert.ensures.apart
-    j (λ (k : _). calls.Insert k c.args.value) refl refl tt c.insert.ensures.calling in
-    let e = has_ended_so t j c.args.turns p _ way (Ok c.in-Ok.outcome) c.run.new.self c.in-Ok.ensures.ended in
-    insert_ends t c.args.turns p c.in-Ok.outcome c.run.new.self c.args.tuple.now c.args.value e
+    let s = c.at-stepper.result in
+    let at = c.at-stepper.ensures in
+    lent_caller t p s c.deref_mut.result.now c.deref_mut.ensures.value at.pass at.basis c.requires c.args.tuple.now c.in_ok-key.key c.schema.result.now c.schema.ensures c.in_ok-key.ensures.key
 
-pub returns-in-Ok : goal.returns-in-Ok
-returns-in-Ok c =
-    let t = c.args.table.now in
-    let p = c.args.pass.now in
-    let j = Insert c.args.tuple.now c.args.value in
-    let way = tuple_begins t p c.args.turns c.args.tuple.now c.in_ok-key.key c.deref_mut.result.now c.insert.new.self c.requires
-    c.deref_mut.ensures.value c.schema.result.now c.schema.ensures c.in_ok-key.ensures.key c.insert.ensures.apart
-    j (λ (k : _). calls.Insert k c.args.value) refl refl tt c.insert.ensures.calling in
-    let back = comes_back_as t j c.args.turns p _ way of_inserted c.inserted_of.result c.in-Ok.outcome c.run.new.self
-    c.inserted_of.ensures c.in-Ok.ensures.ended in
-    record { pass = back.0; ends = back.1 }
+pub inserted_of-requires-clause-may : goal.inserted_of-requires-clause-may
+inserted_of-requires-clause-may c = (c.in_ok-key.key, c.args.value, c.insert.ensures.called.may)
 
-pub returns-in-Err : goal.returns-in-Err
-returns-in-Err c =
+pub inserted_of-requires-clause-apart : goal.inserted_of-requires-clause-apart
+inserted_of-requires-clause-apart c = c.insert.ensures.apart (keys_apart (schema_of c.at-stepper.result))
+
+pub returns : goal.returns
+returns c =
     let t = c.args.table.now in
     let p = c.args.pass.now in
-    let j = Insert c.args.tuple.now c.args.value in
-    let way = tuple_begins t p c.args.turns c.args.tuple.now c.in_ok-key.key c.deref_mut.result.now c.insert.new.self c.requires
-    c.deref_mut.ensures.value c.schema.result.now c.schema.ensures c.in_ok-key.ensures.key c.insert.ensures.apart
-    j (λ (k : _). calls.Insert k c.args.value) refl refl tt c.insert.ensures.calling in
-    let back = comes_back t j c.args.turns p _ way (Err c.in-Err.fault) c.run.new.self c.in-Err.ensures.ended in
+    let s = c.at-stepper.result in
+    let at = c.at-stepper.ensures in
+    let back = tuple_ends t p s c.deref_mut.result.now c.deref_mut.ensures.value at.pass at.basis c.requires c.args.tuple.now c.in_ok-key.key c.schema.result.now c.schema.ensures c.in_ok-key.ensures.key
+    c.insert.new.steps c.insert.new.self c.insert.ensures.only (Insert c.args.tuple.now c.args.value) c.args.turns (λ (k : _). calls.Insert k c.args.value) refl refl tt
+    (of_write c.insert.result) c.insert.ensures.called (with_result of_inserted c.inserted_of.result) (c.inserted_of.ensures (schema_in t)) in
     record { pass = back.0; ends = back.1 }

@@ -1,52 +1,38 @@
-use Rattle.std.proofs.Common.{Ok, Err, refl}
+use Rattle.std.proofs.Common.{refl}
 use Rattle.art_call.specs.Calls as calls
-use Rattle.art_table.proofs.Answered.{remove_ends}
-use Rattle.art_table.proofs.Begun.{tuple_begins}
-use Rattle.art_table.proofs.Called.{comes_back, comes_back_as, has_ended_so, runs}
+use Rattle.art_call.specs.Outcomes.{of_write}
+use Rattle.art_table.proofs.AtOnce.{key_admitted, lent_caller, tuple_ends}
 use Rattle.art_table.proofs.calls.remove.Goals as goal
-use Rattle.art_table.specs.Jobs.{of_removed}
+use Rattle.art_table.specs.Jobs.{of_removed, with_result}
+use Rattle.art_table.specs.Tables.{schema_in}
 use Rattle.art_table.specs.declared.jobs.Job.TheVariants.{Remove}
 
-pub run-requires : goal.run-requires
-run-requires c =
+pub remove-requires-clause-admitted : goal.remove-requires-clause-admitted
+remove-requires-clause-admitted c =
     let t = c.args.table.now in
     let p = c.args.pass.now in
-    let j = Remove c.args.tuple.now in
-    let way = tuple_begins t p c.args.turns c.args.tuple.now c.in_ok-key.key c.deref_mut.result.now c.remove.new.self c.requires
-    c.deref_mut.ensures.value c.schema.result.now c.schema.ensures c.in_ok-key.ensures.key c.remove.ensures.apart
-    j calls.Remove refl refl tt c.remove.ensures.calling in
-    runs t j c.args.turns p _ way
+    let s = c.at-stepper.result in
+    let at = c.at-stepper.ensures in
+    key_admitted t p s c.deref_mut.result.now c.deref_mut.ensures.value at.pass at.basis c.requires c.args.tuple.now c.in_ok-key.key c.schema.result.now c.schema.ensures c.in_ok-key.ensures.key
+
+pub remove-requires-clause-caller : goal.remove-requires-clause-caller
+remove-requires-clause-caller c =
+    let t = c.args.table.now in
+    let p = c.args.pass.now in
+    let s = c.at-stepper.result in
+    let at = c.at-stepper.ensures in
+    lent_caller t p s c.deref_mut.result.now c.deref_mut.ensures.value at.pass at.basis c.requires c.args.tuple.now c.in_ok-key.key c.schema.result.now c.schema.ensures c.in_ok-key.ensures.key
 
 pub removed_of-requires : goal.removed_of-requires
-removed_of-requires c =
-    let t = c.args.table.now in
-    let p = c.args.pass.now in
-    let j = Remove c.args.tuple.now in
-    let way = tuple_begins t p c.args.turns c.args.tuple.now c.in_ok-key.key c.deref_mut.result.now c.remove.new.self c.requires
-    c.deref_mut.ensures.value c.schema.result.now c.schema.ensures c.in_ok-key.ensures.key c.remove.ensures.apart
-    j calls.Remove refl refl tt c.remove.ensures.calling in
-    let e = has_ended_so t j c.args.turns p _ way (Ok c.in-Ok.outcome) c.run.new.self c.in-Ok.ensures.ended in
-    remove_ends t c.args.turns p c.in-Ok.outcome c.run.new.self c.args.tuple.now e
+removed_of-requires c = record { may = (c.in_ok-key.key, c.remove.ensures.called.may) }
 
-pub returns-in-Ok : goal.returns-in-Ok
-returns-in-Ok c =
+pub returns : goal.returns
+returns c =
     let t = c.args.table.now in
     let p = c.args.pass.now in
-    let j = Remove c.args.tuple.now in
-    let way = tuple_begins t p c.args.turns c.args.tuple.now c.in_ok-key.key c.deref_mut.result.now c.remove.new.self c.requires
-    c.deref_mut.ensures.value c.schema.result.now c.schema.ensures c.in_ok-key.ensures.key c.remove.ensures.apart
-    j calls.Remove refl refl tt c.remove.ensures.calling in
-    let back = comes_back_as t j c.args.turns p _ way of_removed c.removed_of.result c.in-Ok.outcome c.run.new.self
-    c.removed_of.ensures c.in-Ok.ensures.ended in
-    record { pass = back.0; ends = back.1 }
-
-pub returns-in-Err : goal.returns-in-Err
-returns-in-Err c =
-    let t = c.args.table.now in
-    let p = c.args.pass.now in
-    let j = Remove c.args.tuple.now in
-    let way = tuple_begins t p c.args.turns c.args.tuple.now c.in_ok-key.key c.deref_mut.result.now c.remove.new.self c.requires
-    c.deref_mut.ensures.value c.schema.result.now c.schema.ensures c.in_ok-key.ensures.key c.remove.ensures.apart
-    j calls.Remove refl refl tt c.remove.ensures.calling in
-    let back = comes_back t j c.args.turns p _ way (Err c.in-Err.fault) c.run.new.self c.in-Err.ensures.ended in
+    let s = c.at-stepper.result in
+    let at = c.at-stepper.ensures in
+    let back = tuple_ends t p s c.deref_mut.result.now c.deref_mut.ensures.value at.pass at.basis c.requires c.args.tuple.now c.in_ok-key.key c.schema.result.now c.schema.ensures c.in_ok-key.ensures.key
+    c.remove.new.steps c.remove.new.self c.remove.ensures.only (Remove c.args.tuple.now) c.args.turns calls.Remove refl refl tt
+    (of_write c.remove.result) c.remove.ensures.called (with_result of_removed c.removed_of.result) (c.removed_of.ensures (schema_in t)) in
     record { pass = back.0; ends = back.1 }

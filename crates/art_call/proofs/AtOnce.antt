@@ -1,0 +1,41 @@
+-- A write that was made at once, as its call sees it.
+use Rattle.std.proofs.Common.{◌≡◌, ◌+◌, ◌≤◌, ℕ, List, Option, Some, None, subst}
+use Rattle.std.proofs.lemmas.Option.{same_Some}
+use Rattle.std.specs.Prelude.{IfSome}
+use Rattle.art_attempt.specs.declared.rooms.Room.{Room}
+use Rattle.art_call.proofs.Written.{Says, write_called}
+use Rattle.art_call.specs.Calls.{GoesOn, HasCalled, IsWriting, write_wish}
+use Rattle.art_call.specs.Outcomes.{of_write}
+use Rattle.art_call.specs.declared.callers.Call.TheVariants as call
+use Rattle.art_call.specs.declared.callers.Caller.{Caller}
+use Rattle.art_change.specs.Tries.{key_of, value_of}
+use Rattle.art_change.specs.Writes.{Fits, HasAnswered, HasCounted, HasGround, IsReady}
+use Rattle.art_change.specs.declared.tries.Job.{Job}
+use Rattle.art_change.specs.declared.tries.Job.TheVariants as job
+use Rattle.art_change.specs.declared.writes.Outcome.{Outcome}
+use Rattle.art_change.specs.declared.writes.Write.{Write}
+use Rattle.art_epoch.specs.declared.limbo.Place.{Place}
+use Rattle.art_frame.specs.declared.stocks.Stock.{Stock}
+use Rattle.art_step.specs.declared.views.Sizes.{Sizes}
+use Rattle.art_step.specs.declared.views.View.{View}
+
+-- what it says when it has ended
+pub says_so : (m : Write) (r : Option Outcome) (o : Outcome) → r ≡ Some o
+    → IfSome r (λ o. (z : Sizes) (u v : View) (ps qs : List Place) (r : Room) → Fits z u ps m r qs v → HasAnswered z u m.job o (key_of m.job r) (value_of m.job r) qs v)
+    → IfSome r (λ o. (z : Sizes) (u v : View) (ps qs : List Place) (r : Room) → Fits z u ps m r qs v → HasCounted z u m.turns m.restarts o v)
+    → IfSome r (λ o. (z : Sizes) (u v : View) (ps qs : List Place) (r : Room) → Fits z u ps m r qs v → HasGround z u m.job ps m.turns m.restarts o r qs v)
+    → IfSome r (λ o. (z : Sizes) (u v : View) (own : ℕ) (ps qs : List Place) (s : Stock) (r : Room) → IsReady z u own ps s → Fits z u ps m r qs v → IsReady z v own qs r.stock)
+    → Says m o
+says_so m (Some p) o is answered counted grounds ready =
+    subst (Says m) (same_Some p o is) (record { answered = answered; counted = counted; grounds = grounds; ready = ready })
+says_so m None o is answered counted grounds ready = cc
+
+module _ (z : Sizes) (turns : ℕ) (u v : View) (r : Room) (n : Caller) (m : Write) where
+  writes_on : (j : Job) → IsWriting z j (key_of j r) (value_of j r) turns u n m v → GoesOn z (write_wish j (key_of j r) (value_of j r)) turns u n (call.Write m) v
+  writes_on job.Insert on = on
+  writes_on job.Remove on = on
+
+  -- of the key and the value that the room had
+  pub made_at_once : (j : Job) (o : Outcome) → n.call ≡ call.Write m → Says m o → IsWriting z j (key_of j r) (value_of j r) turns u n m v → v.steps ≤ u.steps + turns + 1000
+      → HasCalled z (write_wish j (key_of j r) (value_of j r)) turns turns u n (of_write o) v
+  made_at_once j o is says on few = write_called z u n m v o is says (write_wish j (key_of j r) (value_of j r)) turns turns (writes_on j on) few

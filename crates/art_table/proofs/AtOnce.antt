@@ -1,0 +1,70 @@
+-- A call of one tuple that was made at once: its pass comes back, and it ends so.
+use Rattle.std.proofs.Common.{◌≡◌, ◌∙◌, ℕ, List, Result, sym, ap, subst}
+use Rattle.std.specs.Box.{with_value}
+use Rattle.arrayvec.specs.ArrayVec.{ArrayVec}
+use Rattle.art_call.specs.Calls.{HasCalled, IsCaller, Wish}
+use Rattle.art_call.specs.declared.callers.Caller.{Caller}
+use Rattle.art_call.specs.declared.outcomes.Outcome.{Outcome as CallOutcome}
+use Rattle.art_key.specs.Columns.{tuple_fault}
+use Rattle.art_key.specs.Spelling.{IsKeyOf, IsSpelling}
+use Rattle.art_key.specs.declared.columns.Column.{Column}
+use Rattle.art_model.specs.Rows.{Tuple}
+use Rattle.art_shared.proofs.Lent.{lent_passes_stay}
+use Rattle.art_shared.specs.SamePass.{SamePass}
+use Rattle.art_shared.specs.Stepper.{OnlyStepped, basis_of, pass_of, schema_of, sizes_of}
+use Rattle.art_shared.specs.Stepper as stepper
+use Rattle.art_shared.specs.Tables.{basis_in, view_of_pass}
+use Rattle.art_shared.specs.declared.law.Basis.{Basis}
+use Rattle.art_shared.specs.declared.pass.Pass.{Pass as Seat}
+use Rattle.art_shared.specs.declared.stepper.Stepper.{Stepper}
+use Rattle.art_step.specs.declared.views.Sizes.{Sizes}
+use Rattle.art_table.proofs.Answered.{ends}
+use Rattle.art_table.proofs.Begun.{spelled}
+use Rattle.art_table.proofs.Ended.{has_ended}
+use Rattle.art_table.specs.Calls.{Ends, HasEnded}
+use Rattle.art_table.specs.Jobs.{IsRange, job_fault, key_of, result_of, wish_of}
+use Rattle.art_table.specs.Tables.{IsPassOf, caller_of, schema_in, sizes_in, view_of}
+use Rattle.art_table.specs.declared.faults.Fault.{Fault}
+use Rattle.art_table.specs.declared.jobs.Job.{Job}
+use Rattle.art_table.specs.declared.jobs.Outcome.{Outcome}
+use Rattle.art_table.specs.declared.passes.Pass.{Pass}
+use Rattle.art_table.specs.declared.tables.Table.{Table}
+
+module _ (t : Table) (a : Pass) (s : Stepper) (old : Caller) (same : old ≡ caller_of a) (lent : pass_of s ≡ a.seat) (basis : basis_of s ≡ basis_in t.shared)
+    (is : IsPassOf t a) (tuple : Tuple) (k : ArrayVec ℕ) (schema : List Column) (schema_is : schema ≡ schema_in t) (spelt : IsSpelling schema tuple.items k.items) where
+  here : IsSpelling (schema_in t) tuple.items k.items
+  here = subst (λ (x : List Column). IsSpelling x tuple.items k.items) schema_is spelt
+
+  sizes_are : sizes_of s ≡ sizes_in t
+  sizes_are = ap (λ (x : Basis). x.sizes) basis
+
+  -- its key is one that the stepper admits
+  pub key_admitted : IsKeyOf (schema_of s) k.items
+  key_admitted = (tuple.items, subst (λ (x : List Column). IsSpelling x tuple.items k.items) (sym (ap (λ (x : Basis). x.schema) basis)) here)
+
+  -- and the pass may call
+  pub lent_caller : IsCaller (sizes_of s) (stepper.view_of s) old
+  lent_caller =
+      subst (λ (x : Seat). IsCaller (sizes_of s) (view_of_pass x) old) (sym lent)
+      (subst (λ (c : Caller). IsCaller (sizes_of s) (view_of a) c) (sym same)
+      (subst (λ (z : Sizes). IsCaller z (view_of a) (caller_of a)) (sym sizes_are) is.caller))
+
+  module _ (b : Stepper) (new : Caller) (only : OnlyStepped s b) where
+    back : Pass
+    back = record { seat = pass_of b; caller = with_value a.caller new }
+
+    pub tuple_ends : (j : Job) (turns : ℕ) (wish : ArrayVec ℕ → Wish) → wish (key_of (schema_in t) tuple) ≡ wish_of (schema_in t) j
+        → job_fault (schema_in t) j ≡ tuple_fault (schema_in t) tuple.items → IsRange j
+        → (o : CallOutcome) → HasCalled (sizes_of s) (wish k) turns turns (stepper.view_of s) new o (stepper.view_of b)
+        → (r : Result Outcome Fault) → r ≡ result_of (schema_in t) o
+        → IsPassOf t (record { seat = pass_of b; caller = with_value a.caller new }) × Ends t j turns a r (record { seat = pass_of b; caller = with_value a.caller new })
+    unfolding back
+    tuple_ends j turns wish wish_is fault range o called r r_is =
+        let stands = fault ∙ here.stands in
+        let as_seat = subst (λ (x : Seat). HasCalled (sizes_of s) (wish k) turns turns (view_of_pass x) new o (stepper.view_of b)) lent called in
+        let as_wish = subst (λ (w : Wish). HasCalled (sizes_of s) w turns turns (view_of a) new o (stepper.view_of b)) (ap wish (spelled (schema_in t) tuple k here) ∙ wish_is) as_seat in
+        let as_sizes = subst (λ (z : Sizes). HasCalled z (wish_of (schema_in t) j) turns turns (view_of a) new o (stepper.view_of b)) sizes_are as_wish in
+        let of = lent_passes_stay t.shared a.seat s b is.of lent basis only in
+        let seats = subst (λ (x : Seat). SamePass x (pass_of b)) lent only.pass in
+        let e = has_ended t j turns turns a back o is stands range of seats as_sizes in
+        (e.pass, ends t j turns a r back stands (subst (λ (x : Result Outcome Fault). HasEnded t j turns turns a x back) (sym r_is) e))
