@@ -8,4 +8,6 @@ mod keys;
 #[cfg(test)]
 mod rows;
 #[cfg(test)]
+mod scans;
+#[cfg(test)]
 mod schemas;

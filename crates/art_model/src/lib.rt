@@ -9,6 +9,7 @@ mod commands;
 mod faults;
 mod laws;
 mod rows;
+mod scans;
 mod sorted_rows;
 mod values;
 
@@ -16,5 +17,6 @@ pub use commands::{Answer, Command, Reply};
 pub use faults::NoMemory;
 pub use laws::{rows_answer_at_places, rows_are_searched, texts_stand_by_code_points};
 pub use rows::{Row, Tuple};
+pub use scans::scan_ok;
 pub use sorted_rows::SortedRows;
 pub use values::{TEXT_BYTES, Text, Value};

@@ -141,7 +141,7 @@ fn first_between(
 }
 
 /// The order of tuples: column by column, the first difference decides.
-fn compare(a: &Tuple, b: &Tuple) -> Ordering
+pub(crate) fn compare(a: &Tuple, b: &Tuple) -> Ordering
     ensures { result ≡ tuple_cmp a.now b.now }
 {
     a.as_slice().cmp(b.as_slice())
