@@ -1,0 +1,5 @@
+pub mod Bounds
+pub mod Found
+pub mod Listed
+pub mod Replays
+pub mod Scans

@@ -1,0 +1,7 @@
+//! The law of scans by looks, for the crates above to cite.
+ghost use Rattle.art_scan.specs.Laws.{LooksThatTileAreScans};
+
+/// Looks that tile a range, and may stop where they stopped, are a scan of it.
+pub fn looks_that_tile_are_scans()
+    ensures { LooksThatTileAreScans }
+{}
