@@ -16,7 +16,7 @@ use Rattle.art_key.specs.Spelling.{spelling}
 use Rattle.art_key.proofs.TupleLaws.{keys_stand}
 use Rattle.art_model.specs.Rows.{Tuple, tuple_cmp}
 
-less_from : (o : Ordering) → is_lt o ≡ true → o ≡ Less
+pub less_from : (o : Ordering) → is_lt o ≡ true → o ≡ Less
 less_from Less e = refl
 less_from Equal e = absurd (false≢true e)
 less_from Greater e = absurd (false≢true e)

@@ -15,11 +15,13 @@
 //! This scan from 1 to 9 lists 3, 8 and 9. Each of them stood when its look was made. 8 stood at all looks, so it had to be listed. 5
 //! stood when the scan began, and was gone before the look of its part. 4 came when its part had been looked at.
 //!
-//! A look at its place in a history is a `Tile`. The one law of this crate says that what tiles list is what a scan owes over the
-//! states that they saw (`IsScanOf` of `art_model`), where the scan may stop: nothing of its range is left, or it has found as many
-//! rows as it was asked for.
+//! A look at its place in a history is a `Tile`. What tiles list is what a scan owes over the states that they saw (`IsScanOf` of
+//! `art_model`), where the scan may stop: nothing of its range is left, or it has found as many rows as it was asked for. That is the
+//! first law of this crate. The second says where a range ends that goes up to a tuple and has it: at the bound just above its key.
 #![tactic(auto)]
 
+mod ends;
 mod laws;
 
+pub use ends::after_ends_range;
 pub use laws::looks_that_tile_are_scans;
