@@ -36,6 +36,6 @@ module _ (z : Sizes) (turns : ℕ) (u v : View) (r : Room) (n : Caller) (m : Wri
   writes_on job.Remove on = on
 
   -- of the key and the value that the room had
-  pub made_at_once : (j : Job) (o : Outcome) → n.call ≡ call.Write m → Says m o → IsWriting z j (key_of j r) (value_of j r) turns u n m v → v.steps ≤ u.steps + turns + 1000
-      → HasCalled z (write_wish j (key_of j r) (value_of j r)) turns turns u n (of_write o) v
-  made_at_once j o is says on few = write_called z u n m v o is says (write_wish j (key_of j r) (value_of j r)) turns turns (writes_on j on) few
+  pub made_at_once : (j : Job) (o : Outcome) → Says m o → IsWriting z j (key_of j r) (value_of j r) turns u n m v → v.steps ≤ u.steps + turns + 1000
+      → HasCalled z (write_wish j (key_of j r) (value_of j r)) turns turns m.restarts u n (of_write o) v
+  made_at_once j o says on few = write_called z u n m v o says (write_wish j (key_of j r) (value_of j r)) turns turns (writes_on j on) few

@@ -1,8 +1,8 @@
 -- A seek that has ended, as its call sees it.
-use Rattle.std.proofs.Common.{◌≡◌, ◌+◌, ◌<◌, ◌≤◌, ℕ, true, List, Option, Some, None, get_or, refl, sym, ap, ◌∙◌, subst, arith}
+use Rattle.std.proofs.Common.{◌≡◌, ◌+◌, ◌<◌, ◌≤◌, ℕ, true, List, Option, Some, None, get_or, length, refl, sym, ap, ◌∙◌, subst, arith}
 use Rattle.std.specs.Option.{option_map}
 use Rattle.arrayvec.specs.ArrayVec.{ArrayVec}
-use Rattle.art_call.specs.Calls.{GoesOn, Get, HasCalled, HasUsed, Insert, IsCaller, IsSeeking, Look, Remove, SeesRange, Wish, may_end, restarts_in, restarts_of, told_by}
+use Rattle.art_call.specs.Calls.{GoesOn, Get, HasCalled, HasUsed, Insert, IsCaller, Look, Remove, SeesRange, Wish, may_end, told_by}
 use Rattle.art_call.specs.Outcomes.{of_seek}
 use Rattle.art_call.specs.declared.callers.Call.TheVariants as call
 use Rattle.art_call.specs.declared.callers.Caller.{Caller}
@@ -22,7 +22,6 @@ use Rattle.art_seek.specs.Seeks as seeks
 use Rattle.art_seek.specs.Seeks.{Fits, HasSought, seen_by}
 use Rattle.art_seek.specs.Walks.{IsEnd, aim_of, told_of}
 use Rattle.art_seek.specs.declared.seeks.Seek.{Seek}
-use Rattle.art_seek.specs.declared.walks.Aim.{Aim}
 use Rattle.art_seek.specs.declared.walks.Aim.TheVariants as aim
 use Rattle.art_seek.specs.declared.walks.Outcome.{Outcome}
 use Rattle.art_seek.specs.declared.walks.Outcome.TheVariants.{Found, Absent, Seen, Busy}
@@ -42,14 +41,6 @@ module _ (k : ArrayVec ℕ) (hi : Bound) (t : Trail) (left : ℕ) where
   key_told w Busy s is ends = refl
   key_told (Key m) Seen s is ends = absurd (key_not_seen m left ends)
   key_told (Range m) Seen s is ends = cc
-
-  -- what a look would have seen is no part of its end
-  pub key_alone : (w : Walk) (o : Outcome) (s : Option SeenOf) → aim_of w ≡ aim.Key → IsEnd w left o → of_seek o s ≡ of_seek o None
-  key_alone w (Found value) s is ends = refl
-  key_alone w Absent s is ends = refl
-  key_alone w Busy s is ends = refl
-  key_alone (Key m) Seen s is ends = absurd (key_not_seen m left ends)
-  key_alone (Range m) Seen s is ends = cc
 
   key_may : (w : Walk) (o : Outcome) (s : Option SeenOf) → aim_of w ≡ aim.Key → IsEnd w left o → may_end (Get k) (of_seek o s) ≡ true
   key_may w (Found value) s is ends = refl
@@ -115,88 +106,81 @@ none_seen None is = refl
 
 -- ---- what a client sees
 
-module _ (z : Sizes) (u : View) (c : Caller) (m : Seek) (v : View) (o : Outcome) (is : c.call ≡ call.Seek m) (ended : seeks.ended_at m ≡ Some o) where
-  restarts_are : m.restarts ≡ restarts_in c
-  restarts_are = sym (ap restarts_of is)
+module _ (z : Sizes) (u : View) (c : Caller) (m : Seek) (v : View) (o : Outcome) (ended : seeks.ended_at m ≡ Some o)
+    (k : ArrayVec ℕ) (hi : Bound) (turns : ℕ) (short : length k.items ≤ 64) (may : IsCaller z u c) (turns_are : m.turns ≡ turns) (fits : Fits z k.items hi u m c.trail v) where
+  sought : HasSought k.items hi u m c.trail o v
+  sought = ended_sought z k.items hi u m c.trail v o ended fits short
 
-  module _ (a : Aim) (k : ArrayVec ℕ) (hi : Bound) (turns : ℕ) (on : IsSeeking z a k hi turns u c m v) where
-    sought : HasSought k.items hi u m c.trail o v
-    sought = ended_sought z k.items hi u m c.trail v o ended on.fits on.short
+  ends : IsEnd m.walk m.left o
+  ends = ended_end z k.items hi u m c.trail v o ended fits
 
-    ends : IsEnd m.walk m.left o
-    ends = ended_end z k.items hi u m c.trail v o ended on.fits
-
-    caller : IsCaller z v c
-    caller =
-        let i = sought.idle in
-        let r = on.caller.ready in
-        record {
-          few = on.caller.few;
-          sizes = on.caller.sizes;
-          ready = record {
-            frame = record {
-              own_is = r.frame.own_is ∙ sym i.pass;
-              inside = r.frame.inside;
-              passes_are = r.frame.passes_are;
-              may = i.may;
-              limbo = i.waits (places_of c.limbo) r.frame.limbo;
-            };
-            hand = i.hand ∙ r.hand;
-            stock = r.stock;
-          };
-        }
-
-    failed : u.failures + restarts_in c ≤ v.failures
-    failed =
-        let a = sought.counted.failed in
-        let same = restarts_are in
-        omega (arith, a, same)
-
-    used : o ≡ Busy → HasUsed z turns u v
-    used busy =
-        let all = (sought.busy busy).all in
-        let few = (sought.busy busy).few in
-        let met = sought.counted.failed in
-        let same = on.turns_are in
-        record { counted = omega (arith, all, same); few = λ _. omega (arith, few, met, same) }
-
-  pub get_called : (k : ArrayVec ℕ) (given turns : ℕ) → IsSeeking z aim.Key k c.hi turns u c m v → v.steps ≤ u.steps + given + 1000
-      → HasCalled z (Get k) given turns u c (of_seek o (seeks.seen_at m c.key.items c.hi c.trail)) v
-  get_called k given turns on few =
-      let s = seeks.seen_at m c.key.items c.hi c.trail in
-      let e = ends aim.Key k c.hi turns on in
+  caller : IsCaller z v c
+  caller =
+      let i = sought.idle in
+      let r = may.ready in
       record {
-        may = key_may k c.hi c.trail m.left m.walk o s on.aim_is e;
-        tells = subst (SeesEvent u v) (key_told k c.hi c.trail m.left m.walk o s on.aim_is e) (sought aim.Key k c.hi turns on).tells;
-        caller = caller aim.Key k c.hi turns on;
-        range = tt;
-        ground = tt;
-        failed = failed aim.Key k c.hi turns on;
-        busy = λ told. used aim.Key k c.hi turns on (key_busy k c.hi c.trail m.left m.walk o s on.aim_is e told);
-        steps = few;
+        few = may.few;
+        sizes = may.sizes;
+        ready = record {
+          frame = record {
+            own_is = r.frame.own_is ∙ sym i.pass;
+            inside = r.frame.inside;
+            passes_are = r.frame.passes_are;
+            may = i.may;
+            limbo = i.waits (places_of c.limbo) r.frame.limbo;
+          };
+          hand = i.hand ∙ r.hand;
+          stock = r.stock;
+        };
       }
 
+  failed : u.failures + m.restarts ≤ v.failures
+  failed = let a = sought.counted.failed in omega (arith, a)
+
+  used : o ≡ Busy → HasUsed z turns u v
+  used busy =
+      let all = (sought.busy busy).all in
+      let few = (sought.busy busy).few in
+      let met = sought.counted.failed in
+      let same = turns_are in
+      record { counted = omega (arith, all, same); few = λ _. omega (arith, few, met, same) }
+
+  -- a get, whatever a look would have seen
+  pub get_called : (given : ℕ) (s : Option SeenOf) → aim_of m.walk ≡ aim.Key → v.steps ≤ u.steps + given + 1000 → HasCalled z (Get k) given turns m.restarts u c (of_seek o s) v
+  get_called given s aim few = record {
+    may = key_may k hi c.trail m.left m.walk o s aim ends;
+    tells = subst (SeesEvent u v) (key_told k hi c.trail m.left m.walk o s aim ends) sought.tells;
+    caller = caller;
+    range = tt;
+    ground = tt;
+    failed = failed;
+    busy = λ told. used (key_busy k hi c.trail m.left m.walk o s aim ends told);
+    steps = few;
+  }
+
+module _ (z : Sizes) (u : View) (c : Caller) (m : Seek) (v : View) (o : Outcome) (ended : seeks.ended_at m ≡ Some o) where
   pub seek_called : (w : Wish) (given turns : ℕ) → ((i : ℕ) → get_or c.key.items i 0 < 256) → GoesOn z w turns u c (call.Seek m) v → v.steps ≤ u.steps + given + 1000
-      → HasCalled z w given turns u c (of_seek o (seeks.seen_at m c.key.items c.hi c.trail)) v
-  seek_called (Get k) given turns small on few = get_called k given turns on few
+      → HasCalled z w given turns m.restarts u c (of_seek o (seeks.seen_at m c.key.items c.hi c.trail)) v
+  seek_called (Get k) given turns small on few =
+      get_called z u c m v o ended k c.hi turns on.short on.caller on.turns_are on.fits given (seeks.seen_at m c.key.items c.hi c.trail) on.aim_is few
   seek_called (Look lo hi) given turns small on few =
       let n = on.0 in
       let s = seen_by (Some o) m.walk lo.items hi c.trail in
-      let e = ends aim.Range lo hi turns n in
+      let e = ends z u c m v o ended lo hi turns n.short n.caller n.turns_are n.fits in
       let closed = ended_closed z lo.items hi u m c.trail v o ended n.fits in
       let looks = look_ends lo.items hi c.trail m.left z closed.over.walking.opened closed.before m.restarts m.walk o n.aim_is e closed.over.walking.walk in
       let same : of_seek o (seeks.seen_at m c.key.items c.hi c.trail) ≡ looked s =
       ap (λ (k : ArrayVec ℕ). of_seek o (seeks.seen_at m k.items c.hi c.trail)) n.key_is ∙ (ap (λ (b : Bound). of_seek o (seeks.seen_at m lo.items b c.trail)) n.bound_is
       ∙ (ap (λ (p : Option Outcome). of_seek o (seen_by p m.walk lo.items hi c.trail)) ended ∙ range_ends lo.items hi c.trail m.left m.walk o n.aim_is e)) in
       let bytes = subst (λ (k : ArrayVec ℕ). (i : ℕ) → get_or k.items i 0 < 256) n.key_is small in
-      subst (λ (x : OutcomeOf). HasCalled z (Look lo hi) given turns u c x v) (sym same) (record {
+      subst (λ (x : OutcomeOf). HasCalled z (Look lo hi) given turns m.restarts u c x v) (sym same) (record {
         may = seen_may lo hi s;
-        tells = subst (SeesEvent u v) (look_told lo.items hi c.trail m.left m.walk o n.aim_is e ∙ sym (seen_tells lo hi s)) (sought aim.Range lo hi turns n).tells;
-        caller = caller aim.Range lo hi turns n;
+        tells = subst (SeesEvent u v) (look_told lo.items hi c.trail m.left m.walk o n.aim_is e ∙ sym (seen_tells lo hi s)) (sought z u c m v o ended lo hi turns n.short n.caller n.turns_are n.fits).tells;
+        caller = caller z u c m v o ended lo hi turns n.short n.caller n.turns_are n.fits;
         range = seen_range lo hi z closed.over.walking.opened closed.before s bytes on.1 looks;
         ground = tt;
-        failed = failed aim.Range lo hi turns n;
-        busy = λ told. used aim.Range lo hi turns n (seen_busy lo.items hi c.trail m.left m.walk o n.aim_is e (none_seen s told));
+        failed = failed z u c m v o ended lo hi turns n.short n.caller n.turns_are n.fits;
+        busy = λ told. used z u c m v o ended lo hi turns n.short n.caller n.turns_are n.fits (seen_busy lo.items hi c.trail m.left m.walk o n.aim_is e (none_seen s told));
         steps = few;
       })
   seek_called (Insert k value) given turns small on few = absurd on

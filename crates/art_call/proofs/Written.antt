@@ -1,8 +1,8 @@
 -- A write that has ended, as its call sees it.
-use Rattle.std.proofs.Common.{◌≡◌, ◌+◌, ◌≤◌, ℕ, true, List, refl, sym, ap, ◌∙◌, subst, arith}
+use Rattle.std.proofs.Common.{◌≡◌, ◌+◌, ◌≤◌, ℕ, true, List, refl, ap, ◌∙◌, subst}
 use Rattle.arrayvec.specs.ArrayVec.{ArrayVec}
 use Rattle.art_attempt.specs.declared.rooms.Room.{Room}
-use Rattle.art_call.specs.Calls.{GoesOn, Get, HasCalled, Insert, IsCaller, IsGround, IsWriting, Look, Remove, Wish, may_end, restarts_in, restarts_of, told_by}
+use Rattle.art_call.specs.Calls.{GoesOn, Get, HasCalled, Insert, IsCaller, IsGround, IsWriting, Look, Remove, Wish, may_end, told_by}
 use Rattle.art_call.specs.Outcomes.{of_write}
 use Rattle.art_call.specs.declared.callers.Call.TheVariants as call
 use Rattle.art_call.specs.declared.callers.Caller.{Caller}
@@ -141,10 +141,7 @@ pub record Says (m : Write) (o : Outcome) : Type 0 where
   pub grounds : (z : Sizes) (u v : View) (ps qs : List Place) (r : Room) → Fits z u ps m r qs v → HasGround z u m.job ps m.turns m.restarts o r qs v
   pub ready : (z : Sizes) (u v : View) (own : ℕ) (ps qs : List Place) (s : Stock) (r : Room) → IsReady z u own ps s → Fits z u ps m r qs v → IsReady z v own qs r.stock
 
-module _ (z : Sizes) (u : View) (c : Caller) (m : Write) (v : View) (o : Outcome) (is : c.call ≡ call.Write m) (says : Says m o) where
-  restarts_are : m.restarts ≡ restarts_in c
-  restarts_are = sym (ap restarts_of is)
-
+module _ (z : Sizes) (u : View) (c : Caller) (m : Write) (v : View) (o : Outcome) (says : Says m o) where
   module _ (j : Job) (k : ArrayVec ℕ) (value turns : ℕ) (on : IsWriting z j k value turns u c m v) where
     tells : SeesEvent u v (writes.told_by o j k value)
     tells =
@@ -159,7 +156,7 @@ module _ (z : Sizes) (u : View) (c : Caller) (m : Write) (v : View) (o : Outcome
         same_value : IsWriting z j k value turns u c m v → value_of m.job c.room ≡ value
         same_value on = ap (λ (i : Job). value_of i c.room) on.job_is ∙ on.value_is
 
-    ground : IsGround z j turns u c (of_write o) v
+    ground : IsGround z j turns m.restarts u c (of_write o) v
     ground =
         let g = says.grounds z u v on.waited (places_of c.limbo) c.room on.fits in
         record {
@@ -170,7 +167,7 @@ module _ (z : Sizes) (u : View) (c : Caller) (m : Write) (v : View) (o : Outcome
             machine = g.machine;
             job_is = g.job_is ∙ on.job_is;
             turns_are = g.turns_are ∙ on.turns_are;
-            restarts_are = g.restarts_are ∙ restarts_are;
+            restarts_are = g.restarts_are;
             outcome_is = g.outcome_is;
             done = g.done;
           };
@@ -179,16 +176,13 @@ module _ (z : Sizes) (u : View) (c : Caller) (m : Write) (v : View) (o : Outcome
     caller : IsCaller z v c
     caller = record { few = on.few; sizes = on.fits.room.sizes; ready = says.ready z u v c.own on.waited (places_of c.limbo) on.stock c.room on.ready on.fits }
 
-    failed : u.failures + restarts_in c ≤ v.failures
-    failed =
-        let a = (says.counted z u v on.waited (places_of c.limbo) c.room on.fits).failed in
-        let same = restarts_are in
-        omega (arith, a, same)
+    failed : u.failures + m.restarts ≤ v.failures
+    failed = (says.counted z u v on.waited (places_of c.limbo) c.room on.fits).failed
 
     busy : of_write o ≡ is_busy → UsedTurns z u turns v
     busy told = subst (λ (n : ℕ). UsedTurns z u n v) on.turns_are ((says.counted z u v on.waited (places_of c.limbo) c.room on.fits).busy (busy_told o told))
 
-  pub write_called : (w : Wish) (given turns : ℕ) → GoesOn z w turns u c (call.Write m) v → v.steps ≤ u.steps + given + 1000 → HasCalled z w given turns u c (of_write o) v
+  pub write_called : (w : Wish) (given turns : ℕ) → GoesOn z w turns u c (call.Write m) v → v.steps ≤ u.steps + given + 1000 → HasCalled z w given turns m.restarts u c (of_write o) v
   write_called (Insert k value) given turns on few =
       let g = ground job.Insert k value turns on in
       record {

@@ -203,29 +203,29 @@ abbrev pub SeesRange : Sizes → Wish → Outcome → Type 0
 SeesRange z (Look lo hi) (outcome.Seen seen) = IsRangeSeen z lo hi seen
 SeesRange z w o = ⊤
 
--- the ground of its outcome: what waited in limbo when it began, and how its machine ended
-pub record IsGround (z : Sizes) (j : Job) (turns : ℕ) (u : View) (c : Caller) (o : Outcome) (v : View) : Type 0 where
+-- the ground of its outcome: what waited in limbo when it began, and how its machine ended, which began anew so often
+pub record IsGround (z : Sizes) (j : Job) (turns restarts : ℕ) (u : View) (c : Caller) (o : Outcome) (v : View) : Type 0 where
   pub waited : List Place
   pub write : WriteOutcome
   pub is : o ≡ of_write write
-  pub ground : HasGround z u j waited turns (restarts_in c) write c.room (places_of c.limbo) v
+  pub ground : HasGround z u j waited turns restarts write c.room (places_of c.limbo) v
 
-abbrev pub HasGroundOf : Sizes → Wish → ℕ → View → Caller → Outcome → View → Type 0
-HasGroundOf z (Insert k value) turns u c o v = IsGround z job.Insert turns u c o v
-HasGroundOf z (Remove k) turns u c o v = IsGround z job.Remove turns u c o v
-HasGroundOf z w turns u c o v = ⊤
+abbrev pub HasGroundOf : Sizes → Wish → ℕ → ℕ → View → Caller → Outcome → View → Type 0
+HasGroundOf z (Insert k value) turns restarts u c o v = IsGround z job.Insert turns restarts u c o v
+HasGroundOf z (Remove k) turns restarts u c o v = IsGround z job.Remove turns restarts u c o v
+HasGroundOf z w turns restarts u c o v = ⊤
 
 -- all turns were used
 abbrev pub HasUsed : Sizes → ℕ → View → View → Type 0
 HasUsed z turns u v = writes.UsedTurns z u turns v
 
--- the pass may call again, and made the event of the outcome, or none
-pub record HasCalled (z : Sizes) (w : Wish) (given turns : ℕ) (u : View) (c : Caller) (o : Outcome) (v : View) : Type 0 where
+-- it began anew so often; the pass may call again, and made the event of the outcome, or none
+pub record HasCalled (z : Sizes) (w : Wish) (given turns restarts : ℕ) (u : View) (c : Caller) (o : Outcome) (v : View) : Type 0 where
   pub may : may_end w o ≡ true
   pub tells : SeesEvent u v (told_by w o)
   pub caller : IsCaller z v c
   pub range : SeesRange z w o
-  pub ground : HasGroundOf z w turns u c o v
-  pub failed : u.failures + restarts_in c ≤ v.failures
+  pub ground : HasGroundOf z w turns restarts u c o v
+  pub failed : u.failures + restarts ≤ v.failures
   pub busy : o ≡ outcome.Busy → HasUsed z turns u v
   pub steps : v.steps ≤ u.steps + given + 1000

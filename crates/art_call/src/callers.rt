@@ -105,7 +105,7 @@ impl Caller {
     pub fn outcome(&self) -> Option<Outcome>
         ensures at { result ≡ outcome_at self.now }
         ensures called { IfSome result (λ o. (z : SizesOf) (w : Wish) (given turns : ℕ) (u v : View) →
-            IsCalling z w given turns u self.now v → HasCalled z w given turns u self.now o v) }
+            IsCalling z w given turns u self.now v → HasCalled z w given turns (restarts_in self.now) u self.now o v) }
         ensures refused { IfSome result (λ o. Refuses self.now → is_refusal o ≡ true) }
         ensures apart { IfSome result (λ o. StaysApart self.now → o ≢ overlaps) }
     {

@@ -1,6 +1,6 @@
 //! Makes the steps of a call.
 ghost use Rattle.std.specs.Prelude.{◌≡◌, ◌≢◌, ℕ, ◌+◌, ◌≤◌, IfSome, IfNone, List, Some, true};
-ghost use Rattle.art_call.specs.Calls.{HasCalled, IsAdmitted, IsCalling, Refuses, StaysApart, Wish, is_refusal, outcome_at, steps_left};
+ghost use Rattle.art_call.specs.Calls.{HasCalled, IsAdmitted, IsCalling, Refuses, StaysApart, Wish, is_refusal, outcome_at, restarts_in, steps_left};
 ghost use Rattle.art_call.specs.Made.{MakesStep, tells};
 ghost use Rattle.art_call.specs.declared.outcomes.Outcome.{Outcome as OutcomeOf};
 ghost use Rattle.art_call.specs.declared.outcomes.Outcome.TheVariants.{Overlaps as overlaps};
@@ -168,7 +168,7 @@ impl Caller {
         ensures only { S.only steps.old steps.new }
         ensures called { (w : Wish) (given turns : ℕ) (u : View) →
             IsCalling (S.sizes steps.old) w given turns u self.old (S.view steps.old) →
-            HasCalled (S.sizes steps.old) w given turns u self.new result (S.view steps.new) }
+            HasCalled (S.sizes steps.old) w given turns (restarts_in self.new) u self.new result (S.view steps.new) }
         ensures refused { Refuses self.old → is_refusal result ≡ true }
         ensures apart { AreApart (S.admits steps.old) → StaysApart self.old → result ≢ overlaps }
     {

@@ -55,16 +55,16 @@ module _ (t : Table) (a : Pass) (s : Stepper) (old : Caller) (same : old ≡ cal
 
     pub tuple_ends : (j : Job) (turns : ℕ) (wish : ArrayVec ℕ → Wish) → wish (key_of (schema_in t) tuple) ≡ wish_of (schema_in t) j
         → job_fault (schema_in t) j ≡ tuple_fault (schema_in t) tuple.items → IsRange j
-        → (o : CallOutcome) → HasCalled (sizes_of s) (wish k) turns turns (stepper.view_of s) new o (stepper.view_of b)
+        → (o : CallOutcome) → (restarts : ℕ) × HasCalled (sizes_of s) (wish k) turns turns restarts (stepper.view_of s) new o (stepper.view_of b)
         → (r : Result Outcome Fault) → r ≡ result_of (schema_in t) o
         → IsPassOf t (record { seat = pass_of b; caller = with_value a.caller new }) × Ends t j turns a r (record { seat = pass_of b; caller = with_value a.caller new })
     unfolding back
     tuple_ends j turns wish wish_is fault range o called r r_is =
         let stands = fault ∙ here.stands in
-        let as_seat = subst (λ (x : Seat). HasCalled (sizes_of s) (wish k) turns turns (view_of_pass x) new o (stepper.view_of b)) lent called in
-        let as_wish = subst (λ (w : Wish). HasCalled (sizes_of s) w turns turns (view_of a) new o (stepper.view_of b)) (ap wish (spelled (schema_in t) tuple k here) ∙ wish_is) as_seat in
-        let as_sizes = subst (λ (z : Sizes). HasCalled z (wish_of (schema_in t) j) turns turns (view_of a) new o (stepper.view_of b)) sizes_are as_wish in
+        let as_seat = subst (λ (x : Seat). HasCalled (sizes_of s) (wish k) turns turns called.0 (view_of_pass x) new o (stepper.view_of b)) lent called.1 in
+        let as_wish = subst (λ (w : Wish). HasCalled (sizes_of s) w turns turns called.0 (view_of a) new o (stepper.view_of b)) (ap wish (spelled (schema_in t) tuple k here) ∙ wish_is) as_seat in
+        let as_sizes = subst (λ (z : Sizes). HasCalled z (wish_of (schema_in t) j) turns turns called.0 (view_of a) new o (stepper.view_of b)) sizes_are as_wish in
         let of = lent_passes_stay t.shared a.seat s b is.of lent basis only in
         let seats = subst (λ (x : Seat). SamePass x (pass_of b)) lent only.pass in
-        let e = has_ended t j turns turns a back o is stands range of seats as_sizes in
+        let e = has_ended t j turns turns called.0 a back o is stands range of seats as_sizes in
         (e.pass, ends t j turns a r back stands (subst (λ (x : Result Outcome Fault). HasEnded t j turns turns a x back) (sym r_is) e))

@@ -85,8 +85,8 @@ same_then a b c x y = record {
   told = y.told ∙ x.told;
 }
 
-module _ (t : Table) (j : Job) (given turns : ℕ) (p q : Pass) (o : CallOutcome) (began : IsPassOf t p) (stands : job_fault (schema_in t) j ≡ None) (range : IsRange j)
-    (of : shared.IsPassOf t.shared q.seat) (same : SamePass p.seat q.seat) (called : HasCalled (sizes_in t) (wish_of (schema_in t) j) given turns (view_of p) (caller_of q) o (view_of q)) where
+module _ (t : Table) (j : Job) (given turns restarts : ℕ) (p q : Pass) (o : CallOutcome) (began : IsPassOf t p) (stands : job_fault (schema_in t) j ≡ None) (range : IsRange j)
+    (of : shared.IsPassOf t.shared q.seat) (same : SamePass p.seat q.seat) (called : HasCalled (sizes_in t) (wish_of (schema_in t) j) given turns restarts (view_of p) (caller_of q) o (view_of q)) where
   pass_is : number_of q ≡ number_of p
   pass_is = sym q.seat.own ∙ (same.number ∙ p.seat.own)
 
@@ -107,6 +107,7 @@ module _ (t : Table) (j : Job) (given turns : ℕ) (p q : Pass) (o : CallOutcome
     range = has_range (sizes_in t) (schema_in t) j o range called.range;
     steps = called.steps;
     outcome = o;
+    restarts = restarts;
     answered = refl;
     grounds = called;
   }

@@ -56,8 +56,8 @@ module _ (t : Table) (a : Pass) (s b : Stepper) (old new : Caller) (same : old �
       apart = apart;
     }
 
-    pub ended : (o : CallOutcome) → HasCalled (sizes_of s) (wish_of (schema_in t) j) given turns (view_of p) new o (stepper.view_of b)
+    pub ended : (restarts : ℕ) (o : CallOutcome) → HasCalled (sizes_of s) (wish_of (schema_in t) j) given turns restarts (view_of p) new o (stepper.view_of b)
         → HasEnded t j given turns p (result_of (schema_in t) o) (record { seat = pass_of b; caller = with_value a.caller new })
-    ended o called =
-        has_ended t j given turns p (record { seat = pass_of b; caller = with_value a.caller new }) o way.began way.stands way.range of seats
-        (subst (λ (z : Sizes). HasCalled z (wish_of (schema_in t) j) given turns (view_of p) new o (stepper.view_of b)) sizes_are called)
+    ended restarts o called =
+        has_ended t j given turns restarts p (record { seat = pass_of b; caller = with_value a.caller new }) o way.began way.stands way.range of seats
+        (subst (λ (z : Sizes). HasCalled z (wish_of (schema_in t) j) given turns restarts (view_of p) new o (stepper.view_of b)) sizes_are called)

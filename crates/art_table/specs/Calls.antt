@@ -42,8 +42,9 @@ pub record HasEnded (t : Table) (j : Job) (given turns : ℕ) (p : Pass) (r : Re
   pub range : HasRange j r
   pub steps : (view_of q).steps ≤ (view_of p).steps + given + 1000
   pub outcome : CallOutcome
+  pub restarts : ℕ
   pub answered : r ≡ result_of (schema_in t) outcome
-  pub grounds : HasCalled (sizes_in t) (wish_of (schema_in t) j) given turns (view_of p) (caller_of q) outcome (view_of q)
+  pub grounds : HasCalled (sizes_in t) (wish_of (schema_in t) j) given turns restarts (view_of p) (caller_of q) outcome (view_of q)
 
 -- the tuple's fault comes first, and changes nothing; else the call was made
 pub record Ends (t : Table) (j : Job) (turns : ℕ) (p : Pass) (r : Result Outcome Fault) (q : Pass) : Type 0 where

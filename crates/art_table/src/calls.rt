@@ -68,7 +68,7 @@ pub fn get(table: &Table, pass: &mut Pass, tuple: &Tuple, turns: u32) -> Result<
 {
     let key = encode(table.schema(), tuple)?;
     let mut stepper = table.shared.at(&mut pass.seat);
-    got_of(pass.caller.get(&mut stepper, key, turns))
+    got_of(pass.caller.get(&mut stepper, &key, turns))
 }
 
 /// The first row from `lo` on, before `hi`, as far as one look sees.

@@ -26,7 +26,7 @@ insert-requires-clause-caller c =
     lent_caller t p s c.deref_mut.result.now c.deref_mut.ensures.value at.pass at.basis c.requires c.args.tuple.now c.in_ok-key.key c.schema.result.now c.schema.ensures c.in_ok-key.ensures.key
 
 pub inserted_of-requires-clause-may : goal.inserted_of-requires-clause-may
-inserted_of-requires-clause-may c = (c.in_ok-key.key, c.args.value, c.insert.ensures.called.may)
+inserted_of-requires-clause-may c = (c.in_ok-key.key, c.args.value, c.insert.ensures.called.1.may)
 
 pub inserted_of-requires-clause-apart : goal.inserted_of-requires-clause-apart
 inserted_of-requires-clause-apart c = c.insert.ensures.apart (keys_apart (schema_of c.at-stepper.result))

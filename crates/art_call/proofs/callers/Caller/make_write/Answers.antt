@@ -25,23 +25,25 @@ returns-clause-called g c =
     let may = ready_may z u a.own c.args.job ps a.room c.requires.caller.ready c.requires.room in
     let m = c.finish-done.result in
     let e = c.finish-done.ensures in
-    let n : Caller = record a { room = c.finish-done.new.room; limbo = c.finish-done.new.limbo; call = c.keep_write.new.call } in
+    let n : Caller = record a { room = c.finish-done.new.room; limbo = c.finish-done.new.limbo } in
     let same = subst (λ (j : JobOf). SameKey j a.room n.room) c.new-write.ensures.job e.key in
     let says = says_so m c.ended.result c.unwrap.result c.unwrap.ensures c.ended.ensures.answered c.ended.ensures.counted c.ended.ensures.grounds c.ended.ensures.ready in
     let left = e.left in
     let most = c.new-write.ensures.left z u may in
     let few = c.requires.caller.few in
-    let places = c.room.ensures in
-    made_at_once z c.args.turns u v a.room n m c.args.job c.unwrap.result c.keep_write.ensures says
-    (record {
-      job_is = e.job ∙ c.new-write.ensures.job;
-      turns_are = e.turns ∙ c.new-write.ensures.turns.0;
-      key_is = same.key;
-      value_is = same.value;
-      few = few;
-      waited = ps;
-      stock = a.room.stock;
-      ready = c.requires.caller.ready;
-      fits = e.fits u ps (c.new-write.ensures.fits z u may);
-    })
-    (omega (arith, left, most, few, places))
+    let places = c.room.ensures in (
+      m.restarts,
+      made_at_once z c.args.turns u v a.room n m c.args.job c.unwrap.result says
+          (record {
+            job_is = e.job ∙ c.new-write.ensures.job;
+            turns_are = e.turns ∙ c.new-write.ensures.turns.0;
+            key_is = same.key;
+            value_is = same.value;
+            few = few;
+            waited = ps;
+            stock = a.room.stock;
+            ready = c.requires.caller.ready;
+            fits = e.fits u ps (c.new-write.ensures.fits z u may);
+          })
+          (omega (arith, left, most, few, places)),
+    )

@@ -2,8 +2,8 @@ use Rattle.std.proofs.Common.{◌<◌, ◌∙◌, ℕ, List, Option, get_or, ari
 use Rattle.art_call.proofs.Sought.{seek_called}
 use Rattle.art_call.proofs.Written.{write_called}
 use Rattle.art_call.proofs.callers.Caller.outcome.Goals as goal
-use Rattle.art_call.specs.Calls.{GoesOn, HasCalled}
-use Rattle.art_call.specs.Outcomes.{of_seek}
+use Rattle.art_call.specs.Calls.{GoesOn, HasCalled, restarts_in, restarts_of}
+use Rattle.art_call.specs.Outcomes.{of_seek, of_write}
 use Rattle.art_call.specs.declared.callers.Call.{Call}
 use Rattle.art_call.specs.declared.outcomes.Outcome.{Outcome}
 use Rattle.art_look.specs.declared.looks.Seen.{Seen}
@@ -17,8 +17,9 @@ returns-in_ok-ended-in-Write-clause-called c z w given turns u v calling =
     let e = c.in_ok-ended-in-Write.ensures in
     let on = subst (λ (k : Call). GoesOn z w turns u a k v) c.in-Write.is calling.goes_on in
     let few = calling.few in
-    subst (λ (x : Outcome). HasCalled z w given turns u a x v) (sym c.of_write.ensures)
-    (write_called z u a m v o c.in-Write.is (record { answered = e.answered; counted = e.counted; grounds = e.grounds; ready = e.ready }) w given turns on (omega (arith, few)))
+    subst (λ (x : Outcome). HasCalled z w given turns (restarts_in a) u a x v) (sym c.of_write.ensures)
+    (subst (λ (n : ℕ). HasCalled z w given turns n u a (of_write o) v) (sym (ap restarts_of c.in-Write.is))
+    (write_called z u a m v o (record { answered = e.answered; counted = e.counted; grounds = e.grounds; ready = e.ready }) w given turns on (omega (arith, few))))
 
 pub returns-in_ok-ended-in-Seek-clause-called : goal.returns-in_ok-ended-in-Seek-clause-called
 returns-in_ok-ended-in-Seek-clause-called c z w given turns u v calling =
@@ -30,5 +31,6 @@ returns-in_ok-ended-in-Seek-clause-called c z w given turns u v calling =
     let bytes : (i : ℕ) → get_or c.as_slice-key.result.now i 0 < 256 = search rules in
     let small = subst (λ (k : List ℕ). (i : ℕ) → get_or k i 0 < 256) c.as_slice-key.ensures.value bytes in
     let seen = c.seen-seen.ensures.at ∙ ap (λ (k : List ℕ). seen_at m k a.hi a.trail) c.as_slice-key.ensures.value in
-    subst (λ (x : Outcome). HasCalled z w given turns u a x v) (sym (c.of_seek.ensures ∙ ap (λ (s : Option Seen). of_seek o s) seen))
-    (seek_called z u a m v o c.in-Seek.is (sym c.ended-in-Seek.ensures.at ∙ c.in_ok-ended-in-Seek.was) w given turns small on (omega (arith, few)))
+    subst (λ (x : Outcome). HasCalled z w given turns (restarts_in a) u a x v) (sym (c.of_seek.ensures ∙ ap (λ (s : Option Seen). of_seek o s) seen))
+    (subst (λ (n : ℕ). HasCalled z w given turns n u a (of_seek o (seen_at m a.key.items a.hi a.trail)) v) (sym (ap restarts_of c.in-Seek.is))
+    (seek_called z u a m v o (sym c.ended-in-Seek.ensures.at ∙ c.in_ok-ended-in-Seek.was) w given turns small on (omega (arith, few))))
