@@ -2,7 +2,7 @@
 use Rattle.std.proofs.Common.{◌≡◌, ◌+◌, ◌<◌, ◌≤◌, ℕ, true, List, Option, Some, None, get_or, length, refl, sym, ap, ◌∙◌, subst, arith}
 use Rattle.std.specs.Option.{option_map}
 use Rattle.arrayvec.specs.ArrayVec.{ArrayVec}
-use Rattle.art_call.specs.Calls.{GoesOn, Get, HasCalled, HasUsed, Insert, IsCaller, Look, Remove, SeesRange, Wish, may_end, told_by}
+use Rattle.art_call.specs.Calls.{GoesOn, Get, HasCalled, HasUsed, Insert, IsCaller, LeavesTurns, Look, Remove, SeesRange, Wish, may_end, told_by, turns_left_in, turns_left_of}
 use Rattle.art_call.specs.Outcomes.{of_seek}
 use Rattle.art_call.specs.declared.callers.Call.TheVariants as call
 use Rattle.art_call.specs.declared.callers.Caller.{Caller}
@@ -99,6 +99,18 @@ module _ (lo : ArrayVec ℕ) (hi : Bound) where
   }
   seen_range z u v None small before ends = tt
 
+some_seen : (s : Option SeenOf) (seen : SeenOf) → looked s ≡ outcome.Seen seen → s ≡ Some seen
+unfolding looked
+some_seen (Some x) seen is = cc
+some_seen None seen is = cc
+
+-- only one that has ended so has seen something
+has_seen : (o : Outcome) (w : Walk) (k : List ℕ) (hi : Bound) (t : Trail) (seen : SeenOf) → seen_by (Some o) w k hi t ≡ Some seen → o ≡ Seen
+has_seen Seen w k hi t seen is = refl
+has_seen (Found value) w k hi t seen is = cc
+has_seen Absent w k hi t seen is = cc
+has_seen Busy w k hi t seen is = cc
+
 none_seen : (s : Option SeenOf) → looked s ≡ outcome.Busy → s ≡ None
 unfolding looked
 none_seen (Some seen) is = cc
@@ -137,6 +149,17 @@ module _ (z : Sizes) (u : View) (c : Caller) (m : Seek) (v : View) (o : Outcome)
   failed : u.failures + m.restarts ≤ v.failures
   failed = let a = sought.counted.failed in omega (arith, a)
 
+  -- of its turns these are left
+  leaves : c.call ≡ call.Seek m → aim_of m.walk ≡ aim.Range → (x : OutcomeOf) → ((seen : SeenOf) → x ≡ outcome.Seen seen → o ≡ Seen) → (x ≡ outcome.Busy → o ≡ Busy)
+      → LeavesTurns turns (turns_left_in c) u x v
+  leaves is look x seen_so busy_so =
+      let left = ap turns_left_of is in
+      subst (λ (n : ℕ). LeavesTurns turns n u x v) (sym left) (subst (λ (n : ℕ). LeavesTurns n m.left u x v) turns_are (record {
+        spent = sought.spent look;
+        some = λ seen told. sought.some (seen_so seen told);
+        none = λ told. sought.none (busy_so told);
+      }))
+
   used : o ≡ Busy → HasUsed z turns u v
   used busy =
       let all = (sought.busy busy).all in
@@ -155,15 +178,16 @@ module _ (z : Sizes) (u : View) (c : Caller) (m : Seek) (v : View) (o : Outcome)
     ground = tt;
     failed = failed;
     busy = λ told. used (key_busy k hi c.trail m.left m.walk o s aim ends told);
+    left = tt;
     steps = few;
   }
 
 module _ (z : Sizes) (u : View) (c : Caller) (m : Seek) (v : View) (o : Outcome) (ended : seeks.ended_at m ≡ Some o) where
-  pub seek_called : (w : Wish) (given turns : ℕ) → ((i : ℕ) → get_or c.key.items i 0 < 256) → GoesOn z w turns u c (call.Seek m) v → v.steps ≤ u.steps + given + 1000
+  pub seek_called : (w : Wish) (given turns : ℕ) → c.call ≡ call.Seek m → ((i : ℕ) → get_or c.key.items i 0 < 256) → GoesOn z w turns u c (call.Seek m) v → v.steps ≤ u.steps + given + 1000
       → HasCalled z w given turns m.restarts u c (of_seek o (seeks.seen_at m c.key.items c.hi c.trail)) v
-  seek_called (Get k) given turns small on few =
+  seek_called (Get k) given turns called small on few =
       get_called z u c m v o ended k c.hi turns on.short on.caller on.turns_are on.fits given (seeks.seen_at m c.key.items c.hi c.trail) on.aim_is few
-  seek_called (Look lo hi) given turns small on few =
+  seek_called (Look lo hi) given turns called small on few =
       let n = on.0 in
       let s = seen_by (Some o) m.walk lo.items hi c.trail in
       let e = ends z u c m v o ended lo hi turns n.short n.caller n.turns_are n.fits in
@@ -181,7 +205,10 @@ module _ (z : Sizes) (u : View) (c : Caller) (m : Seek) (v : View) (o : Outcome)
         ground = tt;
         failed = failed z u c m v o ended lo hi turns n.short n.caller n.turns_are n.fits;
         busy = λ told. used z u c m v o ended lo hi turns n.short n.caller n.turns_are n.fits (seen_busy lo.items hi c.trail m.left m.walk o n.aim_is e (none_seen s told));
+        left = leaves z u c m v o ended lo hi turns n.short n.caller n.turns_are n.fits called n.aim_is (looked s)
+            (λ seen told. has_seen o m.walk lo.items hi c.trail seen (some_seen s seen told))
+            (λ told. seen_busy lo.items hi c.trail m.left m.walk o n.aim_is e (none_seen s told));
         steps = few;
       })
-  seek_called (Insert k value) given turns small on few = absurd on
-  seek_called (Remove k) given turns small on few = absurd on
+  seek_called (Insert k value) given turns called small on few = absurd on
+  seek_called (Remove k) given turns called small on few = absurd on

@@ -193,6 +193,7 @@ module _ (z : Sizes) (u : View) (c : Caller) (m : Write) (v : View) (o : Outcome
         ground = g;
         failed = failed job.Insert k value turns on;
         busy = busy job.Insert k value turns on;
+        left = tt;
         steps = few;
       }
   write_called (Remove k) given turns on few =
@@ -205,6 +206,7 @@ module _ (z : Sizes) (u : View) (c : Caller) (m : Write) (v : View) (o : Outcome
         ground = g;
         failed = failed job.Remove k 0 turns on;
         busy = busy job.Remove k 0 turns on;
+        left = tt;
         steps = few;
       }
   write_called (Get k) given turns on few = absurd on

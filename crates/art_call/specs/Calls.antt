@@ -27,6 +27,7 @@ use Rattle.art_look.specs.declared.looks.Seen.{Seen}
 use Rattle.art_model.specs.declared.commands.Answer.TheVariants as reply
 use Rattle.art_seek.specs.Seeks as seeks
 use Rattle.art_seek.specs.Seeks.{WillBeBusy}
+use Rattle.art_seek.specs.Sought.{HasSpent}
 use Rattle.art_seek.specs.Walks.{aim_of}
 use Rattle.art_seek.specs.declared.seeks.Seek.{Seek}
 use Rattle.art_seek.specs.declared.walks.Aim.{Aim}
@@ -215,6 +216,24 @@ HasGroundOf z (Insert k value) turns restarts u c o v = IsGround z job.Insert tu
 HasGroundOf z (Remove k) turns restarts u c o v = IsGround z job.Remove turns restarts u c o v
 HasGroundOf z w turns restarts u c o v = ⊤
 
+-- how many turns of a seek are left
+abbrev pub turns_left_of : Call → ℕ
+turns_left_of (call.Write m) = 0
+turns_left_of (call.Seek m) = m.left
+
+abbrev pub turns_left_in : Caller → ℕ
+turns_left_in c = turns_left_of c.call
+
+-- of the turns of a look so many are left: three at least were used where it has seen something, and all where it has not
+pub record LeavesTurns (turns left : ℕ) (u : View) (o : Outcome) (v : View) : Type 0 where
+  pub spent : HasSpent u turns left v
+  pub some : (seen : Seen) → o ≡ outcome.Seen seen → left + 3 ≤ turns
+  pub none : o ≡ outcome.Busy → left ≡ 0
+
+abbrev pub HasTurnsLeft : Wish → ℕ → View → Caller → Outcome → View → Type 0
+HasTurnsLeft (Look lo hi) turns u c o v = LeavesTurns turns (turns_left_in c) u o v
+HasTurnsLeft w turns u c o v = ⊤
+
 -- all turns were used
 abbrev pub HasUsed : Sizes → ℕ → View → View → Type 0
 HasUsed z turns u v = writes.UsedTurns z u turns v
@@ -228,4 +247,5 @@ pub record HasCalled (z : Sizes) (w : Wish) (given turns restarts : ℕ) (u : Vi
   pub ground : HasGroundOf z w turns restarts u c o v
   pub failed : u.failures + restarts ≤ v.failures
   pub busy : o ≡ outcome.Busy → HasUsed z turns u v
+  pub left : HasTurnsLeft w turns u c o v
   pub steps : v.steps ≤ u.steps + given + 1000

@@ -1,6 +1,6 @@
 //! What a pass keeps beside the table, and the call that it makes.
 ghost use Rattle.std.specs.Prelude.{◌≡◌, ◌≢◌, ℕ, ◌≤◌, length, IfSome, false, true, None, Some};
-ghost use Rattle.art_call.specs.Calls.{HasCalled, IsCaller, IsCalling, Refuses, StaysApart, Wish, is_refusal, outcome_at, restarts_in};
+ghost use Rattle.art_call.specs.Calls.{HasCalled, IsCaller, IsCalling, Refuses, StaysApart, Wish, is_refusal, outcome_at, restarts_in, turns_left_in};
 ghost use Rattle.art_call.specs.Calls.{Insert as insert_wish, Remove as remove_wish, Get as get_wish, Look as look_wish};
 ghost use Rattle.art_call.specs.declared.outcomes.Outcome.TheVariants.{Overlaps as overlaps};
 ghost use Rattle.art_change.specs.Writes.{HoldsOrTold, IsFresh};
@@ -126,6 +126,16 @@ impl Caller {
         match &self.call {
             Call::Write(write) => write.restarts(),
             Call::Seek(seek) => seek.restarts(),
+        }
+    }
+
+    /// How many turns are left, where the call that was begun is a get or a look.
+    pub fn turns_left(&self) -> u32
+        ensures { result ≡ turns_left_in self.now }
+    {
+        match &self.call {
+            Call::Write(_) => 0,
+            Call::Seek(seek) => seek.turns_left(),
         }
     }
 

@@ -125,7 +125,7 @@ module _ (z : Sizes) (lo : List ℕ) (hi : KeyBound) (depth : ℕ) (t : Trail) (
   ended_fits x r o fits p =
       let told = told_rest z u v w x _ fits.0.only p in
       let so = passed_so z v w x (Some (look_done (seen_of lo hi q t.key.items r o))) (λ s. IsRow (heap_of s) lo q r (with_key t.key.items o)) p fits.3 in
-      (told.0, told.1, record { cells = so.0; shape = so.1; row = so.2 })
+      (told.0, told.1, record { cells = so.0; shape = so.1; row = so.2 }, fits.1)
 
   -- ---- a version word was clear
 

@@ -1,8 +1,8 @@
 -- How a look ends that is driven to its end.
-use Rattle.std.specs.Prelude.{◌≡◌, ℕ, List, Option, Some, None}
+use Rattle.std.specs.Prelude.{◌≡◌, ℕ, ◌+◌, ◌≤◌, List, Option, Some, None}
 use Rattle.art_find.specs.Driven.{Counts}
 use Rattle.art_key.specs.declared.bounds.Bound.{Bound as KeyBound}
-use Rattle.art_look.specs.Looks.{Fits, most_steps}
+use Rattle.art_look.specs.Looks.{Fits, least_steps, most_steps}
 use Rattle.art_look.specs.Seen.{Stood, look_done, seen_of}
 use Rattle.art_look.specs.declared.looks.Look.{Look}
 use Rattle.art_look.specs.declared.looks.Reach.{Reach}
@@ -30,3 +30,4 @@ LookEnds z lo hi u w None = OnlyReads u w
 pub record LookFits (z : Sizes) (lo : List ℕ) (hi : KeyBound) (u v : View) (m : Look) (t : Trail) (restarts : ℕ) : Type 0 where
   pub fits : Fits z lo hi m t u v
   pub counts : Counts u v (most_steps m.depth m.stage) restarts
+  pub least : u.steps + least_steps m.stage ≤ v.steps

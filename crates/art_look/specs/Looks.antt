@@ -117,6 +117,13 @@ most_steps depth (Bytes seen i) = 320 * depth + 5 + i
 most_steps depth (Decided x r o) = 320 * depth + 302
 most_steps depth (Ended r o) = 320 * depth + 303
 
+-- and at least so many: the anchor is begun and read before what was seen is checked
+abbrev pub least_steps : LookStage → ℕ
+least_steps Start = 0
+least_steps (Anchor x) = 1
+least_steps (Ended r o) = 3
+least_steps stage = 2
+
 -- ---- what it knows
 
 -- where a node is to be followed, its path begins lo
@@ -195,7 +202,7 @@ StageFits z lo hi depth (Bytes seen i) t u v = IsAbove z u v seen.stamp seen.lea
 StageFits z lo hi depth (Decided x r o) t u v = IsReading u v × (depth ≤ 64) × HasStamp z v x ×
     Shows z v x (λ s. IsRow (heap_of s) lo t.path.items r (with_key t.key.items o))
 StageFits z lo hi depth (Ended r o) t u v = MakesEvent u v (look_done (seen_of lo hi t.path.items t.key.items r o)) × OnlyTells u v ×
-    Stood z lo t.path.items t.key.items r o
+    Stood z lo t.path.items t.key.items r o × (depth ≤ 64)
 
 abbrev pub Fits : Sizes → List ℕ → KeyBound → Look → Trail → View → View → Type 0
 Fits z lo hi m t u v = StageFits z lo hi m.depth m.stage t u v

@@ -1,5 +1,5 @@
 //! A look of a range.
-ghost use Rattle.std.specs.Prelude.{◌≡◌, ℕ, ◌≤◌, ◌<◌, List, Option, length, None, Ok};
+ghost use Rattle.std.specs.Prelude.{◌≡◌, ℕ, ◌≤◌, ◌<◌, ◌+◌, List, Option, length, None, Ok};
 ghost use Rattle.art_key.specs.declared.bounds.Bound.{Bound as KeyBound};
 ghost use Rattle.art_look.specs.Looks.{stage_below};
 ghost use Rattle.art_look.specs.Seen.{bound_at, nearer, row_within, seen_of};
@@ -89,7 +89,7 @@ impl Look {
     ghost use Rattle.art_find.specs.Descents.{IsReading};
     ghost use Rattle.art_find.specs.declared.asked.Answer.TheVariants as told;
     ghost use Rattle.art_find.specs.declared.asked.Asked.{Asked as AskedStep};
-    ghost use Rattle.art_look.specs.Looks.{Fits, Settles, asks, deed_at, has_ended, most_steps, seen_at};
+    ghost use Rattle.art_look.specs.Looks.{Fits, Settles, asks, deed_at, has_ended, least_steps, most_steps, seen_at};
     ghost use Rattle.art_look.specs.declared.trails.Trail.{Trail as Trailed};
     ghost use Rattle.art_step.specs.declared.views.Sizes.{Sizes};
     ghost use Rattle.art_step.specs.declared.views.View.{View};
@@ -97,7 +97,7 @@ impl Look {
 
     /// At its beginning.
     pub fn new() -> Look
-        ensures steps { most_steps result.depth result.stage ≡ 0 }
+        ensures steps { (most_steps result.depth result.stage ≡ 0) × (least_steps result.stage ≡ 0) }
         ensures going { has_ended result.stage ≡ false }
         ensures fits { (z : Sizes) (lo : List ℕ) (hi : KeyBound) (t : Trailed) (u v : View) → IsReading u v → Fits z lo hi result t u v }
     {
@@ -166,6 +166,7 @@ impl Look {
         ensures on { result ≡ goes_on answer }
         ensures steps { result ≡ true → most_steps self.old.depth self.old.stage < most_steps self.new.depth self.new.stage }
         ensures anew { result ≡ false → most_steps self.new.depth self.new.stage ≡ 0 }
+        ensures least { least_steps self.new.stage ≤ least_steps self.old.stage + 1 }
         ensures fits { (z : Sizes) (hi : KeyBound) (u v w : View) (asked : AskedStep) →
             Fits z lo.now hi self.old trail.old u v → asks self.old.stage ≡ Some asked →
             Answers z (deed_at lo.now hi trail.old self.old.stage) asked answer v w → Fits z lo.now hi self.new trail.new u w }
@@ -192,6 +193,7 @@ impl Look {
     pub fn began(&mut self, stamp: Stamp)
         requires { WantsVersion (asks self.old.stage) }
         ensures steps { most_steps self.old.depth self.old.stage < most_steps self.new.depth self.new.stage }
+        ensures least { least_steps self.new.stage ≤ least_steps self.old.stage + 1 }
         ensures fits { (z : Sizes) (lo : List ℕ) (hi : KeyBound) (t : Trailed) (u v w : View) (asked : AskedStep) →
             Fits z lo hi self.old t u v → asks self.old.stage ≡ Some asked →
             Answers z (deed_at lo hi t self.old.stage) asked (told.Begun (Ok stamp)) v w → Fits z lo hi self.new t u w }
@@ -207,6 +209,7 @@ impl Look {
     pub fn checked(&mut self)
         requires { WantsCheck (asks self.old.stage) }
         ensures steps { most_steps self.old.depth self.old.stage < most_steps self.new.depth self.new.stage }
+        ensures least { least_steps self.new.stage ≤ least_steps self.old.stage + 1 }
         ensures fits { (z : Sizes) (lo : List ℕ) (hi : KeyBound) (t : Trailed) (u v w : View) (asked : AskedStep) →
             Fits z lo hi self.old t u v → asks self.old.stage ≡ Some asked →
             Answers z (deed_at lo hi t self.old.stage) asked (told.Checked (Ok tt)) v w → Fits z lo hi self.new t u w }
@@ -222,6 +225,7 @@ impl Look {
     /// A version word was locked, obsolete or changed: the look begins anew.
     pub fn failed(&mut self)
         ensures steps { most_steps self.new.depth self.new.stage ≡ 0 }
+        ensures least { least_steps self.new.stage ≡ 0 }
         ensures fits { (z : Sizes) (lo : List ℕ) (hi : KeyBound) (t : Trailed) (u v : View) → IsReading u v → Fits z lo hi self.new t u v }
     {
         self.stage = LookStage::Start;

@@ -21,7 +21,7 @@ impl Look {
     ghost use Rattle.art_find.specs.declared.asked.Answer.TheVariants as told;
     ghost use Rattle.art_find.specs.declared.asked.Asked.{Asked as AskedStep};
     ghost use Rattle.art_look.specs.Fronts.{low_at};
-    ghost use Rattle.art_look.specs.Looks.{Fits, IsSought, asks, deed_at, most_steps};
+    ghost use Rattle.art_look.specs.Looks.{Fits, IsSought, asks, deed_at, least_steps, most_steps};
     ghost use Rattle.art_look.specs.Trails.{HasFirstValue, SeeksChild, SeeksKeys, SpellsKey, SpellsPath, SpellsPrefix, SpellsWords};
     ghost use Rattle.art_step.specs.Shows.{HasStamp, Shows};
     ghost use Rattle.art_step.specs.declared.views.Sizes.{Sizes};
@@ -35,6 +35,7 @@ impl Look {
         requires wants { WantsWord (asks self.old.stage) }
         requires fits { (z : Sizes) × (hi : KeyBound) × (u : View) × (v : View) × Fits z lo.now hi self.old trail.old u v }
         ensures steps { most_steps self.old.depth self.old.stage < most_steps self.new.depth self.new.stage }
+        ensures least { least_steps self.new.stage ≤ least_steps self.old.stage + 1 }
         ensures fits { (z : Sizes) (hi : KeyBound) (u v w : View) (asked : AskedStep) →
             Fits z lo.now hi self.old trail.old u v → asks self.old.stage ≡ Some asked →
             Answers z (deed_at lo.now hi trail.old self.old.stage) asked (told.Word word) v w → Fits z lo.now hi self.new trail.new u w }
@@ -70,6 +71,7 @@ impl Look {
     /// The anchor's child word was read.
     fn see_root(&mut self, trail: &mut Trail, stamp: Stamp, word: u64)
         ensures steps { 1 < most_steps self.new.depth self.new.stage }
+        ensures least { least_steps self.new.stage ≤ 2 }
         ensures fits { (z : Sizes) (lo : List ℕ) (hi : KeyBound) (u w : View) → IsReading u w → HasStamp z w stamp →
             stamp.cell ≡ cells.Anchor → Shows z w stamp (λ s. s cells.Anchor 1 ≡ word) → WasNoted w stamp word →
             Fits z lo hi self.new trail.new u w }
@@ -88,6 +90,7 @@ impl Look {
         requires long { length trail.old.path.items ≡ self.old.depth }
         requires front { Begins trail.old.path.items lo.now }
         ensures steps { 320 * self.old.depth + 5 < most_steps self.new.depth self.new.stage }
+        ensures least { least_steps self.new.stage ≤ 2 }
         ensures fits { (z : Sizes) (hi : KeyBound) (u w : View) → IsOn z u w seen.stamp seen.node →
             Shows z w seen.stamp (λ s. SpellsPrefix s seen.node trail.old.path.items seen.header 0 trail.old.path.items) →
             Fits z lo.now hi self.new trail.new u w }
@@ -109,6 +112,7 @@ impl Look {
         requires short { self.old.depth + count_in seen.header < 64 }
         requires front { Begins (take self.old.depth trail.old.path.items) lo.now }
         ensures steps { 320 * self.old.depth + 6 + number < most_steps self.new.depth self.new.stage }
+        ensures least { least_steps self.new.stage ≤ 2 }
         ensures fits { (z : Sizes) (hi : KeyBound) (u w : View) → IsOn z u w seen.stamp seen.node →
             Shows z w seen.stamp (λ s. SpellsWords s seen self.old.depth number trail.old.path.items) →
             Shows z w seen.stamp (λ s. s (cells.Node seen.node) (2 + number) ≡ word) → Fits z lo.now hi self.new trail.new u w }
@@ -128,6 +132,7 @@ impl Look {
         requires short { self.old.depth + count_in seen.header < 64 }
         requires front { Begins (take self.old.depth trail.old.path.items) lo.now }
         ensures steps { 320 * self.old.depth + 13 < most_steps self.new.depth self.new.stage }
+        ensures least { least_steps self.new.stage ≤ 2 }
         ensures fits { (z : Sizes) (hi : KeyBound) (u w : View) → IsOn z u w seen.stamp seen.node →
             Shows z w seen.stamp (λ s. SpellsPath s seen.node (take self.old.depth trail.old.path.items) seen.header trail.old.path.items) →
             Fits z lo.now hi self.new trail.new u w }
@@ -158,6 +163,7 @@ impl Look {
         requires sought { IsSought lo.now self.old.depth trail.now.path.items front }
         requires number { number < 32 }
         ensures steps { 320 * self.old.depth + 14 + number < most_steps self.new.depth self.new.stage }
+        ensures least { least_steps self.new.stage ≤ 2 }
         ensures fits { (z : Sizes) (hi : KeyBound) (u w : View) → IsOn z u w seen.stamp seen.node →
             Shows z w seen.stamp (λ s. SeeksKeys s seen.node (take self.old.depth trail.now.path.items) seen.header trail.now.path.items
             (low_at front lo.now trail.now.path.items) number) →
@@ -177,6 +183,7 @@ impl Look {
         requires low { low_at sought.front lo.now trail.old.path.items ≤ sought.byte }
         requires byte { sought.byte < 256 }
         ensures steps { 320 * self.old.depth + 46 + sought.byte < most_steps self.new.depth self.new.stage }
+        ensures least { least_steps self.new.stage ≤ 2 }
         ensures fits { (z : Sizes) (hi : KeyBound) (u w : View) → IsOn z u w sought.seen.stamp sought.seen.node →
             Shows z w sought.seen.stamp (λ s. SeeksChild s sought.seen.node (take self.old.depth trail.old.path.items) trail.old.path.items
             (low_at sought.front lo.now trail.old.path.items) sought.byte sought.place) →
@@ -196,6 +203,7 @@ impl Look {
         requires low { low_at sought.front lo.now trail.old.path.items ≤ sought.byte }
         requires byte { sought.byte < 256 }
         ensures steps { 320 * self.old.depth + 301 < most_steps self.new.depth self.new.stage }
+        ensures least { least_steps self.new.stage ≤ 2 }
         ensures fits { (z : Sizes) (hi : KeyBound) (u w : View) (word : ℕ) → IsOn z u w sought.seen.stamp sought.seen.node →
             Shows z w sought.seen.stamp (λ s. SeeksChild s sought.seen.node (take self.old.depth trail.old.path.items) trail.old.path.items
             (low_at sought.front lo.now trail.old.path.items) sought.byte sought.place) →
@@ -220,6 +228,7 @@ impl Look {
     fn see_length(&mut self, trail: &mut Trail, stamp: Stamp, leaf: u32, value: u64, bytes: u64)
         requires few { self.old.depth ≤ 64 }
         ensures steps { 320 * self.old.depth + 4 < most_steps self.new.depth self.new.stage }
+        ensures least { least_steps self.new.stage ≤ 2 }
         ensures fits { (z : Sizes) (lo : List ℕ) (hi : KeyBound) (u w : View) → IsAbove z u w stamp leaf →
             Shows z w stamp (λ s. HasFirstValue s stamp.cell lo trail.old.path.items leaf value) →
             Shows z w stamp (λ s. s (cells.Leaf leaf) 1 ≡ bytes) → Fits z lo hi self.new trail.new u w }
@@ -250,6 +259,7 @@ impl Look {
         requires more { 8 * number < seen.count }
         requires short { seen.count ≤ 64 }
         ensures steps { 320 * self.old.depth + 5 + number < most_steps self.new.depth self.new.stage }
+        ensures least { least_steps self.new.stage ≤ 2 }
         ensures fits { (z : Sizes) (lo : List ℕ) (hi : KeyBound) (u w : View) → IsAbove z u w seen.stamp seen.leaf →
             Shows z w seen.stamp (λ s. SpellsKey s seen.stamp.cell lo trail.old.path.items seen (8 * number) trail.old.key.items) →
             Shows z w seen.stamp (λ s. s (cells.Leaf seen.leaf) (2 + number) ≡ word) → Fits z lo hi self.new trail.new u w }

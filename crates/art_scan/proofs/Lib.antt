@@ -1,6 +1,10 @@
+pub mod Alone
+pub mod Begun
+pub mod Between
 pub mod Bounds
+pub mod Ended
 pub mod Found
 pub mod Keys
 pub mod Listed
 pub mod Replays
-pub mod Scans
+pub mod Tiled

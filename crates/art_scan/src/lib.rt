@@ -21,7 +21,12 @@
 #![tactic(auto)]
 
 mod ends;
+mod faults;
 mod laws;
+mod scans;
+mod tilings;
 
 pub use ends::after_ends_range;
-pub use laws::looks_that_tile_are_scans;
+pub use faults::ScanFault;
+pub use laws::{looks_at_one_state_are_answers, looks_that_tile_are_scans};
+pub use scans::{More, scan};

@@ -4,14 +4,15 @@ use Rattle.art_epoch.proofs.Waiting.{limbo_mapped}
 use Rattle.art_epoch.specs.Limbo.{IsLimbo}
 use Rattle.art_key.specs.declared.bounds.Bound.{Bound as KeyBound}
 use Rattle.art_look.specs.declared.trails.Trail.{Trail}
-use Rattle.art_seek.proofs.Ends.{HasTold, failures_met, few_made, has_told}
+use Rattle.art_seek.proofs.Ends.{HasTold, failures_met, few_made, has_told, range_few, some_made}
 use Rattle.art_seek.proofs.Pinned.{pinned_free, pinned_is}
 use Rattle.art_seek.specs.Seeks.{HasSought, WentIdle, IsOver}
-use Rattle.art_seek.specs.Sought.{IsIdleAgain, UsedTurns}
-use Rattle.art_seek.specs.Walks.{IsEnd, told_of}
+use Rattle.art_seek.specs.Sought.{HasSpent, IsIdleAgain, UsedTurns}
+use Rattle.art_seek.specs.Walks.{IsEnd, aim_of, told_of}
 use Rattle.art_seek.specs.declared.seeks.Seek.{Seek}
+use Rattle.art_seek.specs.declared.walks.Aim.TheVariants as aim
 use Rattle.art_seek.specs.declared.walks.Outcome.{Outcome}
-use Rattle.art_seek.specs.declared.walks.Outcome.TheVariants.{Busy}
+use Rattle.art_seek.specs.declared.walks.Outcome.TheVariants.{Busy, Seen}
 use Rattle.art_step.specs.Events.{MakesEvent, SeesEvent}
 use Rattle.art_step.specs.Histories.{IsLegal, event, places}
 use Rattle.art_step.specs.Shows.{Rest}
@@ -48,6 +49,9 @@ module _ (z : Sizes) (k : List ℕ) (hi : KeyBound) (u : View) (m : Seek) (t : T
   pub over_free : (v : View) → IsOver z k hi u m t v → v.held ≡ []
   over_free v over = ap (λ (r : Rest). r.held) (over_told v over).rest ∙ pinned_free z u over.walking.opened over.walking.may over.walking.pins_to
 
+  seen_end : (o : Outcome) → o ≡ Seen → IsEnd m.walk m.left o → IsEnd m.walk m.left Seen
+  seen_end o is ends = subst (λ (p : Outcome). IsEnd m.walk m.left p) is ends
+
   no_turn_left : (o : Outcome) → o ≡ Busy → IsEnd m.walk m.left o → IsEnd m.walk m.left Busy
   no_turn_left o is ends = subst (λ (p : Outcome). IsEnd m.walk m.left p) is ends
 
@@ -82,6 +86,27 @@ module _ (z : Sizes) (k : List ℕ) (hi : KeyBound) (u : View) (m : Seek) (t : T
         let few = few_made z k hi w.opened t m.restarts c.before m.walk short ends.0 w.walk in
         record { all = omega (arith, first, last, counted, none); few = omega (arith, counted, none, few) }
 
+    -- its failures, and those that it met
+    failed : v.failures ≡ u.failures + m.restarts
+    failed = ap (λ (a : View). a.failures) c.is ∙ (failures_met z k hi c.over.walking.opened t m.restarts c.before m.walk c.over.walking.walk ∙ ap (λ (n : ℕ). n + m.restarts) (ap (λ (a : View). a.failures) opened_is))
+
+    spent : aim_of m.walk ≡ aim.Range → HasSpent u m.turns m.left v
+    spent is =
+        let w = c.over.walking in
+        let first = ap (λ (a : View). a.steps) opened_is in
+        let last = ap (λ (a : View). a.steps) c.is in
+        let counted = w.counted in
+        let met = failed in
+        let few = range_few z k hi w.opened t m.restarts c.before m.walk is w.walk in
+        record { all = omega (arith, first, last, counted); few = omega (arith, counted, met, few) }
+
+    some : IsEnd m.walk m.left Seen → m.left + 3 ≤ m.turns
+    some ends =
+        let w = c.over.walking in
+        let counted = w.counted in
+        let made = some_made z k hi w.opened t m.restarts c.before m.walk m.left ends w.walk in
+        omega (arith, counted, made)
+
     pub closed_sought : length k ≤ 64 → HasSought k hi u m t m.outcome v
     closed_sought short =
         let w = c.over.walking in
@@ -93,9 +118,9 @@ module _ (z : Sizes) (k : List ℕ) (hi : KeyBound) (u : View) (m : Seek) (t : T
           idle = idle_again;
           tells = sees_all u w.opened c.before v (ap (λ (a : View). a.seen) opened_is) (ap (λ (a : View). a.own) opened_is) (ap (λ (a : View). a.pass) opened_is)
               (ap (λ (a : View). a.seen) c.is) (ap (λ (a : View). a.own) c.is) (told_of m.outcome k hi t m.walk) told.tells;
-          counted = record {
-            failed = ap (λ (a : View). a.failures) c.is ∙ (failures_met z k hi w.opened t m.restarts c.before m.walk w.walk ∙ ap (λ (n : ℕ). n + m.restarts) (ap (λ (a : View). a.failures) opened_is));
-            steps = omega (arith, first, last, counted);
-          };
+          counted = record { failed = failed; steps = omega (arith, first, last, counted) };
+          spent = spent;
+          some = λ is. some (seen_end m.outcome is c.over.ends);
+          none = λ is. (no_turn_left m.outcome is c.over.ends).1;
           busy = λ is. used short (no_turn_left m.outcome is c.over.ends);
         }

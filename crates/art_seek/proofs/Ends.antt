@@ -7,7 +7,7 @@ use Rattle.art_find.specs.Descents as descents
 use Rattle.art_find.specs.Driven.{get_done}
 use Rattle.art_find.specs.declared.descents.Descent.{Descent}
 use Rattle.art_key.specs.declared.bounds.Bound.{Bound as KeyBound}
-use Rattle.art_look.proofs.Counting.{few_steps as few_look_steps}
+use Rattle.art_look.proofs.Counting.{ended_least, few_steps as few_look_steps}
 use Rattle.art_look.proofs.Driven.{ended_with}
 use Rattle.art_look.proofs.Stages.{has_seen, still_reading as still_looking}
 use Rattle.art_look.specs.Looks as looks
@@ -15,7 +15,8 @@ use Rattle.art_look.specs.Seen.{look_done}
 use Rattle.art_look.specs.declared.looks.Look.{Look}
 use Rattle.art_look.specs.declared.looks.Seen.{Seen as SeenOf}
 use Rattle.art_look.specs.declared.trails.Trail.{Trail}
-use Rattle.art_seek.specs.Walks.{Fits, IsEnd, ended_at, of_value, told_of}
+use Rattle.art_seek.specs.Walks.{Fits, IsEnd, aim_of, ended_at, of_value, told_of}
+use Rattle.art_seek.specs.declared.walks.Aim.TheVariants as aim
 use Rattle.art_seek.specs.declared.walks.Outcome.{Outcome}
 use Rattle.art_seek.specs.declared.walks.Outcome.TheVariants.{Found, Absent, Seen, Busy}
 use Rattle.art_seek.specs.declared.walks.Walk.{Walk}
@@ -135,13 +136,26 @@ module _ (z : Sizes) (k : List ℕ) (hi : KeyBound) (u : View) (t : Trail) (n : 
   failures_met (Key m) fits = fits.counts.failures
   failures_met (Range m) fits = fits.counts.failures
 
-  -- until it has ended
+  -- a look
+  pub range_few : (w : Walk) → aim_of w ≡ aim.Range → Fits z k hi u w t n v → v.steps < u.steps + 30000 * (n + 1)
+  range_few (Key m) is fits = cc
+  range_few (Range m) is fits =
+      let few = few_look_steps z k hi m.depth t m.stage u v fits.fits in
+      let made = fits.counts.steps in
+      omega (arith, few, made)
+
+  -- either, until it has ended
   pub few_made : (w : Walk) → length k ≤ 64 → ended_at w ≡ None → Fits z k hi u w t n v → v.steps < u.steps + 30000 * (n + 1)
   few_made (Key m) short going fits =
       let few = few_steps z k (get_done k) m.depth m.stage u v short (value_going (descents.ended_at m.stage) going) fits.fits in
       let made = fits.counts.steps in
       omega (arith, few, made)
-  few_made (Range m) short going fits =
-      let few = few_look_steps z k hi m.depth t m.stage u v (seen_going (looks.has_ended m.stage) going) fits.fits in
-      let made = fits.counts.steps in
-      omega (arith, few, made)
+  few_made (Range m) short going fits = range_few (Range m) refl fits
+
+  -- where a look has seen something
+  pub some_made : (w : Walk) (left : ℕ) → IsEnd w left Seen → Fits z k hi u w t n v → u.steps + 3 ≤ v.steps
+  some_made (Key m) left ends fits = absurd (key_not_seen m left ends)
+  some_made (Range m) left ends fits =
+      let three = ended_least m.stage (range_seen m left ends) in
+      let least = fits.least in
+      omega (arith, three, least)

@@ -1,5 +1,5 @@
 -- A walk, from step to step.
-use Rattle.std.proofs.Common.{◌≡◌, ℕ, ◌<◌, ◌≤◌, true, false, List, length, Some, None, refl, sym, subst, arith}
+use Rattle.std.proofs.Common.{◌≡◌, ℕ, ◌+◌, ◌<◌, ◌≤◌, true, List, length, Some, None, refl, sym, subst, arith}
 use Rattle.art_find.proofs.Counting.{answers_count, counts_on, few_steps}
 use Rattle.art_find.specs.Asking.{Answers, MaySettle, goes_on}
 use Rattle.art_find.specs.Descents as descents
@@ -31,15 +31,11 @@ use Rattle.art_step.specs.declared.views.Sizes.{Sizes}
 use Rattle.art_step.specs.declared.views.Stamp.{Stamp}
 use Rattle.art_step.specs.declared.views.View.{View}
 
--- ---- where it asks for a step, it goes on
+-- ---- where a descent asks for a step, it goes on
 
 descent_going : (s : Stage) (a : Asked) → descents.asks s ≡ Some a → descents.ended_at s ≡ None
 descent_going (stage.Ended o) a is = cc
 descent_going s a is = refl
-
-look_going : (s : LookStage) (a : Asked) → looks.asks s ≡ Some a → looks.has_ended s ≡ false
-look_going (look_stage.Ended r o) a is = cc
-look_going s a is = refl
 
 -- ---- each step counts
 
@@ -57,13 +53,18 @@ module _ (z : Sizes) (k : List ℕ) (u v w : View) (n : ℕ) (asked : Asked) (an
 
   pub range_on : (hi : KeyBound) (m m' : Look) (t t' : Trail) → looks.asks m.stage ≡ Some asked → Answers z (looks.deed_at k hi t m.stage) asked answer v w
       → (goes_on answer ≡ true → looks.most_steps m.depth m.stage < looks.most_steps m'.depth m'.stage) → looks.Fits z k hi m' t' u w
+      → looks.least_steps m'.stage ≤ looks.least_steps m.stage + 1
       → LookFits z k hi u v m t n → LookFits z k hi u w m' t' (restarts_after n (goes_on answer))
-  range_on hi m m' t t' is row further fits before = record {
-    fits = fits;
-    counts = counts_on u v w (looks.most_steps m.depth m.stage) (looks.most_steps m'.depth m'.stage) n (goes_on answer) further
-        (few_look_steps z k hi m.depth t m.stage u v (look_going m.stage asked is) before.fits)
-        (answers_count z (looks.deed_at k hi t m.stage) asked answer v w row) before.counts;
-  }
+  range_on hi m m' t t' is row further fits more before =
+      let counted = answers_count z (looks.deed_at k hi t m.stage) asked answer v w row in
+      let one = counted.steps in
+      let least = before.least in
+      record {
+        fits = fits;
+        counts = counts_on u v w (looks.most_steps m.depth m.stage) (looks.most_steps m'.depth m'.stage) n (goes_on answer) further
+            (few_look_steps z k hi m.depth t m.stage u v before.fits) counted before.counts;
+        least = omega (arith, one, least, more);
+      }
 
 -- ---- what it settles, its event says
 

@@ -8,14 +8,15 @@ use Rattle.art_epoch.specs.declared.asked.Asked.TheVariants.{Store}
 use Rattle.art_key.specs.declared.bounds.Bound.{Bound as KeyBound}
 use Rattle.art_look.specs.declared.looks.Seen.{Seen as SeenOf}
 use Rattle.art_look.specs.declared.trails.Trail.{Trail}
-use Rattle.art_seek.specs.Sought.{HasCounted, IsIdleAgain, UsedTurns}
+use Rattle.art_seek.specs.Sought.{HasCounted, HasSpent, IsIdleAgain, UsedTurns}
 use Rattle.art_seek.specs.Walks as walks
-use Rattle.art_seek.specs.Walks.{IsAtStart, IsEnd, told_of}
+use Rattle.art_seek.specs.Walks.{IsAtStart, IsEnd, aim_of, told_of}
 use Rattle.art_seek.specs.declared.asked.Asked.{Asked}
 use Rattle.art_seek.specs.declared.asked.Asked.TheVariants.{Frame, Cell}
 use Rattle.art_seek.specs.declared.seeks.Seek.{Seek}
 use Rattle.art_seek.specs.declared.seeks.SeekStage.{SeekStage}
 use Rattle.art_seek.specs.declared.seeks.SeekStage.TheVariants as stage
+use Rattle.art_seek.specs.declared.walks.Aim.TheVariants as aim
 use Rattle.art_seek.specs.declared.walks.Outcome.{Outcome}
 use Rattle.art_seek.specs.declared.walks.Outcome.TheVariants.{Seen, Busy}
 use Rattle.art_seek.specs.declared.walks.Walk.{Walk}
@@ -137,9 +138,13 @@ turns_used m = turns_used_at m.stage m
 
 -- ---- how it ends
 
--- the pass is idle again, and made the event of the outcome, or none; its steps and its failures are counted
+-- the pass is idle again, and made the event of the outcome, or none; its steps and its failures are counted; a look that has seen
+-- something used three turns at least
 pub record HasSought (k : List ℕ) (hi : KeyBound) (u : View) (m : Seek) (t : Trail) (o : Outcome) (v : View) : Type 0 where
   pub idle : IsIdleAgain u v
   pub tells : SeesEvent u v (told_of o k hi t m.walk)
   pub counted : HasCounted u m.turns m.restarts v
+  pub spent : aim_of m.walk ≡ aim.Range → HasSpent u m.turns m.left v
+  pub some : o ≡ Seen → m.left + 3 ≤ m.turns
+  pub none : o ≡ Busy → m.left ≡ 0
   pub busy : o ≡ Busy → UsedTurns u m.turns m.restarts v

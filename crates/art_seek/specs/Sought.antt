@@ -31,6 +31,12 @@ pub record UsedTurns (u : View) (turns restarts : ℕ) (v : View) : Type 0 where
   pub all : v.steps ≡ u.steps + turns + 3
   pub few : turns < 30000 * (restarts + 1)
 
+-- of its turns so many are left: the others were used, and are few beside the failures that it met; three steps are of the pin and of
+-- the close
+pub record HasSpent (u : View) (turns left : ℕ) (v : View) : Type 0 where
+  pub all : v.steps + left ≡ u.steps + turns + 3
+  pub few : turns + 30000 * u.failures < left + 30000 * (v.failures + 1)
+
 -- how a get ends
 abbrev pub got_of : Outcome → Got
 got_of (Found value) = got.Found value

@@ -137,6 +137,13 @@ impl Seek {
         self.restarts
     }
 
+    /// How many of its turns are left.
+    pub fn turns_left(&self) -> u32
+        ensures { result ≡ self.now.left }
+    {
+        self.left
+    }
+
     /// Ends as soon as it may, as if the turns that were used had been all. False, with nothing changed, where the event was made.
     pub fn give_up(&mut self) -> bool
         ensures walk { self.new.walk ≡ self.old.walk }

@@ -22,9 +22,9 @@ use Rattle.art_step.specs.declared.deeds.Deed.{Deed as ByteDeed}
 use Rattle.art_step.specs.declared.views.Sizes.{Sizes}
 use Rattle.art_step.specs.declared.views.View.{View}
 use Rattle.art_table.proofs.Histories.{sees_typed, told_typed}
-use Rattle.art_table.specs.Calls.{HasEnded, Sees}
+use Rattle.art_table.specs.Calls.{HasEnded, HasTurnsLeft, LeavesTurns, Sees}
 use Rattle.art_table.specs.Jobs.{HasRange, IsRange, Within, job_fault, key_at, result_of, seen_of, wish_of}
-use Rattle.art_table.specs.Tables.{IsPassOf, caller_of, number_of, schema_in, seen_by, sizes_in, view_of}
+use Rattle.art_table.specs.Tables.{IsPassOf, caller_of, number_of, schema_in, seen_by, sizes_in, turns_left_by, view_of}
 use Rattle.art_table.specs.declared.jobs.Job.{Job}
 use Rattle.art_table.specs.declared.jobs.Job.TheVariants.{Insert, Remove, Get, Look}
 use Rattle.art_table.specs.declared.passes.Pass.{Pass}
@@ -74,6 +74,29 @@ has_range z schema (Insert t value) o range r = tt
 has_range z schema (Remove t) o range r = tt
 has_range z schema (Get t) o range r = tt
 
+-- ---- the turns of a look
+
+look_left : (turns left : ℕ) (lo hi : Bound) (p q : Pass) (o : CallOutcome) → calls.may_end (calls.Look (key_at lo) hi) o ≡ true → calls.LeavesTurns turns left (view_of p) o (view_of q)
+    → (schema : List Column) → LeavesTurns turns left p (result_of schema o) q
+look_left turns left lo hi p q (outcome.Seen s) may leaves schema = record { spent = leaves.spent; some = λ o is. leaves.some s refl; none = λ f is. cc }
+look_left turns left lo hi p q outcome.Busy may leaves schema = record { spent = leaves.spent; some = λ o is. cc; none = λ f is. (cc, leaves.none refl) }
+look_left turns left lo hi p q outcome.New may leaves schema = cc
+look_left turns left lo hi p q (outcome.Present had) may leaves schema = cc
+look_left turns left lo hi p q (outcome.Gone had) may leaves schema = cc
+look_left turns left lo hi p q outcome.Absent may leaves schema = cc
+look_left turns left lo hi p q (outcome.Found had) may leaves schema = cc
+look_left turns left lo hi p q (outcome.Full pool) may leaves schema = cc
+look_left turns left lo hi p q (outcome.Crowded b) may leaves schema = cc
+look_left turns left lo hi p q (outcome.Exhausted c) may leaves schema = cc
+look_left turns left lo hi p q outcome.Overlaps may leaves schema = cc
+
+turns_left : (schema : List Column) (j : Job) (turns : ℕ) (p q : Pass) (o : CallOutcome) → calls.may_end (wish_of schema j) o ≡ true
+    → calls.HasTurnsLeft (wish_of schema j) turns (view_of p) (caller_of q) o (view_of q) → HasTurnsLeft j turns p (result_of schema o) q
+turns_left schema (Look lo hi) turns p q o may left = look_left turns (turns_left_by q) lo hi p q o may left schema
+turns_left schema (Insert t value) turns p q o may left = tt
+turns_left schema (Remove t) turns p q o may left = tt
+turns_left schema (Get t) turns p q o may left = tt
+
 -- ---- a call that has ended
 
 pub same_then : (a b c : Seat) → SamePass a b → SamePass b c → SamePass a c
@@ -105,6 +128,7 @@ module _ (t : Table) (j : Job) (given turns restarts : ℕ) (p q : Pass) (o : Ca
     legal = typed_legal t q is_pass;
     sees = subst (Sees t p q) (told_typed (schema_in t) j o stands) (sees_typed t p q (calls.told_by (wish_of (schema_in t) j) o) called.tells);
     range = has_range (sizes_in t) (schema_in t) j o range called.range;
+    left = turns_left (schema_in t) j turns p q o called.may called.left;
     steps = called.steps;
     outcome = o;
     restarts = restarts;

@@ -1,5 +1,5 @@
 -- What a call does, as its pass has seen it.
-use Rattle.std.specs.Prelude.{◌≡◌, ℕ, ◌+◌, ◌≤◌, List, [], ◌∷◌, ◌++◌, length, Option, Some, None, Result, Err}
+use Rattle.std.specs.Prelude.{◌≡◌, ℕ, ◌+◌, ◌≤◌, List, [], ◌∷◌, ◌++◌, length, Option, Some, None, Result, Ok, Err, ⊤}
 use Rattle.art_call.specs.Calls.{HasCalled, IsCalling, StaysApart}
 use Rattle.art_call.specs.declared.outcomes.Outcome.{Outcome as CallOutcome}
 use Rattle.art_key.specs.Histories.{IsLegal}
@@ -8,12 +8,14 @@ use Rattle.art_key.specs.declared.events.Event.{Event}
 use Rattle.art_key.specs.declared.faults.ValueFault.{ValueFault}
 use Rattle.art_shared.specs.SamePass.{SamePass}
 use Rattle.art_shared.specs.Tables as shared
+use Rattle.art_seek.specs.Sought.{HasSpent}
 use Rattle.art_table.specs.Jobs.{HasRange, IsRange, job_fault, result_of, told_by, wish_of}
-use Rattle.art_table.specs.Tables.{IsPassOf, caller_of, number_of, own_of, schema_in, seen_by, sizes_in, view_of}
+use Rattle.art_table.specs.Tables.{IsPassOf, caller_of, number_of, own_of, schema_in, seen_by, sizes_in, turns_left_by, view_of}
 use Rattle.art_table.specs.declared.attempts.Attempt.{Attempt}
 use Rattle.art_table.specs.declared.faults.Fault.{Fault}
-use Rattle.art_table.specs.declared.faults.Fault.TheVariants.{Value}
+use Rattle.art_table.specs.declared.faults.Fault.TheVariants.{Busy, Value}
 use Rattle.art_table.specs.declared.jobs.Job.{Job}
+use Rattle.art_table.specs.declared.jobs.Job.TheVariants.{Look}
 use Rattle.art_table.specs.declared.jobs.Outcome.{Outcome}
 use Rattle.art_table.specs.declared.passes.Pass.{Pass}
 use Rattle.art_table.specs.declared.tables.Table.{Table}
@@ -33,6 +35,16 @@ Sees t p q (Some what) = Makes t p q what
 
 -- ---- a call
 
+-- of the turns of a look so many are left: three at least were used where it is answered, and all where it is refused, as busy
+pub record LeavesTurns (turns left : ℕ) (p : Pass) (r : Result Outcome Fault) (q : Pass) : Type 0 where
+  pub spent : HasSpent (view_of p) turns left (view_of q)
+  pub some : (o : Outcome) → r ≡ Ok o → left + 3 ≤ turns
+  pub none : (f : Fault) → r ≡ Err f → (f ≡ Busy) × (left ≡ 0)
+
+abbrev pub HasTurnsLeft : Job → ℕ → Pass → Result Outcome Fault → Pass → Type 0
+HasTurnsLeft (Look lo hi) turns p r q = LeavesTurns turns (turns_left_by q) p r q
+HasTurnsLeft j turns p r q = ⊤
+
 -- a call by the pass p that ended so, in so many turns: the pass is q then
 pub record HasEnded (t : Table) (j : Job) (given turns : ℕ) (p : Pass) (r : Result Outcome Fault) (q : Pass) : Type 0 where
   pub pass : IsPassOf t q
@@ -40,6 +52,7 @@ pub record HasEnded (t : Table) (j : Job) (given turns : ℕ) (p : Pass) (r : Re
   pub legal : IsLegal (schema_in t) (seen_by t q)
   pub sees : Sees t p q (told_by j r)
   pub range : HasRange j r
+  pub left : HasTurnsLeft j turns p r q
   pub steps : (view_of q).steps ≤ (view_of p).steps + given + 1000
   pub outcome : CallOutcome
   pub restarts : ℕ

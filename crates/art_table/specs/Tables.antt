@@ -1,6 +1,6 @@
 -- What contracts see of a table, and of a pass.
 use Rattle.std.specs.Prelude.{◌≡◌, ℕ, List}
-use Rattle.art_call.specs.Calls.{IsCaller}
+use Rattle.art_call.specs.Calls.{IsCaller, turns_left_in}
 use Rattle.art_call.specs.declared.callers.Caller.{Caller}
 use Rattle.art_key.specs.declared.columns.Column.{Column}
 use Rattle.art_key.specs.declared.events.Event.{Event}
@@ -30,6 +30,10 @@ number_of p = (view_of p).pass
 -- the call that it makes, and what that needs
 abbrev pub caller_of : Pass → Caller
 caller_of p = p.caller.value
+
+-- how many turns were left of the get or the look that it made last, step by step or as a look
+abbrev pub turns_left_by : Pass → ℕ
+turns_left_by p = turns_left_in (caller_of p)
 
 -- what it has seen: events of typed rows
 abbrev pub seen_by : Table → Pass → List Event

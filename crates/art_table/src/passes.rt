@@ -5,7 +5,7 @@ ghost use Rattle.art_call.specs.Made.{MakesStep};
 ghost use Rattle.art_call.specs.declared.outcomes.Outcome.{Outcome as CallOutcome};
 ghost use Rattle.art_table.specs.Calls.{HasEnded, IsUnderWay};
 ghost use Rattle.art_table.specs.Jobs.{IsRange, job_fault};
-ghost use Rattle.art_table.specs.Tables.{IsPassOf, caller_of, number_of, schema_in, sizes_in, view_of};
+ghost use Rattle.art_table.specs.Tables.{IsPassOf, caller_of, number_of, schema_in, sizes_in, turns_left_by, view_of};
 ghost use Rattle.art_table.specs.declared.jobs.Job.{Job as JobOf};
 ghost use Rattle.art_table.specs.declared.passes.Pass.{Pass as PassOf};
 
@@ -27,6 +27,13 @@ impl Pass {
         ensures { result ≡ number_of self.now }
     {
         self.seat.number()
+    }
+
+    /// How many turns were left of the last look that it made, or of the last get that it made step by step.
+    pub fn turns_left(&self) -> u32
+        ensures { result ≡ turns_left_by self.now }
+    {
+        self.caller.turns_left()
     }
 
     /// Begins a call of the job, unless its tuple does not stand in the schema.

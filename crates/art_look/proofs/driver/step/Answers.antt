@@ -1,4 +1,4 @@
-use Rattle.std.proofs.Common.{Bool, sym, ◌∙◌, subst}
+use Rattle.std.proofs.Common.{Bool, sym, ◌∙◌, subst, arith}
 use Rattle.std.specs.Prelude.{IfSome, Option}
 use Rattle.art_find.specs.Asking.{IsAllowed}
 use Rattle.art_find.specs.declared.asked.Asked.{Asked}
@@ -27,9 +27,14 @@ returns-clause-fits g c = λ u n before.
     let lo = c.args.lo.now in
     let hi = c.args.hi.now in
     let row = c.make-answer.ensures.row in
+    let counted = answers_count z (deed_at lo hi t m.stage) c.in-Some.asked c.make-answer.result v w row in
+    let one = counted.steps in
+    let least = before.least in
+    let more = c.told.ensures.least in
     record {
       fits = c.told.ensures.fits z hi u v w c.in-Some.asked before.fits (sym c.next.ensures.asks ∙ c.in-Some.is) row;
       counts = counts_on u v w (most_steps m.depth m.stage) (most_steps c.told.new.self.depth c.told.new.self.stage) n c.told.result c.told.ensures.steps
-          (few_steps z lo hi m.depth t m.stage u v c.requires.going before.fits)
-          (subst (λ (on : Bool). Counted v w on) (sym c.told.ensures.on) (answers_count z (deed_at lo hi t m.stage) c.in-Some.asked c.make-answer.result v w row)) before.counts;
+          (few_steps z lo hi m.depth t m.stage u v before.fits)
+          (subst (λ (on : Bool). Counted v w on) (sym c.told.ensures.on) counted) before.counts;
+      least = omega (arith, one, least, more);
     }

@@ -1,9 +1,9 @@
-use Rattle.std.proofs.Common.{◌≡◌, ◌<◌, ◌+◌, ◌*◌, ℕ, List, sym, ap, ◌∙◌, subst, arith}
+use Rattle.std.proofs.Common.{◌≡◌, ◌<◌, ◌≤◌, ◌+◌, ◌*◌, ℕ, List, sym, ap, ◌∙◌, subst, arith}
 use Rattle.art_look.specs.Fronts.{IsFront, low_at}
-use Rattle.art_look.specs.Looks.{IsSought, StageFits, most_steps}
+use Rattle.art_look.specs.Looks.{IsSought, StageFits, least_steps, most_steps}
 use Rattle.art_look.specs.declared.looks.LookStage.{LookStage}
 use Rattle.art_look.specs.declared.trails.Trail.{Trail}
-use Rattle.art_look.proofs.Counting.{staged_first}
+use Rattle.art_look.proofs.Counting.{staged_first, staged_least}
 use Rattle.art_look.proofs.Stages.{before_fits, staged_fits}
 use Rattle.art_node.specs.Searches.{IsHeader, SoughtFromTells}
 use Rattle.art_tree.specs.Looks.{Before}
@@ -40,3 +40,7 @@ returns-clause-fits c = λ z hi u w on shows.
     let tells = subst (λ (b : ℕ). SoughtFromTells seen.node.layout b (IsHeader seen.header) c.first_word_from.result) low c.first_word_from.ensures in
     subst (λ (g : LookStage). StageFits z lo hi m.depth g t u w) (sym c.staged-self.ensures)
     (staged_fits z lo hi m.depth t u w seen on f sought (IsHeader seen.header) c.first_word_from.result tells shows (λ s shape holds. (shows s shape holds).is_header))
+
+pub returns-clause-least : goal.returns-clause-least
+returns-clause-least c =
+    subst (λ (g : LookStage). least_steps g ≤ 2) (sym c.staged-self.ensures) (staged_least c.first_word_from.result c.args.seen c.in-Some.front)

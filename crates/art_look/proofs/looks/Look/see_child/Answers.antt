@@ -1,7 +1,7 @@
-use Rattle.std.proofs.Common.{◌<◌, ◌+◌, ◌*◌, sym, subst}
-use Rattle.art_look.specs.Looks.{StageFits, most_steps}
+use Rattle.std.proofs.Common.{◌<◌, ◌≤◌, ◌+◌, ◌*◌, sym, subst}
+use Rattle.art_look.specs.Looks.{StageFits, least_steps, most_steps}
 use Rattle.art_look.specs.declared.looks.LookStage.{LookStage}
-use Rattle.art_look.proofs.Counting.{next_later}
+use Rattle.art_look.proofs.Counting.{next_later, next_least}
 use Rattle.art_look.proofs.Stages.{next_fits}
 use Rattle.art_look.proofs.looks.Look.see_child.Goals as goal
 
@@ -20,3 +20,7 @@ returns-in-None-clause-fits c = λ z hi u w on shows is noted.
     let t = c.args.trail.now in
     subst (λ (g : LookStage). StageFits z lo hi m.depth g t u w) (sym c.next_child-self.ensures)
     (next_fits z lo hi m.depth t u w c.args.sought on c.requires.sought c.requires.low c.requires.byte c.args.word shows is (sym c.in-None.ensures))
+
+pub returns-in-None-clause-least : goal.returns-in-None-clause-least
+returns-in-None-clause-least c =
+    subst (λ (g : LookStage). least_steps g ≤ 2) (sym c.next_child-self.ensures) (next_least c.args.sought)

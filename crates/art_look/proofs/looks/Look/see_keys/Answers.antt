@@ -1,8 +1,8 @@
-use Rattle.std.proofs.Common.{◌≡◌, ◌<◌, ◌+◌, ◌*◌, ℕ, sym, ap, ◌∙◌, subst}
+use Rattle.std.proofs.Common.{◌≡◌, ◌<◌, ◌≤◌, ◌+◌, ◌*◌, ℕ, sym, ap, ◌∙◌, subst}
 use Rattle.art_look.specs.Fronts.{low_at}
-use Rattle.art_look.specs.Looks.{StageFits, most_steps}
+use Rattle.art_look.specs.Looks.{StageFits, least_steps, most_steps}
 use Rattle.art_look.specs.declared.looks.LookStage.{LookStage}
-use Rattle.art_look.proofs.Counting.{staged_later}
+use Rattle.art_look.proofs.Counting.{staged_later, staged_least}
 use Rattle.art_look.proofs.Stages.{staged_fits}
 use Rattle.art_node.specs.Searches.{IsNextWordFrom, SoughtFromTells}
 use Rattle.art_look.proofs.looks.Look.see_keys.Goals as goal
@@ -26,3 +26,7 @@ returns-clause-fits c = λ z hi u w on shows is.
     (staged_fits z lo hi m.depth t u w seen on c.args.front c.requires.sought (IsNextWordFrom k (low_at c.args.front lo t.path.items) seen.header c.args.number c.args.word) c.next_word_from.result tells
     (λ s shape holds. (shows s shape holds).path)
     (λ s shape holds. let at = shows s shape holds in record { is_header = at.path.is_header; is_word = is s shape holds; known = at.known }))
+
+pub returns-clause-least : goal.returns-clause-least
+returns-clause-least c =
+    subst (λ (g : LookStage). least_steps g ≤ 2) (sym c.staged-self.ensures) (staged_least c.next_word_from.result c.args.seen c.args.front)

@@ -24,4 +24,4 @@ returns-in-Range-clause-fits c z hi u v w n asked fits is row =
     let i = subst (λ (a : WalkOf). asks a ≡ Some asked) c.in-Range.is is in
     let r = subst (λ (a : WalkOf). Answers z (deed_at a k hi t) asked c.args.answer v w) c.in-Range.is row in
     range_on z k u v w n asked c.args.answer hi c.in-Range.look c.told-in-Range.new.self t c.told-in-Range.new.trail i r (λ on. c.told-in-Range.ensures.steps (c.told-in-Range.ensures.on ∙ on))
-    (c.told-in-Range.ensures.fits z hi u v w asked f.fits i r) f
+    (c.told-in-Range.ensures.fits z hi u v w asked f.fits i r) c.told-in-Range.ensures.least f

@@ -1,0 +1,48 @@
+//! Scans that are made at once.
+ghost use Rattle.std.specs.Prelude.{◌≡◌};
+ghost use Rattle.art_scan.specs.Scans.{Scans};
+ghost use Rattle.art_table.specs.Tables.{IsPassOf};
+
+use crate::ScanFault;
+use crate::tilings::Tiling;
+use arrayvec::ArrayVec;
+use art_model::{Row, Tuple};
+use art_table::{Pass, Table, look};
+
+/// Whether a scan stopped at its limit, or at the end of its range.
+#[derive(Clone, Copy, Debug, PartialEq, Eq)]
+pub enum More {
+    /// As many rows as the limit are listed; there may be more.
+    Limit,
+    /// Nothing of the range is left, and fewer rows than the limit are listed.
+    End,
+}
+
+/// Lists the rows from the tuple `lo` to the tuple `hi`, both included, in order: at most so many, 1 to 100.
+///
+/// The range is tiled by looks, each of which begins where the one before ended, and pins its pass anew; between two of them the table
+/// may change. The turns add up over the looks. `out` is emptied first, and is empty after a refusal.
+pub fn scan(
+    table: &Table,
+    pass: &mut Pass,
+    lo: &Tuple,
+    hi: &Tuple,
+    limit: u64,
+    turns: u32,
+    out: &mut ArrayVec<Row, 100>,
+) -> Result<More, ScanFault>
+    requires { IsPassOf table.now pass.old }
+    ensures pass { IsPassOf table.now pass.new }
+    ensures scans { Scans table.now lo.now hi.now limit turns pass.old out.new.items result pass.new }
+{
+    out.clear();
+    let mut tiling = Tiling::new(table.schema(), lo, hi, limit, turns)?;
+    while tiling.goes_on(out.len()) {
+        let Ok(seen) = look(table, pass, &tiling.from, &tiling.end, tiling.turns) else {
+            out.clear();
+            return Err(ScanFault::Busy);
+        };
+        tiling.told(seen, pass.turns_left(), out);
+    }
+    Ok(tiling.more(out.len()))
+}
