@@ -14,6 +14,8 @@ mod replies;
 #[cfg(test)]
 mod rows;
 #[cfg(test)]
+mod scans;
+#[cfg(test)]
 mod tables;
 #[cfg(test)]
 mod threads;
