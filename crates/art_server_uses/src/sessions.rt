@@ -301,9 +301,14 @@ fn a_counter_at_its_end_is_told(rt: HostRuntime) {
     let _ = check_session(&rt, rt.alloc(), &table, pass, said, want);
 }
 
+/// The leaf of the row that the one pass removed waits in its limbo, so the other takes the second leaf.
 #[test]
 fn sessions_of_two_passes_have_one_map(rt: HostRuntime) {
-    let config = Config { passes: 2, ..SIZES };
+    let config = Config {
+        leaves: 2,
+        passes: 2,
+        ..SIZES
+    };
     let (table, mut passes) = opened(&rt, rt.alloc(), config);
     let one = last_of(&rt, &table, &mut passes);
     let zero = last_of(&rt, &table, &mut passes);
