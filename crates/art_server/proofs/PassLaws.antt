@@ -4,7 +4,6 @@ use Rattle.art_key.specs.declared.faults.ValueFault.{ValueFault}
 use Rattle.art_model.specs.declared.commands.Command.{Command}
 use Rattle.art_model.specs.declared.commands.Command.TheVariants.{Insert, Remove, Get, Scan}
 use Rattle.art_model.specs.declared.commands.Reply.{Reply}
-use Rattle.art_table.specs.Calls.{Ends}
 use Rattle.art_table.specs.Jobs.{job_fault}
 use Rattle.art_table.specs.Tables.{schema_in}
 use Rattle.art_table.specs.declared.jobs.Job.{Job}
@@ -33,18 +32,21 @@ unmoved : (p q : Pass) → q ≡ p → IsSamePass p q
 unmoved p q same = subst (IsSamePass p) (sym same) (IsSamePass-refl p)
 
 module _ (t : Table) where
-  job_same : (job : Job) (p : Pass) (reply : Result Reply Refusal) (q : Pass) (fault : Option ValueFault) → job_fault (schema_in t) job ≡ fault
+  job_same : (job : Job) (p : Pass) (reply : Result Reply Refusal) (q : Pass) (fault : Option ValueFault)
+      → job_fault (schema_in t) job ≡ fault
       → AnswersJob t job p reply q → IsSamePass p q
   job_same job p reply q (Some fault) is answers = unmoved p q (answers.ends.fault fault is).1
   job_same job p reply q None is answers = (answers.ends.called is).same
 
-  command_same : (command : Command) (p : Pass) (reply : Result Reply Refusal) (q : Pass) → AnswersCommand t command p reply q → IsSamePass p q
+  command_same : (command : Command) (p : Pass) (reply : Result Reply Refusal) (q : Pass) → AnswersCommand t command p reply q
+      → IsSamePass p q
   command_same (Insert tuple value) p reply q answers = job_same _ p reply q _ refl answers
   command_same (Remove tuple) p reply q answers = job_same _ p reply q _ refl answers
   command_same (Get tuple) p reply q answers = job_same _ p reply q _ refl answers
   command_same (Scan lo hi limit) p reply q answers = absurd answers
 
-  said_same : (said : Result Command LineFault) (p : Pass) (reply : Result Reply Refusal) (q : Pass) → AnswersSaid t said p reply q → IsSamePass p q
+  said_same : (said : Result Command LineFault) (p : Pass) (reply : Result Reply Refusal) (q : Pass) → AnswersSaid t said p reply q
+      → IsSamePass p q
   said_same (Ok command) p reply q answers = command_same command p reply q answers
   said_same (Err fault) p reply q answers = unmoved p q answers.1
 
@@ -52,7 +54,8 @@ module _ (t : Table) where
   unfolding AnswersLine
   line_same line p reply q answers = said_same (line_says line) p reply q answers
 
-  lines_same : (lines : List (List ℕ)) (p : Pass) (replies : List (Result Reply Refusal)) (q : Pass) → AnswersLines t lines p replies q → IsSamePass p q
+  lines_same : (lines : List (List ℕ)) (p : Pass) (replies : List (Result Reply Refusal)) (q : Pass) → AnswersLines t lines p replies q
+      → IsSamePass p q
   lines_same [] p replies q (none, same) = unmoved p q same
   lines_same (line ∷ lines) p replies q (told, others, mid, is, one, rest) =
       IsSamePass-trans p mid q (line_same line p told mid one) (lines_same lines mid others q rest)

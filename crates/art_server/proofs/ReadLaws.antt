@@ -14,7 +14,8 @@ use Rattle.art_server.proofs.SessionLaws.{AnswersFront-whole}
 use Rattle.art_server.proofs.StreamLaws.{length-whole_lines}
 
 -- so many reads were made, each of which gave 1 to 4,096 bytes
-pub record HasRead (t : Table) (reads : ℕ) (left left_after held held_after : Option (List ℕ)) (start now : Pass) (answered : ℕ) (line : List ℕ) : Type 0 where
+pub record HasRead (t : Table) (reads : ℕ) (left left_after held held_after : Option (List ℕ)) (start now : Pass) (answered : ℕ)
+    (line : List ℕ) : Type 0 where
   pub taken : List ℕ
   pub sent : List ℕ
   pub consumes : Consumes left left_after taken
@@ -43,10 +44,14 @@ module _ (t : Table) where
       omega (arith, length-whole_lines has.taken)
 
   -- one read more
-  pub HasRead-more : (reads : ℕ) (left left_mid left_after held held_mid held_after : Option (List ℕ)) (start p q : Pass) (answered count : ℕ) (line line_after bytes : List ℕ)
-      → HasRead t reads left left_mid held held_mid start p answered line → 0 < length bytes → length bytes ≤ 4096 → Consumes left_mid left_after bytes
-      → TakesBytes t bytes held_mid held_after p q answered count line line_after → HasRead t (reads + 1) left left_after held held_after start q count line_after
-  HasRead-more reads left left_mid left_after held held_mid held_after start p q answered count line line_after bytes has some few consumes takes =
+  pub HasRead-more : (reads : ℕ) (left left_mid left_after held held_mid held_after : Option (List ℕ)) (start p q : Pass)
+      (answered count : ℕ) (line line_after bytes : List ℕ)
+      → HasRead t reads left left_mid held held_mid start p answered line → 0 < length bytes → length bytes ≤ 4096
+      → Consumes left_mid left_after bytes
+      → TakesBytes t bytes held_mid held_after p q answered count line line_after
+      → HasRead t (reads + 1) left left_after held held_after start q count line_after
+  HasRead-more reads left left_mid left_after held held_mid held_after start p q answered count line line_after bytes has some few consumes
+      takes =
       let least = has.at_least in
       let most = has.at_most in
       record {
@@ -62,10 +67,13 @@ module _ (t : Table) where
   -- ---- the end
 
   -- the input ended: a read gave no bytes
-  pub RunsSession-finish : (reads : ℕ) (left left_mid left_after held held_mid held_after : Option (List ℕ)) (start p q : Pass) (answered : ℕ) (line line_sent piece : List ℕ) (count : ℕ) (end : SessionEnd)
-      → HasRead t reads left left_mid held held_mid start p answered line → Consumes left_mid left_after (take count piece) → count ≡ 0 → line_sent ≡ line → reads ≤ 1000000
+  pub RunsSession-finish : (reads : ℕ) (left left_mid left_after held held_mid held_after : Option (List ℕ)) (start p q : Pass)
+      (answered : ℕ) (line line_sent piece : List ℕ) (count : ℕ) (end : SessionEnd)
+      → HasRead t reads left left_mid held held_mid start p answered line → Consumes left_mid left_after (take count piece) → count ≡ 0
+      → line_sent ≡ line → reads ≤ 1000000
       → Finishes t held_mid held_after p q answered line_sent end → RunsSession left left_after held held_after t start q end
-  RunsSession-finish reads left left_mid left_after held held_mid held_after start p q answered line line_sent piece count end has consumes none same bound finishes =
+  RunsSession-finish reads left left_mid left_after held held_mid held_after start p q answered line line_sent piece count end has consumes
+      none same bound finishes =
       let most = has.at_most in
       let way = subst (IsUnderWay t has.taken has.sent start p answered) (sym same) has.way in
       let reached = finishes.reaches has.taken has.sent start way in
@@ -78,8 +86,10 @@ module _ (t : Table) where
       )
 
   -- a line stopped it
-  pub RunsSession-stop : (reads : ℕ) (left left_mid left_after held held_mid held_after : Option (List ℕ)) (start p q : Pass) (answered : ℕ) (line bytes : List ℕ) (end : SessionEnd)
-      → HasRead t reads left left_mid held held_mid start p answered line → Consumes left_mid left_after bytes → reads + 1 ≤ 1000000 → length bytes ≤ 4096
+  pub RunsSession-stop : (reads : ℕ) (left left_mid left_after held held_mid held_after : Option (List ℕ)) (start p q : Pass) (answered : ℕ)
+      (line bytes : List ℕ) (end : SessionEnd)
+      → HasRead t reads left left_mid held held_mid start p answered line → Consumes left_mid left_after bytes → reads + 1 ≤ 1000000
+      → length bytes ≤ 4096
       → StopsAmong t bytes held_mid held_after p q answered line end → RunsSession left left_after held held_after t start q end
   RunsSession-stop reads left left_mid left_after held held_mid held_after start p q answered line bytes end has consumes bound few stops =
       let most = has.at_most in
@@ -92,13 +102,16 @@ module _ (t : Table) where
       )
 
   -- a session under way, with each whole line answered
-  whole_session : (taken sent : List ℕ) (start now : Pass) (answered : ℕ) (line : List ℕ) (why : EndCause) → IsUnderWay t taken sent start now answered line
+  whole_session : (taken sent : List ℕ) (start now : Pass) (answered : ℕ) (line : List ℕ) (why : EndCause)
+      → IsUnderWay t taken sent start now answered line
       → AnswersFront t (lines_of taken) sent start now (record { why = why; answered = answered; pending = false })
   whole_session taken sent start now answered line why way =
-      AnswersFront-whole t (whole_lines taken) (last_line (last_part taken)) (lines_of taken) sent start now why answered way.replies refl way.count way.answers way.text
+      AnswersFront-whole t (whole_lines taken) (last_line (last_part taken))
+      (lines_of taken) sent start now why answered way.replies refl way.count way.answers way.text
 
   -- a read failed
-  pub RunsSession-fault : (reads : ℕ) (left left_mid left_after held held_after : Option (List ℕ)) (start now : Pass) (answered : ℕ) (line : List ℕ)
+  pub RunsSession-fault : (reads : ℕ) (left left_mid left_after held held_after : Option (List ℕ)) (start now : Pass) (answered : ℕ)
+      (line : List ℕ)
       → HasRead t reads left left_mid held held_after start now answered line → Keeps left_mid left_after → reads ≤ 1000000
       → RunsSession left left_after held held_after t start now (record { why = ReadFault; answered = answered; pending = false })
   RunsSession-fault reads left left_mid left_after held held_after start now answered line has keeps bound =

@@ -17,18 +17,16 @@ use Rattle.art_server.specs.Steps.{IsCutShort}
 use Rattle.art_server.proofs.LineLaws.{line_says-take}
 
 -- a reply more is its text more
-pub texts-push : (replies : List (Result Reply Refusal)) (reply : Result Reply Refusal) → texts (replies ++ reply ∷ []) ≡ texts replies ++ text_of_reply reply
+pub texts-push : (replies : List (Result Reply Refusal)) (reply : Result Reply Refusal)
+    → texts (replies ++ reply ∷ []) ≡ texts replies ++ text_of_reply reply
 texts-push replies reply =
     flat_map-append text_of_reply replies (reply ∷ []) ∙ ap (λ (t : List ℕ). texts replies ++ t) (append-nil (text_of_reply reply))
-
-nil_front : (xs ys : List ℕ) → xs ++ ys ≡ [] → xs ≡ []
-nil_front [] ys e = refl
-nil_front (x ∷ xs) ys e = absurd (cc)
 
 module _ (t : Table) where
   -- ---- one line
 
-  pub AnswersLine-said : (line : List ℕ) (command : Command) (p : Pass) (reply : Result Reply Refusal) (q : Pass) → line_says line ≡ Ok command
+  pub AnswersLine-said : (line : List ℕ) (command : Command) (p : Pass) (reply : Result Reply Refusal) (q : Pass)
+      → line_says line ≡ Ok command
       → AnswersCommand t command p reply q → AnswersLine t line p reply q
   unfolding AnswersLine
   AnswersLine-said line command p reply q said answers =
@@ -49,7 +47,8 @@ module _ (t : Table) where
 
   -- ---- one line more
 
-  pub AnswersLines-push : (lines : List (List ℕ)) (line : List ℕ) (p m q : Pass) (replies : List (Result Reply Refusal)) (reply : Result Reply Refusal)
+  pub AnswersLines-push : (lines : List (List ℕ)) (line : List ℕ) (p m q : Pass) (replies : List (Result Reply Refusal))
+      (reply : Result Reply Refusal)
       → AnswersLines t lines p replies m → AnswersLine t line m reply q → AnswersLines t (lines ++ line ∷ []) p (replies ++ reply ∷ []) q
   AnswersLines-push [] line p m q replies reply (none, same) last = (
     reply,
@@ -69,7 +68,8 @@ module _ (t : Table) where
   )
 
   -- each line has one reply
-  pub length-AnswersLines : (lines : List (List ℕ)) (p : Pass) (replies : List (Result Reply Refusal)) (q : Pass) → AnswersLines t lines p replies q
+  pub length-AnswersLines : (lines : List (List ℕ)) (p : Pass) (replies : List (Result Reply Refusal)) (q : Pass)
+      → AnswersLines t lines p replies q
       → length replies ≡ length lines
   length-AnswersLines [] p replies q (none, same) = ap (length {A = Result Reply Refusal}) none
   length-AnswersLines (line ∷ lines) p replies q (told, others, mid, is, one, rest) =
@@ -78,7 +78,8 @@ module _ (t : Table) where
   -- ---- the end
 
   -- lines from the front are answered, and none is begun beyond them
-  pub AnswersFront-whole : (lines extra all : List (List ℕ)) (written : List ℕ) (p q : Pass) (why : EndCause) (n : ℕ) (replies : List (Result Reply Refusal))
+  pub AnswersFront-whole : (lines extra all : List (List ℕ)) (written : List ℕ) (p q : Pass) (why : EndCause) (n : ℕ)
+      (replies : List (Result Reply Refusal))
       → all ≡ lines ++ extra → n ≡ length lines → AnswersLines t lines p replies q → written ≡ texts replies
       → AnswersFront t all written p q (record { why = why; answered = n; pending = false })
   AnswersFront-whole lines extra all written p q why n replies split count answers sent =
@@ -96,7 +97,8 @@ module _ (t : Table) where
       }
 
   -- lines from the front are answered, and the next one stopped the session
-  pub AnswersFront-cut : (lines : List (List ℕ)) (line : List ℕ) (extra all : List (List ℕ)) (sent written : List ℕ) (p m q : Pass) (why : EndCause) (pending : Bool) (n : ℕ) (replies : List (Result Reply Refusal))
+  pub AnswersFront-cut : (lines : List (List ℕ)) (line : List ℕ) (extra all : List (List ℕ)) (sent written : List ℕ) (p m q : Pass)
+      (why : EndCause) (pending : Bool) (n : ℕ) (replies : List (Result Reply Refusal))
       → all ≡ (lines ++ line ∷ []) ++ extra → n ≡ length lines → AnswersLines t lines p replies m → sent ≡ texts replies
       → IsCutShort t line written m q (record { why = why; pending = pending })
       → AnswersFront t all (sent ++ written) p q (record { why = why; answered = n; pending = pending })

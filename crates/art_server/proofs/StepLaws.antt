@@ -1,5 +1,5 @@
 -- How a session under way goes on, and how it ends.
-use Rattle.std.proofs.Common.{◌≡◌, ◌≢◌, ℕ, ◌+◌, ◌<◌, ◌≤◌, Bool, true, false, List, [], ◌∷◌, ◌++◌, length, get_or, take, drop, Option, Result, Ok, Err, refl, sym, ap, subst, ◌∙◌, arith, append_assoc, append-nil, length-append}
+use Rattle.std.proofs.Common.{◌≡◌, ◌≢◌, ℕ, ◌+◌, ◌<◌, Bool, true, false, List, [], ◌∷◌, ◌++◌, length, get_or, take, drop, Option, Result, Ok, Err, refl, sym, ap, subst, ◌∙◌, arith, append_assoc, append-nil, length-append}
 use Rattle.std.proofs.lemmas.List.{length_push}
 use Rattle.std.specs.Io.KnownBytes.{Appends}
 use Rattle.std.proofs.KnownBytes.{Appends-nil, Appends-trans}
@@ -11,19 +11,20 @@ use Rattle.art_server.specs.declared.sessions.EndCause.{EndCause}
 use Rattle.art_server.specs.declared.sessions.EndCause.TheVariants.{Ended, ReadFault, WriteFault, NoMemory, ReadsUsed}
 use Rattle.art_server.specs.declared.sessions.SessionEnd.{SessionEnd}
 use Rattle.art_server.specs.declared.sessions.Stop.{Stop}
-use Rattle.art_server.specs.Replies.{text_of_reply}
 use Rattle.art_server.specs.Sessions.{AnswersLine, AnswersLines, texts, AnswersFront, EndsBy}
 use Rattle.art_server.specs.Steps.{StopsBy, SendsReply, SendsText, AnswersOrStops, AnswersWhole, IsReplyCut, IsCutShort, SendsLine, IsUnderWay, TakesBytes, EndsSession, StopsAmong, Finishes}
-use Rattle.art_server.specs.Streams.{whole_lines, last_part, last_line, lines_of}
+use Rattle.art_server.specs.Streams.{whole_lines, last_part, lines_of}
 use Rattle.art_server.proofs.SessionLaws.{AnswersLine-take, AnswersLines-push, texts-push, AnswersFront-whole, AnswersFront-cut}
 use Rattle.art_server.proofs.StreamLaws.{split_lines-other, lines_of-append, lines_fed, part_fed, lines_of-last, lines_of-short, part_none, take_more_kept, piece_at, front_at}
 
-one_more : (lines extra all : List (List ℕ)) (line : List ℕ) (n : ℕ) → all ≡ (lines ++ line ∷ []) ++ extra → n ≡ length lines → n < length all
+one_more : (lines extra all : List (List ℕ)) (line : List ℕ) (n : ℕ) → all ≡ (lines ++ line ∷ []) ++ extra → n ≡ length lines
+    → n < length all
 one_more lines extra all line n split count =
     omega (arith, ap (length {A = List ℕ}) split, length-append (lines ++ line ∷ []) extra, length_push lines line)
 
 -- a stop by a line is a cause of a session's end
-EndsBy-stop : (why : EndCause) (answered : ℕ) (pending : Bool) (read : List ℕ) → StopsBy why pending → answered < length (lines_of read) → EndsBy why answered pending read
+EndsBy-stop : (why : EndCause) (answered : ℕ) (pending : Bool) (read : List ℕ) → StopsBy why pending → answered < length (lines_of read)
+    → EndsBy why answered pending read
 EndsBy-stop Ended answered pending read stops more = absurd stops
 EndsBy-stop ReadFault answered pending read stops more = absurd stops
 EndsBy-stop WriteFault answered pending read stops more = stops
@@ -33,8 +34,10 @@ EndsBy-stop ReadsUsed answered pending read stops more = absurd stops
 module _ (t : Table) where
   -- ---- a line's reply is sent
 
-  cut_line : (line written : List ℕ) (p q : Pass) (reply : Result Reply Refusal) (why : EndCause) (pending : Bool) → AnswersLine t line p reply q
-      → IsReplyCut reply written (record { why = why; pending = pending }) → IsCutShort t line written p q (record { why = why; pending = pending })
+  cut_line : (line written : List ℕ) (p q : Pass) (reply : Result Reply Refusal) (why : EndCause) (pending : Bool)
+      → AnswersLine t line p reply q
+      → IsReplyCut reply written (record { why = why; pending = pending })
+      → IsCutShort t line written p q (record { why = why; pending = pending })
   cut_line line written p q reply why true answers cut = record {
     begins = record { reply = reply; answers = answers; front = cut.front };
     whole = cut.whole;
@@ -42,13 +45,15 @@ module _ (t : Table) where
   }
   cut_line line written p q reply why false answers cut = absurd (let e = cut.pending in cc)
 
-  sent_line : {A : Type 0} (line written : List ℕ) (p q : Pass) (reply : Result Reply Refusal) (result : Result A Stop) → AnswersLine t line p reply q
+  sent_line : {A : Type 0} (line written : List ℕ) (p q : Pass) (reply : Result Reply Refusal) (result : Result A Stop)
+      → AnswersLine t line p reply q
       → SendsText reply written result → AnswersOrStops t line written p q result
   sent_line line written p q reply (Ok a) answers sent = record { reply = reply; answers = answers; text = sent }
   sent_line line written p q reply (Err stop) answers sent = cut_line line written p q reply stop.why stop.pending answers sent
 
   -- a line is answered where its reply is sent
-  pub SendsLine-from_reply : {A : Type 0} (line : List ℕ) (held held_after : Option (List ℕ)) (p q : Pass) (reply : Result Reply Refusal) (result : Result A Stop)
+  pub SendsLine-from_reply : {A : Type 0} (line : List ℕ) (held held_after : Option (List ℕ)) (p q : Pass) (reply : Result Reply Refusal)
+      (result : Result A Stop)
       → AnswersLine t line p reply q → SendsReply reply held held_after result → SendsLine t line held held_after p q result
   SendsLine-from_reply line held held_after p q reply result answers sent = record {
     written = sent.written;
@@ -56,25 +61,18 @@ module _ (t : Table) where
     answers = sent_line line sent.written p q reply result answers sent.sends;
   }
 
-  -- nothing is done for want of memory
-  pub SendsLine-unread : {A : Type 0} (line : List ℕ) (held : Option (List ℕ)) (p : Pass)
-      → SendsLine {A = A} t line held held p p (Err (record { why = NoMemory; pending = false }))
-  SendsLine-unread line held p = record {
-    written = [];
-    appends = Appends-nil held;
-    answers = record { begins = (refl, refl); whole = λ _. refl; cause = tt };
-  }
-
   -- ---- bytes are taken
 
   -- what the kept line is answered the whole line is
-  last_answers : (line part : List ℕ) (p : Pass) (reply : Result Reply Refusal) (q : Pass) → line ≡ take 4097 part → AnswersLine t line p reply q
+  last_answers : (line part : List ℕ) (p : Pass) (reply : Result Reply Refusal) (q : Pass) → line ≡ take 4097 part
+      → AnswersLine t line p reply q
       → AnswersLine t part p reply q
   last_answers line part p reply q kept answers =
       AnswersLine-take t part p reply q (subst (λ (l : List ℕ). AnswersLine t l p reply q) kept answers)
 
   -- a line feed, whose line is answered
-  under_way_fed : (taken sent : List ℕ) (start p q : Pass) (answered : ℕ) (line written : List ℕ) → IsUnderWay t taken sent start p answered line
+  under_way_fed : (taken sent : List ℕ) (start p q : Pass) (answered : ℕ) (line written : List ℕ)
+      → IsUnderWay t taken sent start p answered line
       → AnswersWhole t line written p q → IsUnderWay t (taken ++ 10 ∷ []) (sent ++ written) start q (answered + 1) []
   under_way_fed taken sent start p q answered line written way whole =
       let lines = whole_lines taken in
@@ -97,7 +95,8 @@ module _ (t : Table) where
       }
 
   -- another byte
-  under_way_longer : (taken sent : List ℕ) (start p : Pass) (answered : ℕ) (line : List ℕ) (b : ℕ) → b ≢ 10 → IsUnderWay t taken sent start p answered line
+  under_way_longer : (taken sent : List ℕ) (start p : Pass) (answered : ℕ) (line : List ℕ) (b : ℕ) → b ≢ 10
+      → IsUnderWay t taken sent start p answered line
       → IsUnderWay t (taken ++ b ∷ []) sent start p answered (take 4097 (line ++ b ∷ []))
   under_way_longer taken sent start p answered line b other way =
       let split = split_lines-other taken b other in
@@ -114,7 +113,8 @@ module _ (t : Table) where
             ∙ ap (take 4097) (sym part);
       }
 
-  pub TakesBytes-nil : (held : Option (List ℕ)) (p : Pass) (answered : ℕ) (line : List ℕ) → TakesBytes t [] held held p p answered answered line line
+  pub TakesBytes-nil : (held : Option (List ℕ)) (p : Pass) (answered : ℕ) (line : List ℕ)
+      → TakesBytes t [] held held p p answered answered line line
   TakesBytes-nil held p answered line = record {
     written = [];
     appends = Appends-nil held;
@@ -124,27 +124,34 @@ module _ (t : Table) where
   }
 
   -- the bytes go on with a line feed, and the line is answered
-  TakesBytes-feed : (bytes : List ℕ) (held held_mid held_after : Option (List ℕ)) (p m q : Pass) (answered count : ℕ) (line line_mid : List ℕ)
-      → TakesBytes t bytes held held_mid p m answered count line line_mid → (written : List ℕ) → Appends held_mid held_after written → AnswersWhole t line_mid written m q
+  TakesBytes-feed : (bytes : List ℕ) (held held_mid held_after : Option (List ℕ)) (p m q : Pass) (answered count : ℕ)
+      (line line_mid : List ℕ)
+      → TakesBytes t bytes held held_mid p m answered count line line_mid → (written : List ℕ) → Appends held_mid held_after written
+      → AnswersWhole t line_mid written m q
       → TakesBytes t (bytes ++ 10 ∷ []) held held_after p q answered (count + 1) line []
   TakesBytes-feed bytes held held_mid held_after p m q answered count line line_mid before written appends whole = record {
     written = before.written ++ written;
     appends = Appends-trans held held_mid held_after before.written written before.appends appends;
     reaches = λ taken sent start way.
-        let fed = under_way_fed (taken ++ bytes) (sent ++ before.written) start m q count line_mid written (before.reaches taken sent start way) whole in
-        subst (λ (l : List ℕ). IsUnderWay t l (sent ++ (before.written ++ written)) start q (count + 1) []) (append_assoc taken bytes (10 ∷ []))
-        (subst (λ (l : List ℕ). IsUnderWay t ((taken ++ bytes) ++ 10 ∷ []) l start q (count + 1) []) (append_assoc sent before.written written) fed);
+        let fed = under_way_fed (taken ++ bytes) (sent ++ before.written) start m q count line_mid written
+        (before.reaches taken sent start way) whole in
+        subst (λ (l : List ℕ). IsUnderWay t l (sent ++ (before.written ++ written)) start q (count + 1) [])
+        (append_assoc taken bytes (10 ∷ []))
+        (subst (λ (l : List ℕ). IsUnderWay t ((taken ++ bytes) ++ 10 ∷ []) l start q (count + 1) [])
+        (append_assoc sent before.written written) fed);
   }
 
   -- the bytes go on with another byte
-  TakesBytes-other : (bytes : List ℕ) (b : ℕ) (held held_after : Option (List ℕ)) (p q : Pass) (answered count : ℕ) (line line_after line_more : List ℕ)
+  TakesBytes-other : (bytes : List ℕ) (b : ℕ) (held held_after : Option (List ℕ)) (p q : Pass) (answered count : ℕ)
+      (line line_after line_more : List ℕ)
       → TakesBytes t bytes held held_after p q answered count line line_after → b ≢ 10 → line_more ≡ take 4097 (line_after ++ b ∷ [])
       → TakesBytes t (bytes ++ b ∷ []) held held_after p q answered count line line_more
   TakesBytes-other bytes b held held_after p q answered count line line_after line_more before other is = record {
     written = before.written;
     appends = before.appends;
     reaches = λ taken sent start way.
-        let longer = under_way_longer (taken ++ bytes) (sent ++ before.written) start q count line_after b other (before.reaches taken sent start way) in
+        let longer = under_way_longer (taken ++ bytes) (sent ++ before.written) start q count line_after b other
+        (before.reaches taken sent start way) in
         subst (λ (l : List ℕ). IsUnderWay t l (sent ++ before.written) start q count line_more) (append_assoc taken bytes (b ∷ []))
         (subst (IsUnderWay t ((taken ++ bytes) ++ b ∷ []) (sent ++ before.written) start q count) (sym is) longer);
   }
@@ -152,7 +159,8 @@ module _ (t : Table) where
   -- ---- the end
 
   cut_kept : (line part written : List ℕ) (p q : Pass) (why : EndCause) (pending : Bool) → line ≡ take 4097 part
-      → IsCutShort t line written p q (record { why = why; pending = pending }) → IsCutShort t part written p q (record { why = why; pending = pending })
+      → IsCutShort t line written p q (record { why = why; pending = pending })
+      → IsCutShort t part written p q (record { why = why; pending = pending })
   cut_kept line part written p q why true kept cut =
       let last = cut.begins in
       record {
@@ -163,18 +171,23 @@ module _ (t : Table) where
   cut_kept line part written p q why false kept cut = record { begins = cut.begins; whole = cut.whole; cause = cut.cause }
 
   -- a line that stops a session, among lines of which it is the next
-  front_cut : (taken sent : List ℕ) (start p q : Pass) (answered : ℕ) (line written : List ℕ) (why : EndCause) (pending : Bool) (extra all : List (List ℕ))
+  front_cut : (taken sent : List ℕ) (start p q : Pass) (answered : ℕ) (line written : List ℕ) (why : EndCause) (pending : Bool)
+      (extra all : List (List ℕ))
       → IsUnderWay t taken sent start p answered line → IsCutShort t line written p q (record { why = why; pending = pending })
       → all ≡ (whole_lines taken ++ last_part taken ∷ []) ++ extra
       → AnswersFront t all (sent ++ written) start q (record { why = why; answered = answered; pending = pending })
   front_cut taken sent start p q answered line written why pending extra all way cut split =
-      AnswersFront-cut t (whole_lines taken) (last_part taken) extra all sent written start p q why pending answered way.replies split way.count way.answers way.text
+      AnswersFront-cut t (whole_lines taken) (last_part taken) extra all sent written start p q why pending answered way.replies split
+      way.count way.answers way.text
       (cut_kept line (last_part taken) written p q why pending way.kept cut)
 
   -- the bytes go on with a line feed, and the line stops the session
-  StopsAmong-feed : (bytes more : List ℕ) (held held_mid held_after : Option (List ℕ)) (p m q : Pass) (answered count : ℕ) (line line_mid : List ℕ) (stop : Stop)
-      → TakesBytes t bytes held held_mid p m answered count line line_mid → (written : List ℕ) → Appends held_mid held_after written → IsCutShort t line_mid written m q stop
-      → StopsAmong t ((bytes ++ 10 ∷ []) ++ more) held held_after p q answered line (record { why = stop.why; answered = count; pending = stop.pending })
+  StopsAmong-feed : (bytes more : List ℕ) (held held_mid held_after : Option (List ℕ)) (p m q : Pass) (answered count : ℕ)
+      (line line_mid : List ℕ) (stop : Stop)
+      → TakesBytes t bytes held held_mid p m answered count line line_mid → (written : List ℕ) → Appends held_mid held_after written
+      → IsCutShort t line_mid written m q stop
+      → StopsAmong t ((bytes ++ 10 ∷ []) ++ more) held held_after p q answered line
+      (record { why = stop.why; answered = count; pending = stop.pending })
   StopsAmong-feed bytes more held held_mid held_after p m q answered count line line_mid stop before written appends cut = record {
     written = before.written ++ written;
     appends = Appends-trans held held_mid held_after before.written written before.appends appends;
@@ -186,8 +199,10 @@ module _ (t : Table) where
         let split : all ≡ (whole_lines (taken ++ bytes) ++ last_part (taken ++ bytes) ∷ []) ++ lines.0 =
         lines.1 ∙ ap (λ (l : List (List ℕ)). l ++ lines.0) (lines_fed (taken ++ bytes)) in
         let reached = before.reaches taken sent start way in
-        let front = front_cut (taken ++ bytes) (sent ++ before.written) start m q count line_mid written stop.why stop.pending lines.0 all reached cut split in
-        let cause = EndsBy-stop stop.why count stop.pending (fed ++ more) cut.cause (one_more (whole_lines (taken ++ bytes)) lines.0 all _ count split reached.count) in
+        let front = front_cut (taken ++ bytes) (sent ++ before.written) start m q count line_mid written stop.why stop.pending lines.0 all
+        reached cut split in
+        let cause = EndsBy-stop stop.why count stop.pending (fed ++ more) cut.cause
+        (one_more (whole_lines (taken ++ bytes)) lines.0 all _ count split reached.count) in
         let end : SessionEnd = record { why = stop.why; answered = count; pending = stop.pending } in
         let same : fed ++ more ≡ taken ++ ((bytes ++ 10 ∷ []) ++ more) =
         ap (λ (l : List ℕ). l ++ more) (append_assoc taken bytes (10 ∷ [])) ∙ append_assoc taken (bytes ++ 10 ∷ []) more in
@@ -203,7 +218,8 @@ module _ (t : Table) where
     appends = Appends-nil held;
     reaches = λ taken sent start way.
         let lines = lines_of-short taken _ refl (part_none (last_part taken) line way.kept empty) in (
-          AnswersFront-whole t (whole_lines taken) [] (lines_of taken) (sent ++ []) start p Ended answered way.replies (lines ∙ sym (append-nil (whole_lines taken)))
+          AnswersFront-whole t (whole_lines taken) [] (lines_of taken)
+              (sent ++ []) start p Ended answered way.replies (lines ∙ sym (append-nil (whole_lines taken)))
               way.count way.answers (append-nil sent ∙ way.text),
           (way.count ∙ ap (length {A = List ℕ}) (sym lines), refl),
         );
@@ -220,7 +236,8 @@ module _ (t : Table) where
         let fed = under_way_fed taken sent start p q answered line written way whole in
         let same : whole_lines (taken ++ 10 ∷ []) ≡ lines_of taken = lines_fed taken ∙ sym (lines_of-last taken line way.kept some) in
         let count : answered + 1 ≡ length (lines_of taken) = fed.count ∙ ap (length {A = List ℕ}) same in (
-          AnswersFront-whole t (lines_of taken) [] (lines_of taken) (sent ++ written) start q Ended (answered + 1) fed.replies (sym (append-nil (lines_of taken)))
+          AnswersFront-whole t (lines_of taken) [] (lines_of taken)
+              (sent ++ written) start q Ended (answered + 1) fed.replies (sym (append-nil (lines_of taken)))
               count (subst (λ (l : List (List ℕ)). AnswersLines t l start fed.replies q) same fed.answers) fed.text,
           (count, refl),
         );
@@ -236,7 +253,8 @@ module _ (t : Table) where
     reaches = λ taken sent start way.
         let lines = whole_lines taken in
         let last = last_part taken in
-        let all : lines_of taken ≡ (lines ++ last ∷ []) ++ [] = lines_of-last taken line way.kept some ∙ sym (append-nil (lines ++ last ∷ [])) in (
+        let all : lines_of taken ≡ (lines ++ last ∷ []) ++ [] = lines_of-last taken line way.kept some
+        ∙ sym (append-nil (lines ++ last ∷ [])) in (
           front_cut taken sent start p q answered line written stop.why stop.pending [] (lines_of taken) way cut all,
           EndsBy-stop stop.why answered stop.pending taken cut.cause (one_more lines [] (lines_of taken) last answered all way.count),
         );
@@ -245,30 +263,44 @@ module _ (t : Table) where
   -- ---- the bytes of a piece
 
   -- at a line feed the line is answered
-  pub TakesBytes-at_feed : {A : Type 0} (bytes : List ℕ) (i : ℕ) (held held_mid held_after : Option (List ℕ)) (p m q : Pass) (answered count : ℕ) (line line_mid line_sent line_after : List ℕ) (a : A)
-      → i < length bytes → get_or bytes i 0 ≡ 10 → TakesBytes t (take i bytes) held held_mid p m answered count line line_mid → line_sent ≡ line_mid
-      → SendsLine t line_sent held_mid held_after m q (Ok a) → line_after ≡ [] → TakesBytes t (take (i + 1) bytes) held held_after p q answered (count + 1) line line_after
-  TakesBytes-at_feed bytes i held held_mid held_after p m q answered count line line_mid line_sent line_after a within feed before same sends none =
+  pub TakesBytes-at_feed : {A : Type 0} (bytes : List ℕ) (i : ℕ) (held held_mid held_after : Option (List ℕ)) (p m q : Pass)
+      (answered count : ℕ) (line line_mid line_sent line_after : List ℕ) (a : A)
+      → i < length bytes → get_or bytes i 0 ≡ 10 → TakesBytes t (take i bytes) held held_mid p m answered count line line_mid
+      → line_sent ≡ line_mid
+      → SendsLine t line_sent held_mid held_after m q (Ok a) → line_after ≡ []
+      → TakesBytes t (take (i + 1) bytes) held held_after p q answered (count + 1) line line_after
+  TakesBytes-at_feed bytes i held held_mid held_after p m q answered count line line_mid line_sent line_after a within feed before same
+      sends none =
       let whole = subst (λ (l : List ℕ). AnswersWhole t l sends.written m q) same sends.answers in
-      let more = TakesBytes-feed (take i bytes) held held_mid held_after p m q answered count line line_mid before sends.written sends.appends whole in
+      let more = TakesBytes-feed (take i bytes) held held_mid held_after p m q answered count line line_mid before sends.written
+      sends.appends whole in
       subst (λ (l : List ℕ). TakesBytes t (take (i + 1) bytes) held held_after p q answered (count + 1) line l) (sym none)
       (subst (λ (l : List ℕ). TakesBytes t l held held_after p q answered (count + 1) line []) (front_at bytes i 10 within feed) more)
 
   -- at another byte the line goes on
-  pub TakesBytes-at_other : (bytes : List ℕ) (i : ℕ) (held held_after : Option (List ℕ)) (p q : Pass) (answered count : ℕ) (line line_mid line_after : List ℕ)
+  pub TakesBytes-at_other : (bytes : List ℕ) (i : ℕ) (held held_after : Option (List ℕ)) (p q : Pass) (answered count : ℕ)
+      (line line_mid line_after : List ℕ)
       → i < length bytes → (get_or bytes i 0 ≡ 10 → ⊥) → TakesBytes t (take i bytes) held held_after p q answered count line line_mid
-      → line_after ≡ take 4097 (line_mid ++ get_or bytes i 0 ∷ []) → TakesBytes t (take (i + 1) bytes) held held_after p q answered count line line_after
+      → line_after ≡ take 4097 (line_mid ++ get_or bytes i 0 ∷ [])
+      → TakesBytes t (take (i + 1) bytes) held held_after p q answered count line line_after
   TakesBytes-at_other bytes i held held_after p q answered count line line_mid line_after within other before is =
-      subst (λ (l : List ℕ). TakesBytes t l held held_after p q answered count line line_after) (front_at bytes i (get_or bytes i 0) within refl)
+      subst (λ (l : List ℕ). TakesBytes t l held held_after p q answered count line line_after)
+      (front_at bytes i (get_or bytes i 0) within refl)
       (TakesBytes-other (take i bytes) (get_or bytes i 0) held held_after p q answered count line line_mid line_after before other is)
 
   -- at a line feed the line stops the session
-  pub StopsAmong-at_feed : {A : Type 0} (bytes : List ℕ) (i : ℕ) (held held_mid held_after : Option (List ℕ)) (p m q : Pass) (answered count : ℕ) (line line_mid line_sent : List ℕ) (stop : Stop) (end : SessionEnd)
-      → i < length bytes → get_or bytes i 0 ≡ 10 → TakesBytes t (take i bytes) held held_mid p m answered count line line_mid → line_sent ≡ line_mid
-      → SendsLine {A = A} t line_sent held_mid held_after m q (Err stop) → end ≡ record { why = stop.why; answered = count; pending = stop.pending }
+  pub StopsAmong-at_feed : {A : Type 0} (bytes : List ℕ) (i : ℕ) (held held_mid held_after : Option (List ℕ)) (p m q : Pass)
+      (answered count : ℕ) (line line_mid line_sent : List ℕ) (stop : Stop) (end : SessionEnd)
+      → i < length bytes → get_or bytes i 0 ≡ 10 → TakesBytes t (take i bytes) held held_mid p m answered count line line_mid
+      → line_sent ≡ line_mid
+      → SendsLine {A = A} t line_sent held_mid held_after m q (Err stop)
+      → end ≡ record { why = stop.why; answered = count; pending = stop.pending }
       → StopsAmong t bytes held held_after p q answered line end
-  StopsAmong-at_feed bytes i held held_mid held_after p m q answered count line line_mid line_sent stop end within feed before same sends is =
+  StopsAmong-at_feed bytes i held held_mid held_after p m q answered count line line_mid line_sent stop end within feed before same sends is
+      =
       let cut = subst (λ (l : List ℕ). IsCutShort t l sends.written m q stop) same sends.answers in
-      let stops = StopsAmong-feed (take i bytes) (drop (i + 1) bytes) held held_mid held_after p m q answered count line line_mid stop before sends.written sends.appends cut in
+      let stops = StopsAmong-feed (take i bytes) (drop (i + 1) bytes) held held_mid held_after p m q answered count line line_mid stop
+      before sends.written sends.appends cut in
       subst (StopsAmong t bytes held held_after p q answered line) (sym is)
-      (subst (λ (l : List ℕ). StopsAmong t l held held_after p q answered line (record { why = stop.why; answered = count; pending = stop.pending })) (sym (piece_at bytes i 10 within feed)) stops)
+      (subst (λ (l : List ℕ). StopsAmong t l held held_after p q answered line
+      (record { why = stop.why; answered = count; pending = stop.pending })) (sym (piece_at bytes i 10 within feed)) stops)

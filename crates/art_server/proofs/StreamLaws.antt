@@ -28,7 +28,8 @@ pushed_alone false b = refl
 split_lines-push : (bytes : List ℕ) (b : ℕ) → split_lines (bytes ++ b ∷ []) ≡ pushed (b == 10) b (split_lines bytes)
 split_lines-push [] b = pushed_alone (b == 10) b
 split_lines-push (c ∷ bytes) b =
-    ap (split_after (c == 10) c) (split_lines-push bytes b) ∙ split_after-pushed (c == 10) c (b == 10) b (whole_lines bytes) (last_part bytes)
+    ap (split_after (c == 10) c) (split_lines-push bytes b) ∙ split_after-pushed (c == 10) c (b == 10) b (whole_lines bytes)
+    (last_part bytes)
 
 -- a line feed makes the last part a whole line
 pub split_lines-feed : (bytes : List ℕ) → split_lines (bytes ++ 10 ∷ []) ≡ (whole_lines bytes ++ last_part bytes ∷ [], [])
@@ -42,10 +43,16 @@ split_lines-other bytes b other = split_lines-push bytes b ∙ ap (λ (t : Bool)
 
 more_after : (feed : Bool) (b : ℕ) (bytes : List ℕ) → (b == 10) ≡ feed
     → (extra : List (List ℕ)) × (whole_lines (bytes ++ b ∷ []) ≡ whole_lines bytes ++ extra)
-more_after true b bytes e =
-    (last_part bytes ∷ [], ap (λ (s : List (List ℕ) × List ℕ). s.0) (split_lines-push bytes b ∙ ap (λ (t : Bool). pushed t b (split_lines bytes)) e))
-more_after false b bytes e =
-    ([], ap (λ (s : List (List ℕ) × List ℕ). s.0) (split_lines-push bytes b ∙ ap (λ (t : Bool). pushed t b (split_lines bytes)) e) ∙ sym (append-nil (whole_lines bytes)))
+more_after true b bytes e = (
+  last_part bytes ∷ [],
+  ap (λ (s : List (List ℕ) × List ℕ). s.0)
+      (split_lines-push bytes b ∙ ap (λ (t : Bool). pushed t b (split_lines bytes)) e),
+)
+more_after false b bytes e = (
+  [],
+  ap (λ (s : List (List ℕ) × List ℕ). s.0) (split_lines-push bytes b ∙ ap (λ (t : Bool). pushed t b (split_lines bytes)) e)
+      ∙ sym (append-nil (whole_lines bytes)),
+)
 
 -- the whole lines of longer bytes begin with those of the shorter
 pub whole_lines-append : (bytes more : List ℕ) → (extra : List (List ℕ)) × (whole_lines (bytes ++ more) ≡ whole_lines bytes ++ extra)
@@ -65,7 +72,8 @@ lines_of-append bytes more =
     let last = last_line (last_part (bytes ++ more)) in
     (whole.0 ++ last, ap (λ (l : List (List ℕ)). l ++ last) whole.1 ∙ append_assoc (whole_lines bytes) whole.0 last)
 
-length_after : (feed : Bool) (b : ℕ) (lines : List (List ℕ)) (rest : List ℕ) → length (split_after feed b (lines, rest)).0 ≤ length lines + 1
+length_after : (feed : Bool) (b : ℕ) (lines : List (List ℕ)) (rest : List ℕ)
+    → length (split_after feed b (lines, rest)).0 ≤ length lines + 1
 length_after true b lines rest = omega arith
 length_after false b [] rest = omega arith
 length_after false b (line ∷ lines) rest = omega arith
@@ -120,7 +128,8 @@ part_some : (part line : List ℕ) → line ≡ take 4097 part → 0 < length li
 part_some part line is some = omega (arith, ap (length {A = ℕ}) is, length-take 4097 part)
 
 -- the lines where the last part is one
-pub lines_of-last : (taken line : List ℕ) → line ≡ take 4097 (last_part taken) → 0 < length line → lines_of taken ≡ whole_lines taken ++ last_part taken ∷ []
+pub lines_of-last : (taken line : List ℕ) → line ≡ take 4097 (last_part taken) → 0 < length line
+    → lines_of taken ≡ whole_lines taken ++ last_part taken ∷ []
 lines_of-last taken line is some =
     ap (λ (l : List (List ℕ)). whole_lines taken ++ l) (last_line-some (last_part taken) (part_some (last_part taken) line is some))
 

@@ -51,7 +51,7 @@ pub record AnswersJob (t : Table) (job : Job) (p : Pass) (reply : Result Reply R
   pub ends : Ends t job most_turns p result q
   pub told : IsReplyOf result reply
 
--- the same of a command; none is a scan, for now
+-- the pass p did the command, was told this reply, and is q then; a scan is none that it does yet
 abbrev pub AnswersCommand : Table → Command → Pass → Result Reply Refusal → Pass → Type 0
 AnswersCommand t (Insert tuple value) p reply q = AnswersJob t (jobs.Insert tuple value) p reply q
 AnswersCommand t (Remove tuple) p reply q = AnswersJob t (jobs.Remove tuple) p reply q
@@ -60,7 +60,7 @@ AnswersCommand t (Scan lo hi limit) p reply q = ⊥
 
 -- ---- what lines are answered
 
--- what says no command has its refusal, and the pass makes no step
+-- a line that says no command has its refusal, and the pass makes no step
 abbrev pub AnswersSaid : Table → Result Command LineFault → Pass → Result Reply Refusal → Pass → Type 0
 AnswersSaid t (Ok command) p reply q = AnswersCommand t command p reply q
 AnswersSaid t (Err fault) p reply q = (reply ≡ Err (line_refusal fault)) × (q ≡ p)

@@ -5,7 +5,8 @@ use Rattle.art_server.proofs.sessions.answer_bytes.Given as goal
 
 abbrev pub invariant-bytes : goal.invariant-bytes
 invariant-bytes g l = record {
-  takes : TakesBytes l.table (take l.byte-index l.bytes) (g.W.Write.contents l.fn.writer) (g.W.Write.contents l.writer) l.fn.pass l.pass l.answered l.count l.fn.line.items l.line.items;
+  takes : TakesBytes l.table (take l.byte-index l.bytes) (g.W.Write.contents l.fn.writer)
+      (g.W.Write.contents l.writer) l.fn.pass l.pass l.answered l.count l.fn.line.items l.line.items;
   of : IsPassOf l.table l.pass;
   few : l.count ≤ l.answered + l.byte-index;
 }

@@ -18,7 +18,8 @@ finish-requires-clause-room g c =
 
 pub returns-in-Ok-eq0-clause-session : goal.returns-in-Ok-eq0-clause-session
 returns-in-Ok-eq0-clause-session g c =
-    RunsSession-finish _ _ _ _ _ _ _ _ _ _ _ _ _ _ _ _ _ c.reads.invariant.read c.in-Ok-eq0.ensures.bytes.0 (omega arith) c.as_slice.ensures.value (omega arith) c.finish.ensures.finishes
+    RunsSession-finish _ _ _ _ _ _ _ _ _ _ _ _ _ _ _ _ _ c.reads.invariant.read c.in-Ok-eq0.ensures.bytes.0 (omega arith)
+    c.as_slice.ensures.value (omega arith) c.finish.ensures.finishes
 
 pub answer_bytes-requires-clause-room : goal.answer_bytes-requires-clause-room
 answer_bytes-requires-clause-room g c =
@@ -58,12 +59,14 @@ returns-clause-session g c =
 
 pub returns-in-Ok-eq0-clause-reads : goal.returns-in-Ok-eq0-clause-reads
 returns-in-Ok-eq0-clause-reads g c =
-    MakesReads-finish _ _ _ _ c.in-Ok-eq0.field-0 _ c.reads.invariant.counted c.in-Ok-eq0.ensures.count (omega arith) (omega arith) c.finish.ensures.cause
+    MakesReads-finish _ _ _ _ c.in-Ok-eq0.field-0 _ c.reads.invariant.counted c.in-Ok-eq0.ensures.count (omega arith)
+    (omega arith) c.finish.ensures.cause
 
 pub returns-in-Err-answer_bytes-clause-reads : goal.returns-in-Err-answer_bytes-clause-reads
 returns-in-Err-answer_bytes-clause-reads g c =
     let bound = c.in-Ok.ensures.bound in
-    MakesReads-stop _ _ _ _ c.in-Ok.count _ _ c.reads.invariant.counted c.in-Ok.ensures.count (omega arith) (omega arith) (omega arith) c.in-Err-answer_bytes.ensures.answers.cause
+    MakesReads-stop _ _ _ _ c.in-Ok.count _ _ c.reads.invariant.counted c.in-Ok.ensures.count (omega arith) (omega arith)
+    (omega arith) c.in-Err-answer_bytes.ensures.answers.cause
 
 pub returns-in-Err-clause-reads : goal.returns-in-Err-clause-reads
 returns-in-Err-clause-reads g c =
