@@ -80,7 +80,3 @@ pub MakesReads-used : (count : ℕ) (old new : List (Option ℕ)) → HasCounted
 MakesReads-used count old new has used =
     let same = has.count_is in
     record { adds = record { made = has.made; account = has.account; most = omega arith }; until = (has.bytes, same ∙ used) }
-
--- no read was made
-pub AddsReads-none : (old : List (Option ℕ)) → AddsReads old old
-AddsReads-none old = record { made = []; account = sym (append-nil old); most = omega arith }

@@ -7,3 +7,4 @@ pub mod SessionLaws
 pub mod StepLaws
 pub mod ReadLaws
 pub mod CountLaws
+pub mod PassLaws

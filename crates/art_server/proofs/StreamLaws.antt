@@ -1,8 +1,8 @@
--- How the lines of bytes grow.
-use Rattle.std.proofs.Common.{◌≡◌, ◌≢◌, ℕ, ◌==◌, ◌≤◌, ◌+◌, ◌<◌, Bool, true, false, List, [], ◌∷◌, ◌++◌, length, take, All, refl, sym, ap, ◌∙◌, arith, append_assoc, append-nil}
+-- How the lines of bytes grow, and what their last part is.
+use Rattle.std.proofs.Common.{◌≡◌, ◌≢◌, ℕ, ◌==◌, ◌≤◌, ◌+◌, ◌<◌, Bool, true, false, List, [], ◌∷◌, ◌++◌, length, get_or, take, drop, take-append-drop, All, refl, sym, ap, ◌∙◌, arith, append_assoc, append-nil, length-take, inl, inr}
 use Rattle.std.specs.List.{flat_map}
-use Rattle.std.proofs.lemmas.Bool.{ne_eqb}
-use Rattle.std.proofs.lemmas.List.{take-append-le, take_all, length_push}
+use Rattle.std.proofs.lemmas.Bool.{cases_lt, ne_eqb}
+use Rattle.std.proofs.lemmas.List.{take-append-le, take-take, take_all, take_more, nil_from_length}
 use Rattle.std.proofs.lemmas.List.Elements.{All-head, All-tail}
 use Rattle.art_server.specs.Streams.{split_after, split_lines, whole_lines, last_part, last_line, lines_of, HasNoFeed, with_feed}
 
@@ -28,7 +28,8 @@ pushed_alone false b = refl
 split_lines-push : (bytes : List ℕ) (b : ℕ) → split_lines (bytes ++ b ∷ []) ≡ pushed (b == 10) b (split_lines bytes)
 split_lines-push [] b = pushed_alone (b == 10) b
 split_lines-push (c ∷ bytes) b =
-    ap (split_after (c == 10) c) (split_lines-push bytes b) ∙ split_after-pushed (c == 10) c (b == 10) b (whole_lines bytes) (last_part bytes)
+    ap (split_after (c == 10) c) (split_lines-push bytes b) ∙ split_after-pushed (c == 10) c (b == 10) b (whole_lines bytes)
+    (last_part bytes)
 
 -- a line feed makes the last part a whole line
 pub split_lines-feed : (bytes : List ℕ) → split_lines (bytes ++ 10 ∷ []) ≡ (whole_lines bytes ++ last_part bytes ∷ [], [])
@@ -42,10 +43,16 @@ split_lines-other bytes b other = split_lines-push bytes b ∙ ap (λ (t : Bool)
 
 more_after : (feed : Bool) (b : ℕ) (bytes : List ℕ) → (b == 10) ≡ feed
     → (extra : List (List ℕ)) × (whole_lines (bytes ++ b ∷ []) ≡ whole_lines bytes ++ extra)
-more_after true b bytes e =
-    (last_part bytes ∷ [], ap (λ (s : List (List ℕ) × List ℕ). s.0) (split_lines-push bytes b ∙ ap (λ (t : Bool). pushed t b (split_lines bytes)) e))
-more_after false b bytes e =
-    ([], ap (λ (s : List (List ℕ) × List ℕ). s.0) (split_lines-push bytes b ∙ ap (λ (t : Bool). pushed t b (split_lines bytes)) e) ∙ sym (append-nil (whole_lines bytes)))
+more_after true b bytes e = (
+  last_part bytes ∷ [],
+  ap (λ (s : List (List ℕ) × List ℕ). s.0)
+      (split_lines-push bytes b ∙ ap (λ (t : Bool). pushed t b (split_lines bytes)) e),
+)
+more_after false b bytes e = (
+  [],
+  ap (λ (s : List (List ℕ) × List ℕ). s.0) (split_lines-push bytes b ∙ ap (λ (t : Bool). pushed t b (split_lines bytes)) e)
+      ∙ sym (append-nil (whole_lines bytes)),
+)
 
 -- the whole lines of longer bytes begin with those of the shorter
 pub whole_lines-append : (bytes more : List ℕ) → (extra : List (List ℕ)) × (whole_lines (bytes ++ more) ≡ whole_lines bytes ++ extra)
@@ -65,7 +72,8 @@ lines_of-append bytes more =
     let last = last_line (last_part (bytes ++ more)) in
     (whole.0 ++ last, ap (λ (l : List (List ℕ)). l ++ last) whole.1 ∙ append_assoc (whole_lines bytes) whole.0 last)
 
-length_after : (feed : Bool) (b : ℕ) (lines : List (List ℕ)) (rest : List ℕ) → length (split_after feed b (lines, rest)).0 ≤ length lines + 1
+length_after : (feed : Bool) (b : ℕ) (lines : List (List ℕ)) (rest : List ℕ)
+    → length (split_after feed b (lines, rest)).0 ≤ length lines + 1
 length_after true b lines rest = omega arith
 length_after false b [] rest = omega arith
 length_after false b (line ∷ lines) rest = omega arith
@@ -95,12 +103,57 @@ pub lines_of-all : (lines : List (List ℕ)) → All HasNoFeed lines → lines_o
 lines_of-all lines none =
     ap (λ (s : List (List ℕ) × List ℕ). s.0 ++ last_line s.1) (split_lines-all lines none) ∙ append-nil lines
 
+-- ---- a line feed more
+
+pub lines_fed : (taken : List ℕ) → whole_lines (taken ++ 10 ∷ []) ≡ whole_lines taken ++ last_part taken ∷ []
+lines_fed taken = ap (λ (s : List (List ℕ) × List ℕ). s.0) (split_lines-feed taken)
+
+pub part_fed : (taken : List ℕ) → last_part (taken ++ 10 ∷ []) ≡ []
+part_fed taken = ap (λ (s : List (List ℕ) × List ℕ). s.1) (split_lines-feed taken)
+
+-- ---- the last line
+
+pub lines_of-short : (taken : List ℕ) (part : List ℕ) → last_part taken ≡ part → part ≡ [] → lines_of taken ≡ whole_lines taken
+lines_of-short taken part e none =
+    ap (λ (p : List ℕ). whole_lines taken ++ last_line p) (e ∙ none) ∙ append-nil (whole_lines taken)
+
+last_line-some : (part : List ℕ) → 0 < length part → last_line part ≡ part ∷ []
+last_line-some [] some = absurd (omega arith)
+last_line-some (b ∷ part) some = refl
+
+pub part_none : (part line : List ℕ) → line ≡ take 4097 part → length line ≡ 0 → part ≡ []
+part_none part line is none = nil_from_length part (omega (arith, ap (length {A = ℕ}) is, length-take 4097 part))
+
+part_some : (part line : List ℕ) → line ≡ take 4097 part → 0 < length line → 0 < length part
+part_some part line is some = omega (arith, ap (length {A = ℕ}) is, length-take 4097 part)
+
+-- the lines where the last part is one
+pub lines_of-last : (taken line : List ℕ) → line ≡ take 4097 (last_part taken) → 0 < length line
+    → lines_of taken ≡ whole_lines taken ++ last_part taken ∷ []
+lines_of-last taken line is some =
+    ap (λ (l : List (List ℕ)). whole_lines taken ++ l) (last_line-some (last_part taken) (part_some (last_part taken) line is some))
+
 -- ---- the front of a line
 
--- a list at its limit keeps its front, and another takes the byte
-pub take-push_past : (n : ℕ) (xs : List ℕ) (b : ℕ) → n ≤ length xs → take n (xs ++ b ∷ []) ≡ take n xs
-take-push_past n xs b long = take-append-le n xs (b ∷ []) long
+-- the front of a longer part is that of the front and what came
+pub take_more_kept : (n : ℕ) (part : List ℕ) (b : ℕ) → take n (take n part ++ b ∷ []) ≡ take n (part ++ b ∷ [])
+take_more_kept n part b =
+    elim (cases_lt (length part) n) [
+      | inl short ↦ ap (λ (l : List ℕ). take n (l ++ b ∷ [])) (take_all n part (omega arith))
+      | inr long ↦ (
+          let kept : n ≤ length (take n part) = omega (arith, length-take n part) in
+          take-append-le n (take n part) (b ∷ []) kept
+          ∙ take-take n n part (omega arith)
+          ∙ sym (take-append-le n part (b ∷ []) long))
+    ]
 
-pub take-push_within : (n : ℕ) (xs : List ℕ) (b : ℕ) → length xs < n → take n (xs ++ b ∷ []) ≡ take n xs ++ b ∷ []
-take-push_within n xs b short =
-    take_all n (xs ++ b ∷ []) (omega (arith, length_push xs b)) ∙ ap (λ (l : List ℕ). l ++ b ∷ []) (sym (take_all n xs (omega arith)))
+-- ---- the bytes of a piece
+
+-- a piece at one of its bytes
+pub piece_at : (bytes : List ℕ) (i b : ℕ) → i < length bytes → get_or bytes i 0 ≡ b → bytes ≡ (take i bytes ++ b ∷ []) ++ drop (i + 1) bytes
+piece_at bytes i b within is =
+    sym (take-append-drop (i + 1) bytes)
+    ∙ ap (λ (t : List ℕ). t ++ drop (i + 1) bytes) (take_more bytes i 0 within ∙ ap (λ (x : ℕ). take i bytes ++ x ∷ []) is)
+
+pub front_at : (bytes : List ℕ) (i b : ℕ) → i < length bytes → get_or bytes i 0 ≡ b → take i bytes ++ b ∷ [] ≡ take (i + 1) bytes
+front_at bytes i b within is = sym (take_more bytes i 0 within ∙ ap (λ (x : ℕ). take i bytes ++ x ∷ []) is)

@@ -6,12 +6,12 @@ use Rattle.art_key.specs.declared.faults.SchemaFault.{SchemaFault}
 use Rattle.art_key.specs.declared.faults.SchemaFault.TheVariants as schema
 use Rattle.art_key.specs.declared.faults.ValueFault.{ValueFault}
 use Rattle.art_key.specs.declared.faults.ValueFault.TheVariants as value
-use Rattle.art_list.specs.declared.closing.CloseRefusal.{CloseRefusal}
-use Rattle.art_list.specs.declared.closing.CloseRefusal.TheVariants as close
-use Rattle.art_list.specs.declared.faults.Fault.{Fault}
-use Rattle.art_list.specs.declared.faults.Fault.TheVariants as table
-use Rattle.art_list.specs.declared.faults.OpenFault.{OpenFault}
-use Rattle.art_list.specs.declared.faults.OpenFault.TheVariants as opening
+use Rattle.art_table.specs.declared.closing.CloseRefusal.{CloseRefusal}
+use Rattle.art_table.specs.declared.closing.CloseRefusal.TheVariants as close
+use Rattle.art_table.specs.declared.faults.Fault.{Fault}
+use Rattle.art_table.specs.declared.faults.Fault.TheVariants as table
+use Rattle.art_table.specs.declared.faults.OpenFault.{OpenFault}
+use Rattle.art_table.specs.declared.faults.OpenFault.TheVariants as opening
 use Rattle.art_server.specs.declared.lines.LineFault.{LineFault}
 use Rattle.art_server.specs.declared.lines.LineFault.TheVariants as line
 
@@ -65,14 +65,16 @@ refusal_name PassesMissing = codes "PassesMissing"
 abbrev pub refusal_text : Refusal → List ℕ
 refusal_text refusal = codes "refused " ++ decimal (refusal_number refusal) ++ codes " " ++ refusal_name refusal
 
--- ---- the refusal of each fault, by its name: places of columns, and pools, are dropped
+-- ---- the refusal of each fault, by its name: the column, the pool, the pass in the way and the cell are dropped
 
+-- of a value that does not stand in its column
 abbrev pub value_refusal : ValueFault → Refusal
 value_refusal value.WrongColumns = WrongColumns
 value_refusal (value.WrongType place) = WrongType
 value_refusal (value.OutOfRange place) = OutOfRange
 value_refusal (value.TextTooLong place) = TextTooLong
 
+-- of a line that says no command
 abbrev pub line_refusal : LineFault → Refusal
 line_refusal line.BadLine = BadLine
 line_refusal line.LineTooLong = LineTooLong
@@ -80,20 +82,27 @@ line_refusal line.BadCommand = BadCommand
 line_refusal (line.Value fault) = value_refusal fault
 line_refusal line.NoMemory = NoMemory
 
+-- of a call that is not answered
 abbrev pub fault_refusal : Fault → Refusal
 fault_refusal (table.Value fault) = value_refusal fault
+fault_refusal table.Busy = Busy
 fault_refusal (table.Full pool) = Full
+fault_refusal (table.Crowded blocker) = Crowded
+fault_refusal (table.Exhausted cell) = Exhausted
 
+-- of columns that make no schema
 abbrev pub schema_refusal : SchemaFault → Refusal
 schema_refusal schema.NoColumns = NoColumns
 schema_refusal schema.TooManyColumns = TooManyColumns
 schema_refusal schema.KeyTooWide = KeyTooWide
 schema_refusal (schema.BadColumn place) = BadColumn
 
+-- of a table that is not opened
 abbrev pub open_refusal : OpenFault → Refusal
 open_refusal opening.BadConfig = BadConfig
 open_refusal opening.NoMemory = NoMemory
 
+-- of a table that is not closed
 abbrev pub close_refusal : CloseRefusal → Refusal
 close_refusal close.PassesMissing = PassesMissing
 close_refusal close.NoMemory = NoMemory

@@ -1,12 +1,20 @@
--- What a session of lines means: each line is answered by the table as the lines before it left it.
+-- What a session of lines means: each line is answered by the pass as the line before left it.
 use Rattle.std.specs.Prelude.{◌≡◌, ◌≢◌, ℕ, ◌+◌, ◌*◌, ◌<◌, ◌≤◌, Bool, true, false, if◌then◌else◌, List, [], ◌∷◌, ◌++◌, length, take, Option, Result, Ok, Err}
 use Rattle.std.specs.List.{flat_map}
 use Rattle.std.specs.Io.KnownBytes.{Appends, Consumes}
 use Rattle.art_model.specs.declared.commands.Command.{Command}
+use Rattle.art_model.specs.declared.commands.Command.TheVariants.{Insert, Remove, Get, Scan}
 use Rattle.art_model.specs.declared.commands.Reply.{Reply}
-use Rattle.art_list.specs.declared.faults.Fault.{Fault}
-use Rattle.art_list.specs.Answers.{table_answer}
-use Rattle.art_list.specs.Contents.{Contents}
+use Rattle.art_model.specs.declared.commands.Reply.TheVariants.{Inserted, Present, Removed, Absent, Found}
+use Rattle.art_shared.specs.SamePass.{SamePass}
+use Rattle.art_table.specs.Calls.{Ends}
+use Rattle.art_table.specs.declared.faults.Fault.{Fault}
+use Rattle.art_table.specs.declared.jobs.Job.{Job}
+use Rattle.art_table.specs.declared.jobs.Job.TheVariants as jobs
+use Rattle.art_table.specs.declared.jobs.Outcome.{Outcome}
+use Rattle.art_table.specs.declared.jobs.Outcome.TheVariants as outcome
+use Rattle.art_table.specs.declared.passes.Pass.{Pass}
+use Rattle.art_table.specs.declared.tables.Table.{Table}
 use Rattle.art_server.specs.declared.lines.LineFault.{LineFault}
 use Rattle.art_server.specs.declared.refusals.Refusal.{Refusal}
 use Rattle.art_server.specs.declared.sessions.EndCause.{EndCause}
@@ -17,30 +25,58 @@ use Rattle.art_server.specs.Refusals.{line_refusal, fault_refusal}
 use Rattle.art_server.specs.Replies.{text_of_reply}
 use Rattle.art_server.specs.Streams.{whole_lines, lines_of}
 
+-- q is the pass p after some steps of its own: it has p's number, and is of p's table
+abbrev pub IsSamePass : Pass → Pass → Type 0
+IsSamePass p q = SamePass p.seat q.seat
+
+-- ---- what a command is answered
+
+-- the most turns of one command
+abbrev pub most_turns : ℕ
+most_turns = 1000000
+
+-- the reply to a call that ended so: its answer, or the refusal of its fault. A look is no command, and has no reply.
+abbrev pub IsReplyOf : Result Outcome Fault → Result Reply Refusal → Type 0
+IsReplyOf (Ok outcome.New) reply = reply ≡ Ok Inserted
+IsReplyOf (Ok (outcome.Present value)) reply = reply ≡ Ok (Present value)
+IsReplyOf (Ok (outcome.Removed value)) reply = reply ≡ Ok (Removed value)
+IsReplyOf (Ok outcome.Absent) reply = reply ≡ Ok Absent
+IsReplyOf (Ok (outcome.Found value)) reply = reply ≡ Ok (Found value)
+IsReplyOf (Ok (outcome.Seen seen)) reply = ⊥
+IsReplyOf (Err fault) reply = reply ≡ Err (fault_refusal fault)
+
+-- the pass p made a call of the job, whose reply is this, and is q then
+pub record AnswersJob (t : Table) (job : Job) (p : Pass) (reply : Result Reply Refusal) (q : Pass) : Type 0 where
+  pub result : Result Outcome Fault
+  pub ends : Ends t job most_turns p result q
+  pub told : IsReplyOf result reply
+
+-- the pass p did the command, was told this reply, and is q then; a scan is none that it does yet
+abbrev pub AnswersCommand : Table → Command → Pass → Result Reply Refusal → Pass → Type 0
+AnswersCommand t (Insert tuple value) p reply q = AnswersJob t (jobs.Insert tuple value) p reply q
+AnswersCommand t (Remove tuple) p reply q = AnswersJob t (jobs.Remove tuple) p reply q
+AnswersCommand t (Get tuple) p reply q = AnswersJob t (jobs.Get tuple) p reply q
+AnswersCommand t (Scan lo hi limit) p reply q = ⊥
+
 -- ---- what lines are answered
 
-abbrev pub refused : Result Reply Fault → Result Reply Refusal
-refused (Ok reply) = Ok reply
-refused (Err fault) = Err (fault_refusal fault)
+-- a line that says no command has its refusal, and the pass makes no step
+abbrev pub AnswersSaid : Table → Result Command LineFault → Pass → Result Reply Refusal → Pass → Type 0
+AnswersSaid t (Ok command) p reply q = AnswersCommand t command p reply q
+AnswersSaid t (Err fault) p reply q = (reply ≡ Err (line_refusal fault)) × (q ≡ p)
 
--- the table's answer to a command and the table after it, or a refusal and the table as it was
-abbrev pub answer_to : Result Command LineFault → Contents → Result Reply Refusal × Contents
-answer_to (Ok command) table = (refused (table_answer command table).0, (table_answer command table).1)
-answer_to (Err fault) table = (Err (line_refusal fault), table)
+-- the pass p was handed the line, gave this reply, and is q then
+unfoldable pub AnswersLine : Table → List ℕ → Pass → Result Reply Refusal → Pass → Type 0
+AnswersLine t line p reply q = AnswersSaid t (line_says line) p reply q
 
-unfoldable pub line_answer : List ℕ → Contents → Result Reply Refusal × Contents
-line_answer line table = answer_to (line_says line) table
+-- lines one after another, each by the pass as the line before left it
+abbrev pub AnswersLines : Table → List (List ℕ) → Pass → List (Result Reply Refusal) → Pass → Type 0
+AnswersLines t [] p replies q = (replies ≡ []) × (q ≡ p)
+AnswersLines t (line ∷ lines) p replies q =
+    (reply : Result Reply Refusal) × (others : List (Result Reply Refusal)) × (m : Pass)
+    × (replies ≡ reply ∷ others) × AnswersLine t line p reply m × AnswersLines t lines m others q
 
--- the replies to the lines, one after another
-abbrev pub replies_to : List (List ℕ) → Contents → List (Result Reply Refusal)
-replies_to [] table = []
-replies_to (line ∷ lines) table = (line_answer line table).0 ∷ replies_to lines (line_answer line table).1
-
--- the table after the lines
-abbrev pub table_after : List (List ℕ) → Contents → Contents
-table_after [] table = table
-table_after (line ∷ lines) table = table_after lines (line_answer line table).1
-
+-- the texts of the replies, one after another
 abbrev pub texts : List (Result Reply Refusal) → List ℕ
 texts replies = flat_map text_of_reply replies
 
@@ -51,12 +87,13 @@ abbrev pub begun : SessionEnd → ℕ
 begun end = end.answered + (if end.pending then 1 else 0)
 
 -- Lines from the front were begun. The texts of their replies were written, but that the last may be cut.
-pub record AnswersFront (lines : List (List ℕ)) (written : List ℕ) (old new : Contents) (end : SessionEnd) : Type 0 where
+pub record AnswersFront (t : Table) (lines : List (List ℕ)) (written : List ℕ) (p q : Pass) (end : SessionEnd) : Type 0 where
   pub within : begun end ≤ length lines
-  pub answered : (cut : List ℕ) × (written ≡ texts (replies_to (take end.answered lines) old) ++ cut)
-  pub begins : (rest : List ℕ) × (written ++ rest ≡ texts (replies_to (take (begun end) lines) old))
-  pub whole : end.why ≢ WriteFault → written ≡ texts (replies_to (take end.answered lines) old)
-  pub table : new ≡ table_after (take (begun end) lines) old
+  pub replies : List (Result Reply Refusal)
+  pub answers : AnswersLines t (take (begun end) lines) p replies q
+  pub answered : (cut : List ℕ) × (written ≡ texts (take end.answered replies) ++ cut)
+  pub begins : (rest : List ℕ) × (written ++ rest ≡ texts replies)
+  pub whole : end.why ≢ WriteFault → written ≡ texts (take end.answered replies)
 
 -- how many lines are answered where a session ends for a cause
 abbrev pub EndsBy : EndCause → ℕ → Bool → List ℕ → Type 0
@@ -66,13 +103,14 @@ EndsBy WriteFault answered pending read = pending ≡ true
 EndsBy NoMemory answered pending read = answered < length (lines_of read)
 EndsBy ReadsUsed answered pending read = (answered ≡ length (whole_lines read)) × (pending ≡ false) × (1000000 ≤ length read)
 
--- the bytes that were read, the bytes that were written, and the table before and after
-pub record IsSession (read written : List ℕ) (old new : Contents) (end : SessionEnd) : Type 0 where
-  pub lines : AnswersFront (lines_of read) written old new end
+-- the bytes that were read, the bytes that were written, and the pass before and after
+pub record IsSession (t : Table) (read written : List ℕ) (p q : Pass) (end : SessionEnd) : Type 0 where
+  pub lines : AnswersFront t (lines_of read) written p q end
   pub cause : EndsBy end.why end.answered end.pending read
   pub most : length read ≤ 1000000 * 4096
 
 -- A session with the reader, from what it had left to what it has left, and the writer, from what it held to what it holds.
-abbrev pub RunsSession : (left left_after held held_after : Option (List ℕ)) (old new : Contents) → SessionEnd → Type 0
-RunsSession left left_after held held_after old new end =
-    (read : List ℕ) × (written : List ℕ) × Consumes left left_after read × Appends held held_after written × IsSession read written old new end
+abbrev pub RunsSession : (left left_after held held_after : Option (List ℕ)) → Table → Pass → Pass → SessionEnd → Type 0
+RunsSession left left_after held held_after t p q end =
+    (read : List ℕ) × (written : List ℕ)
+    × Consumes left left_after read × Appends held held_after written × IsSession t read written p q end

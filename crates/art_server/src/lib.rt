@@ -2,7 +2,7 @@
 //!
 //! A line is one JSON text. `parse_line` gives the command that it says, or why it says none; `print_reply` gives
 //! the text of a reply, or of a numbered refusal, with its line feed. `session` goes from the bytes of a reader to the
-//! bytes of a writer: each line is answered by the table as the lines before it left it, and the end says how many
+//! bytes of a writer: each line is answered by the pass as the line before left it, and the end says how many
 //! replies were wholly written, and whether one more was begun. A session reads a `Counted` reader, so that its contract can
 //! say which reads it makes: at most 1,000,000, and none after one that fails.
 #![tactic(auto)]

@@ -1,7 +1,7 @@
 //! The numbered refusals.
 use crate::LineFault;
 use art_key::{SchemaFault, ValueFault};
-use art_list::{CloseRefusal, Fault, OpenFault};
+use art_table::{CloseRefusal, Fault, OpenFault};
 use std::fmt;
 
 /// Why a command, or the start of the server, was refused.
@@ -164,7 +164,10 @@ impl From<Fault> for Refusal {
     fn from(fault: Fault) -> Refusal {
         match fault {
             Fault::Value(fault) => Refusal::from(fault),
+            Fault::Busy => Refusal::Busy,
             Fault::Full(_) => Refusal::Full,
+            Fault::Crowded(_) => Refusal::Crowded,
+            Fault::Exhausted(_) => Refusal::Exhausted,
         }
     }
 }

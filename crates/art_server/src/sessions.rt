@@ -1,22 +1,20 @@
 //! From the bytes of a reader to the bytes of a writer.
-ghost use Rattle.std.specs.Prelude.{◌≡◌, ◌≢◌, ◌+◌, ◌<◌, ◌≤◌, ◌^◌, [], ◌∷◌, ◌++◌, length, take, true, false, Ok};
+ghost use Rattle.std.specs.Prelude.{◌≡◌, ◌+◌, ◌<◌, ◌^◌, [], ◌∷◌, ◌++◌, length, take, true, false};
 ghost use Rattle.std.specs.Io.KnownBytes.{IsAtEnd};
-ghost use Rattle.art_model.specs.declared.commands.Command.TheVariants.{Insert, Remove, Get};
-ghost use Rattle.art_list.specs.Answers.{table_answer};
-ghost use Rattle.art_list.specs.Contents.{IsPassOf};
-ghost use Rattle.art_server.specs.Lines.{line_says};
 ghost use Rattle.art_server.specs.Counted.{reader_of, reads_of};
 ghost use Rattle.art_server.specs.Reads.{EndsAtInput, MakesReads};
 ghost use Rattle.art_server.specs.Replies.{reply_of};
-ghost use Rattle.art_server.specs.Sessions.{refused, line_answer, RunsSession};
+ghost use Rattle.art_server.specs.Sessions.{AnswersCommand, AnswersJob, IsSamePass, RunsSession};
 ghost use Rattle.art_server.specs.Steps.{IsServed, SendsReply, SendsLine, AnswersBytes, Finishes};
+ghost use Rattle.art_table.specs.Tables.{IsPassOf};
+ghost use Rattle.art_table.specs.declared.jobs.Job.TheVariants as jobs;
 
 use crate::replies::print_answer;
 use crate::streams::write_text;
 use crate::{Counted, LineFault, Refusal, parse_line};
 use arrayvec::ArrayVec;
-use art_list::{Inserted, Pass, Table, get, insert, remove};
 use art_model::{Answer, Command, NoMemory, Tuple};
+use art_table::{Inserted, Pass, Table, get, insert, remove};
 use std::alloc::Global;
 use std::io::{self, Read, Write};
 
@@ -100,23 +98,23 @@ impl From<io::Error> for Stop {
     }
 }
 
-/// Answers each line that the reader gives, by the table, to the writer.
+/// Answers each line that the reader gives, by the pass, to the writer. Other threads may use the table meanwhile.
 ///
 /// At most 1,000,000 reads are made, each of at most 4,096 bytes. The first read or write that fails ends the session, an
 /// interruption too: a caller who wants another try makes it in the reader or the writer. So does a write that takes
 /// no byte. Memory is taken for one line's reading and for its reply alone.
 pub fn session<R: Read, W: Write>(
     alloc: Global,
-    table: &mut Table,
+    table: &Table,
     pass: Pass,
     reader: &mut Counted<R>,
     writer: &mut W,
 ) -> (Pass, SessionEnd)
-    requires { IsPassOf table.old pass }
-    ensures pass { result.0 ≡ pass }
-    ensures sizes { table.new.sizes ≡ table.old.sizes }
+    requires { IsPassOf table.now pass }
+    ensures pass { IsPassOf table.now result.0 }
+    ensures same { IsSamePass pass result.0 }
     ensures session { RunsSession (R.remaining (reader_of reader.old)) (R.remaining (reader_of reader.new))
-        (W.contents writer.old) (W.contents writer.new) table.old table.new result.1 }
+        (W.contents writer.old) (W.contents writer.new) table.now pass result.0 result.1 }
     ensures end { result.1.why ≡ EndCause.Ended → IsAtEnd (R.remaining (reader_of reader.new)) }
     ensures reads { MakesReads (reads_of reader.old) (reads_of reader.new) result.1.why }
 {
@@ -127,16 +125,15 @@ pub fn session<R: Read, W: Write>(
 
 fn answer_reads<R: Read, W: Write>(
     alloc: Global,
-    table: &mut Table,
+    table: &Table,
     pass: &mut Pass,
     reader: &mut Counted<R>,
     writer: &mut W,
 ) -> SessionEnd
-    requires { IsPassOf table.old pass.old }
-    ensures pass { pass.new ≡ pass.old }
-    ensures sizes { table.new.sizes ≡ table.old.sizes }
+    requires { IsPassOf table.now pass.old }
+    ensures pass { IsPassOf table.now pass.new }
     ensures session { RunsSession (R.remaining (reader_of reader.old)) (R.remaining (reader_of reader.new))
-        (W.contents writer.old) (W.contents writer.new) table.old table.new result }
+        (W.contents writer.old) (W.contents writer.new) table.now pass.old pass.new result }
     ensures end { result.why ≡ EndCause.Ended → IsAtEnd (R.remaining (reader_of reader.new)) }
     ensures reads { MakesReads (reads_of reader.old) (reads_of reader.new) result.why }
 {
@@ -179,17 +176,16 @@ fn ended(why: EndCause, answered: u64) -> SessionEnd
 /// Answers the last line, if one stands with no line feed after it.
 fn finish<W: Write>(
     alloc: Global,
-    table: &mut Table,
+    table: &Table,
     pass: &mut Pass,
     line: &[u8],
     writer: &mut W,
     answered: u64,
 ) -> SessionEnd
-    requires pass { IsPassOf table.old pass.old }
+    requires pass { IsPassOf table.now pass.old }
     requires room { answered + 1 < 2 ^ 64 }
-    ensures pass { pass.new ≡ pass.old }
-    ensures sizes { table.new.sizes ≡ table.old.sizes }
-    ensures finishes { Finishes (W.contents writer.old) (W.contents writer.new) table.old table.new
+    ensures pass { IsPassOf table.now pass.new }
+    ensures finishes { Finishes table.now (W.contents writer.old) (W.contents writer.new) pass.old pass.new
         answered line.now result }
     ensures cause { EndsAtInput result.why }
 {
@@ -205,18 +201,17 @@ fn finish<W: Write>(
 /// Answers each line that ends in the bytes, and keeps what stands after the last line feed.
 fn answer_bytes<W: Write>(
     alloc: Global,
-    table: &mut Table,
+    table: &Table,
     pass: &mut Pass,
     line: &mut ArrayVec<u8, 4097>,
     bytes: &[u8],
     writer: &mut W,
     answered: u64,
 ) -> Result<u64, SessionEnd>
-    requires pass { IsPassOf table.old pass.old }
+    requires pass { IsPassOf table.now pass.old }
     requires room { answered + length bytes.now < 2 ^ 64 }
-    ensures pass { pass.new ≡ pass.old }
-    ensures sizes { table.new.sizes ≡ table.old.sizes }
-    ensures answers { AnswersBytes bytes.now (W.contents writer.old) (W.contents writer.new) table.old table.new
+    ensures pass { IsPassOf table.now pass.new }
+    ensures answers { AnswersBytes table.now bytes.now (W.contents writer.old) (W.contents writer.new) pass.old pass.new
         answered line.old.items line.new.items result }
 {
     let mut count = answered;
@@ -247,15 +242,14 @@ fn keep(line: &mut ArrayVec<u8, 4097>, byte: u8)
 
 fn answer_line<W: Write>(
     alloc: Global,
-    table: &mut Table,
+    table: &Table,
     pass: &mut Pass,
     line: &[u8],
     writer: &mut W,
 ) -> Result<(), Stop>
-    requires { IsPassOf table.old pass.old }
-    ensures pass { pass.new ≡ pass.old }
-    ensures sizes { table.new.sizes ≡ table.old.sizes }
-    ensures sends { SendsLine line.now (W.contents writer.old) (W.contents writer.new) table.old table.new result }
+    requires { IsPassOf table.now pass.old }
+    ensures pass { IsPassOf table.now pass.new }
+    ensures sends { SendsLine table.now line.now (W.contents writer.old) (W.contents writer.new) pass.old pass.new result }
 {
     let answer = match parse_line(alloc, line) {
         Ok(command) => run_command(table, pass, &command),
@@ -284,12 +278,12 @@ fn send_answer<W: Write>(
     Ok(())
 }
 
-fn run_command(table: &mut Table, pass: &mut Pass, command: &Command) -> Result<Answer, Refusal>
-    requires pass { IsPassOf table.old pass.old }
+/// Does the command by a call of the pass.
+fn run_command(table: &Table, pass: &mut Pass, command: &Command) -> Result<Answer, Refusal>
+    requires pass { IsPassOf table.now pass.old }
     requires served { IsServed command.now }
-    ensures reply { reply_of result ≡ refused (table_answer command.now table.old).0 }
-    ensures after { table.new ≡ (table_answer command.now table.old).1 }
-    ensures pass { pass.new ≡ pass.old }
+    ensures pass { IsPassOf table.now pass.new }
+    ensures answers { AnswersCommand table.now command.now pass.old (reply_of result) pass.new }
 {
     match command {
         Command::Insert(tuple, value) => run_insert(table, pass, tuple, *value),
@@ -299,16 +293,10 @@ fn run_command(table: &mut Table, pass: &mut Pass, command: &Command) -> Result<
     }
 }
 
-fn run_insert(
-    table: &mut Table,
-    pass: &mut Pass,
-    tuple: &Tuple,
-    value: u64,
-) -> Result<Answer, Refusal>
-    requires { IsPassOf table.old pass.old }
-    ensures reply { reply_of result ≡ refused (table_answer (Insert tuple.now value) table.old).0 }
-    ensures after { table.new ≡ (table_answer (Insert tuple.now value) table.old).1 }
-    ensures pass { pass.new ≡ pass.old }
+fn run_insert(table: &Table, pass: &mut Pass, tuple: &Tuple, value: u64) -> Result<Answer, Refusal>
+    requires { IsPassOf table.now pass.old }
+    ensures pass { IsPassOf table.now pass.new }
+    ensures answers { AnswersJob table.now (jobs.Insert tuple.now value) pass.old (reply_of result) pass.new }
 {
     match insert(table, pass, tuple, value, TURNS) {
         Ok(Inserted::New) => Ok(Answer::Inserted),
@@ -317,11 +305,10 @@ fn run_insert(
     }
 }
 
-fn run_remove(table: &mut Table, pass: &mut Pass, tuple: &Tuple) -> Result<Answer, Refusal>
-    requires { IsPassOf table.old pass.old }
-    ensures reply { reply_of result ≡ refused (table_answer (Remove tuple.now) table.old).0 }
-    ensures after { table.new ≡ (table_answer (Remove tuple.now) table.old).1 }
-    ensures pass { pass.new ≡ pass.old }
+fn run_remove(table: &Table, pass: &mut Pass, tuple: &Tuple) -> Result<Answer, Refusal>
+    requires { IsPassOf table.now pass.old }
+    ensures pass { IsPassOf table.now pass.new }
+    ensures answers { AnswersJob table.now (jobs.Remove tuple.now) pass.old (reply_of result) pass.new }
 {
     match remove(table, pass, tuple, TURNS) {
         Ok(Some(value)) => Ok(Answer::Removed(value)),
@@ -330,11 +317,10 @@ fn run_remove(table: &mut Table, pass: &mut Pass, tuple: &Tuple) -> Result<Answe
     }
 }
 
-fn run_get(table: &mut Table, pass: &mut Pass, tuple: &Tuple) -> Result<Answer, Refusal>
-    requires { IsPassOf table.old pass.old }
-    ensures reply { reply_of result ≡ refused (table_answer (Get tuple.now) table.old).0 }
-    ensures after { table.new ≡ (table_answer (Get tuple.now) table.old).1 }
-    ensures pass { pass.new ≡ pass.old }
+fn run_get(table: &Table, pass: &mut Pass, tuple: &Tuple) -> Result<Answer, Refusal>
+    requires { IsPassOf table.now pass.old }
+    ensures pass { IsPassOf table.now pass.new }
+    ensures answers { AnswersJob table.now (jobs.Get tuple.now) pass.old (reply_of result) pass.new }
 {
     match get(table, pass, tuple, TURNS) {
         Ok(Some(value)) => Ok(Answer::Found(value)),

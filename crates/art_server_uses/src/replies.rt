@@ -2,10 +2,12 @@
 ghost use Rattle.art_server.specs.Replies.{IsPrintable, IsPrintableRow};
 
 use arrayvec::ArrayVec;
+use art_cell::{Cell, Pool};
+use art_frame::Blocker;
 use art_key::{SchemaFault, ValueFault};
-use art_list::{CloseRefusal, Fault, OpenFault, Pool};
 use art_model::{Reply, Row, Text, Tuple, Value};
 use art_server::{LineFault, Refusal, print_reply};
+use art_table::{CloseRefusal, Fault, OpenFault};
 use std::alloc::Global;
 use std::process::Abort;
 use std::test::Fail;
@@ -113,6 +115,7 @@ fn names_refusals(rt: HostRuntime) -> Result<(), Fail> {
 fn faults_have_refusals(rt: HostRuntime) {
     let of_line = LineFault::from(ValueFault::WrongColumns);
     let of_table = Fault::Value(ValueFault::OutOfRange(0));
+    let of_limbo = Fault::Crowded(Blocker { pass: 1, epoch: 2 });
     for (refusal, expected) in [
         (Refusal::from(LineFault::NoMemory), Refusal::NoMemory),
         (Refusal::from(of_line), Refusal::WrongColumns),
@@ -121,7 +124,13 @@ fn faults_have_refusals(rt: HostRuntime) {
             Refusal::TextTooLong,
         ),
         (Refusal::from(of_table), Refusal::OutOfRange),
+        (Refusal::from(Fault::Busy), Refusal::Busy),
         (Refusal::from(Fault::Full(Pool::N4)), Refusal::Full),
+        (Refusal::from(of_limbo), Refusal::Crowded),
+        (
+            Refusal::from(Fault::Exhausted(Cell::Anchor)),
+            Refusal::Exhausted,
+        ),
         (Refusal::from(SchemaFault::BadColumn(2)), Refusal::BadColumn),
         (Refusal::from(OpenFault::BadConfig), Refusal::BadConfig),
         (

@@ -1,9 +1,10 @@
 //! Sessions over readers and writers that fail, are interrupted, or give and take a little at a time.
-ghost use Rattle.art_list.specs.Contents.{IsPassOf};
+ghost use Rattle.art_server_uses.specs.Clients.{AreOf};
+ghost use Rattle.art_table.specs.Tables.{IsPassOf};
 
 use art_key::Schema;
-use art_list::{Config, Pass, Table, open};
 use art_server::{Counted, EndCause, SessionEnd, session};
+use art_table::{Config, Pass, Table, open};
 use std::alloc::Global;
 use std::io::{self, ErrorKind, Read, Write};
 use std::process::Abort;
@@ -94,6 +95,7 @@ impl Write for Sink {
     }
 }
 
+/// One of each, and one pass.
 const SIZES: Config = Config {
     leaves: 1,
     n4: 1,
@@ -104,13 +106,30 @@ const SIZES: Config = Config {
     counter_start: 0,
 };
 
-/// A table of one leaf, and its one pass.
-fn opened(rt: &impl Abort, alloc: Global) -> (Table, Pass)
-    ensures { IsPassOf result.0 result.1 }
+/// A table of these sizes, and its passes.
+fn opened(rt: &impl Abort, alloc: Global, config: Config) -> (Table, Vec<Pass>)
+    ensures { AreOf result.0 result.1.items }
 {
     let schema = Schema::parse("u64").expect(rt, "a schema");
-    let (table, mut passes) = open(alloc, schema, SIZES).expect(rt, "a table");
-    let pass = passes.pop().expect(rt, "a pass");
+    open(alloc, schema, config).expect(rt, "room for a table")
+}
+
+/// The last of these passes.
+fn last_of(rt: &impl Abort, table: &Table, passes: &mut Vec<Pass>) -> Pass
+    requires { AreOf table.now passes.old.items }
+    ensures last { IsPassOf table.now result }
+    ensures left { AreOf table.now passes.new.items }
+{
+    let _ = table.schema();
+    passes.pop().expect(rt, "a pass")
+}
+
+/// A table of these sizes, and the last of its passes.
+fn alone(rt: &impl Abort, alloc: Global, config: Config) -> (Table, Pass)
+    ensures { IsPassOf result.0 result.1 }
+{
+    let (table, mut passes) = opened(rt, alloc, config);
+    let pass = last_of(rt, &table, &mut passes);
     (table, pass)
 }
 
@@ -121,9 +140,29 @@ fn end_of<R: Read, W: Write>(
     reader: &mut Counted<R>,
     writer: &mut W,
 ) -> SessionEnd {
-    let (mut table, pass) = opened(rt, alloc);
-    let (_, end) = session(alloc, &mut table, pass, reader, writer);
+    let (table, pass) = alone(rt, alloc, SIZES);
+    let (_, end) = session(alloc, &table, pass, reader, writer);
     end
+}
+
+/// The pass answers these lines, and what it says is this; all lines are answered.
+fn check_session(
+    rt: &impl Abort,
+    alloc: Global,
+    table: &Table,
+    pass: Pass,
+    said: &str,
+    want: &str,
+) -> Pass
+    requires { IsPassOf table.now pass }
+    ensures { IsPassOf table.now result }
+{
+    let mut reader = Counted::new(said.as_bytes());
+    let mut heard = Vec::new(alloc);
+    let (pass, end) = session(alloc, table, pass, &mut reader, &mut heard);
+    assert_eq!(rt; end.why, EndCause::Ended);
+    assert!(rt; heard.as_slice() == want.as_bytes());
+    pass
 }
 
 fn ended(why: EndCause, answered: u64, pending: bool) -> SessionEnd {
@@ -198,7 +237,7 @@ fn end_at_a_write(
     alloc: Global,
     fault: Option<ErrorKind>,
 ) -> (SessionEnd, Vec<u8>, Vec<u8>) {
-    let (mut table, pass) = opened(rt, alloc);
+    let (table, pass) = alone(rt, alloc, SIZES);
     let said = b"[\"get\",[5]]\n[\"insert\",[5],9]\n[\"get\",[5]]\n";
     let mut cut = Short {
         held: Vec::new(alloc),
@@ -206,10 +245,10 @@ fn end_at_a_write(
         fault,
     };
     let mut reader = Counted::new(said.as_slice());
-    let (pass, end) = session(alloc, &mut table, pass, &mut reader, &mut cut);
+    let (pass, end) = session(alloc, &table, pass, &mut reader, &mut cut);
     let mut after = Vec::new(alloc);
     let mut reader = Counted::new(b"[\"get\",[5]]".as_slice());
-    let _ = session(alloc, &mut table, pass, &mut reader, &mut after);
+    let _ = session(alloc, &table, pass, &mut reader, &mut after);
     (end, cut.held, after)
 }
 
@@ -237,4 +276,56 @@ fn a_million_reads_are_made_of_an_input_with_no_end(rt: HostRuntime) {
         assert_eq!(rt; reader.into_inner().reads, 1_000_000);
         assert_eq!(rt; sink.bytes, bytes);
     }
+}
+
+#[test]
+fn a_third_row_finds_no_leaf_of_two(rt: HostRuntime) {
+    let config = Config { leaves: 2, ..SIZES };
+    let (table, pass) = alone(&rt, rt.alloc(), config);
+    let said = "[\"insert\",[1],1]\n[\"insert\",[2],2]\n[\"insert\",[3],3]\n[\"insert\",[1],9]\n\
+        [\"get\",[1]]\n[\"get\",[2]]\n";
+    let want = "[\"inserted\"]\n[\"inserted\"]\n[\"refused\",11,\"Full\"]\n[\"present\",1]\n\
+        [\"found\",1]\n[\"found\",2]\n";
+    let _ = check_session(&rt, rt.alloc(), &table, pass, said, want);
+}
+
+#[test]
+fn a_counter_at_its_end_is_told(rt: HostRuntime) {
+    let config = Config {
+        counter_start: 4_611_686_018_427_387_896,
+        ..SIZES
+    };
+    let (table, pass) = alone(&rt, rt.alloc(), config);
+    let said = "[\"insert\",[1],1]\n[\"get\",[1]]\n";
+    let want = "[\"refused\",13,\"Exhausted\"]\n[\"absent\"]\n";
+    let _ = check_session(&rt, rt.alloc(), &table, pass, said, want);
+}
+
+/// The leaf of the row that the one pass removed waits in its limbo, so the other takes the second leaf.
+#[test]
+fn sessions_of_two_passes_have_one_map(rt: HostRuntime) {
+    let config = Config {
+        leaves: 2,
+        passes: 2,
+        ..SIZES
+    };
+    let (table, mut passes) = opened(&rt, rt.alloc(), config);
+    let one = last_of(&rt, &table, &mut passes);
+    let zero = last_of(&rt, &table, &mut passes);
+    let said = "[\"insert\",[5],9]\n";
+    let zero = check_session(&rt, rt.alloc(), &table, zero, said, "[\"inserted\"]\n");
+    let said = "[\"insert\",[5],10]\n[\"get\",[5]]\n[\"remove\",[5]]\n";
+    let want = "[\"present\",9]\n[\"found\",9]\n[\"removed\",9]\n";
+    let one = check_session(&rt, rt.alloc(), &table, one, said, want);
+    let said = "[\"get\",[5]]\n[\"insert\",[6],1]\n";
+    let want = "[\"absent\"]\n[\"inserted\"]\n";
+    let _ = check_session(&rt, rt.alloc(), &table, zero, said, want);
+    let _ = check_session(
+        &rt,
+        rt.alloc(),
+        &table,
+        one,
+        "[\"get\",[6]]",
+        "[\"found\",1]\n",
+    );
 }
