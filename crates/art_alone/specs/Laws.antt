@@ -1,0 +1,29 @@
+-- The laws of a table of one pass.
+use Rattle.std.specs.Prelude.{◌≡◌, ℕ, List, [], ◌∷◌, Result}
+use Rattle.std.specs.List.{AllByRecursion}
+use Rattle.art_alone.specs.Maps.{MapAnswersLines}
+use Rattle.art_key.specs.Histories.{replay}
+use Rattle.art_model.specs.declared.commands.Reply.{Reply}
+use Rattle.art_server.specs.Sessions.{AnswersLines}
+use Rattle.art_server.specs.declared.refusals.Refusal.{Refusal}
+use Rattle.art_table.specs.Closing.{IsClosed}
+use Rattle.art_table.specs.Tables.{IsPassOf, number_of, schema_in, seen_by}
+use Rattle.art_table.specs.declared.closing.Closed.{Closed}
+use Rattle.art_table.specs.declared.passes.Pass.{Pass}
+use Rattle.art_table.specs.declared.tables.Table.{Table}
+
+-- the pass has seen its own events alone
+abbrev pub IsAlone : Table → Pass → Type 0
+IsAlone t q = AllByRecursion (λ e. e.pass ≡ number_of q) (seen_by t q)
+
+-- A pass that was p answered lines, is q then, and has seen its own events alone: one sorted map gives these replies, from the rows that
+-- what p had seen leaves to those that what q has seen leaves.
+abbrev pub SessionsAloneAreOneMap : Type 0
+SessionsAloneAreOneMap = (t : Table) (lines : List (List ℕ)) (p q : Pass) (replies : List (Result Reply Refusal))
+    → IsPassOf t p → AnswersLines t lines p replies q → IsAlone t q
+    → MapAnswersLines (schema_in t) lines (replay (seen_by t p)) replies (replay (seen_by t q))
+
+-- A table was closed with its one pass: that has seen its own events alone, and the rows are those that they leave.
+abbrev pub ClosedAlone : Type 0
+ClosedAlone = (t : Table) (q : Pass) (closed : Closed) → IsPassOf t q → IsClosed t (q ∷ []) closed
+    → IsAlone t q × (closed.rows.items ≡ replay (seen_by t q))
