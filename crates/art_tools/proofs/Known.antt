@@ -1,5 +1,5 @@
 -- Settings from words that are known.
-use Rattle.std.proofs.Common.{◌≡◌, ◌∙◌, refl, subst, List, [], Option, Result, Ok, Err, IfErr, IfOk, MatchResult}
+use Rattle.std.proofs.Common.{◌≡◌, ◌∙◌, refl, subst, List, [], Result, Ok, Err, IfErr, IfOk, MatchResult}
 use Rattle.clap.specs.Words.{Text}
 use Rattle.clap.specs.Kinds.{Kinds}
 use Rattle.art_list.specs.declared.configs.Config.{Config}

@@ -1,5 +1,5 @@
 -- Numbers of options: what `parse` reads of digits, and what the fields of sizes hold of numbers.
-use Rattle.std.proofs.Common.{◌≡◌, ◌∙◌, ℕ, ◌<◌, ◌≤◌, ◌-◌, ◌^◌, true, not, ◌&&◌, List, [], ◌∷◌, length, Result, Ok, Err, min, refl, sym, ap, subst, arith}
+use Rattle.std.proofs.Common.{◌≡◌, ◌∙◌, ℕ, ◌<◌, ◌≤◌, ◌-◌, ◌^◌, true, not, ◌&&◌, [], ◌∷◌, length, Result, Ok, Err, min, refl, sym, ap, subst, arith}
 use Rattle.std.specs.Char.{is_ascii_digit}
 use Rattle.std.specs.List.{list_all}
 use Rattle.std.specs.Result.{OkIff, result_unwrap_or}

@@ -1,5 +1,5 @@
 -- The fault that stands for an error of clap has its kind, and what explains one reading of the words explains them all.
-use Rattle.std.proofs.Common.{◌≡◌, [], ◌∷◌, Result, Ok, Err, IsErrAnd, MatchResult, subst, sym, refl, inl, inr, ⊎_elim}
+use Rattle.std.proofs.Common.{◌≡◌, [], ◌∷◌, Result, Ok, Err, IsErrAnd, MatchResult, subst, sym, refl, inl, ⊎_elim}
 use Rattle.clap.specs.Kinds.{HasKind, IsAmong, Kinds, or_else}
 use Rattle.clap.specs.Values.{kind_of}
 use Rattle.clap.specs.declared.error.Error.{Error}

@@ -36,49 +36,29 @@ pub fn with_table_options<'a>(
 ) -> Result<Command<'a>, AllocError>
     ensures { IfOk result (λ c. app_of c ≡ with_table_options (app_of command.entry)) }
 {
+    let schema = option(
+        alloc,
+        "schema",
+        "TEXT",
+        "The columns of a row [default: u64]",
+    );
     command
-        .arg(option(
-            alloc,
-            "schema",
-            "TEXT",
-            "The columns of a row [default: u64]",
-        ))?
-        .arg(option(
-            alloc,
-            "leaves",
-            "NUMBER",
-            "How many rows may stand [default: 4096]",
-        ))?
-        .arg(option(
-            alloc,
-            "n4",
-            "NUMBER",
-            "How many nodes of at most 4 children [default: 4096]",
-        ))?
-        .arg(option(
-            alloc,
-            "n16",
-            "NUMBER",
-            "How many nodes of at most 16 children [default: 1024]",
-        ))?
-        .arg(option(
-            alloc,
-            "n48",
-            "NUMBER",
-            "How many nodes of at most 48 children [default: 512]",
-        ))?
-        .arg(option(
-            alloc,
-            "n256",
-            "NUMBER",
-            "How many nodes of at most 256 children [default: 128]",
-        ))?
-        .arg(option(
-            alloc,
-            "counter-start",
-            "NUMBER",
-            "Where version counters start [default: 0]",
-        ))
+        .arg(schema)?
+        .arg(number_option(alloc, "leaves", "The most rows [default: 4096]"))?
+        .arg(number_option(alloc, "n4", "Nodes of 4 children [default: 4096]"))?
+        .arg(number_option(alloc, "n16", "Nodes of 16 children [default: 1024]"))?
+        .arg(number_option(alloc, "n48", "Nodes of 48 children [default: 512]"))?
+        .arg(number_option(alloc, "n256", "Nodes of 256 children [default: 128]"))?
+        .arg(number_option(alloc, "counter-start", "Where counters start [default: 0]"))
+}
+
+// `--name NUMBER`
+fn number_option<'a>(alloc: Global, name: &'a str, help: &'a str) -> Arg<'a>
+    ensures rule { rule_of result ≡ option_rule name.entry.now }
+    ensures local { result.global ≡ false }
+    ensures shown { result.help ≡ Some help.entry }
+{
+    option(alloc, name, "NUMBER", help)
 }
 
 // `--name VALUE`, of any text.

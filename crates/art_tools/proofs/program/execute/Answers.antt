@@ -1,7 +1,5 @@
-use Rattle.std.proofs.Common.{◌≡◌, ◌∙◌, Err, ap, arith, inl, rules, sym}
-use Rattle.art_server.specs.Refusals.{schema_refusal}
+use Rattle.std.proofs.Common.{◌∙◌, ap, arith, inl, sym}
 use Rattle.art_tools.specs.Statuses.{status_after}
-use Rattle.art_tools.specs.declared.run_faults.RunFault.TheVariants.{Refused}
 use Rattle.art_tools.proofs.Runs.{five_is_used}
 use Rattle.art_tools.proofs.program.execute.Goals as goal
 
