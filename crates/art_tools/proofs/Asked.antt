@@ -1,6 +1,5 @@
 -- What the matches of `art_index` are, by the words.
 use Rattle.std.proofs.Common.{◌≡◌, ◌∙◌, codes, true, false, refl, sym, ap, subst, ⊎_elim, true≢false, List, [], Option, Some, None, Bor, take, option_map, option_and_then}
-use Rattle.std.specs.Prelude.{unwrap_or}
 use Rattle.std.specs.Str.{bytes_eq}
 use Rattle.clap.specs.Words.{App, HasMatchesOf, Row, Text, fault_of, first_of, first_value, found_of, is_simple_and_free, rows_of, subcommand_name_of, subcommand_of, subcommand_rows_of}
 use Rattle.clap.specs.Simple.{built, built_leaf, help_shape}
@@ -9,9 +8,7 @@ use Rattle.clap.specs.declared.error.Error.{Error}
 use Rattle.clap.specs.declared.parser.matches.ArgMatches.{ArgMatches}
 use Rattle.clap.specs.declared.parser.matches.ArgMatches.TheViews.{out-ArgMatches}
 use Rattle.clap.proofs.WalkLemmas.{first_value-rows}
-use Rattle.art_tools.specs.declared.settings.Settings.{Settings}
-use Rattle.art_tools.specs.declared.settings.Settings.TheVariants.{Run}
-use Rattle.art_tools.specs.Settings.{IsAskedBy, RunsWith, art_index_app, option_given, subcommand_given}
+use Rattle.art_tools.specs.Settings.{art_index_app, option_given, subcommand_given}
 use Rattle.art_tools.proofs.Subcommands.{names_own}
 
 -- ---- what clap says, of the command that `art_index` is
@@ -43,7 +40,7 @@ met_name m words same = named (out-ArgMatches m).subcommand refl ∙ ap (option_
     named (Some b) is = rw is refl
 
 -- the options of the subcommand that a parse met
-pub met_options : (m options : ArgMatches) (words : List Text) → subcommand_rows_of m ≡ subcommand_of art_index_app words
+met_options : (m options : ArgMatches) (words : List Text) → subcommand_rows_of m ≡ subcommand_of art_index_app words
     → Some (rows_of (found_of options)) ≡ option_map (λ s. s.1) (subcommand_rows_of m) → (name : Text) → first_value (found_of options) name ≡ option_given words name
 met_options m options words same is name =
     first_value-rows (found_of options) name ∙ (ap (option_and_then (first_of name)) (is ∙ ap (option_map (λ s. s.1)) same) ∙ go (subcommand_of art_index_app words))
@@ -52,10 +49,10 @@ met_options m options words same is name =
     go None = refl
     go (Some s) = refl
 
--- settings with the options that the words give are those that the words ask for
-pub asked_for : (words : List Text) (given : Text → Option Text) (s : Settings) → subcommand_given words ≡ Some (codes "run") → ((name : Text) → given name ≡ option_given words name)
-    → RunsWith given s → IsAskedBy words s
-asked_for words given (Run schema) named same runs = (named, runs ∙ ap (λ o. unwrap_or o (codes "u64")) (same (codes "schema")))
+-- what the matches give to each option is what the words give to it
+pub given_by_words : (a : App) (words : List Text) → a ≡ art_index_app → (m options : ArgMatches) → HasMatchesOf a words m
+    → Some (rows_of (found_of options)) ≡ option_map (λ s. s.1) (subcommand_rows_of m) → first_value (found_of options) ≡ option_given words
+given_by_words a words is m options matches rows = λ i name. met_options m options words (same_subcommand a words is m matches) rows name i
 
 -- where `run` was met, something was met, and its name is no other
 pub none_met : {X : Type 0} (met : Option (Bor Text × X)) → met ≡ None → option_map (λ p. p.0.now) met ≡ Some (codes "run") → ⊥

@@ -4,3 +4,5 @@ pub mod Asked
 pub mod Refused
 pub mod Known
 pub mod Runs
+pub mod Numbers
+pub mod Passes

@@ -5,6 +5,7 @@ use Rattle.std.specs.Option.{option_or}
 use Rattle.std.specs.Io.KnownBytes.{Appends, IsAtEnd}
 use Rattle.art_key.specs.declared.columns.Column.{Column}
 use Rattle.art_list.specs.Contents.{Contents}
+use Rattle.art_list.specs.declared.configs.Config.{Config}
 use Rattle.art_server.specs.declared.sessions.EndCause.{EndCause}
 use Rattle.art_server.specs.declared.sessions.EndCause.TheVariants as end
 use Rattle.art_server.specs.declared.sessions.SessionEnd.{SessionEnd}
@@ -32,8 +33,9 @@ all_was_read : (input rest read : List ℕ) → input ≡ read ++ rest → rest 
 all_was_read input rest read whole none = sym (append-nil read) ∙ sym (whole ∙ ap (λ xs. read ++ xs) none)
 
 -- all of the output was written
-all_was_written : (schema : List Column) (input read written : List ℕ) (old new : Contents) (e : SessionEnd) → old ≡ empty_table schema → IsSession read written old new e → e.why ≡ end.Ended → read ≡ input → written ≡ output_of schema input
-all_was_written schema input read written old new e start runs ended same =
+all_was_written : (schema : List Column) (sizes : Config) (input read written : List ℕ) (old new : Contents) (e : SessionEnd) → old ≡ empty_table schema sizes
+    → IsSession read written old new e → e.why ≡ end.Ended → read ≡ input → written ≡ output_of schema sizes input
+all_was_written schema sizes input read written old new e start runs ended same =
     let wrote = runs.lines.whole (λ other. absurd (apart (sym ended ∙ other))) in
     let cause = subst (λ why. EndsBy why e.answered e.pending read) ended runs.cause in
     wrote
@@ -44,12 +46,14 @@ all_was_written schema input read written old new e start runs ended same =
     apart : end.Ended ≡ end.WriteFault → ⊥
     apart h = cc
 
-pub session_outputs : (schema : List Column) (left left_after held held_after : Option (List ℕ)) (old new : Contents) (e : SessionEnd) → old ≡ empty_table schema → RunsSession left left_after held held_after old new e → IsAtEnd left_after → e.why ≡ end.Ended → Outputs (Ok schema) left held held_after
-session_outputs schema None left_after held held_after old new e start runs at_end ended = tt
-session_outputs schema (Some input) None held held_after old new e start runs at_end ended = absurd runs.2
-session_outputs schema (Some input) (Some rest) held held_after old new e start runs at_end ended =
+pub session_outputs : (schema : List Column) (sizes : Config) (left left_after held held_after : Option (List ℕ)) (old new : Contents) (e : SessionEnd)
+    → old ≡ empty_table schema sizes → RunsSession left left_after held held_after old new e → IsAtEnd left_after → e.why ≡ end.Ended
+    → Outputs (Ok schema) sizes left held held_after
+session_outputs schema sizes None left_after held held_after old new e start runs at_end ended = tt
+session_outputs schema sizes (Some input) None held held_after old new e start runs at_end ended = absurd runs.2
+session_outputs schema sizes (Some input) (Some rest) held held_after old new e start runs at_end ended =
     let same = all_was_read input rest runs.0 runs.2 at_end in
-    subst (Appends held held_after) (all_was_written schema input runs.0 runs.1 old new e start runs.4 ended same) runs.3
+    subst (Appends held held_after) (all_was_written schema sizes input runs.0 runs.1 old new e start runs.4 ended same) runs.3
 
 -- ---- which end of a session a fault tells of
 

@@ -1,12 +1,14 @@
 -- Why the words give no settings.
-use Rattle.std.specs.Prelude.{⊤}
+use Rattle.std.specs.Prelude.{◌≡◌, [], ⊤}
 use Rattle.clap.specs.Kinds.{Kinds, IsAmong}
 use Rattle.clap.specs.Values.{kind_of}
 use Rattle.clap.specs.declared.error.Error.{Error}
 use Rattle.clap.specs.declared.error.kind.ErrorKind.{ErrorKind}
 use Rattle.clap.specs.declared.error.kind.ErrorKind.TheVariants.{OutOfMemory}
+use Rattle.art_list.specs.declared.configs.Config.{Config}
+use Rattle.art_list.specs.Sizes.{IsConfig}
 use Rattle.art_tools.specs.declared.settings.SettingsFault.{SettingsFault}
-use Rattle.art_tools.specs.declared.settings.SettingsFault.TheVariants.{Usage, NoMemory}
+use Rattle.art_tools.specs.declared.settings.SettingsFault.TheVariants.{Usage, Range, NoMemory}
 
 -- the fault of a parse that fails by the error, whose kind is `kind`
 abbrev pub fault_by : ErrorKind → Error → SettingsFault
@@ -16,7 +18,9 @@ fault_by kind error = Usage error
 abbrev pub fault_from : Error → SettingsFault
 fault_from error = fault_by (kind_of error) error
 
--- memory ran out, or clap's error has one of the kinds
-abbrev pub Explains : Kinds → SettingsFault → Type 0
-Explains kinds (Usage error) = IsAmong (kind_of error) kinds
-Explains kinds NoMemory = ⊤
+-- Why there are no settings, where the words have a fault of one of the kinds, or ask for these sizes: the error has
+-- one of the kinds; or the words are right, and a size is out of its range; or memory ran out.
+abbrev pub Explains : Kinds → Config → SettingsFault → Type 0
+Explains kinds sizes (Usage error) = IsAmong (kind_of error) kinds
+Explains kinds sizes Range = (kinds ≡ []) × ¬ (IsConfig sizes)
+Explains kinds sizes NoMemory = ⊤

@@ -1,4 +1,5 @@
 pub mod Faults
+pub mod Options
 pub mod Outputs
 pub mod Settings
 pub mod Statuses

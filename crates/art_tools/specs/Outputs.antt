@@ -8,19 +8,15 @@ use Rattle.art_list.specs.declared.configs.Config.{Config}
 use Rattle.art_server.specs.Sessions.{replies_to, texts}
 use Rattle.art_server.specs.Streams.{lines_of}
 
--- the sizes of the program's table
-abbrev pub sizes : Config
-sizes = record { leaves = 4096; n4 = 4096; n16 = 1024; n48 = 512; n256 = 128; passes = 1; counter_start = 0 }
-
 -- the table that a run begins with
-abbrev pub empty_table : List Column → Contents
-empty_table schema = record { schema = schema; sizes = sizes; rows = [] }
+abbrev pub empty_table : List Column → Config → Contents
+empty_table schema sizes = record { schema = schema; sizes = sizes; rows = [] }
 
 -- the texts of the sorted map's replies to the lines of the input, one after another
-abbrev pub output_of : List Column → List ℕ → List ℕ
-output_of schema input = texts (replies_to (lines_of input) (empty_table schema))
+abbrev pub output_of : List Column → Config → List ℕ → List ℕ
+output_of schema sizes input = texts (replies_to (lines_of input) (empty_table schema sizes))
 
 -- The schema is one, and what was appended to the writer is the output for what the reader had left.
-abbrev pub Outputs : Result (List Column) SchemaFault → Option (List ℕ) → Option (List ℕ) → Option (List ℕ) → Type 0
-Outputs (Ok schema) left held held_after = IfSome left (λ input. Appends held held_after (output_of schema input))
-Outputs (Err fault) left held held_after = ⊥
+abbrev pub Outputs : Result (List Column) SchemaFault → Config → Option (List ℕ) → Option (List ℕ) → Option (List ℕ) → Type 0
+Outputs (Ok schema) sizes left held held_after = IfSome left (λ input. Appends held held_after (output_of schema sizes input))
+Outputs (Err fault) sizes left held held_after = ⊥

@@ -1,24 +1,22 @@
 -- What the words of the command line ask for, by clap's own account of the matches.
-use Rattle.std.specs.Prelude.{◌≡◌, ◌⊎◌, List, Option, Some, Result, true, codes, map, option_map, option_and_then, unwrap_or}
+use Rattle.std.specs.Prelude.{◌≡◌, ◌⊎◌, List, Option, Some, Result, true, codes, map, option_map, option_and_then}
 use Rattle.std.specs.Borrow.{Bor}
-use Rattle.clap.specs.Kinds.{IsAmong}
-use Rattle.clap.specs.Words.{App, Rule, Text, fault_of, first_of, new_app, new_rule, subcommand_of, with_rule, with_subcommand}
+use Rattle.clap.specs.Kinds.{IsAmong, Kinds, or_else}
+use Rattle.clap.specs.Simple.{on_top}
+use Rattle.clap.specs.Words.{App, Text, fault_of, first_of, new_app, subcommand_of, with_subcommand}
 use Rattle.clap.specs.declared.error.kind.ErrorKind.{ErrorKind}
 use Rattle.clap.specs.declared.error.kind.ErrorKind.TheVariants.{DisplayHelp, DisplayVersion}
 use Rattle.art_key.specs.declared.columns.Column.{Column}
 use Rattle.art_key.specs.declared.faults.SchemaFault.{SchemaFault}
 use Rattle.art_key.specs.Schemas.{schema_of}
-use Rattle.clap.specs.Simple.{on_top}
+use Rattle.art_list.specs.declared.configs.Config.{Config}
+use Rattle.art_tools.specs.Options.{Given, HasOptions, numbers_fault, schema_given, sizes_given, with_table_options}
 use Rattle.art_tools.specs.declared.settings.Settings.{Settings}
 use Rattle.art_tools.specs.declared.settings.Settings.TheVariants.{Run}
 
--- the option `--name VALUE`, of any text, which may be left out
-abbrev pub option_rule : Text → Rule
-option_rule name = record (new_rule name) { long = Some name; value_names = 1 }
-
--- `run`, with its one option
+-- `run`, with the options of a table
 abbrev pub run_app : App
-run_app = with_rule (new_app (codes "run")) (option_rule (codes "schema"))
+run_app = with_table_options (new_app (codes "run"))
 
 -- a command of which a subcommand is wanted
 abbrev pub wanting_subcommand : App → App
@@ -37,18 +35,29 @@ abbrev pub subcommand_given : List Text → Option Text
 subcommand_given words = option_map (λ s. s.0) (subcommand_of art_index_app words)
 
 -- the value that the words give to an option of the subcommand
-abbrev pub option_given : List Text → Text → Option Text
-option_given words name =
-    option_and_then (λ s. first_of name s.1) (subcommand_of art_index_app words)
+abbrev pub option_given : List Text → Given
+option_given words name = option_and_then (λ s. first_of name s.1) (subcommand_of art_index_app words)
 
--- the settings are those of `run` with the options that are given, where no `--schema` means `u64`
-abbrev pub RunsWith : (Text → Option Text) → Settings → Type 0
-RunsWith given (Run schema) = schema.now ≡ unwrap_or (given (codes "schema")) (codes "u64")
+-- what is wrong with the words: what clap finds, and else a value that should be a number and is none
+abbrev pub words_fault : List Text → Kinds
+words_fault words = or_else (fault_of art_index_app words) (numbers_fault (option_given words))
+
+-- the settings are those of `run` with the options that are given
+abbrev pub RunsWith : Given → Settings → Type 0
+RunsWith given (Run schema leaves n4 n16 n48 n256 counter_start) =
+    let sizes : Config = record {
+      leaves = leaves;
+      n4 = n4;
+      n16 = n16;
+      n48 = n48;
+      n256 = n256;
+      passes = 1;
+      counter_start = counter_start;
+    } in HasOptions given (record { schema = schema; sizes = sizes })
 
 -- the settings are those that the words ask for
 abbrev pub IsAskedBy : List Text → Settings → Type 0
-IsAskedBy words (Run schema) =
-    (subcommand_given words ≡ Some (codes "run")) × RunsWith (option_given words) (Run schema)
+IsAskedBy words settings = (subcommand_given words ≡ Some (codes "run")) × RunsWith (option_given words) settings
 
 -- ---- as the program is given them
 
@@ -56,9 +65,9 @@ IsAskedBy words (Run schema) =
 abbrev pub texts_of : List (Bor Text) → List Text
 texts_of words = map (λ word. word.now) words
 
--- what clap finds wrong with the words, and help where they ask for it
+-- what is wrong with the words, and help where they ask for it
 abbrev pub faults_of : List (Bor Text) → List ErrorKind
-faults_of words = fault_of art_index_app (texts_of words)
+faults_of words = words_fault (texts_of words)
 
 -- the words ask for help, or for the version
 abbrev pub AsksToShow : List (Bor Text) → Type 0
@@ -66,4 +75,8 @@ AsksToShow words = IsAmong DisplayHelp (faults_of words) ⊎ IsAmong DisplayVers
 
 -- the columns that `--schema` names, or those of `u64`
 abbrev pub schema_asked : List (Bor Text) → Result (List Column) SchemaFault
-schema_asked words = schema_of (unwrap_or (option_given (texts_of words) (codes "schema")) (codes "u64"))
+schema_asked words = schema_of (schema_given (option_given (texts_of words)))
+
+-- the sizes of the table that the words ask for
+abbrev pub sizes_asked : List (Bor Text) → Config
+sizes_asked words = sizes_given (option_given (texts_of words))

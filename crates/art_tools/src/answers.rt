@@ -5,9 +5,16 @@ use std::alloc::Global;
 use std::process::Abort;
 use std::test::Fail;
 
-/// A run under the schema answers its input so, and ends well.
-fn check_run(rt: &impl Abort, alloc: Global, schema: &str, input: &[u8], expected: &str) {
-    let words = ["art_index", "run", "--schema", schema];
+/// A run with at most so many rows under the schema answers its input so, and ends well.
+fn check_run(
+    rt: &impl Abort,
+    alloc: Global,
+    schema: &str,
+    leaves: &str,
+    input: &[u8],
+    expected: &str,
+) {
+    let words = ["art_index", "run", "--schema", schema, "--leaves", leaves];
     let mut output = Vec::new(alloc);
     let mut faults = Vec::new(alloc);
     let status = execute(
@@ -71,8 +78,17 @@ fn worked_examples(rt: HostRuntime) {
                 [\"refused\",5,\"WrongType\"]\n",
         ),
     ] {
-        check_run(&rt, rt.alloc(), schema, input, expected);
+        check_run(&rt, rt.alloc(), schema, "4096", input, expected);
     }
+}
+
+#[test]
+fn the_row_after_as_many_as_there_are_leaves_is_refused(rt: HostRuntime) {
+    let input = b"[\"insert\",[1],7]\n[\"insert\",[2],8]\n[\"insert\",[3],9]\n\
+        [\"insert\",[1],9]\n"
+        .as_slice();
+    let expected = "[\"inserted\"]\n[\"inserted\"]\n[\"refused\",11,\"Full\"]\n[\"present\",7]\n";
+    check_run(&rt, rt.alloc(), "u8", "2", input, expected);
 }
 
 #[test]
@@ -84,6 +100,6 @@ fn lines_that_cannot_be_served_have_their_refusals(rt: HostRuntime) -> Result<()
     let expected = "[\"refused\",1,\"BadLine\"]\n[\"refused\",1,\"BadLine\"]\n\
         [\"refused\",3,\"BadCommand\"]\n[\"refused\",2,\"LineTooLong\"]\n[\"absent\"]\n\
         [\"refused\",6,\"OutOfRange\"]\n[\"absent\"]\n";
-    check_run(&rt, rt.alloc(), "u8", input.as_slice(), expected);
+    check_run(&rt, rt.alloc(), "u8", "4096", input.as_slice(), expected);
     Ok(())
 }

@@ -1,27 +1,36 @@
 //! The program's subcommands and their options, and what the words of a command line ask of them.
-ghost use Rattle.std.specs.Prelude.{◌≡◌, IfOk, MatchResult, Some, [], ◌∷◌, false, map};
-ghost use Rattle.clap.specs.Words.{app_of, fault_of, first_value, found_of, items_of, rule_of};
-ghost use Rattle.art_tools.specs.Settings.{IsAskedBy, RunsWith, art_index_app, option_rule, run_app};
+ghost use Rattle.std.specs.Prelude.{◌≡◌, IfOk, MatchResult, []};
+ghost use Rattle.clap.specs.Words.{app_of, first_value, found_of, kind_of};
+ghost use Rattle.clap.specs.declared.error.kind.ErrorKind.TheVariants.{ValueValidation};
+ghost use Rattle.art_list.specs.Sizes.{IsConfig};
 ghost use Rattle.art_tools.specs.Faults.{Explains};
+ghost use Rattle.art_tools.specs.Options.{Given, HasOptions, numbers_fault, sizes_given};
+ghost use Rattle.art_tools.specs.Settings.{IsAskedBy, RunsWith, art_index_app, faults_of, run_app, sizes_asked, texts_of};
 
 use crate::help::{AFTER_HELP, VERSION};
+use crate::options::{NoNumber, TableOptions, read_options, with_table_options};
 use crate::settings::{Settings, SettingsFault};
-use clap::{Arg, ArgMatches, Command};
+use clap::error::ErrorKind;
+use clap::{ArgMatches, Command};
 use std::alloc::{AllocError, Global};
 
 /// Reads the words of a command line, of which the first is the program's name.
 ///
-/// Words that clap refuses, no subcommand and a request for help are `Usage`.
+/// Words that clap refuses, no subcommand, a number that is no row of digits and a request for help are `Usage`. Where
+/// nothing of this is wrong, and a number is out of its range, that is `Range`.
 pub fn settings<'a>(alloc: Global, words: &'a [&'a str]) -> Result<Settings<'a>, SettingsFault>
-    ensures asked { IfOk result (IsAskedBy (map (λ word. word.now) words.entry.now)) }
+    ensures asked { IfOk result (IsAskedBy (texts_of words.entry.now)) }
     ensures refused { MatchResult result
-        (λ _. fault_of art_index_app (map (λ word. word.now) words.entry.now) ≡ [])
-        (Explains (fault_of art_index_app (map (λ word. word.now) words.entry.now))) }
+        (λ _. (faults_of words.entry.now ≡ []) × IsConfig (sizes_asked words.entry.now))
+        (Explains (faults_of words.entry.now) (sizes_asked words.entry.now)) }
 {
-    let program = art_index(alloc)?;
-    let matches = program.try_get_matches_from(words)?;
+    let mut program = art_index(alloc)?;
+    let matches = program.try_get_matches_from_mut(words)?;
     match matches.subcommand() {
-        Some(("run", options)) => Ok(run_settings(options)),
+        Some(("run", given)) => {
+            let options = table_options(alloc, &mut program, given)?;
+            Ok(run_settings(options))
+        }
         _ => unreachable!(),
     }
 }
@@ -42,34 +51,60 @@ fn art_index<'a>(alloc: Global) -> Result<Command<'a>, AllocError>
 fn run_command<'a>(alloc: Global) -> Result<Command<'a>, AllocError>
     ensures { IfOk result (λ c. app_of c ≡ run_app) }
 {
-    let schema = option(
-        alloc,
-        "schema",
-        "TEXT",
-        "The columns of a row [default: u64]",
-    );
-    Command::new(alloc, "run")
+    let run = Command::new(alloc, "run")
         .about("Answers the lines on standard input")
-        .after_help(AFTER_HELP)
-        .arg(schema)
+        .after_help(AFTER_HELP);
+    with_table_options(alloc, run)
 }
 
-// `--name VALUE`, of any text.
-fn option<'a>(alloc: Global, name: &'a str, value: &'a str, help: &'a str) -> Arg<'a>
-    ensures rule { rule_of result ≡ option_rule name.entry.now }
-    ensures local { result.global ≡ false }
-    ensures shown { (result.help ≡ Some help.entry) × (items_of result.val_names ≡ value.entry ∷ []) }
+// The options of a table that the matches of a subcommand give, each number in its range.
+fn table_options<'a>(
+    alloc: Global,
+    program: &mut Command<'a>,
+    given: &ArgMatches<'a>,
+) -> Result<TableOptions<'a>, SettingsFault>
+    ensures has { IfOk result (HasOptions (first_value (found_of given.now))) }
+    ensures refused { MatchResult result
+        (λ _. (numbers_fault (first_value (found_of given.now)) ≡ []) × IsConfig (sizes_given (first_value (found_of given.now))))
+        (Explains (numbers_fault (first_value (found_of given.now))) (sizes_given (first_value (found_of given.now)))) }
 {
-    Arg::new(alloc, name)
-        .long(name)
-        .value_name(value)
-        .help(help)
+    match read_options(given) {
+        Ok(options) => {
+            if !options.sizes.is_valid() {
+                return Err(SettingsFault::Range);
+            }
+            Ok(options)
+        }
+        Err(fault) => Err(SettingsFault::from(usage_error(alloc, program, fault)?)),
+    }
 }
 
-fn run_settings<'a>(options: &ArgMatches<'a>) -> Settings<'a>
-    ensures { RunsWith (first_value (found_of options.now)) result }
+// clap's error at a value that is no number.
+fn usage_error(
+    alloc: Global,
+    program: &mut Command<'_>,
+    fault: NoNumber<'_>,
+) -> Result<clap::Error, AllocError>
+    ensures { IfOk result (λ error. kind_of error ≡ ValueValidation) }
 {
+    let NoNumber { name, value } = fault;
+    let message = format!(in alloc;
+        "invalid value '{value}' for '--{name} <NUMBER>': not a row of digits"
+    )?;
+    program.error(ErrorKind::ValueValidation, message.as_str())
+}
+
+fn run_settings<'a>(options: TableOptions<'a>) -> Settings<'a>
+    ensures { (given : Given) → HasOptions given options.entry → RunsWith given result }
+{
+    let TableOptions { schema, sizes } = options;
     Settings::Run {
-        schema: options.get_str("schema").unwrap_or("u64"),
+        schema,
+        leaves: sizes.leaves,
+        n4: sizes.n4,
+        n16: sizes.n16,
+        n48: sizes.n48,
+        n256: sizes.n256,
+        counter_start: sizes.counter_start,
     }
 }

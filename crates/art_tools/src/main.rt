@@ -8,6 +8,7 @@
 mod answers;
 mod command_line;
 mod help;
+mod options;
 mod program;
 mod run_faults;
 mod settings;

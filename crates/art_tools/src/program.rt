@@ -1,5 +1,5 @@
 //! The program over a reader, a writer and a writer for faults.
-ghost use Rattle.std.specs.Prelude.{◌≡◌, ◌≢◌, ◌⊎◌, ◌≤◌, [], ◌∷◌, ◌++◌, All, Ok, Err, IsErr, IfErr, IfOk, OnOk};
+ghost use Rattle.std.specs.Prelude.{◌≡◌, ◌≢◌, ◌⊎◌, ◌↔◌, ◌≤◌, [], ◌∷◌, ◌++◌, All, Ok, Err, IsErr, IsOk, IfErr, IfOk, OnOk};
 ghost use Rattle.std.specs.Option.{option_or};
 ghost use Rattle.clap.specs.Values.{kind_of};
 ghost use Rattle.clap.specs.declared.error.kind.ErrorKind.TheVariants.{DisplayHelp, DisplayVersion};
@@ -7,39 +7,29 @@ ghost use Rattle.art_key.specs.declared.faults.SchemaFault.{SchemaFault};
 ghost use Rattle.art_key.specs.Schemas.{schema_of};
 ghost use Rattle.art_list.specs.Closing.{AreAllPasses};
 ghost use Rattle.art_list.specs.Contents.{IsPassOf};
+ghost use Rattle.art_list.specs.Sizes.{IsConfig};
 ghost use Rattle.art_server.specs.Counted.{reader_of, reads_of};
 ghost use Rattle.art_server.specs.Reads.{AddsReads, MakesReads};
 ghost use Rattle.art_server.specs.Refusals.{schema_refusal};
 ghost use Rattle.art_server.specs.declared.refusals.Refusal.{Refusal};
 ghost use Rattle.art_tools.specs.Outputs.{Outputs, empty_table};
 ghost use Rattle.art_tools.specs.Statuses.{fault_at, fault_in, status_after};
-ghost use Rattle.art_tools.specs.Settings.{faults_of, AsksToShow, schema_asked};
+ghost use Rattle.art_tools.specs.Settings.{faults_of, AsksToShow, schema_asked, sizes_asked};
 
 use crate::command_line::settings;
 use crate::run_faults::RunFault;
 use crate::settings::{Settings, SettingsFault};
 use art_key::Schema;
 use art_list::{Config, OpenFault, Pass, Table, close, open};
-use art_server::{Counted, EndCause, session};
+use art_server::{Counted, EndCause, Refusal, session};
 use std::alloc::Global;
 use std::io::{self, Read, Write};
-
-/// The sizes of the program's table.
-pub const SIZES: Config = Config {
-    leaves: 4096,
-    n4: 4096,
-    n16: 1024,
-    n48: 512,
-    n256: 128,
-    passes: 1,
-    counter_start: 0,
-};
 
 /// Does what the words ask for, and answers the status that the program ends with.
 ///
 /// Replies, help and the version go to `writer`, and what was wrong goes to `faults`, in one line. 0: ended, or help;
-/// 1: a read or a write failed; 2: the words were refused; 3: the schema was; 4: want of memory; 5: a million reads were
-/// made, each of which gave bytes.
+/// 1: a read or a write failed; 2: the words were refused; 3: a number is out of its range, or the schema is none;
+/// 4: want of memory; 5: a million reads were made, each of which gave bytes.
 pub fn execute<'a, R: Read, W: Write, E: Write>(
     alloc: Global,
     words: &'a [&'a str],
@@ -53,33 +43,63 @@ pub fn execute<'a, R: Read, W: Write, E: Write>(
     ensures help { faults_of words.entry.now ≡ DisplayHelp ∷ [] → result ≢ 2 }
     ensures version { faults_of words.entry.now ≡ DisplayVersion ∷ [] → result ≢ 2 }
     ensures words { result ≡ 2 → faults_of words.entry.now ≢ [] }
+    ensures range { faults_of words.entry.now ≡ [] → (¬ (IsConfig (sizes_asked words.entry.now)))
+        → (result ≡ 3) ⊎ (result ≡ 4) }
     ensures schema { (fault : SchemaFault) → faults_of words.entry.now ≡ [] → schema_asked words.entry.now ≡ Err fault
         → (result ≡ 3) ⊎ (result ≡ 4) }
-    ensures refused { result ≡ 3 → (faults_of words.entry.now ≡ []) × IsErr (schema_asked words.entry.now) }
+    ensures refused { result ≡ 3 → (faults_of words.entry.now ≡ [])
+        × ((¬ (IsConfig (sizes_asked words.entry.now))) ⊎ IsErr (schema_asked words.entry.now)) }
     ensures ran { faults_of words.entry.now ≡ [] → result ≡ 0
-        → Outputs (schema_asked words.entry.now) (R.remaining (reader_of reader.old)) (W.contents writer.old) (W.contents writer.new) }
+        → Outputs (schema_asked words.entry.now) (sizes_asked words.entry.now) (R.remaining (reader_of reader.old))
+        (W.contents writer.old) (W.contents writer.new) }
     ensures reads { AddsReads (reads_of reader.old) (reads_of reader.new) }
     ensures used { result ≡ 5 → MakesReads (reads_of reader.old) (reads_of reader.new) EndCause.ReadsUsed }
 {
     match settings(alloc, words) {
-        Ok(Settings::Run { schema }) => status(faults, run(alloc, schema, reader, writer)),
+        Ok(
+            Settings::Run {
+                schema,
+                leaves,
+                n4,
+                n16,
+                n48,
+                n256,
+                counter_start,
+            },
+        ) => {
+            let sizes = Config {
+                leaves,
+                n4,
+                n16,
+                n48,
+                n256,
+                passes: 1,
+                counter_start,
+            };
+            status(faults, run(alloc, schema, sizes, reader, writer))
+        }
         Err(SettingsFault::Usage(error)) => tell_usage(&error, writer, faults),
+        Err(SettingsFault::Range) => status(faults, Err(RunFault::Refused(Refusal::BadConfig))),
         Err(SettingsFault::NoMemory) => status(faults, Err(RunFault::NoMemory)),
     }
 }
 
-/// One session over an empty table of one pass, from the reader to the writer.
+/// One session over an empty table of these sizes, from the reader to the writer. A schema that is none is told before a
+/// size out of its range.
 pub fn run<R: Read, W: Write>(
     alloc: Global,
     schema: &str,
+    sizes: Config,
     reader: &mut Counted<R>,
     writer: &mut W,
 ) -> Result<(), RunFault>
-    ensures output { OnOk result (Outputs (schema_of schema.now) (R.remaining (reader_of reader.old))
+    ensures output { OnOk result (Outputs (schema_of schema.now) sizes (R.remaining (reader_of reader.old))
         (W.contents writer.old) (W.contents writer.new)) }
     ensures schema { (fault : SchemaFault) → schema_of schema.now ≡ Err fault
         → result ≡ Err (RunFault.Refused (schema_refusal fault)) }
-    ensures refused { (refusal : Refusal) → result ≡ Err (RunFault.Refused refusal) → IsErr (schema_of schema.now) }
+    ensures range { IsOk (schema_of schema.now) → (¬ (IsConfig sizes)) → result ≡ Err (RunFault.Refused Refusal.BadConfig) }
+    ensures refused { (refusal : Refusal) → result ≡ Err (RunFault.Refused refusal)
+        → IsErr (schema_of schema.now) ⊎ (¬ (IsConfig sizes)) }
     ensures reads { AddsReads (reads_of reader.old) (reads_of reader.new) }
     ensures failed { result ≡ Err RunFault.ReadFailed
         → MakesReads (reads_of reader.old) (reads_of reader.new) EndCause.ReadFault }
@@ -87,20 +107,28 @@ pub fn run<R: Read, W: Write>(
         → MakesReads (reads_of reader.old) (reads_of reader.new) EndCause.ReadsUsed }
 {
     let schema = Schema::parse(schema)?;
-    let (mut table, mut passes) = empty_table(alloc, schema)?;
-    let pass = passes.pop().unwrap();
+    let (mut table, passes, pass) = empty_table(alloc, schema, sizes)?;
     let (pass, end) = session(alloc, &mut table, pass, reader, writer);
     let closed = give_back(alloc, table, passes, pass);
     outcome(end.why, closed)
 }
 
-/// The program's table under the schema, with no row, and its one pass.
-fn empty_table(alloc: Global, schema: Schema) -> Result<(Table, Vec<Pass>), OpenFault>
-    ensures table { IfOk result (λ opened. opened.0 ≡ empty_table schema) }
-    ensures pass { IfOk result (λ opened. opened.1.items ≡ 0 ∷ []) }
-    ensures memory { IfErr result (λ fault. fault ≡ OpenFault.NoMemory) }
+/// A table with no row, its passes but one, and that one.
+fn empty_table(
+    alloc: Global,
+    schema: Schema,
+    sizes: Config,
+) -> Result<(Table, Vec<Pass>, Pass), OpenFault>
+    ensures table { IfOk result (λ opened. opened.0 ≡ empty_table schema sizes) }
+    ensures others { IfOk result (λ opened. All (IsPassOf opened.0) opened.1.items) }
+    ensures own { IfOk result (λ opened. IsPassOf opened.0 opened.2) }
+    ensures all { IfOk result (λ opened. AreAllPasses opened.0 (opened.1.items ++ opened.2 ∷ [])) }
+    ensures valid { OnOk result (IsConfig sizes) }
+    ensures config { IfErr result (λ fault. (fault ≡ OpenFault.BadConfig) ↔ (¬ (IsConfig sizes))) }
 {
-    open(alloc, schema, SIZES)
+    let (table, mut passes) = open(alloc, schema, sizes)?;
+    let pass = passes.pop().unwrap();
+    Ok((table, passes, pass))
 }
 
 /// What a session's end and the closing of its table mean for the run. The session's fault is told before that of closing.

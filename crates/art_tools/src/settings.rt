@@ -13,6 +13,18 @@ pub enum Settings<'a> {
     Run {
         /// `--schema`
         schema: &'a str,
+        /// `--leaves`
+        leaves: u32,
+        /// `--n4`
+        n4: u32,
+        /// `--n16`
+        n16: u32,
+        /// `--n48`
+        n48: u32,
+        /// `--n256`
+        n256: u32,
+        /// `--counter-start`
+        counter_start: u64,
     },
 }
 
@@ -22,6 +34,8 @@ pub enum SettingsFault {
     /// The words were refused, or they ask for help. The error has the text for the user, where it
     /// goes, and the status to exit with.
     Usage(clap::Error),
+    /// A number is out of its range.
+    Range,
     /// Memory ran out.
     NoMemory,
 }

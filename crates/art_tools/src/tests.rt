@@ -1,5 +1,6 @@
 //! What the words of a command line ask for, and the statuses and lines of what goes wrong.
-ghost use Rattle.std.specs.Prelude.{◌≡◌, IfErr, IfOk, Some, codes};
+ghost use Rattle.std.specs.Prelude.{◌≡◌, IfErr, IfOk, Some, None, codes, if◌then◌else◌};
+ghost use Rattle.std.specs.Str.{bytes_eq};
 ghost use Rattle.art_tools.specs.Settings.{RunsWith};
 ghost use Rattle.art_tools.specs.declared.settings.SettingsFault.TheVariants.{NoMemory};
 
@@ -13,11 +14,12 @@ use std::io::{self, ErrorKind, Read, Write};
 use std::process::Abort;
 use std::test::Fail;
 
-static CHOSEN: [&str; 3] = ["art_index", "run", "--schema=u16"];
+static CHOSEN: [&str; 4] = ["art_index", "run", "--schema=u16", "--n48=007"];
 
 /// What `settings` promises, at words that are written out.
 fn chosen_settings(alloc: Global) -> Result<Settings<'static>, SettingsFault>
-    ensures ok { IfOk result (RunsWith (λ _. Some (codes "u16"))) }
+    ensures ok { IfOk result (RunsWith (λ name. if bytes_eq name (codes "schema") then Some (codes "u16")
+        else (if bytes_eq name (codes "n48") then Some (codes "007") else None))) }
     ensures err { IfErr result (λ fault. fault ≡ NoMemory) }
 {
     settings(alloc, CHOSEN.as_slice())
@@ -49,14 +51,93 @@ fn run_on_nothing(alloc: Global, words: &[&str]) -> Outcome {
     ran
 }
 
+/// The settings are those of a run under the schema with these sizes and this start of counters.
+fn check_settings(
+    rt: &impl Abort,
+    asked: Result<Settings<'_>, SettingsFault>,
+    schema: &str,
+    sizes: [u32; 5],
+    counter_start: u64,
+) {
+    let Ok(
+        Settings::Run {
+            schema: schema_asked,
+            leaves,
+            n4,
+            n16,
+            n48,
+            n256,
+            counter_start: start_asked,
+        },
+    ) = asked
+    else {
+        panic!(rt; "no settings");
+    };
+    assert_eq!(rt; schema_asked, schema);
+    assert_eq!(rt; [leaves, n4, n16, n48, n256], sizes);
+    assert_eq!(rt; start_asked, counter_start);
+}
+
 #[test]
-fn the_schema_is_the_one_that_is_given_or_u64(rt: HostRuntime) {
+fn each_option_is_what_is_given_or_its_default(rt: HostRuntime) {
     let alloc = rt.alloc();
-    assert!(rt; matches!(chosen_settings(alloc), Ok(Settings::Run { schema: "u16" })));
-    let words = ["art_index", "run", "--schema", "u16"];
-    assert!(rt; matches!(settings(alloc, &words), Ok(Settings::Run { schema: "u16" })));
+    let defaults = [4096, 4096, 1024, 512, 128];
     let words = ["art_index", "run"];
-    assert!(rt; matches!(settings(alloc, &words), Ok(Settings::Run { schema: "u64" })));
+    check_settings(&rt, settings(alloc, &words), "u64", defaults, 0);
+    check_settings(
+        &rt,
+        chosen_settings(alloc),
+        "u16",
+        [4096, 4096, 1024, 7, 128],
+        0,
+    );
+    let words = ["art_index", "run", "--schema", "u16"];
+    check_settings(&rt, settings(alloc, &words), "u16", defaults, 0);
+    for (option, sizes, counter_start) in [
+        ("--leaves", [21, 4096, 1024, 512, 128], 0),
+        ("--n4", [4096, 21, 1024, 512, 128], 0),
+        ("--n16", [4096, 4096, 21, 512, 128], 0),
+        ("--n48", [4096, 4096, 1024, 21, 128], 0),
+        ("--n256", [4096, 4096, 1024, 512, 21], 0),
+        ("--counter-start", defaults, 21),
+    ] {
+        let words = ["art_index", "run", option, "21"];
+        check_settings(&rt, settings(alloc, &words), "u64", sizes, counter_start);
+    }
+}
+
+#[test]
+fn the_ends_of_each_range_are_in_it(rt: HostRuntime) {
+    let alloc = rt.alloc();
+    let words = [
+        "art_index",
+        "run",
+        "--leaves=1",
+        "--n4=1",
+        "--n16=1",
+        "--n48=1",
+        "--n256=1",
+        "--counter-start=0",
+    ];
+    check_settings(&rt, settings(alloc, &words), "u64", [1, 1, 1, 1, 1], 0);
+    let words = [
+        "art_index",
+        "run",
+        "--counter-start=4611686018427387896",
+        "--n256=4096",
+        "--n48=16384",
+        "--n16=65536",
+        "--n4=000000000000000000000000262144",
+        "--leaves=1048576",
+    ];
+    let sizes = [1_048_576, 262_144, 65_536, 16_384, 4_096];
+    check_settings(
+        &rt,
+        settings(alloc, &words),
+        "u64",
+        sizes,
+        4_611_686_018_427_387_896,
+    );
 }
 
 #[test]
@@ -71,6 +152,19 @@ fn faults_of_words_end_with_two(rt: HostRuntime) {
         &["art_index", "run", "--frob"],
         &["art_index", "run", "--version"],
         &["art_index", "run", "frob"],
+        &["art_index", "run", "--leaves"],
+        &["art_index", "run", "--leaves", "x"],
+        &["art_index", "run", "--leaves", ""],
+        &["art_index", "run", "--leaves="],
+        &["art_index", "run", "--n4=+5"],
+        &["art_index", "run", "--n16", "-5"],
+        &["art_index", "run", "--n16=-5"],
+        &["art_index", "run", "--n48=5.0"],
+        &["art_index", "run", "--n256=٥"],
+        &["art_index", "run", "--counter-start=0x5"],
+        &["art_index", "run", "--leaves", "5", "--leaves", "6"],
+        &["art_index", "run", "--leaves=0", "--n4=x"],
+        &["art_index", "run", "--schema=u24", "--n4=x"],
     ] {
         let ran = run_on_nothing(rt.alloc(), words);
         assert_eq!(rt; ran.status, 2, "at {words:?}");
@@ -98,6 +192,24 @@ fn help_ends_with_the_lines_and_the_statuses(rt: HostRuntime) {
     }
 }
 
+#[test]
+fn help_of_run_lists_its_options(rt: HostRuntime) -> Result<(), Fail> {
+    let ran = run_on_nothing(rt.alloc(), &["art_index", "run", "--help"]);
+    let text = std::str::from_utf8(ran.output.as_slice())?;
+    for option in [
+        "--schema <TEXT>",
+        "--leaves <NUMBER>",
+        "--n4 <NUMBER>",
+        "--n16 <NUMBER>",
+        "--n48 <NUMBER>",
+        "--n256 <NUMBER>",
+        "--counter-start <NUMBER>",
+    ] {
+        assert!(rt; text.contains(option), "{option}");
+    }
+    Ok(())
+}
+
 /// The words end with this status, and this is written and said of faults.
 fn check_told(
     rt: &impl Abort,
@@ -118,6 +230,45 @@ fn the_version_is_the_programs(rt: HostRuntime) {
     for word in ["--version", "-V"] {
         let words = ["art_index", word];
         check_told(&rt, rt.alloc(), &words, 0, "art_index 0.1.0\n", "");
+    }
+}
+
+#[test]
+fn a_value_that_is_no_number_is_named(rt: HostRuntime) {
+    let expected = "error: invalid value 'x' for '--leaves <NUMBER>': not a row of digits\n\n\
+        Usage: art_index <COMMAND>\n\nFor more information, try '--help'.\n";
+    let words = ["art_index", "run", "--n4=0", "--leaves=x"];
+    check_told(&rt, rt.alloc(), &words, 2, "", expected);
+}
+
+#[test]
+fn a_number_out_of_its_range_ends_with_three(rt: HostRuntime) {
+    for option in [
+        "--leaves=0",
+        "--leaves=1048577",
+        "--leaves=4294967297",
+        "--leaves=18446744073709551617",
+        "--leaves=123456789012345678901234567890",
+        "--n4=0",
+        "--n4=262145",
+        "--n16=0",
+        "--n16=65537",
+        "--n48=0",
+        "--n48=16385",
+        "--n256=0",
+        "--n256=4097",
+        "--counter-start=4611686018427387897",
+        "--counter-start=123456789012345678901234567890",
+    ] {
+        let words = ["art_index", "run", "--schema", "u24", option];
+        check_told(
+            &rt,
+            rt.alloc(),
+            &words,
+            3,
+            "",
+            "art_index: refused 24 BadConfig\n",
+        );
     }
 }
 

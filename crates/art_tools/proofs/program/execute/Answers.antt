@@ -1,13 +1,11 @@
-use Rattle.std.proofs.Common.{◌≡◌, Err, rules, ap, sym, inl, ◌∙◌}
-use Rattle.art_server.specs.Refusals.{schema_refusal}
-use Rattle.art_tools.specs.declared.run_faults.RunFault.TheVariants.{Refused}
+use Rattle.std.proofs.Common.{◌∙◌, ap, arith, inl, sym}
 use Rattle.art_tools.specs.Statuses.{status_after}
 use Rattle.art_tools.proofs.Runs.{five_is_used}
 use Rattle.art_tools.proofs.program.execute.Goals as goal
 
 pub returns-in-Ok-Run-clause-schema : goal.returns-in-Ok-Run-clause-schema
 returns-in-Ok-Run-clause-schema g c = λ fault none schema.
-    let refused : c.run.result ≡ Err (Refused (schema_refusal fault)) = search rules in
+    let refused = c.run.ensures.schema fault (grind (arith, c.in-Ok-Run.ensures.asked, schema)) in
     inl (c.status.ensures.of ∙ ap status_after refused)
 
 pub returns-in-Ok-Run-clause-used : goal.returns-in-Ok-Run-clause-used

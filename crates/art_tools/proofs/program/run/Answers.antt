@@ -1,4 +1,4 @@
-use Rattle.std.proofs.Common.{subst}
+use Rattle.std.proofs.Common.{◌<◌, ◌++◌, ◌∷◌, [], Contains, subst, sym}
 use Rattle.art_server.specs.Counted.{reader_of}
 use Rattle.art_tools.specs.Outputs.{Outputs}
 use Rattle.art_server.specs.Reads.{MakesReads}
@@ -12,8 +12,8 @@ returns-clause-output g c =
     let held = g.W.Write.contents c.args.writer.now in
     let held_after = g.W.Write.contents c.session-pass.new.writer in
     where_ended _ _ _ _ c.outcome.ensures (λ ended.
-    let wrote = session_outputs c.in_ok-schema.schema left _ held held_after _ _ _ c.in_ok-table.ensures.table c.session-pass.ensures.session (c.session-pass.ensures.end ended) ended in
-    subst (λ s. Outputs s left held held_after) c.in_ok-schema.ensures wrote)
+    let wrote = session_outputs c.in_ok-schema.schema c.args.sizes left _ held held_after _ _ _ c.in_ok-table.ensures.table c.session-pass.ensures.session (c.session-pass.ensures.end ended) ended in
+    subst (λ s. Outputs s c.args.sizes left held held_after) c.in_ok-schema.ensures wrote)
 
 pub returns-clause-failed : goal.returns-clause-failed
 returns-clause-failed g c = λ is.
@@ -24,3 +24,8 @@ pub returns-clause-used : goal.returns-clause-used
 returns-clause-used g c = λ is.
     let told = told_by_session c.outcome.result _ _ ReadsUsed c.outcome.ensures c.give_back-closed.ensures (λ e. cc) is in
     subst (MakesReads _ _) (used_up _ told) c.session-pass.ensures.reads
+
+pub give_back-closed-requires-clause-all : goal.give_back-closed-requires-clause-all
+give_back-closed-requires-clause-all g c = λ n below.
+    let opened = subst (λ sizes. n < sizes.passes) c.session-pass.ensures.sizes below in
+    subst (λ pass. Contains (c.in_ok-table.passes.items ++ pass ∷ []) n) (sym c.session-pass.ensures.pass) (c.in_ok-table.ensures.all n opened)

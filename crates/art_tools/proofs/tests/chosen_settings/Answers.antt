@@ -1,29 +1,51 @@
-use Rattle.std.proofs.Common.{◌≡◌, codes, refl, rules, subst, map, List, [], ◌∷◌, Some, IfOk, MatchResult}
-use Rattle.clap.specs.Words.{Text, fault_of}
+use Rattle.std.proofs.Common.{◌≡◌, codes, refl, rules, subst, sym, map, List, [], ◌∷◌, Some, None, IfOk, MatchResult, if◌then◌else◌, lit≤}
+use Rattle.std.specs.Str.{bytes_eq}
+use Rattle.clap.specs.Words.{Text}
 use Rattle.clap.proofs.OnLiterals.{clap_on_literals}
+use Rattle.art_list.specs.Sizes.{IsConfig}
 use Rattle.art_tools.specs.Faults.{Explains}
-use Rattle.art_tools.specs.Settings.{IsAskedBy, art_index_app, option_given}
-use Rattle.art_tools.proofs.Known.{only_memory, schema_known}
+use Rattle.art_tools.specs.Options.{Given, schema_given, sizes_given}
+use Rattle.art_tools.specs.Settings.{IsAskedBy, option_given, words_fault}
+use Rattle.art_tools.proofs.Known.{only_memory, settings_known}
 use Rattle.art_tools.proofs.tests.chosen_settings.Goals as goal
 
 abbrev words : List Text
-words = codes "art_index" ∷ codes "run" ∷ codes "--schema=u16" ∷ []
+words = codes "art_index" ∷ codes "run" ∷ codes "--schema=u16" ∷ codes "--n48=007" ∷ []
 
-is_u16 : option_given words (codes "schema") ≡ Some (codes "u16")
+abbrev given : Given
+given name = if bytes_eq name (codes "schema") then Some (codes "u16") else (if bytes_eq name (codes "n48") then Some (codes "007") else None)
+
+schema_is : schema_given (option_given words) ≡ schema_given given
 unfolding clap_on_literals
-is_u16 = refl
+schema_is = refl
 
-no_fault : fault_of art_index_app words ≡ []
+sizes_are : sizes_given (option_given words) ≡ sizes_given given
+unfolding clap_on_literals
+sizes_are = refl
+
+no_fault : words_fault words ≡ []
 unfolding clap_on_literals
 no_fault = refl
+
+valid : IsConfig (sizes_given given)
+valid = record {
+  leaves = (lit≤ tt, lit≤ tt);
+  n4 = (lit≤ tt, lit≤ tt);
+  n16 = (lit≤ tt, lit≤ tt);
+  n48 = (lit≤ tt, lit≤ tt);
+  n256 = (lit≤ tt, lit≤ tt);
+  passes = (lit≤ tt, lit≤ tt);
+  counter_start = lit≤ tt;
+}
 
 pub returns-clause-ok : goal.returns-clause-ok
 returns-clause-ok c =
     let words_are : map (λ s. s.now) c.as_slice.result.now ≡ words = search rules in
-    schema_known words (Some (codes "u16")) c.settings.result is_u16 (subst (λ (w : List Text). IfOk c.settings.result (IsAskedBy w)) words_are c.settings.ensures.asked)
+    settings_known words given c.settings.result schema_is sizes_are (subst (λ (w : List Text). IfOk c.settings.result (IsAskedBy w)) words_are c.settings.ensures.asked)
 
 pub returns-clause-err : goal.returns-clause-err
 returns-clause-err c =
     let words_are : map (λ s. s.now) c.as_slice.result.now ≡ words = search rules in
-    only_memory (fault_of art_index_app words) c.settings.result _ no_fault
-    (subst (λ (w : List Text). MatchResult c.settings.result (λ _. fault_of art_index_app w ≡ []) (Explains (fault_of art_index_app w))) words_are c.settings.ensures.refused)
+    only_memory (words_fault words) (sizes_given (option_given words)) c.settings.result _ no_fault (subst IsConfig (sym sizes_are) valid)
+    (subst (λ (w : List Text). MatchResult c.settings.result (λ _. (words_fault w ≡ []) × IsConfig (sizes_given (option_given w)))
+    (Explains (words_fault w) (sizes_given (option_given w)))) words_are c.settings.ensures.refused)
