@@ -1,5 +1,5 @@
 -- A pass that has seen its own events alone: nothing stands between two of them.
-use Rattle.std.proofs.Common.{◌≡◌, ℕ, ◌+◌, ◌≤◌, ◌==◌, Bool, true, false, if◌then◌else◌, List, [], ◌∷◌, ◌++◌, length, append-nil, append_assoc, length-append, inl, inr, ◌⊎◌, Option, Some, None, refl, sym, ap, ◌∙◌, subst, arith}
+use Rattle.std.proofs.Common.{◌≡◌, ℕ, ◌+◌, ◌==◌, true, if◌then◌else◌, List, [], ◌∷◌, ◌++◌, length, append-nil, append_assoc, length-append, inl, inr, refl, sym, ap, ◌∙◌, subst, arith}
 use Rattle.std.proofs.lemmas.Bool.Decides.{nat_tests}
 use Rattle.std.proofs.lemmas.List.{nil_from_length}
 use Rattle.std.specs.List.{AllByRecursion}
@@ -9,16 +9,14 @@ use Rattle.art_key.specs.declared.columns.Column.{Column}
 use Rattle.art_key.specs.declared.events.Deed.{Deed}
 use Rattle.art_key.specs.declared.events.Event.{Event}
 use Rattle.art_model.proofs.Parts.{All-first}
-use Rattle.art_model.specs.Rows.{IsSortedRows}
 use Rattle.art_model.specs.declared.rows.Row.{Row}
 use Rattle.art_step.specs.Histories as bytes
 use Rattle.art_step.specs.Views.{Member}
 use Rattle.art_step.specs.declared.views.Event.{Event as ByteEvent}
-use Rattle.art_table.specs.Calls.{Makes, Sees}
-use Rattle.art_table.specs.Closing.{IsClosed, IsHere, places_from}
+use Rattle.art_table.specs.Calls.{Makes}
+use Rattle.art_table.specs.Closing.{IsHere, places_from}
 use Rattle.art_table.specs.Marks.{StartsWith}
 use Rattle.art_table.specs.Tables.{IsPassOf, number_of, own_of, schema_in, seen_by, view_of}
-use Rattle.art_table.specs.declared.closing.Closed.{Closed}
 use Rattle.art_table.specs.declared.passes.Pass.{Pass}
 use Rattle.art_table.specs.declared.tables.Table.{Table}
 use Rattle.art_typed.proofs.Events.{histories_are_typed}

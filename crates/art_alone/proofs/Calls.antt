@@ -1,6 +1,5 @@
 -- A command by a pass that is alone is answered by the sorted map, or refused.
-use Rattle.std.proofs.Common.{◌≡◌, ℕ, ◌<◌, ◌≤◌, ◌==◌, Bool, true, false, List, [], ◌∷◌, ◌++◌, length, take, nat_lt, Option, Some, None, refl, sym, ap, ◌∙◌, subst, arith}
-use Rattle.std.proofs.lemmas.Bool.Decides.{nat_tests}
+use Rattle.std.proofs.Common.{◌≡◌, ℕ, true, List, Option, Some, None, refl, sym, ap, ◌∙◌, subst}
 use Rattle.std.specs.Option.{option_map}
 use Rattle.std.specs.Prelude.{Result, Ok, Err}
 use Rattle.art_alone.proofs.Alone.{own_event}
@@ -15,18 +14,17 @@ use Rattle.art_key.specs.declared.events.Deed.{Deed}
 use Rattle.art_key.specs.declared.events.Deed.TheVariants.{Done}
 use Rattle.art_key.specs.declared.columns.Column.{Column}
 use Rattle.art_key.specs.declared.faults.ValueFault.{ValueFault}
-use Rattle.art_model.specs.Answers.{answer}
 use Rattle.art_model.specs.Rows.{Tuple}
 use Rattle.art_model.specs.declared.commands.Command.{Command}
 use Rattle.art_model.specs.declared.commands.Command.TheVariants.{Insert, Remove, Get}
 use Rattle.art_model.specs.declared.commands.Reply.{Reply}
 use Rattle.art_model.specs.declared.commands.Reply.TheVariants.{Inserted, Present, Removed, Absent, Found}
 use Rattle.art_model.specs.declared.rows.Row.{Row}
-use Rattle.art_server.specs.Refusals.{fault_refusal, value_refusal}
+use Rattle.art_server.specs.Refusals.{value_refusal}
 use Rattle.art_server.specs.Sessions.{AnswersJob, IsReplyOf, most_turns}
 use Rattle.art_server.specs.declared.refusals.Refusal.{Refusal}
 use Rattle.art_server.specs.declared.refusals.Refusal.TheVariants.{Busy, Full, Crowded, Exhausted}
-use Rattle.art_table.specs.Calls.{Ends, HasEnded, Makes, Sees}
+use Rattle.art_table.specs.Calls.{HasEnded, Sees}
 use Rattle.art_table.specs.Jobs.{job_fault, result_of, told_by, wish_of}
 use Rattle.art_table.specs.Tables.{IsPassOf, number_of, schema_in, seen_by}
 use Rattle.art_table.specs.declared.faults.Fault.{Fault}

@@ -1,9 +1,9 @@
 -- The looks of a scan by a pass that is alone: all saw the same rows.
-use Rattle.std.proofs.Common.{◌≡◌, ℕ, ◌+◌, ◌<◌, ◌≤◌, ◌==◌, Bool, true, false, List, [], ◌∷◌, ◌++◌, length, take, append-nil, length-append, Option, Some, None, refl, sym, ap, ◌∙◌, subst, arith}
+use Rattle.std.proofs.Common.{◌≡◌, ℕ, ◌+◌, ◌≤◌, List, [], ◌∷◌, ◌++◌, length, append-nil, length-append, ap, ◌∙◌, subst, arith}
 use Rattle.std.proofs.lemmas.List.{nil_from_length}
 use Rattle.std.specs.List.{AllByRecursion}
 use Rattle.art_alone.proofs.Alone.{run_push}
-use Rattle.art_key.specs.Histories.{replay, run}
+use Rattle.art_key.specs.Histories.{replay}
 use Rattle.art_key.specs.declared.events.Deed.TheVariants.{Look}
 use Rattle.art_key.specs.declared.events.Event.{Event}
 use Rattle.art_model.specs.declared.rows.Row.{Row}

@@ -1,6 +1,5 @@
 -- A scan by a pass that is alone lists what the sorted map answers.
-use Rattle.std.proofs.Common.{◌≡◌, ℕ, ◌<◌, ◌≤◌, ◌==◌, Bool, true, false, if◌then◌else◌, List, [], ◌∷◌, length, take, nat_lt, Option, Some, None, inl, inr, refl, sym, ap, ap₂, ◌∙◌, subst, arith}
-use Rattle.std.proofs.lemmas.Bool.{cases_Bool}
+use Rattle.std.proofs.Common.{◌≡◌, ℕ, ◌<◌, ◌==◌, Bool, true, false, if◌then◌else◌, List, length, nat_lt, Option, Some, None, refl, sym, ap, ◌∙◌, subst, arith}
 use Rattle.std.proofs.lemmas.Bool.Decides.{nat_tests}
 use Rattle.std.specs.List.{AllByRecursion}
 use Rattle.std.specs.Option.{option_map}
@@ -13,23 +12,19 @@ use Rattle.art_alone.specs.Laws.{IsAlone}
 use Rattle.art_alone.specs.Maps.{IsGround, MapAnswers}
 use Rattle.art_key.specs.Bounds.{is_before}
 use Rattle.art_key.specs.Columns.{tuple_fault}
-use Rattle.art_key.specs.Histories.{StandsIn, bound_at, replay}
-use Rattle.art_key.specs.declared.bounds.Bound.{Bound}
-use Rattle.art_key.specs.declared.columns.Column.{Column}
+use Rattle.art_key.specs.Histories.{bound_at, replay}
 use Rattle.art_key.specs.declared.faults.ValueFault.{ValueFault}
-use Rattle.art_model.specs.Answers.{answer}
-use Rattle.art_model.specs.Rows.{Tuple, rows_between, tuple_cmp}
+use Rattle.art_model.specs.Rows.{Tuple, tuple_cmp}
 use Rattle.art_model.specs.declared.commands.Command.TheVariants.{Scan}
 use Rattle.art_model.specs.declared.commands.Reply.{Reply}
 use Rattle.art_model.specs.declared.commands.Reply.TheVariants.{Rows}
 use Rattle.art_model.specs.declared.rows.Row.{Row}
 use Rattle.art_scan.proofs.Alone.{looks_at_one_state_are_answers}
-use Rattle.art_scan.specs.Scans.{EndsAs, HasListed, HasScanned, limit_fault, more_at, or_value, range_fault, scan_fault}
-use Rattle.art_scan.specs.Tiles.{Tile, rows_of, states_of}
+use Rattle.art_scan.specs.Scans.{EndsAs, HasScanned, limit_fault, more_at, or_value, range_fault, scan_fault}
+use Rattle.art_scan.specs.Tiles.{states_of}
 use Rattle.art_scan.specs.declared.faults.ScanFault.{ScanFault}
 use Rattle.art_scan.specs.declared.faults.ScanFault.TheVariants.{BadLimit, BadRange, Busy}
 use Rattle.art_scan.specs.declared.scans.More.{More}
-use Rattle.art_scan.specs.declared.scans.More.TheVariants.{Limit, End}
 use Rattle.art_server.specs.Refusals.{scan_refusal}
 use Rattle.art_server.specs.Sessions.{AnswersScan, IsReplyOfScan, is_limit, most_turns}
 use Rattle.art_server.specs.declared.refusals.Refusal.{Refusal}

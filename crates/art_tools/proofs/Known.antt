@@ -2,8 +2,8 @@
 use Rattle.std.proofs.Common.{◌≡◌, ◌∙◌, refl, subst, List, [], Result, Ok, Err, IfErr, IfOk, MatchResult}
 use Rattle.clap.specs.Words.{Text}
 use Rattle.clap.specs.Kinds.{Kinds}
-use Rattle.art_list.specs.declared.configs.Config.{Config}
-use Rattle.art_list.specs.Sizes.{IsConfig}
+use Rattle.art_table.specs.declared.configs.Config.{Config}
+use Rattle.art_table.specs.Sizes.{IsConfig}
 use Rattle.art_tools.specs.declared.settings.Settings.{Settings}
 use Rattle.art_tools.specs.declared.settings.Settings.TheVariants.{Run}
 use Rattle.art_tools.specs.declared.settings.SettingsFault.{SettingsFault}

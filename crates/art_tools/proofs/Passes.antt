@@ -1,15 +1,35 @@
--- The passes of a table that was opened.
-use Rattle.std.proofs.Common.{◌≡◌, ◌∙◌, ℕ, ◌<◌, List, subst, sym, length, arith}
-use Rattle.std.specs.List.{Contains, range_with_len}
-use Rattle.std.proofs.lemmas.List.Elements.{Contains-get_or}
-use Rattle.std.proofs.lemmas.List.FromFn.{get_or-range_with_len, length-range_with_len}
-use Rattle.art_list.specs.Closing.{AreAllPasses}
-use Rattle.art_list.specs.Contents.{Contents}
+-- A table of one pass.
+use Rattle.std.proofs.Common.{◌≡◌, List, [], ◌∷◌, ◌++◌, length, length-append, inl, inr, refl, sym, ap, subst, arith}
+use Rattle.std.proofs.lemmas.List.{nil_from_length}
+use Rattle.std.specs.List.{slice_get}
+use Rattle.art_key.specs.declared.columns.Column.{Column}
+use Rattle.art_step.specs.Views.{Member}
+use Rattle.art_table.specs.Closing.{AreAllPasses, AreOf}
+use Rattle.art_table.specs.Opening.{IsNew, IsOpened}
+use Rattle.art_table.specs.Tables.{IsPassOf, number_of, sizes_in}
+use Rattle.art_table.specs.declared.configs.Config.{Config}
+use Rattle.art_table.specs.declared.passes.Pass.{Pass}
+use Rattle.art_table.specs.declared.tables.Table.{Table}
 
--- the numbers from 0 on, as many as the table has passes, are those of all its passes
-pub all_in_order : (table : Contents) (passes : List ℕ) → passes ≡ range_with_len 0 table.sizes.passes → AreAllPasses table passes
-all_in_order table passes are n below =
-    let count = table.sizes.passes in
-    let within : n < length (range_with_len 0 count) = omega (arith, length-range_with_len 0 count) in
-    let at = get_or-range_with_len 0 count n 0 below ∙ (omega arith) in
-    subst (λ xs. Contains xs n) (sym are) (subst (Contains (range_with_len 0 count)) at (Contains-get_or (range_with_len 0 count) n 0 within))
+-- ---- all passes of the table
+
+only_member : (q p : Pass) → Member p (q ∷ []) → p ≡ q
+only_member q p (inl same) = same
+only_member q p (inr none) = absurd none
+
+pub one_of : (t : Table) (q : Pass) → IsPassOf t q → AreOf t (q ∷ [])
+one_of t q is p here = subst (IsPassOf t) (sym (only_member q p here)) is
+
+pub one_is_all : (t : Table) (q : Pass) → (sizes_in t).passes ≡ 1 → number_of q ≡ 0 → AreAllPasses (sizes_in t).passes (q ∷ [])
+one_is_all t q one number = (sym one, λ n below. (q, inl refl, let few = below in omega (arith, one, number, few)))
+
+-- ---- as it was opened
+
+pub last_alone : (rest : List Pass) (q : Pass) (passes : List Pass) → passes ≡ rest ++ q ∷ [] → length passes ≡ 1 → rest ≡ []
+last_alone rest q passes split one =
+    let whole = ap (length {A = Pass}) split in
+    let parts = length-append rest (q ∷ []) in
+    nil_from_length rest (omega (arith, whole, parts, one))
+
+pub new_pass : (schema : List Column) (config : Config) (t : Table) (passes : List Pass) (q : Pass) → IsOpened schema config t passes → passes ≡ q ∷ [] → IsNew t 0 q
+new_pass schema config t passes q opened is = opened.each 0 q (ap (λ (l : List Pass). slice_get l 0) is)

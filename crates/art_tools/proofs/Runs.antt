@@ -1,17 +1,25 @@
 -- A session that came to the end of its input wrote the output, and which end of a session a fault of a run tells of.
-use Rattle.std.proofs.Common.{◌≡◌, ℕ, List, [], ◌++◌, Option, Some, None, Result, Ok, Err, IfErr, OnOk, take, refl, sym, ap, subst, ◌∙◌, append-nil}
+use Rattle.std.proofs.Common.{◌≡◌, ℕ, ◌+◌, Bool, false, if◌then◌else◌, List, [], ◌∷◌, ◌++◌, length, Option, Some, None, Result, Ok, Err, IfErr, OnOk, take, refl, sym, ap, subst, ◌∙◌, append-nil, arith}
 use Rattle.std.proofs.Math.Seq.{take-length}
 use Rattle.std.specs.Option.{option_or}
-use Rattle.std.specs.Io.KnownBytes.{Appends, IsAtEnd}
+use Rattle.std.specs.Io.KnownBytes.{IsAtEnd}
+use Rattle.art_alone.proofs.Lines.{sessions_alone_are_one_map}
+use Rattle.art_alone.specs.Laws.{IsAlone}
+use Rattle.art_alone.specs.Maps.{MapAnswersLines}
+use Rattle.art_key.specs.Histories.{replay}
 use Rattle.art_key.specs.declared.columns.Column.{Column}
-use Rattle.art_list.specs.Contents.{Contents}
-use Rattle.art_list.specs.declared.configs.Config.{Config}
+use Rattle.art_key.specs.declared.events.Event.{Event}
+use Rattle.art_model.specs.declared.commands.Reply.{Reply}
+use Rattle.art_server.specs.declared.refusals.Refusal.{Refusal}
 use Rattle.art_server.specs.declared.sessions.EndCause.{EndCause}
 use Rattle.art_server.specs.declared.sessions.EndCause.TheVariants as end
 use Rattle.art_server.specs.declared.sessions.SessionEnd.{SessionEnd}
-use Rattle.art_server.specs.Sessions.{replies_to, texts, EndsBy, IsSession, RunsSession}
+use Rattle.art_server.specs.Sessions.{AnswersLines, EndsBy, IsSession, RunsSession, begun, texts}
 use Rattle.art_server.specs.Streams.{lines_of}
-use Rattle.art_tools.specs.Outputs.{empty_table, output_of, Outputs}
+use Rattle.art_table.specs.Tables.{IsPassOf, schema_in, seen_by}
+use Rattle.art_table.specs.declared.passes.Pass.{Pass}
+use Rattle.art_table.specs.declared.tables.Table.{Table}
+use Rattle.art_tools.specs.Outputs.{HasOutput, Outputs}
 use Rattle.art_tools.specs.declared.run_faults.RunFault.{RunFault}
 use Rattle.art_tools.specs.declared.run_faults.RunFault.TheVariants.{ReadFailed, WriteFailed, Refused, NoMemory, ReadsUsed}
 use Rattle.art_tools.specs.Statuses.{fault_at, fault_in, status_after}
@@ -24,36 +32,82 @@ ended_without_fault end.WriteFault closing e = absurd (cc)
 ended_without_fault end.NoMemory closing e = absurd (cc)
 ended_without_fault end.ReadsUsed closing e = absurd (cc)
 
-pub where_ended : {A : Type 0} (r : Result A RunFault) (why : EndCause) (closing : Option RunFault) (P : Type 0) → fault_in r ≡ option_or (fault_at why) closing → (why ≡ end.Ended → P) → OnOk r P
-where_ended (Ok a) why closing P e p = p (ended_without_fault why closing e)
-where_ended (Err fault) why closing P e p = tt
-
 -- what was read to the end is what the reader had left
 all_was_read : (input rest read : List ℕ) → input ≡ read ++ rest → rest ≡ [] → read ≡ input
 all_was_read input rest read whole none = sym (append-nil read) ∙ sym (whole ∙ ap (λ xs. read ++ xs) none)
 
--- all of the output was written
-all_was_written : (schema : List Column) (sizes : Config) (input read written : List ℕ) (old new : Contents) (e : SessionEnd) → old ≡ empty_table schema sizes
-    → IsSession read written old new e → e.why ≡ end.Ended → read ≡ input → written ≡ output_of schema sizes input
-all_was_written schema sizes input read written old new e start runs ended same =
-    let wrote = runs.lines.whole (λ other. absurd (apart (sym ended ∙ other))) in
-    let cause = subst (λ why. EndsBy why e.answered e.pending read) ended runs.cause in
-    wrote
-    ∙ ap (λ n. texts (replies_to (take n (lines_of read)) old)) cause.0
-    ∙ ap (λ ls. texts (replies_to ls old)) (take-length (lines_of read))
-    ∙ (λ i. texts (replies_to (lines_of (same i)) (start i)))
-  where
-    apart : end.Ended ≡ end.WriteFault → ⊥
-    apart h = cc
+-- nor where its table was closed
+closed_without_fault : {B : Type 0} (why : EndCause) (closed : Result B RunFault) (P : Type 0) → None ≡ option_or (fault_at why) (fault_in closed) → OnOk closed P → P
+closed_without_fault end.Ended (Ok b) P e p = p
+closed_without_fault end.Ended (Err fault) P e p = absurd (cc)
+closed_without_fault end.ReadFault closed P e p = absurd (cc)
+closed_without_fault end.WriteFault closed P e p = absurd (cc)
+closed_without_fault end.NoMemory closed P e p = absurd (cc)
+closed_without_fault end.ReadsUsed closed P e p = absurd (cc)
 
-pub session_outputs : (schema : List Column) (sizes : Config) (left left_after held held_after : Option (List ℕ)) (old new : Contents) (e : SessionEnd)
-    → old ≡ empty_table schema sizes → RunsSession left left_after held held_after old new e → IsAtEnd left_after → e.why ≡ end.Ended
-    → Outputs (Ok schema) sizes left held held_after
-session_outputs schema sizes None left_after held held_after old new e start runs at_end ended = tt
-session_outputs schema sizes (Some input) None held held_after old new e start runs at_end ended = absurd runs.2
-session_outputs schema sizes (Some input) (Some rest) held held_after old new e start runs at_end ended =
+pub where_closed : {A B : Type 0} (r : Result A RunFault) (why : EndCause) (closed : Result B RunFault) (P Q : Type 0) → fault_in r ≡ option_or (fault_at why) (fault_in closed)
+    → OnOk closed P → (why ≡ end.Ended → P → Q) → OnOk r Q
+where_closed (Ok a) why closed P Q e closing both = both (ended_without_fault why (fault_in closed) e) (closed_without_fault why closed P e closing)
+where_closed (Err fault) why closed P Q e closing both = tt
+
+-- ---- the output
+
+-- each line has a reply
+lines_counted : (t : Table) (lines : List (List ℕ)) (p : Pass) (replies : List (Result Reply Refusal)) (q : Pass) → AnswersLines t lines p replies q → length replies ≡ length lines
+lines_counted t [] p replies q answers = ap (length {A = Result Reply Refusal}) answers.0
+lines_counted t (line ∷ lines) p replies q (reply, others, m, is, one, rest) =
+    let more = lines_counted t lines m others q rest in
+    let whole = ap (length {A = Result Reply Refusal}) is in
+    omega (arith, more, whole)
+
+all_begun : (e : SessionEnd) (n : ℕ) → e.answered ≡ n → e.pending ≡ false → begun e ≡ n
+all_begun e n answered pending =
+    ap (λ (b : Bool). e.answered + (if b then 1 else 0)) pending ∙ (let same = answered in omega (arith, same))
+
+module _ (t : Table) (p q : Pass) (was : IsPassOf t p) (new : seen_by t p ≡ []) (alone : IsAlone t q) (read written : List ℕ) (e : SessionEnd) (is : IsSession t read written p q e) (ended : e.why ≡ end.Ended) where
+  lines : List (List ℕ)
+  lines = lines_of read
+
+  cause : EndsBy end.Ended e.answered e.pending read
+  cause = subst (λ (why : EndCause). EndsBy why e.answered e.pending read) ended is.cause
+
+  answers : AnswersLines t lines p is.lines.replies q
+  unfolding lines
+  answers =
+      subst (λ (l : List (List ℕ)). AnswersLines t l p is.lines.replies q) (take-length (lines_of read))
+      (subst (λ (n : ℕ). AnswersLines t (take n (lines_of read)) p is.lines.replies q) (all_begun e (length (lines_of read)) cause.0 cause.1) is.lines.answers)
+
+  wrote : written ≡ texts is.lines.replies
+  unfolding lines
+  wrote =
+      let count = lines_counted t (lines_of read) p is.lines.replies q answers in
+      is.lines.whole (λ other. absurd (apart (sym ended ∙ other)))
+      ∙ ap (λ (n : ℕ). texts (take n is.lines.replies)) (cause.0 ∙ sym count)
+      ∙ ap texts (take-length is.lines.replies)
+    where
+      apart : end.Ended ≡ end.WriteFault → ⊥
+      apart h = cc
+
+  pub has_output : (schema : List Column) → schema_in t ≡ schema → HasOutput schema read written
+  unfolding lines
+  has_output schema schema_is =
+      let map = sessions_alone_are_one_map t (lines_of read) p q is.lines.replies was answers alone in
+      let from_none = subst (λ (log : List Event). MapAnswersLines (schema_in t) (lines_of read) (replay log) is.lines.replies (replay (seen_by t q))) new map in
+      record {
+        replies = is.lines.replies;
+        rows = replay (seen_by t q);
+        answers = subst (λ (s : List Column). MapAnswersLines s (lines_of read) [] is.lines.replies (replay (seen_by t q))) schema_is from_none;
+        text = wrote;
+      }
+
+pub session_outputs : (schema : List Column) (left left_after held held_after : Option (List ℕ)) (t : Table) (p q : Pass) (e : SessionEnd) → schema_in t ≡ schema → IsPassOf t p → seen_by t p ≡ []
+    → IsAlone t q → RunsSession left left_after held held_after t p q e → IsAtEnd left_after → e.why ≡ end.Ended → Outputs (Ok schema) left held held_after
+session_outputs schema None left_after held held_after t p q e schema_is was new alone runs at_end ended = tt
+session_outputs schema (Some input) None held held_after t p q e schema_is was new alone runs at_end ended = absurd runs.2
+session_outputs schema (Some input) (Some rest) held held_after t p q e schema_is was new alone runs at_end ended =
     let same = all_was_read input rest runs.0 runs.2 at_end in
-    subst (Appends held held_after) (all_was_written schema sizes input runs.0 runs.1 old new e start runs.4 ended same) runs.3
+    let output = has_output t p q was new alone runs.0 runs.1 e runs.4 ended schema schema_is in
+    (runs.1, subst (λ (bytes : List ℕ). HasOutput schema bytes runs.1) same output, runs.3)
 
 -- ---- which end of a session a fault tells of
 

@@ -2,7 +2,7 @@
 ghost use Rattle.std.specs.Prelude.{◌≡◌, IfOk, MatchResult, []};
 ghost use Rattle.clap.specs.Words.{app_of, first_value, found_of, kind_of};
 ghost use Rattle.clap.specs.declared.error.kind.ErrorKind.TheVariants.{ValueValidation};
-ghost use Rattle.art_list.specs.Sizes.{IsConfig};
+ghost use Rattle.art_table.specs.Sizes.{IsConfig};
 ghost use Rattle.art_tools.specs.Faults.{Explains};
 ghost use Rattle.art_tools.specs.Options.{Given, HasOptions, numbers_fault, sizes_given};
 ghost use Rattle.art_tools.specs.Settings.{IsAskedBy, RunsWith, art_index_app, faults_of, run_app, sizes_asked, texts_of};

@@ -7,7 +7,7 @@ ghost use Rattle.clap.specs.Words.{app_of, first_value, found_of, items_of, rule
 ghost use Rattle.clap.specs.declared.error.kind.ErrorKind.TheVariants.{ValueValidation};
 ghost use Rattle.art_tools.specs.Options.{HasSaturated, has_digits, is_digits, number_given, numbers_fault, option_rule, with_table_options};
 
-use art_list::Config;
+use art_table::Config;
 use clap::{Arg, ArgMatches, Command};
 use std::alloc::{AllocError, Global};
 

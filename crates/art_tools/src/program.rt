@@ -1,18 +1,18 @@
 //! The program over a reader, a writer and a writer for faults.
-ghost use Rattle.std.specs.Prelude.{◌≡◌, ◌≢◌, ◌⊎◌, ◌↔◌, ◌≤◌, [], ◌∷◌, ◌++◌, All, Ok, Err, IsErr, IsOk, IfErr, IfOk, OnOk};
+ghost use Rattle.std.specs.Prelude.{◌≡◌, ◌≢◌, ◌⊎◌, ◌↔◌, ◌≤◌, [], ◌∷◌, Ok, Err, IsErr, IsOk, IfErr, IfOk, OnOk};
 ghost use Rattle.std.specs.Option.{option_or};
 ghost use Rattle.clap.specs.Values.{kind_of};
 ghost use Rattle.clap.specs.declared.error.kind.ErrorKind.TheVariants.{DisplayHelp, DisplayVersion};
 ghost use Rattle.art_key.specs.declared.faults.SchemaFault.{SchemaFault};
 ghost use Rattle.art_key.specs.Schemas.{schema_of};
-ghost use Rattle.art_list.specs.Closing.{AreAllPasses};
-ghost use Rattle.art_list.specs.Contents.{IsPassOf};
-ghost use Rattle.art_list.specs.Sizes.{IsConfig};
+ghost use Rattle.art_alone.specs.Laws.{IsAlone};
+ghost use Rattle.art_table.specs.Sizes.{IsConfig};
 ghost use Rattle.art_server.specs.Counted.{reader_of, reads_of};
 ghost use Rattle.art_server.specs.Reads.{AddsReads, MakesReads};
 ghost use Rattle.art_server.specs.Refusals.{schema_refusal};
 ghost use Rattle.art_server.specs.declared.refusals.Refusal.{Refusal};
-ghost use Rattle.art_tools.specs.Outputs.{Outputs, empty_table};
+ghost use Rattle.art_table.specs.Tables.{IsPassOf, number_of, schema_in, seen_by, sizes_in};
+ghost use Rattle.art_tools.specs.Outputs.{Outputs, of_one_pass};
 ghost use Rattle.art_tools.specs.Statuses.{fault_at, fault_in, status_after};
 ghost use Rattle.art_tools.specs.Settings.{faults_of, AsksToShow, schema_asked, sizes_asked};
 
@@ -20,8 +20,8 @@ use crate::command_line::settings;
 use crate::run_faults::RunFault;
 use crate::settings::{Settings, SettingsFault};
 use art_key::Schema;
-use art_list::{Config, OpenFault, Pass, Table, close, open};
 use art_server::{Counted, EndCause, Refusal, session};
+use art_table::{Config, OpenFault, Pass, Table, close, open};
 use std::alloc::Global;
 use std::io::{self, Read, Write};
 
@@ -50,8 +50,7 @@ pub fn execute<'a, R: Read, W: Write, E: Write>(
     ensures refused { result ≡ 3 → (faults_of words.entry.now ≡ [])
         × ((¬ (IsConfig (sizes_asked words.entry.now))) ⊎ IsErr (schema_asked words.entry.now)) }
     ensures ran { faults_of words.entry.now ≡ [] → result ≡ 0
-        → Outputs (schema_asked words.entry.now) (sizes_asked words.entry.now) (R.remaining (reader_of reader.old))
-        (W.contents writer.old) (W.contents writer.new) }
+        → Outputs (schema_asked words.entry.now) (R.remaining (reader_of reader.old)) (W.contents writer.old) (W.contents writer.new) }
     ensures reads { AddsReads (reads_of reader.old) (reads_of reader.new) }
     ensures used { result ≡ 5 → MakesReads (reads_of reader.old) (reads_of reader.new) EndCause.ReadsUsed }
 {
@@ -84,7 +83,7 @@ pub fn execute<'a, R: Read, W: Write, E: Write>(
     }
 }
 
-/// One session over an empty table of these sizes, from the reader to the writer. A schema that is none is told before a
+/// One session over an empty table of these sizes, with one pass, from the reader to the writer. A schema that is none is told before a
 /// size out of its range.
 pub fn run<R: Read, W: Write>(
     alloc: Global,
@@ -93,13 +92,14 @@ pub fn run<R: Read, W: Write>(
     reader: &mut Counted<R>,
     writer: &mut W,
 ) -> Result<(), RunFault>
-    ensures output { OnOk result (Outputs (schema_of schema.now) sizes (R.remaining (reader_of reader.old))
+    ensures output { OnOk result (Outputs (schema_of schema.now) (R.remaining (reader_of reader.old))
         (W.contents writer.old) (W.contents writer.new)) }
     ensures schema { (fault : SchemaFault) → schema_of schema.now ≡ Err fault
         → result ≡ Err (RunFault.Refused (schema_refusal fault)) }
-    ensures range { IsOk (schema_of schema.now) → (¬ (IsConfig sizes)) → result ≡ Err (RunFault.Refused Refusal.BadConfig) }
+    ensures range { IsOk (schema_of schema.now) → (¬ (IsConfig (of_one_pass sizes)))
+        → result ≡ Err (RunFault.Refused Refusal.BadConfig) }
     ensures refused { (refusal : Refusal) → result ≡ Err (RunFault.Refused refusal)
-        → IsErr (schema_of schema.now) ⊎ (¬ (IsConfig sizes)) }
+        → IsErr (schema_of schema.now) ⊎ (¬ (IsConfig (of_one_pass sizes))) }
     ensures reads { AddsReads (reads_of reader.old) (reads_of reader.new) }
     ensures failed { result ≡ Err RunFault.ReadFailed
         → MakesReads (reads_of reader.old) (reads_of reader.new) EndCause.ReadFault }
@@ -107,26 +107,25 @@ pub fn run<R: Read, W: Write>(
         → MakesReads (reads_of reader.old) (reads_of reader.new) EndCause.ReadsUsed }
 {
     let schema = Schema::parse(schema)?;
-    let (mut table, passes, pass) = empty_table(alloc, schema, sizes)?;
-    let (pass, end) = session(alloc, &mut table, pass, reader, writer);
+    let (table, passes, pass) = empty_table(alloc, schema, sizes)?;
+    let (pass, end) = session(alloc, &table, pass, reader, writer);
     let closed = give_back(alloc, table, passes, pass);
     outcome(end.why, closed)
 }
 
-/// A table with no row, its passes but one, and that one.
+/// A table with no row, room for its pass, and the pass.
 fn empty_table(
     alloc: Global,
     schema: Schema,
     sizes: Config,
 ) -> Result<(Table, Vec<Pass>, Pass), OpenFault>
-    ensures table { IfOk result (λ opened. opened.0 ≡ empty_table schema sizes) }
-    ensures others { IfOk result (λ opened. All (IsPassOf opened.0) opened.1.items) }
-    ensures own { IfOk result (λ opened. IsPassOf opened.0 opened.2) }
-    ensures all { IfOk result (λ opened. AreAllPasses opened.0 (opened.1.items ++ opened.2 ∷ [])) }
-    ensures valid { OnOk result (IsConfig sizes) }
-    ensures config { IfErr result (λ fault. (fault ≡ OpenFault.BadConfig) ↔ (¬ (IsConfig sizes))) }
+    ensures table { IfOk result (λ opened. (schema_in opened.0 ≡ schema) × ((sizes_in opened.0).passes ≡ 1)) }
+    ensures room { IfOk result (λ opened. opened.1.items ≡ []) }
+    ensures pass { IfOk result (λ opened. IsPassOf opened.0 opened.2 × (number_of opened.2 ≡ 0) × (seen_by opened.0 opened.2 ≡ [])) }
+    ensures valid { OnOk result (IsConfig (of_one_pass sizes)) }
+    ensures config { IfErr result (λ fault. (fault ≡ OpenFault.BadConfig) ↔ (¬ (IsConfig (of_one_pass sizes)))) }
 {
-    let (table, mut passes) = open(alloc, schema, sizes)?;
+    let (table, mut passes) = open(alloc, schema, Config { passes: 1, ..sizes })?;
     let pass = passes.pop().unwrap();
     Ok((table, passes, pass))
 }
@@ -152,12 +151,13 @@ fn check_end(why: EndCause) -> Result<(), RunFault>
     }
 }
 
-/// Closes the table with its passes, of which this one was out.
+/// Closes the table with its one pass, for which there is room here: that has seen its own events alone.
 fn give_back(alloc: Global, table: Table, mut passes: Vec<Pass>, pass: Pass) -> Result<(), RunFault>
-    requires others { All (IsPassOf table) passes.items }
-    requires own { IsPassOf table pass }
-    requires all { AreAllPasses table (passes.items ++ pass ∷ []) }
-    ensures { IfErr result (λ fault. fault ≡ RunFault.NoMemory) }
+    requires room { passes.items ≡ [] }
+    requires pass { IsPassOf table pass × (number_of pass ≡ 0) }
+    requires one { (sizes_in table).passes ≡ 1 }
+    ensures alone { OnOk result (IsAlone table pass) }
+    ensures memory { IfErr result (λ fault. fault ≡ RunFault.NoMemory) }
 {
     passes.push(pass)?;
     match close(alloc, table, passes) {

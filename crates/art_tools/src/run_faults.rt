@@ -3,8 +3,8 @@ ghost use Rattle.std.specs.Prelude.{◌≡◌, ◌≢◌};
 ghost use Rattle.art_tools.specs.Statuses.{status_of};
 
 use art_key::SchemaFault;
-use art_list::{CloseRefusal, OpenFault};
 use art_server::Refusal;
+use art_table::{CloseRefusal, OpenFault};
 use std::alloc::AllocFailed;
 use std::error::Error;
 use std::fmt;

@@ -1,6 +1,6 @@
 use Rattle.std.proofs.Common.{◌∙◌, ◌≡◌, map, List, [], rules, subst}
 use Rattle.clap.specs.Words.{Text, app_of, fault_of, first_value, found_of}
-use Rattle.art_list.specs.Sizes.{IsConfig}
+use Rattle.art_table.specs.Sizes.{IsConfig}
 use Rattle.art_tools.specs.Faults.{Explains}
 use Rattle.art_tools.specs.Options.{Given, numbers_fault, sizes_given}
 use Rattle.art_tools.specs.Settings.{RunsWith, art_index_app, option_given}
