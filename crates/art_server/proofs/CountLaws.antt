@@ -4,7 +4,7 @@ use Rattle.std.proofs.lemmas.List.{length_push}
 use Rattle.std.proofs.lemmas.List.Elements.{All-nil, All-push}
 use Rattle.art_server.specs.declared.sessions.EndCause.{EndCause}
 use Rattle.art_server.specs.declared.sessions.EndCause.TheVariants.{Ended, ReadFault, WriteFault, NoMemory, ReadsUsed}
-use Rattle.art_server.specs.Reads.{GaveBytes, LastGave, ReadsUntil, AddsReads, MakesReads, EndsAtInput}
+use Rattle.art_server.specs.Reads.{GaveBytes, LastGave, ReadsUntil, MakesReads, EndsAtInput}
 use Rattle.art_server.specs.Steps.{StopsBy}
 
 -- so many reads were made, and each gave bytes
@@ -18,10 +18,13 @@ pub HasCounted-none : (old : List (Option ℕ)) → HasCounted 0 old old
 HasCounted-none old = record { made = []; account = sym (append-nil old); count_is = refl; bytes = All-nil GaveBytes }
 
 -- one read more
-made_more : (old mid new made : List (Option ℕ)) (last : Option ℕ) → mid ≡ old ++ made → new ≡ mid ++ last ∷ [] → new ≡ old ++ (made ++ last ∷ [])
-made_more old mid new made last before after = after ∙ ap (λ (l : List (Option ℕ)). l ++ last ∷ []) before ∙ append_assoc old made (last ∷ [])
+made_more : (old mid new made : List (Option ℕ)) (last : Option ℕ) → mid ≡ old ++ made → new ≡ mid ++ last ∷ []
+    → new ≡ old ++ (made ++ last ∷ [])
+made_more old mid new made last before after = after ∙ ap (λ (l : List (Option ℕ)). l ++ last ∷ []) before
+    ∙ append_assoc old made (last ∷ [])
 
-pub HasCounted-more : (count : ℕ) (old mid new : List (Option ℕ)) (bytes : ℕ) → HasCounted count old mid → new ≡ mid ++ Some bytes ∷ [] → 0 < bytes → bytes ≤ 4096
+pub HasCounted-more : (count : ℕ) (old mid new : List (Option ℕ)) (bytes : ℕ) → HasCounted count old mid → new ≡ mid ++ Some bytes ∷ []
+    → 0 < bytes → bytes ≤ 4096
     → HasCounted (count + 1) old new
 HasCounted-more count old mid new bytes has after some few = record {
   made = has.made ++ Some bytes ∷ [];
@@ -33,7 +36,8 @@ HasCounted-more count old mid new bytes has after some few = record {
 -- ---- the end
 
 -- the last read gave no bytes
-last_read : (count : ℕ) (old mid new : List (Option ℕ)) (last : Option ℕ) (why : EndCause) → HasCounted count old mid → new ≡ mid ++ last ∷ [] → count + 1 ≤ 1000000
+last_read : (count : ℕ) (old mid new : List (Option ℕ)) (last : Option ℕ) (why : EndCause) → HasCounted count old mid
+    → new ≡ mid ++ last ∷ [] → count + 1 ≤ 1000000
     → ((made : List (Option ℕ)) → LastGave last made → ReadsUntil why made) → MakesReads old new why
 last_read count old mid new last why has after bound until =
     let same = has.count_is in
@@ -51,13 +55,15 @@ until_input NoMemory at made last = inr last
 until_input ReadsUsed at made last = absurd at
 
 -- a read found the end of the input
-pub MakesReads-finish : (count : ℕ) (old mid new : List (Option ℕ)) (bytes : ℕ) (why : EndCause) → HasCounted count old mid → new ≡ mid ++ Some bytes ∷ [] → bytes ≡ 0
+pub MakesReads-finish : (count : ℕ) (old mid new : List (Option ℕ)) (bytes : ℕ) (why : EndCause) → HasCounted count old mid
+    → new ≡ mid ++ Some bytes ∷ [] → bytes ≡ 0
     → count + 1 ≤ 1000000 → EndsAtInput why → MakesReads old new why
 MakesReads-finish count old mid new bytes why has after none bound at =
     last_read count old mid new (Some 0) why has (after ∙ ap (λ (n : ℕ). mid ++ Some n ∷ []) none) bound (until_input why at)
 
 -- a read failed
-pub MakesReads-fault : (count : ℕ) (old mid new : List (Option ℕ)) → HasCounted count old mid → new ≡ mid ++ None ∷ [] → count + 1 ≤ 1000000 → MakesReads old new ReadFault
+pub MakesReads-fault : (count : ℕ) (old mid new : List (Option ℕ)) → HasCounted count old mid → new ≡ mid ++ None ∷ [] → count + 1 ≤ 1000000
+    → MakesReads old new ReadFault
 MakesReads-fault count old mid new has after bound = last_read count old mid new None ReadFault has after bound (λ made last. last)
 
 until_stop : (why : EndCause) (pending : Bool) → StopsBy why pending → (made : List (Option ℕ)) → All GaveBytes made → ReadsUntil why made
@@ -68,12 +74,17 @@ until_stop NoMemory pending stops made all = inl all
 until_stop ReadsUsed pending stops made all = absurd stops
 
 -- a line stopped it after a read
-pub MakesReads-stop : (count : ℕ) (old mid new : List (Option ℕ)) (bytes : ℕ) (why : EndCause) (pending : Bool) → HasCounted count old mid → new ≡ mid ++ Some bytes ∷ []
+pub MakesReads-stop : (count : ℕ) (old mid new : List (Option ℕ)) (bytes : ℕ) (why : EndCause) (pending : Bool) → HasCounted count old mid
+    → new ≡ mid ++ Some bytes ∷ []
     → 0 < bytes → bytes ≤ 4096 → count + 1 ≤ 1000000 → StopsBy why pending → MakesReads old new why
 MakesReads-stop count old mid new bytes why pending has after some few bound stops =
     let more = HasCounted-more count old mid new bytes has after some few in
     let same = more.count_is in
-    record { adds = record { made = more.made; account = more.account; most = omega arith }; until = until_stop why pending stops more.made more.bytes }
+    record {
+      adds = record { made = more.made; account = more.account; most = omega arith };
+      until = until_stop why pending stops more.made
+          more.bytes;
+    }
 
 -- the reads are used up
 pub MakesReads-used : (count : ℕ) (old new : List (Option ℕ)) → HasCounted count old new → count ≡ 1000000 → MakesReads old new ReadsUsed

@@ -13,7 +13,8 @@ abbrev IsServedWhereSaid : Result Command LineFault → Type 0
 IsServedWhereSaid (Ok command) = IsServed command
 IsServedWhereSaid (Err fault) = Unit {0}
 
-served_either : (b : Bool) (x y : Result Command LineFault) → IsServedWhereSaid x → IsServedWhereSaid y → IsServedWhereSaid (if b then x else y)
+served_either : (b : Bool) (x y : Result Command LineFault) → IsServedWhereSaid x → IsServedWhereSaid y
+    → IsServedWhereSaid (if b then x else y)
 served_either true x y p q = p
 served_either false x y p q = q
 
@@ -57,7 +58,8 @@ served_data None = tt
 served_data (Some d) = served_items (as_array d)
 
 served_line : (line : List ℕ) → IsServedWhereSaid (line_says line)
-served_line line = served_either (nat_lt 4096 (length line)) (Err LineTooLong) (data_says (data_of_line line)) tt (served_data (data_of_line line))
+served_line line = served_either (nat_lt 4096 (length line)) (Err LineTooLong)
+    (data_says (data_of_line line)) tt (served_data (data_of_line line))
 
 -- a command that a line says is one of those that are served
 pub IsServed-said : (line : List ℕ) (command : Command) → line_says line ≡ Ok command → IsServed command

@@ -21,7 +21,8 @@ tuple_said-many elements many =
     let is : nat_lt 8 (items_len (items_view elements)) ≡ true = too_many elements ∙ grind (arith, nat_tests) in
     rw is
 
-pub tuple_said-few : (elements : List json.Value) → length elements ≤ 8 → tuple_said (items_view elements) ≡ tuple_of_values (values_said 0 (items_view elements))
+pub tuple_said-few : (elements : List json.Value) → length elements ≤ 8
+    → tuple_said (items_view elements) ≡ tuple_of_values (values_said 0 (items_view elements))
 tuple_said-few elements few =
     let is : nat_lt 8 (items_len (items_view elements)) ≡ false = too_many elements ∙ grind (arith, nat_tests) in
     rw is
@@ -62,7 +63,8 @@ module _ (elements : List json.Value) (values : List Value) (n : ℕ) (so_far : 
     pub IsReadTo-more : (v : Value) → value_said n (view d) ≡ Ok v → IsReadTo elements (values ++ v ∷ []) (n + 1)
     IsReadTo-more v said =
         let others = values_said (n + 1) (items_view (drop (n + 1) elements)) in
-        let one : with_front values (values_said n (items_view (drop n elements))) ≡ with_front (values ++ v ∷ []) others = rw (cut, said) (one_in_front values v others) in
+        let one : with_front values (values_said n (items_view (drop n elements))) ≡ with_front (values ++ v ∷ []) others = rw (cut, said)
+        (one_in_front values v others) in
         record {
           count = omega (arith, length_push values v, so_far.count);
           rest = sym one ∙ so_far.rest;
@@ -76,5 +78,6 @@ module _ (elements : List json.Value) (values : List Value) (n : ℕ) (so_far : 
 
   pub values_said-done : length elements ≤ n → values_said 0 (items_view elements) ≡ Ok values
   values_said-done le =
-      let one : with_front values (values_said n (items_view (drop n elements))) ≡ Ok values = rw (drop_all n elements le) (ap (λ us. Ok us) (append-nil values)) in
+      let one : with_front values (values_said n (items_view (drop n elements))) ≡ Ok values = rw (drop_all n elements le)
+      (ap (λ us. Ok us) (append-nil values)) in
       sym so_far.rest ∙ one

@@ -46,7 +46,8 @@ reply_data (Ok (Found value)) = word_with_value (codes "found") value
 reply_data (Ok (Rows rows more)) =
     array (item (string (codes "rows")) (item (array (items_of (map row_data rows.items))) (item (boolean more) no_items)))
 reply_data (Err refusal) =
-    array (item (string (codes "refused")) (item (number (unsigned (refusal_number refusal))) (item (string (refusal_name refusal)) no_items)))
+    array (item (string (codes "refused")) (item (number (unsigned (refusal_number refusal)))
+    (item (string (refusal_name refusal)) no_items)))
 
 -- the JSON text with no space, and a line feed
 abbrev pub text_of_reply : Result Reply Refusal → List ℕ

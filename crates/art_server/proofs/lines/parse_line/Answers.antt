@@ -6,7 +6,8 @@ use Rattle.art_server.specs.declared.lines.LineFault.TheVariants.{NoMemory}
 use Rattle.art_server.proofs.LineLaws.{line_says-read, line_says-refused}
 use Rattle.art_server.proofs.lines.parse_line.Goals as goal
 
-said_by : (says r : Result Command LineFault) → says ≡ r → MatchResult r (λ command. says ≡ Ok command) (λ fault. fault ≢ NoMemory → says ≡ Err fault)
+said_by : (says r : Result Command LineFault) → says ≡ r → MatchResult r (λ command. says ≡ Ok command)
+    (λ fault. fault ≢ NoMemory → says ≡ Err fault)
 said_by says (Ok command) e = e
 said_by says (Err fault) e = λ _. e
 

@@ -10,7 +10,8 @@ returns-then-elements-gt-COLUMNS c = rw (tuple_said-many c.args.elements.now c.i
 pub returns-in_err-value_in : goal.returns-in_err-value_in
 returns-in_err-value_in c =
     let elements = c.args.elements.now in
-    let stop = values_said-stop elements c.loop-place.tuple.items c.loop-place.place c.loop-place.invariant c.index-elements-place.result c.loop-place-test.true c.index-elements-place.is
+    let stop = values_said-stop elements c.loop-place.tuple.items c.loop-place.place c.loop-place.invariant c.index-elements-place.result
+    c.loop-place-test.true c.index-elements-place.is
     c.in_err-value_in.field-0.0 (sym c.in_err-value_in.ensures) in
     let told = err_from_is_err_and c.from_residual.result c.from_residual.ensures.1 in
     rw (told.1, told.2) (sym (tuple_said-few elements c.if-elements-gt-COLUMNS.false ∙ ap tuple_of_values stop))
