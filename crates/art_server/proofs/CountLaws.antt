@@ -4,7 +4,7 @@ use Rattle.std.proofs.lemmas.List.{length_push}
 use Rattle.std.proofs.lemmas.List.Elements.{All-nil, All-push}
 use Rattle.art_server.specs.declared.sessions.EndCause.{EndCause}
 use Rattle.art_server.specs.declared.sessions.EndCause.TheVariants.{Ended, ReadFault, WriteFault, NoMemory, ReadsUsed}
-use Rattle.art_server.specs.Reads.{GaveBytes, LastGave, ReadsUntil, AddsReads, MakesReads, EndsAtInput}
+use Rattle.art_server.specs.Reads.{GaveBytes, LastGave, ReadsUntil, MakesReads, EndsAtInput}
 use Rattle.art_server.specs.Steps.{StopsBy}
 
 -- so many reads were made, and each gave bytes

@@ -1,5 +1,5 @@
 -- Rows that a scan lists can be printed: a tuple that stands in a schema has whole numbers from -2^63 to 2^64 - 1.
-use Rattle.std.proofs.Common.{◌≡◌, ℕ, ◌+◌, ◌^◌, ◌<◌, Bool, true, false, cond, eqb, nat_lt, List, [], ◌∷◌, length, ℤ, pos, negsuc, neg_ℤ, ◌+ℤ◌, ◌-ℤ◌, ◌≤ℤ◌, All, Option, Some, None, Result, Ok, Err, refl, sym, ap, subst, ◌∙◌, arith, eqb-true}
+use Rattle.std.proofs.Common.{◌≡◌, ℕ, ◌+◌, ◌^◌, ◌<◌, Bool, true, false, cond, eqb, nat_lt, List, [], ◌∷◌, length, ℤ, pos, negsuc, neg_ℤ, ◌+ℤ◌, ◌-ℤ◌, ◌≤ℤ◌, All, Option, Some, None, Ok, refl, sym, subst, arith, eqb-true}
 use Rattle.std.proofs.lemmas.Bool.Decides.{nat_tests}
 use Rattle.std.proofs.lemmas.Int.{ints}
 use Rattle.std.proofs.lemmas.List.Elements.{All-from_recursion}
@@ -9,9 +9,9 @@ use Rattle.art_key.specs.declared.columns.Column.{Column}
 use Rattle.art_key.specs.declared.columns.Column.TheVariants as column
 use Rattle.art_key.specs.declared.faults.ValueFault.{ValueFault}
 use Rattle.art_key.specs.declared.faults.ValueFault.TheVariants.{WrongColumns, OutOfRange}
-use Rattle.art_key.specs.Columns.{value_fault, first_fault, tuple_fault}
+use Rattle.art_key.specs.Columns.{value_fault, first_fault}
 use Rattle.art_key.specs.Histories.{StandsIn, bound_at}
-use Rattle.art_key.specs.Kinds.{distance_fault, whole_fault, least_signed}
+use Rattle.art_key.specs.Kinds.{distance_fault, least_signed}
 use Rattle.art_model.proofs.Parts.{All-each}
 use Rattle.art_model.specs.declared.rows.Row.{Row}
 use Rattle.art_model.specs.declared.values.Value.{Value}
@@ -38,8 +38,9 @@ within_units k place (pos n) none = (n, refl, by (nat_lt n (256 ^ k)) refl none)
     by false e none = absurd cc
 within_units k place (negsuc n) none = absurd cc
 
-whole_printable : (k : ℕ) (least : ℤ) (place : ℕ) (z : ℤ) → neg_ℤ (pos (2 ^ 63)) ≤ℤ least → (least +ℤ pos (256 ^ k)) ≤ℤ pos (2 ^ 64) → distance_fault k place (z -ℤ least) ≡ None
-    → IsPrintableValue (Int z)
+-- where the least and the greatest number of a column can be printed, each of its numbers can
+whole_printable : (k : ℕ) (least : ℤ) (place : ℕ) (z : ℤ) → neg_ℤ (pos (2 ^ 63)) ≤ℤ least → (least +ℤ pos (256 ^ k)) ≤ℤ pos (2 ^ 64)
+    → distance_fault k place (z -ℤ least) ≡ None → IsPrintableValue (Int z)
 whole_printable k least place z low high none =
     let above = within_units k place (z -ℤ least) none in
     by (256 ^ k) above.0 high above.1 above.2
@@ -67,15 +68,16 @@ or_none : (o p : Option ValueFault) → option_or o p ≡ None → (o ≡ None) 
 or_none None p none = (refl, none)
 or_none (Some f) p none = absurd cc
 
-values_printable : (cs : List Column) (place : ℕ) (vs : List Value) → length cs ≡ length vs → first_fault place cs vs ≡ None → AllByRecursion IsPrintableValue vs
+values_printable : (cs : List Column) (place : ℕ) (vs : List Value) → length cs ≡ length vs → first_fault place cs vs ≡ None
+    → AllByRecursion IsPrintableValue vs
 values_printable cs place [] same none = tt
 values_printable [] place (v ∷ vs) same none = absurd (omega arith)
 values_printable (c ∷ cs) place (v ∷ vs) same none =
     let parts = or_none (value_fault place c v) (first_fault (place + 1) cs vs) none in
     (value_printable c place v parts.0, values_printable cs (place + 1) vs (omega arith) parts.1)
 
-tuple_printable : (cs : List Column) (vs : List Value) (same : Bool) → eqb (length cs) (length vs) ≡ same → cond same (first_fault 0 cs vs) (Some WrongColumns) ≡ None
-    → AllByRecursion IsPrintableValue vs
+tuple_printable : (cs : List Column) (vs : List Value) (same : Bool) → eqb (length cs) (length vs) ≡ same
+    → cond same (first_fault 0 cs vs) (Some WrongColumns) ≡ None → AllByRecursion IsPrintableValue vs
 tuple_printable cs vs true same none = values_printable cs 0 vs (eqb-true (length cs) (length vs) same) none
 tuple_printable cs vs false same none = absurd cc
 
@@ -94,7 +96,10 @@ module _ (t : Table) (lo hi : Tuple) (limit turns : ℕ) (p : Pass) (rows : List
       by (Some f) is = absurd (let (told, _, _) = scans.fault f is in cc)
       by None is =
           let scanned = scans.scanned is in
-          let from = bound_at (schema_in t) lo in
-          let within = listed_within (schema_in t) scanned.tiles from scanned.reached scanned.tiled.tiles_are in
-          let each = All-each (StandsFrom (schema_in t) from scanned.reached) IsPrintableRow (λ row at. row_printable (schema_in t) row at.stands) (rows_of scanned.tiles) within in
-          subst (λ (l : List Row). All IsPrintableRow l) (sym scanned.ends.rows_are) (All-from_recursion IsPrintableRow (rows_of scanned.tiles) each)
+          let schema = schema_in t in
+          let tiles = scanned.tiles in
+          let from = bound_at schema lo in
+          let within = listed_within schema tiles from scanned.reached scanned.tiled.tiles_are in
+          let can_print = λ (row : Row) (at : StandsFrom schema from scanned.reached row). row_printable schema row at.stands in
+          let each = All-each (StandsFrom schema from scanned.reached) IsPrintableRow can_print (rows_of tiles) within in
+          subst (λ (l : List Row). All IsPrintableRow l) (sym scanned.ends.rows_are) (All-from_recursion IsPrintableRow (rows_of tiles) each)

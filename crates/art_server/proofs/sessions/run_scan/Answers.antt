@@ -1,4 +1,3 @@
-use Rattle.art_scan.specs.declared.scans.More.TheVariants.{Limit, End}
 use Rattle.art_server.proofs.Printable.{listed_printable}
 use Rattle.art_server.proofs.sessions.run_scan.Goals as goal
 
