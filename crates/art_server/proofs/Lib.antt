@@ -1,8 +1,8 @@
 pub mod LineLaws
 pub mod TupleLaws
 pub mod ReplyLaws
+pub mod Printable
 pub mod StreamLaws
-pub mod ServedLaws
 pub mod SessionLaws
 pub mod StepLaws
 pub mod ReadLaws

@@ -4,6 +4,9 @@ use Rattle.art_key.specs.declared.faults.ValueFault.{ValueFault}
 use Rattle.art_model.specs.declared.commands.Command.{Command}
 use Rattle.art_model.specs.declared.commands.Command.TheVariants.{Insert, Remove, Get, Scan}
 use Rattle.art_model.specs.declared.commands.Reply.{Reply}
+use Rattle.art_model.specs.Rows.{Tuple}
+use Rattle.art_scan.specs.Scans.{scan_fault}
+use Rattle.art_scan.specs.declared.faults.ScanFault.{ScanFault}
 use Rattle.art_table.specs.Jobs.{job_fault}
 use Rattle.art_table.specs.Tables.{schema_in}
 use Rattle.art_table.specs.declared.jobs.Job.{Job}
@@ -13,7 +16,7 @@ use Rattle.art_server.specs.declared.lines.LineFault.{LineFault}
 use Rattle.art_server.specs.declared.refusals.Refusal.{Refusal}
 use Rattle.art_server.specs.declared.sessions.SessionEnd.{SessionEnd}
 use Rattle.art_server.specs.Lines.{line_says}
-use Rattle.art_server.specs.Sessions.{IsSamePass, AnswersJob, AnswersCommand, AnswersSaid, AnswersLine, AnswersLines, RunsSession}
+use Rattle.art_server.specs.Sessions.{IsSamePass, AnswersJob, AnswersScan, AnswersCommand, AnswersSaid, AnswersLine, AnswersLines, RunsSession}
 
 IsSamePass-refl : (p : Pass) → IsSamePass p p
 IsSamePass-refl p = record { number = refl; table = refl; seat = refl; basis = refl; told = refl }
@@ -38,12 +41,17 @@ module _ (t : Table) where
   job_same job p reply q (Some fault) is answers = unmoved p q (answers.ends.fault fault is).1
   job_same job p reply q None is answers = (answers.ends.called is).same
 
+  scan_same : (lo hi : Tuple) (limit : ℕ) (p : Pass) (reply : Result Reply Refusal) (q : Pass) → AnswersScan t lo hi limit p reply q
+      → (fault : Option ScanFault) → scan_fault (schema_in t) lo hi limit ≡ fault → IsSamePass p q
+  scan_same lo hi limit p reply q answers (Some fault) is = unmoved p q (answers.scans.fault fault is).2
+  scan_same lo hi limit p reply q answers None is = (answers.scans.scanned is).tiled.same
+
   command_same : (command : Command) (p : Pass) (reply : Result Reply Refusal) (q : Pass) → AnswersCommand t command p reply q
       → IsSamePass p q
   command_same (Insert tuple value) p reply q answers = job_same _ p reply q _ refl answers
   command_same (Remove tuple) p reply q answers = job_same _ p reply q _ refl answers
   command_same (Get tuple) p reply q answers = job_same _ p reply q _ refl answers
-  command_same (Scan lo hi limit) p reply q answers = absurd answers
+  command_same (Scan lo hi limit) p reply q answers = scan_same lo hi limit p reply q answers _ refl
 
   said_same : (said : Result Command LineFault) (p : Pass) (reply : Result Reply Refusal) (q : Pass) → AnswersSaid t said p reply q
       → IsSamePass p q

@@ -1,5 +1,5 @@
 -- How a session goes on read by read, and what it is at its end.
-use Rattle.std.proofs.Common.{◌≡◌, ℕ, ◌+◌, ◌*◌, ◌<◌, ◌≤◌, false, List, [], ◌++◌, length, take, Option, refl, sym, subst, arith, append-nil, length-append}
+use Rattle.std.proofs.Common.{◌≡◌, ℕ, ◌+◌, ◌*◌, ◌<◌, ◌≤◌, false, List, [], ◌++◌, length, take, Option, refl, subst, arith, append-nil, length-append}
 use Rattle.std.specs.Io.KnownBytes.{Appends, Consumes, Keeps}
 use Rattle.std.proofs.KnownBytes.{Appends-nil, Appends-trans, Consumes-nil, Consumes-trans, Consumes-kept}
 use Rattle.art_table.specs.declared.passes.Pass.{Pass}
@@ -68,15 +68,14 @@ module _ (t : Table) where
 
   -- the input ended: a read gave no bytes
   pub RunsSession-finish : (reads : ℕ) (left left_mid left_after held held_mid held_after : Option (List ℕ)) (start p q : Pass)
-      (answered : ℕ) (line line_sent piece : List ℕ) (count : ℕ) (end : SessionEnd)
+      (answered : ℕ) (line piece : List ℕ) (count : ℕ) (end : SessionEnd)
       → HasRead t reads left left_mid held held_mid start p answered line → Consumes left_mid left_after (take count piece) → count ≡ 0
-      → line_sent ≡ line → reads ≤ 1000000
-      → Finishes t held_mid held_after p q answered line_sent end → RunsSession left left_after held held_after t start q end
-  RunsSession-finish reads left left_mid left_after held held_mid held_after start p q answered line line_sent piece count end has consumes
-      none same bound finishes =
+      → reads ≤ 1000000
+      → Finishes t held_mid held_after p q answered line end → RunsSession left left_after held held_after t start q end
+  RunsSession-finish reads left left_mid left_after held held_mid held_after start p q answered line piece count end has consumes none bound
+      finishes =
       let most = has.at_most in
-      let way = subst (IsUnderWay t has.taken has.sent start p answered) (sym same) has.way in
-      let reached = finishes.reaches has.taken has.sent start way in
+      let reached = finishes.reaches has.taken has.sent start has.way in
       let no_more = subst (λ (k : ℕ). Consumes left_mid left_after (take k piece)) none consumes in (
         has.taken,
         has.sent ++ finishes.written,

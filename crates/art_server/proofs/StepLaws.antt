@@ -264,16 +264,13 @@ module _ (t : Table) where
 
   -- at a line feed the line is answered
   pub TakesBytes-at_feed : {A : Type 0} (bytes : List ℕ) (i : ℕ) (held held_mid held_after : Option (List ℕ)) (p m q : Pass)
-      (answered count : ℕ) (line line_mid line_sent line_after : List ℕ) (a : A)
+      (answered count : ℕ) (line line_mid line_after : List ℕ) (a : A)
       → i < length bytes → get_or bytes i 0 ≡ 10 → TakesBytes t (take i bytes) held held_mid p m answered count line line_mid
-      → line_sent ≡ line_mid
-      → SendsLine t line_sent held_mid held_after m q (Ok a) → line_after ≡ []
+      → SendsLine t line_mid held_mid held_after m q (Ok a) → line_after ≡ []
       → TakesBytes t (take (i + 1) bytes) held held_after p q answered (count + 1) line line_after
-  TakesBytes-at_feed bytes i held held_mid held_after p m q answered count line line_mid line_sent line_after a within feed before same
-      sends none =
-      let whole = subst (λ (l : List ℕ). AnswersWhole t l sends.written m q) same sends.answers in
+  TakesBytes-at_feed bytes i held held_mid held_after p m q answered count line line_mid line_after a within feed before sends none =
       let more = TakesBytes-feed (take i bytes) held held_mid held_after p m q answered count line line_mid before sends.written
-      sends.appends whole in
+      sends.appends sends.answers in
       subst (λ (l : List ℕ). TakesBytes t (take (i + 1) bytes) held held_after p q answered (count + 1) line l) (sym none)
       (subst (λ (l : List ℕ). TakesBytes t l held held_after p q answered (count + 1) line []) (front_at bytes i 10 within feed) more)
 
@@ -290,17 +287,14 @@ module _ (t : Table) where
 
   -- at a line feed the line stops the session
   pub StopsAmong-at_feed : {A : Type 0} (bytes : List ℕ) (i : ℕ) (held held_mid held_after : Option (List ℕ)) (p m q : Pass)
-      (answered count : ℕ) (line line_mid line_sent : List ℕ) (stop : Stop) (end : SessionEnd)
+      (answered count : ℕ) (line line_mid : List ℕ) (stop : Stop) (end : SessionEnd)
       → i < length bytes → get_or bytes i 0 ≡ 10 → TakesBytes t (take i bytes) held held_mid p m answered count line line_mid
-      → line_sent ≡ line_mid
-      → SendsLine {A = A} t line_sent held_mid held_after m q (Err stop)
+      → SendsLine {A = A} t line_mid held_mid held_after m q (Err stop)
       → end ≡ record { why = stop.why; answered = count; pending = stop.pending }
       → StopsAmong t bytes held held_after p q answered line end
-  StopsAmong-at_feed bytes i held held_mid held_after p m q answered count line line_mid line_sent stop end within feed before same sends is
-      =
-      let cut = subst (λ (l : List ℕ). IsCutShort t l sends.written m q stop) same sends.answers in
+  StopsAmong-at_feed bytes i held held_mid held_after p m q answered count line line_mid stop end within feed before sends is =
       let stops = StopsAmong-feed (take i bytes) (drop (i + 1) bytes) held held_mid held_after p m q answered count line line_mid stop
-      before sends.written sends.appends cut in
+      before sends.written sends.appends sends.answers in
       subst (StopsAmong t bytes held held_after p q answered line) (sym is)
       (subst (λ (l : List ℕ). StopsAmong t l held held_after p q answered line
       (record { why = stop.why; answered = count; pending = stop.pending })) (sym (piece_at bytes i 10 within feed)) stops)

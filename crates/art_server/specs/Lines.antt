@@ -3,7 +3,7 @@ use Rattle.std.specs.Prelude.{ℕ, ◌+◌, List, [], ◌∷◌, length, nat_lt,
 use Rattle.std.specs.Option.{option_or, ok_or}
 use Rattle.std.specs.Str.{is_utf8}
 use Rattle.art_model.specs.declared.commands.Command.{Command}
-use Rattle.art_model.specs.declared.commands.Command.TheVariants.{Insert, Remove, Get}
+use Rattle.art_model.specs.declared.commands.Command.TheVariants.{Insert, Remove, Get, Scan}
 use Rattle.art_model.specs.declared.values.Value.{Value}
 use Rattle.art_model.specs.declared.values.Value.TheVariants.{Bool, Int, Text}
 use Rattle.art_model.specs.Rows.{Tuple}
@@ -63,22 +63,24 @@ tuple_of_values values = do
 abbrev pub tuple_said : Items → Result Tuple ValueFault
 tuple_said elements = if nat_lt 8 (items_len elements) then Err WrongColumns else tuple_of_values (values_said 0 elements)
 
--- ---- the shape of a command, which is looked at before the elements of its tuple
+-- ---- the shape of a command, which is looked at before the elements of its tuples
 
 -- a tuple's fault is a line's
 abbrev pub tuple_told : Result Tuple ValueFault → Result Tuple LineFault
 tuple_told (Err f) = Err (fault.Value f)
 tuple_told (Ok tuple) = Ok tuple
 
-abbrev pub tuple_of_items : Option Items → Result Tuple LineFault
-tuple_of_items None = Err BadCommand
-tuple_of_items (Some elements) = tuple_told (tuple_said elements)
+-- the elements of an array in the place of a tuple
+abbrev pub elements_in : Data → Result Items LineFault
+elements_in d = ok_or (as_array d) BadCommand
 
--- an array in the place of a tuple
+-- the tuple of an array in its place
 abbrev pub tuple_in : Data → Result Tuple LineFault
-tuple_in d = tuple_of_items (as_array d)
+tuple_in d = do
+  elements ← elements_in d
+  tuple_told (tuple_said elements)
 
--- a whole number from 0 to 2^64 - 1 in the place of a value to store
+-- a whole number from 0 to 2^64 - 1 in the place of a value to store, or of a limit
 abbrev pub number_said : Data → Result ℕ LineFault
 number_said d = ok_or (option_and_then as_u64 (as_number d)) BadCommand
 
@@ -111,12 +113,31 @@ get_of tuple = do
   t ← tuple
   Ok (Get t)
 
+-- both arrays and the limit come first, then the elements of the lower tuple, then those of the upper one
+abbrev pub scan_of : Result Items LineFault → Result Items LineFault → Result ℕ LineFault → Result Command LineFault
+scan_of lower upper limit = do
+  low ← lower
+  high ← upper
+  most ← limit
+  lo ← tuple_told (tuple_said low)
+  hi ← tuple_told (tuple_said high)
+  Ok (Scan lo hi most)
+
+-- what stands after "scan": the lower tuple, the upper one, and the limit
+abbrev pub scan_said : Items → Result Command LineFault
+scan_said no_items = Err BadCommand
+scan_said (item lo no_items) = Err BadCommand
+scan_said (item lo (item hi no_items)) = Err BadCommand
+scan_said (item lo (item hi (item n no_items))) = scan_of (elements_in lo) (elements_in hi) (number_said n)
+scan_said (item lo (item hi (item n (item d ds)))) = Err BadCommand
+
 -- the command's word, and what stands after it
 abbrev pub word_said : List ℕ → Items → Result Command LineFault
 word_said word rest =
     if bytes_eq word (codes "insert") then insert_said rest
     else if bytes_eq word (codes "remove") then remove_of (tuple_alone rest)
     else if bytes_eq word (codes "get") then get_of (tuple_alone rest)
+    else if bytes_eq word (codes "scan") then scan_said rest
     else Err BadCommand
 
 abbrev pub first_said : Option (List ℕ) → Items → Result Command LineFault

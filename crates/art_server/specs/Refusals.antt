@@ -6,6 +6,8 @@ use Rattle.art_key.specs.declared.faults.SchemaFault.{SchemaFault}
 use Rattle.art_key.specs.declared.faults.SchemaFault.TheVariants as schema
 use Rattle.art_key.specs.declared.faults.ValueFault.{ValueFault}
 use Rattle.art_key.specs.declared.faults.ValueFault.TheVariants as value
+use Rattle.art_scan.specs.declared.faults.ScanFault.{ScanFault}
+use Rattle.art_scan.specs.declared.faults.ScanFault.TheVariants as scan
 use Rattle.art_table.specs.declared.closing.CloseRefusal.{CloseRefusal}
 use Rattle.art_table.specs.declared.closing.CloseRefusal.TheVariants as close
 use Rattle.art_table.specs.declared.faults.Fault.{Fault}
@@ -89,6 +91,13 @@ fault_refusal table.Busy = Busy
 fault_refusal (table.Full pool) = Full
 fault_refusal (table.Crowded blocker) = Crowded
 fault_refusal (table.Exhausted cell) = Exhausted
+
+-- of a scan that lists nothing
+abbrev pub scan_refusal : ScanFault → Refusal
+scan_refusal (scan.Value fault) = value_refusal fault
+scan_refusal scan.BadRange = BadRange
+scan_refusal scan.BadLimit = BadLimit
+scan_refusal scan.Busy = Busy
 
 -- of columns that make no schema
 abbrev pub schema_refusal : SchemaFault → Refusal

@@ -13,6 +13,8 @@ use Rattle.serde_json.specs.Find.{of_integer}
 use Rattle.serde_json.specs.View.{items_of}
 use Rattle.serde_json.specs.Written.{compact_text}
 use Rattle.art_server.specs.declared.refusals.Refusal.{Refusal}
+use Rattle.art_server.specs.declared.replies.ReplyHead.{ReplyHead}
+use Rattle.art_server.specs.declared.replies.ReplyHead.TheVariants as head
 use Rattle.art_server.specs.Refusals.{refusal_number, refusal_name}
 
 -- true or false, a whole number or a text
@@ -76,3 +78,9 @@ IsPrintable (Err refusal) = ⊤
 abbrev pub reply_of : Result Answer Refusal → Result Reply Refusal
 reply_of (Ok answer) = Ok (reply_of_answer answer)
 reply_of (Err refusal) = Err refusal
+
+-- the reply of a head and the rows beside it, or the refusal
+abbrev pub reply_with : List Row → Result ReplyHead Refusal → Result Reply Refusal
+reply_with rows (Ok (head.Answer answer)) = Ok (reply_of_answer answer)
+reply_with rows (Ok (head.Rows more)) = Ok (Rows (record { items = rows }) more)
+reply_with rows (Err refusal) = Err refusal

@@ -5,7 +5,13 @@ use Rattle.std.specs.Io.KnownBytes.{Appends, Consumes}
 use Rattle.art_model.specs.declared.commands.Command.{Command}
 use Rattle.art_model.specs.declared.commands.Command.TheVariants.{Insert, Remove, Get, Scan}
 use Rattle.art_model.specs.declared.commands.Reply.{Reply}
-use Rattle.art_model.specs.declared.commands.Reply.TheVariants.{Inserted, Present, Removed, Absent, Found}
+use Rattle.art_model.specs.declared.commands.Reply.TheVariants.{Inserted, Present, Removed, Absent, Found, Rows}
+use Rattle.art_model.specs.declared.rows.Row.{Row}
+use Rattle.art_model.specs.Rows.{Tuple}
+use Rattle.art_scan.specs.Scans.{Scans}
+use Rattle.art_scan.specs.declared.faults.ScanFault.{ScanFault}
+use Rattle.art_scan.specs.declared.scans.More.{More}
+use Rattle.art_scan.specs.declared.scans.More.TheVariants.{Limit, End}
 use Rattle.art_shared.specs.SamePass.{SamePass}
 use Rattle.art_table.specs.Calls.{Ends}
 use Rattle.art_table.specs.declared.faults.Fault.{Fault}
@@ -21,7 +27,7 @@ use Rattle.art_server.specs.declared.sessions.EndCause.{EndCause}
 use Rattle.art_server.specs.declared.sessions.EndCause.TheVariants.{Ended, ReadFault, WriteFault, NoMemory, ReadsUsed}
 use Rattle.art_server.specs.declared.sessions.SessionEnd.{SessionEnd}
 use Rattle.art_server.specs.Lines.{line_says}
-use Rattle.art_server.specs.Refusals.{line_refusal, fault_refusal}
+use Rattle.art_server.specs.Refusals.{line_refusal, fault_refusal, scan_refusal}
 use Rattle.art_server.specs.Replies.{text_of_reply}
 use Rattle.art_server.specs.Streams.{whole_lines, lines_of}
 
@@ -51,12 +57,29 @@ pub record AnswersJob (t : Table) (job : Job) (p : Pass) (reply : Result Reply R
   pub ends : Ends t job most_turns p result q
   pub told : IsReplyOf result reply
 
--- the pass p did the command, was told this reply, and is q then; a scan is none that it does yet
+-- whether as many rows as the limit were listed
+abbrev pub is_limit : More → Bool
+is_limit Limit = true
+is_limit End = false
+
+-- the reply to a scan that ended so, with these rows listed
+abbrev pub IsReplyOfScan : List Row → Result More ScanFault → Result Reply Refusal → Type 0
+IsReplyOfScan rows (Ok more) reply = reply ≡ Ok (Rows (record { items = rows }) (is_limit more))
+IsReplyOfScan rows (Err fault) reply = reply ≡ Err (scan_refusal fault)
+
+-- the pass p made a scan from the one tuple to the other, whose reply is this, and is q then
+pub record AnswersScan (t : Table) (lo hi : Tuple) (limit : ℕ) (p : Pass) (reply : Result Reply Refusal) (q : Pass) : Type 0 where
+  pub rows : List Row
+  pub result : Result More ScanFault
+  pub scans : Scans t lo hi limit most_turns p rows result q
+  pub told : IsReplyOfScan rows result reply
+
+-- the pass p did the command, was told this reply, and is q then
 abbrev pub AnswersCommand : Table → Command → Pass → Result Reply Refusal → Pass → Type 0
 AnswersCommand t (Insert tuple value) p reply q = AnswersJob t (jobs.Insert tuple value) p reply q
 AnswersCommand t (Remove tuple) p reply q = AnswersJob t (jobs.Remove tuple) p reply q
 AnswersCommand t (Get tuple) p reply q = AnswersJob t (jobs.Get tuple) p reply q
-AnswersCommand t (Scan lo hi limit) p reply q = ⊥
+AnswersCommand t (Scan lo hi limit) p reply q = AnswersScan t lo hi limit p reply q
 
 -- ---- what lines are answered
 

@@ -1,8 +1,6 @@
 -- The steps of a session, for its own functions.
 use Rattle.std.specs.Prelude.{◌≡◌, ◌≢◌, ℕ, Bool, true, false, List, [], ◌++◌, length, take, ⊤, Option, Result, Ok, Err}
 use Rattle.std.specs.Io.KnownBytes.{Appends}
-use Rattle.art_model.specs.declared.commands.Command.{Command}
-use Rattle.art_model.specs.declared.commands.Command.TheVariants.{Insert, Remove, Get, Scan}
 use Rattle.art_model.specs.declared.commands.Reply.{Reply}
 use Rattle.art_table.specs.declared.passes.Pass.{Pass}
 use Rattle.art_table.specs.declared.tables.Table.{Table}
@@ -14,13 +12,6 @@ use Rattle.art_server.specs.declared.sessions.Stop.{Stop}
 use Rattle.art_server.specs.Replies.{text_of_reply}
 use Rattle.art_server.specs.Sessions.{AnswersLine, AnswersLines, texts, AnswersFront, EndsBy}
 use Rattle.art_server.specs.Streams.{whole_lines, last_part, lines_of}
-
--- the commands that a line may say: all but a scan, for now
-abbrev pub IsServed : Command → Type 0
-IsServed (Insert tuple value) = ⊤
-IsServed (Remove tuple) = ⊤
-IsServed (Get tuple) = ⊤
-IsServed (Scan lo hi limit) = ⊥
 
 -- a line stops a session by want of memory, or by a write, after its command was run
 abbrev pub StopsBy : EndCause → Bool → Type 0

@@ -1,6 +1,6 @@
 //! From a line to the command that it says.
 ghost use Rattle.std.specs.Prelude.{◌≡◌, ℕ, ◌≢◌, ◌<◌, ◌≤◌, List, length, take, Ok, Err, MatchResult};
-ghost use Rattle.art_server.specs.Lines.{number_said, value_said, tuple_said, tuple_in, tuple_alone, insert_said, word_said, command_said, line_says};
+ghost use Rattle.art_server.specs.Lines.{number_said, value_said, tuple_said, elements_in, tuple_in, tuple_alone, insert_said, scan_said, word_said, command_said, line_says};
 ghost use Rattle.serde_json.specs.Data.{number, string};
 ghost use Rattle.serde_json.specs.View.{view, number_view, items_view};
 
@@ -26,7 +26,7 @@ pub enum LineFault {
     LineTooLong,
     /// It is a JSON text that has not the shape of a command.
     BadCommand,
-    /// Its tuple has more than eight elements, or an element that is no value.
+    /// A tuple has more than eight elements, or an element that is no value.
     Value(ValueFault),
     /// There was no memory to read it.
     NoMemory,
@@ -63,10 +63,10 @@ impl From<ValueFault> for LineFault {
 
 /// The command that a line says, which stands here without its line feed.
 ///
-/// A command is `["insert",[..],v]`, `["remove",[..]]` or `["get",[..]]`, with a whole number `v` from 0 to 2^64 - 1.
-/// This shape is looked at first, and then the elements of the tuple, of which there are at most eight: true or false,
-/// whole numbers from -2^63 to 2^64 - 1, and texts of at most 24 bytes of UTF-8. The first other element is told, by
-/// its place, which counts from 0.
+/// A command is `["insert",[..],v]`, `["remove",[..]]`, `["get",[..]]` or `["scan",[..],[..],v]`, with a whole number `v`
+/// from 0 to 2^64 - 1. This shape is looked at first, and then the elements of the tuple, of a scan the lower one's before
+/// the upper one's. A tuple has at most eight: true or false, whole numbers from -2^63 to 2^64 - 1, and texts of at most
+/// 24 bytes of UTF-8. The first other element is told, by its place, which counts from 0.
 pub fn parse_line(alloc: Global, line: &[u8]) -> Result<Command, LineFault>
     ensures said { MatchResult result (λ command. line_says line.now ≡ Ok command)
         (λ fault. fault ≢ LineFault.NoMemory → line_says line.now ≡ Err fault) }
@@ -110,6 +110,7 @@ fn command_of(word: &str, rest: &[Json]) -> Result<Command, LineFault>
         "insert" => insert_in(rest),
         "remove" => Ok(Command::Remove(tuple_alone(rest)?)),
         "get" => Ok(Command::Get(tuple_alone(rest)?)),
+        "scan" => scan_in(rest),
         _ => Err(LineFault::BadCommand),
     }
 }
@@ -124,6 +125,20 @@ fn insert_in(rest: &[Json]) -> Result<Command, LineFault>
     }
     let value = number_in(&rest[1])?;
     Ok(Command::Insert(tuple_in(&rest[0])?, value))
+}
+
+/// The limit and the shape of both tuples are looked at before the elements of the tuples.
+#[tactic(auto, using(crate::proofs::LineLaws::scan_items))]
+fn scan_in(rest: &[Json]) -> Result<Command, LineFault>
+    ensures { result ≡ scan_said (items_view rest.now) }
+{
+    if rest.len() != 3 {
+        return Err(LineFault::BadCommand);
+    }
+    let lo = elements_in(&rest[0])?;
+    let hi = elements_in(&rest[1])?;
+    let limit = number_in(&rest[2])?;
+    Ok(Command::Scan(tuple_of(lo)?, tuple_of(hi)?, limit))
 }
 
 #[tactic(auto, using(crate::proofs::LineLaws::lone_items))]
@@ -145,8 +160,15 @@ fn number_in(said: &Json) -> Result<u64, LineFault>
 fn tuple_in(said: &Json) -> Result<Tuple, LineFault>
     ensures { result ≡ tuple_in (view said.now) }
 {
+    Ok(tuple_of(elements_in(said)?)?)
+}
+
+fn elements_in(said: &Json) -> Result<&[Json], LineFault>
+    ensures { MatchResult result (λ elements. elements_in (view said.now) ≡ Ok (items_view elements.now))
+        (λ fault. elements_in (view said.now) ≡ Err fault) }
+{
     match said.as_array() {
-        Some(elements) => Ok(tuple_of(elements.as_slice())?),
+        Some(elements) => Ok(elements.as_slice()),
         None => Err(LineFault::BadCommand),
     }
 }

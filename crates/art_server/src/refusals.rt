@@ -1,6 +1,7 @@
 //! The numbered refusals.
 use crate::LineFault;
 use art_key::{SchemaFault, ValueFault};
+use art_scan::ScanFault;
 use art_table::{CloseRefusal, Fault, OpenFault};
 use std::fmt;
 
@@ -168,6 +169,22 @@ impl From<Fault> for Refusal {
             Fault::Full(_) => Refusal::Full,
             Fault::Crowded(_) => Refusal::Crowded,
             Fault::Exhausted(_) => Refusal::Exhausted,
+        }
+    }
+}
+
+impl From<ScanFault> for Refusal {
+    ghost use Rattle.std.specs.Prelude.{◌≡◌};
+    ghost use Rattle.art_server.specs.Refusals.{scan_refusal};
+
+    ghost from_gives = { λ fault refusal. refusal ≡ scan_refusal fault };
+
+    fn from(fault: ScanFault) -> Refusal {
+        match fault {
+            ScanFault::Value(fault) => Refusal::from(fault),
+            ScanFault::BadRange => Refusal::BadRange,
+            ScanFault::BadLimit => Refusal::BadLimit,
+            ScanFault::Busy => Refusal::Busy,
         }
     }
 }

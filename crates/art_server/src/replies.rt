@@ -1,7 +1,7 @@
 //! From a reply to its text.
 ghost use Rattle.std.specs.Prelude.{◌≡◌, false, [], ◌∷◌, ◌++◌, IfOk, All, map};
 ghost use Rattle.art_model.specs.declared.commands.Reply.TheVariants.{Rows};
-ghost use Rattle.art_server.specs.Replies.{value_data, row_data, reply_data, text_of_reply, IsPrintable, IsPrintableValue, IsPrintableRow, reply_of};
+ghost use Rattle.art_server.specs.Replies.{value_data, row_data, reply_data, text_of_reply, IsPrintable, IsPrintableValue, IsPrintableRow, reply_of, reply_with};
 ghost use Rattle.serde_json.specs.Data.{array};
 ghost use Rattle.serde_json.specs.View.{view, items_of};
 ghost use Rattle.serde_json.specs.Written.{has_float, compact_text};
@@ -10,6 +10,15 @@ use crate::Refusal;
 use art_model::{Answer, NoMemory, Reply, Row, Tuple, Value};
 use serde_json::{Number, Value as Json, json};
 use std::alloc::{AllocError, Global};
+
+/// A reply but for its rows: where it lists any, they stand beside it.
+#[derive(Clone, Copy)]
+pub(crate) enum ReplyHead {
+    /// It lists no rows.
+    Answer(Answer),
+    /// It lists the rows beside it, and says whether there are as many as the limit.
+    Rows(bool),
+}
 
 /// The text of a reply, with its line feed. The only error is want of memory.
 pub fn print_reply(alloc: Global, reply: &Result<Reply, Refusal>) -> Result<Vec<u8>, NoMemory>
@@ -30,11 +39,24 @@ pub fn print_reply(alloc: Global, reply: &Result<Reply, Refusal>) -> Result<Vec<
     print_answer(alloc, answer)
 }
 
-/// The text of an answer with no rows, or of a refusal, with its line feed. The only error is want of memory.
-pub(crate) fn print_answer(
+/// The text of a reply whose rows stand beside it, or of a refusal, with its line feed. The only error is want of memory.
+pub(crate) fn print_with(
     alloc: Global,
-    answer: Result<Answer, Refusal>,
+    head: Result<ReplyHead, Refusal>,
+    rows: &[Row],
 ) -> Result<Vec<u8>, NoMemory>
+    requires { IsPrintable (reply_with rows.now head) }
+    ensures { IfOk result (λ text. text.items ≡ text_of_reply (reply_with rows.now head)) }
+{
+    match head {
+        Ok(ReplyHead::Answer(answer)) => print_answer(alloc, Ok(answer)),
+        Ok(ReplyHead::Rows(more)) => print_line(alloc, &rows_json(alloc, rows, more)?),
+        Err(refusal) => print_answer(alloc, Err(refusal)),
+    }
+}
+
+/// The text of an answer with no rows, or of a refusal, with its line feed. The only error is want of memory.
+fn print_answer(alloc: Global, answer: Result<Answer, Refusal>) -> Result<Vec<u8>, NoMemory>
     ensures { IfOk result (λ text. text.items ≡ text_of_reply (reply_of answer)) }
 {
     print_line(alloc, &answer_json(alloc, answer)?)

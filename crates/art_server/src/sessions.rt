@@ -3,17 +3,18 @@ ghost use Rattle.std.specs.Prelude.{◌≡◌, ◌+◌, ◌<◌, ◌^◌, [], �
 ghost use Rattle.std.specs.Io.KnownBytes.{IsAtEnd};
 ghost use Rattle.art_server.specs.Counted.{reader_of, reads_of};
 ghost use Rattle.art_server.specs.Reads.{EndsAtInput, MakesReads};
-ghost use Rattle.art_server.specs.Replies.{reply_of};
-ghost use Rattle.art_server.specs.Sessions.{AnswersCommand, AnswersJob, IsSamePass, RunsSession};
-ghost use Rattle.art_server.specs.Steps.{IsServed, SendsReply, SendsLine, AnswersBytes, Finishes};
+ghost use Rattle.art_server.specs.Replies.{IsPrintable, reply_of, reply_with};
+ghost use Rattle.art_server.specs.Sessions.{AnswersCommand, AnswersJob, AnswersScan, IsSamePass, RunsSession};
+ghost use Rattle.art_server.specs.Steps.{SendsReply, SendsLine, AnswersBytes, Finishes};
 ghost use Rattle.art_table.specs.Tables.{IsPassOf};
 ghost use Rattle.art_table.specs.declared.jobs.Job.TheVariants as jobs;
 
-use crate::replies::print_answer;
+use crate::replies::{ReplyHead, print_with};
 use crate::streams::write_text;
 use crate::{Counted, LineFault, Refusal, parse_line};
 use arrayvec::ArrayVec;
-use art_model::{Answer, Command, NoMemory, Tuple};
+use art_model::{Answer, Command, NoMemory, Row, Tuple};
+use art_scan::{More, scan};
 use art_table::{Inserted, Pass, Table, get, insert, remove};
 use std::alloc::Global;
 use std::io::{self, Read, Write};
@@ -47,6 +48,13 @@ pub struct SessionEnd {
     pub answered: u64,
     /// One further line had its reply, or its change, and the reply was not wholly written.
     pub pending: bool,
+}
+
+/// What a session keeps beside its pass: the front of the line under way, and room for the rows that a scan lists.
+#[derive(Drop)]
+struct Buffers {
+    line: ArrayVec<u8, 4097>,
+    rows: ArrayVec<Row, 100>,
 }
 
 /// Why a line was not answered.
@@ -138,21 +146,17 @@ fn answer_reads<R: Read, W: Write>(
     ensures reads { MakesReads (reads_of reader.old) (reads_of reader.new) result.why }
 {
     let mut piece = [0u8; 4096];
-    let mut line = ArrayVec::new();
+    let mut buffers = Buffers {
+        line: ArrayVec::new(),
+        rows: ArrayVec::new(),
+    };
     let mut answered = 0;
     'reads: for _ in 0..READS {
         match reader.read(&mut piece) {
-            Ok(0) => return finish(alloc, table, pass, line.as_slice(), writer, answered),
+            Ok(0) => return finish(alloc, table, pass, &mut buffers, writer, answered),
             Ok(count) => {
-                match answer_bytes(
-                    alloc,
-                    table,
-                    pass,
-                    &mut line,
-                    &piece[..count],
-                    writer,
-                    answered,
-                ) {
+                let bytes = &piece[..count];
+                match answer_bytes(alloc, table, pass, &mut buffers, bytes, writer, answered) {
                     Ok(more) => answered = more,
                     Err(end) => return end,
                 }
@@ -178,7 +182,7 @@ fn finish<W: Write>(
     alloc: Global,
     table: &Table,
     pass: &mut Pass,
-    line: &[u8],
+    buffers: &mut Buffers,
     writer: &mut W,
     answered: u64,
 ) -> SessionEnd
@@ -186,13 +190,13 @@ fn finish<W: Write>(
     requires room { answered + 1 < 2 ^ 64 }
     ensures pass { IsPassOf table.now pass.new }
     ensures finishes { Finishes table.now (W.contents writer.old) (W.contents writer.new) pass.old pass.new
-        answered line.now result }
+        answered buffers.old.line.items result }
     ensures cause { EndsAtInput result.why }
 {
-    if line.is_empty() {
+    if buffers.line.is_empty() {
         return ended(EndCause::Ended, answered);
     }
-    match answer_line(alloc, table, pass, line, writer) {
+    match answer_line(alloc, table, pass, buffers, writer) {
         Ok(()) => ended(EndCause::Ended, answered + 1),
         Err(stop) => stop.after(answered),
     }
@@ -203,7 +207,7 @@ fn answer_bytes<W: Write>(
     alloc: Global,
     table: &Table,
     pass: &mut Pass,
-    line: &mut ArrayVec<u8, 4097>,
+    buffers: &mut Buffers,
     bytes: &[u8],
     writer: &mut W,
     answered: u64,
@@ -212,20 +216,20 @@ fn answer_bytes<W: Write>(
     requires room { answered + length bytes.now < 2 ^ 64 }
     ensures pass { IsPassOf table.now pass.new }
     ensures answers { AnswersBytes table.now bytes.now (W.contents writer.old) (W.contents writer.new) pass.old pass.new
-        answered line.old.items line.new.items result }
+        answered buffers.old.line.items buffers.new.line.items result }
 {
     let mut count = answered;
     'bytes: for byte in bytes {
         if *byte == b'\n' {
-            match answer_line(alloc, table, pass, line.as_slice(), writer) {
+            match answer_line(alloc, table, pass, buffers, writer) {
                 Ok(()) => {
-                    line.clear();
+                    buffers.line.clear();
                     count += 1;
                 }
                 Err(stop) => return Err(stop.after(count)),
             }
         } else {
-            keep(line, *byte);
+            keep(&mut buffers.line, *byte);
         }
     }
     Ok(count)
@@ -240,19 +244,20 @@ fn keep(line: &mut ArrayVec<u8, 4097>, byte: u8)
     }
 }
 
+/// Answers the line that is kept.
 fn answer_line<W: Write>(
     alloc: Global,
     table: &Table,
     pass: &mut Pass,
-    line: &[u8],
+    buffers: &mut Buffers,
     writer: &mut W,
 ) -> Result<(), Stop>
     requires { IsPassOf table.now pass.old }
     ensures pass { IsPassOf table.now pass.new }
-    ensures sends { SendsLine table.now line.now (W.contents writer.old) (W.contents writer.new) pass.old pass.new result }
+    ensures sends { SendsLine table.now buffers.old.line.items (W.contents writer.old) (W.contents writer.new) pass.old pass.new result }
 {
-    let answer = match parse_line(alloc, line) {
-        Ok(command) => run_command(table, pass, &command),
+    let head = match parse_line(alloc, buffers.line.as_slice()) {
+        Ok(command) => run_command(table, pass, &command, &mut buffers.rows),
         Err(fault) => match fault {
             LineFault::NoMemory => {
                 return Err(Stop {
@@ -263,33 +268,43 @@ fn answer_line<W: Write>(
             _ => Err(Refusal::from(fault)),
         },
     };
-    send_answer(alloc, answer, writer)
+    send_reply(alloc, head, buffers.rows.as_slice(), writer)
 }
 
-fn send_answer<W: Write>(
+/// Prints the reply whose rows stand beside it, and writes it.
+fn send_reply<W: Write>(
     alloc: Global,
-    answer: Result<Answer, Refusal>,
+    head: Result<ReplyHead, Refusal>,
+    rows: &[Row],
     writer: &mut W,
 ) -> Result<(), Stop>
-    ensures { SendsReply (reply_of answer) (W.contents writer.old) (W.contents writer.new) result }
+    requires { IsPrintable (reply_with rows.now head) }
+    ensures { SendsReply (reply_with rows.now head) (W.contents writer.old) (W.contents writer.new) result }
 {
-    let text = print_answer(alloc, answer)?;
+    let text = print_with(alloc, head, rows)?;
     write_text(writer, text.as_slice())?;
     Ok(())
 }
 
-/// Does the command by a call of the pass.
-fn run_command(table: &Table, pass: &mut Pass, command: &Command) -> Result<Answer, Refusal>
-    requires pass { IsPassOf table.now pass.old }
-    requires served { IsServed command.now }
+/// Does the command by a call of the pass, or a scan of it, whose rows are left beside the reply.
+fn run_command(
+    table: &Table,
+    pass: &mut Pass,
+    command: &Command,
+    rows: &mut ArrayVec<Row, 100>,
+) -> Result<ReplyHead, Refusal>
+    requires { IsPassOf table.now pass.old }
     ensures pass { IsPassOf table.now pass.new }
-    ensures answers { AnswersCommand table.now command.now pass.old (reply_of result) pass.new }
+    ensures answers { AnswersCommand table.now command.now pass.old (reply_with rows.new.items result) pass.new }
+    ensures printable { IsPrintable (reply_with rows.new.items result) }
 {
     match command {
-        Command::Insert(tuple, value) => run_insert(table, pass, tuple, *value),
-        Command::Remove(tuple) => run_remove(table, pass, tuple),
-        Command::Get(tuple) => run_get(table, pass, tuple),
-        _ => unreachable!(),
+        Command::Insert(tuple, value) => {
+            Ok(ReplyHead::Answer(run_insert(table, pass, tuple, *value)?))
+        }
+        Command::Remove(tuple) => Ok(ReplyHead::Answer(run_remove(table, pass, tuple)?)),
+        Command::Get(tuple) => Ok(ReplyHead::Answer(run_get(table, pass, tuple)?)),
+        Command::Scan(lo, hi, limit) => run_scan(table, pass, lo, hi, *limit, rows),
     }
 }
 
@@ -325,6 +340,26 @@ fn run_get(table: &Table, pass: &mut Pass, tuple: &Tuple) -> Result<Answer, Refu
     match get(table, pass, tuple, TURNS) {
         Ok(Some(value)) => Ok(Answer::Found(value)),
         Ok(None) => Ok(Answer::Absent),
+        Err(fault) => Err(Refusal::from(fault)),
+    }
+}
+
+fn run_scan(
+    table: &Table,
+    pass: &mut Pass,
+    lo: &Tuple,
+    hi: &Tuple,
+    limit: u64,
+    rows: &mut ArrayVec<Row, 100>,
+) -> Result<ReplyHead, Refusal>
+    requires { IsPassOf table.now pass.old }
+    ensures pass { IsPassOf table.now pass.new }
+    ensures answers { AnswersScan table.now lo.now hi.now limit pass.old (reply_with rows.new.items result) pass.new }
+    ensures printable { IsPrintable (reply_with rows.new.items result) }
+{
+    match scan(table, pass, lo, hi, limit, TURNS, rows) {
+        Ok(More::Limit) => Ok(ReplyHead::Rows(true)),
+        Ok(More::End) => Ok(ReplyHead::Rows(false)),
         Err(fault) => Err(Refusal::from(fault)),
     }
 }

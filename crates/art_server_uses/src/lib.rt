@@ -3,8 +3,12 @@
 #![tactic(auto)]
 
 #[cfg(test)]
+mod clients;
+#[cfg(test)]
 mod lines;
 #[cfg(test)]
 mod replies;
+#[cfg(test)]
+mod scans;
 #[cfg(test)]
 mod sessions;

@@ -21,6 +21,7 @@ fn reads_commands(rt: HostRuntime) {
         ("[\"remove\",[5]]", Command::Remove(one(5))),
         (most, Command::Insert(one(5), u64::MAX)),
         ("[\"insert\",[],0]", Command::Insert(Tuple::new(), 0)),
+        ("[\"scan\",[1],[2],3]", Command::Scan(one(1), one(2), 3)),
     ] {
         assert_eq!(rt; parse_line(rt.alloc(), line.as_bytes()), Ok(command));
     }
@@ -88,6 +89,14 @@ fn an_element_that_is_no_value_is_told(rt: HostRuntime) {
         ("[\"get\",[1,2,3,4,5,6,7,8,9]]", ValueFault::WrongColumns),
         ("[\"get\",[null,2,3,4,5,6,7,8,9]]", ValueFault::WrongColumns),
         ("[\"get\",[1,2,3,4,5,6,7,null]]", ValueFault::WrongType(7)),
+        (
+            "[\"scan\",[1,null],[\"abcdefghijklmnopqrstuvwxy\"],5]",
+            ValueFault::WrongType(1),
+        ),
+        (
+            "[\"scan\",[1],[\"abcdefghijklmnopqrstuvwxy\"],5]",
+            ValueFault::TextTooLong(0),
+        ),
     ] {
         assert_eq!(rt;
             parse_line(rt.alloc(), line.as_bytes()),
@@ -108,7 +117,15 @@ fn refuses_other_shapes(rt: HostRuntime) {
         "[\"get\",[5],1]",
         "[\"get\",{}]",
         "[\"Get\",[5]]",
-        "[\"scan\",[1],[2],3]",
+        "[\"scan\"]",
+        "[\"scan\",[0],[9]]",
+        "[\"scan\",[0],[9],1,1]",
+        "[\"scan\",0,[9],1]",
+        "[\"scan\",[0],9,1]",
+        "[\"scan\",[0],[9],[1]]",
+        "[\"scan\",[0],[9],18446744073709551616]",
+        "[\"scan\",[null],9,1]",
+        "[\"scan\",[null],[9],-1]",
         "[\"insert\",[5]]",
         "[\"insert\",5,1]",
         "[\"insert\",[5],-1]",

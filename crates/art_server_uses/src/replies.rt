@@ -6,6 +6,7 @@ use art_cell::{Cell, Pool};
 use art_frame::Blocker;
 use art_key::{SchemaFault, ValueFault};
 use art_model::{Reply, Row, Text, Tuple, Value};
+use art_scan::ScanFault;
 use art_server::{LineFault, Refusal, print_reply};
 use art_table::{CloseRefusal, Fault, OpenFault};
 use std::alloc::Global;
@@ -115,6 +116,7 @@ fn names_refusals(rt: HostRuntime) -> Result<(), Fail> {
 fn faults_have_refusals(rt: HostRuntime) {
     let of_line = LineFault::from(ValueFault::WrongColumns);
     let of_table = Fault::Value(ValueFault::OutOfRange(0));
+    let of_scan = ScanFault::Value(ValueFault::WrongType(1));
     let of_limbo = Fault::Crowded(Blocker { pass: 1, epoch: 2 });
     for (refusal, expected) in [
         (Refusal::from(LineFault::NoMemory), Refusal::NoMemory),
@@ -131,6 +133,10 @@ fn faults_have_refusals(rt: HostRuntime) {
             Refusal::from(Fault::Exhausted(Cell::Anchor)),
             Refusal::Exhausted,
         ),
+        (Refusal::from(of_scan), Refusal::WrongType),
+        (Refusal::from(ScanFault::BadRange), Refusal::BadRange),
+        (Refusal::from(ScanFault::BadLimit), Refusal::BadLimit),
+        (Refusal::from(ScanFault::Busy), Refusal::Busy),
         (Refusal::from(SchemaFault::BadColumn(2)), Refusal::BadColumn),
         (Refusal::from(OpenFault::BadConfig), Refusal::BadConfig),
         (

@@ -1,10 +1,7 @@
 //! Sessions over readers and writers that fail, are interrupted, or give and take a little at a time.
-ghost use Rattle.art_server_uses.specs.Clients.{AreOf};
-ghost use Rattle.art_table.specs.Tables.{IsPassOf};
-
-use art_key::Schema;
+use crate::clients::{SIZES, alone, check_session, last_of, opened};
 use art_server::{Counted, EndCause, SessionEnd, session};
-use art_table::{Config, Pass, Table, open};
+use art_table::Config;
 use std::alloc::Global;
 use std::io::{self, ErrorKind, Read, Write};
 use std::process::Abort;
@@ -95,44 +92,6 @@ impl Write for Sink {
     }
 }
 
-/// One of each, and one pass.
-const SIZES: Config = Config {
-    leaves: 1,
-    n4: 1,
-    n16: 1,
-    n48: 1,
-    n256: 1,
-    passes: 1,
-    counter_start: 0,
-};
-
-/// A table of these sizes, and its passes.
-fn opened(rt: &impl Abort, alloc: Global, config: Config) -> (Table, Vec<Pass>)
-    ensures { AreOf result.0 result.1.items }
-{
-    let schema = Schema::parse("u64").expect(rt, "a schema");
-    open(alloc, schema, config).expect(rt, "room for a table")
-}
-
-/// The last of these passes.
-fn last_of(rt: &impl Abort, table: &Table, passes: &mut Vec<Pass>) -> Pass
-    requires { AreOf table.now passes.old.items }
-    ensures last { IsPassOf table.now result }
-    ensures left { AreOf table.now passes.new.items }
-{
-    let _ = table.schema();
-    passes.pop().expect(rt, "a pass")
-}
-
-/// A table of these sizes, and the last of its passes.
-fn alone(rt: &impl Abort, alloc: Global, config: Config) -> (Table, Pass)
-    ensures { IsPassOf result.0 result.1 }
-{
-    let (table, mut passes) = opened(rt, alloc, config);
-    let pass = last_of(rt, &table, &mut passes);
-    (table, pass)
-}
-
 /// How a session from the reader to the writer ends, on a table of one leaf.
 fn end_of<R: Read, W: Write>(
     rt: &impl Abort,
@@ -140,29 +99,9 @@ fn end_of<R: Read, W: Write>(
     reader: &mut Counted<R>,
     writer: &mut W,
 ) -> SessionEnd {
-    let (table, pass) = alone(rt, alloc, SIZES);
+    let (table, pass) = alone(rt, alloc, "u64", SIZES);
     let (_, end) = session(alloc, &table, pass, reader, writer);
     end
-}
-
-/// The pass answers these lines, and what it says is this; all lines are answered.
-fn check_session(
-    rt: &impl Abort,
-    alloc: Global,
-    table: &Table,
-    pass: Pass,
-    said: &str,
-    want: &str,
-) -> Pass
-    requires { IsPassOf table.now pass }
-    ensures { IsPassOf table.now result }
-{
-    let mut reader = Counted::new(said.as_bytes());
-    let mut heard = Vec::new(alloc);
-    let (pass, end) = session(alloc, table, pass, &mut reader, &mut heard);
-    assert_eq!(rt; end.why, EndCause::Ended);
-    assert!(rt; heard.as_slice() == want.as_bytes());
-    pass
 }
 
 fn ended(why: EndCause, answered: u64, pending: bool) -> SessionEnd {
@@ -184,7 +123,7 @@ fn answers_lines_in_turn(rt: HostRuntime) {
     assert_eq!(rt; end, ended(EndCause::Ended, 11, false));
     let want = "[\"absent\"]\n[\"inserted\"]\n[\"found\",9]\n[\"present\",9]\n\
         [\"absent\"]\n[\"refused\",11,\"Full\"]\n[\"removed\",9]\n[\"absent\"]\n\
-        [\"inserted\"]\n[\"refused\",3,\"BadCommand\"]\n[\"refused\",5,\"WrongType\"]\n";
+        [\"inserted\"]\n[\"rows\",[[[6],1]],false]\n[\"refused\",5,\"WrongType\"]\n";
     assert!(rt; heard.as_slice() == want.as_bytes());
 }
 
@@ -237,7 +176,7 @@ fn end_at_a_write(
     alloc: Global,
     fault: Option<ErrorKind>,
 ) -> (SessionEnd, Vec<u8>, Vec<u8>) {
-    let (table, pass) = alone(rt, alloc, SIZES);
+    let (table, pass) = alone(rt, alloc, "u64", SIZES);
     let said = b"[\"get\",[5]]\n[\"insert\",[5],9]\n[\"get\",[5]]\n";
     let mut cut = Short {
         held: Vec::new(alloc),
@@ -281,7 +220,7 @@ fn a_million_reads_are_made_of_an_input_with_no_end(rt: HostRuntime) {
 #[test]
 fn a_third_row_finds_no_leaf_of_two(rt: HostRuntime) {
     let config = Config { leaves: 2, ..SIZES };
-    let (table, pass) = alone(&rt, rt.alloc(), config);
+    let (table, pass) = alone(&rt, rt.alloc(), "u64", config);
     let said = "[\"insert\",[1],1]\n[\"insert\",[2],2]\n[\"insert\",[3],3]\n[\"insert\",[1],9]\n\
         [\"get\",[1]]\n[\"get\",[2]]\n";
     let want = "[\"inserted\"]\n[\"inserted\"]\n[\"refused\",11,\"Full\"]\n[\"present\",1]\n\
@@ -295,7 +234,7 @@ fn a_counter_at_its_end_is_told(rt: HostRuntime) {
         counter_start: 4_611_686_018_427_387_896,
         ..SIZES
     };
-    let (table, pass) = alone(&rt, rt.alloc(), config);
+    let (table, pass) = alone(&rt, rt.alloc(), "u64", config);
     let said = "[\"insert\",[1],1]\n[\"get\",[1]]\n";
     let want = "[\"refused\",13,\"Exhausted\"]\n[\"absent\"]\n";
     let _ = check_session(&rt, rt.alloc(), &table, pass, said, want);
@@ -309,7 +248,7 @@ fn sessions_of_two_passes_have_one_map(rt: HostRuntime) {
         passes: 2,
         ..SIZES
     };
-    let (table, mut passes) = opened(&rt, rt.alloc(), config);
+    let (table, mut passes) = opened(&rt, rt.alloc(), "u64", config);
     let one = last_of(&rt, &table, &mut passes);
     let zero = last_of(&rt, &table, &mut passes);
     let said = "[\"insert\",[5],9]\n";

@@ -3,7 +3,7 @@ use Rattle.art_model.specs.declared.commands.Command.{Command}
 use Rattle.serde_json.specs.Errors.{IsMemory}
 use Rattle.art_server.specs.declared.lines.LineFault.{LineFault}
 use Rattle.art_server.specs.declared.lines.LineFault.TheVariants.{NoMemory}
-use Rattle.art_server.proofs.LineLaws.{line_says-read, line_says-refused}
+use Rattle.art_server.proofs.LineLaws.{line_says-read, line_says-refused, read_some}
 use Rattle.art_server.proofs.lines.parse_line.Goals as goal
 
 said_by : (says r : Result Command LineFault) → says ≡ r → MatchResult r (λ command. says ≡ Ok command)
@@ -15,6 +15,9 @@ pub returns-in-Ok-clause-said : goal.returns-in-Ok-clause-said
 returns-in-Ok-clause-said c =
     let read = c.in-Ok.ensures.ok in
     said_by _ _ (line_says-read c.args.line.now _ (omega arith) read.0 read.1 ∙ sym c.command_in.ensures)
+
+pub returns-in-Ok-clause-memory : goal.returns-in-Ok-clause-memory
+returns-in-Ok-clause-memory c = λ _. (read_some c.args.line.now _ c.in-Ok.ensures.ok.1, c.if-line-gt-LINE_BYTES.false)
 
 pub returns-in-Err-2-clause-said : goal.returns-in-Err-2-clause-said
 returns-in-Err-2-clause-said c =

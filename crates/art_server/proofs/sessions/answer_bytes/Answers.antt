@@ -8,22 +8,22 @@ bytes-init g c = record { takes = TakesBytes-nil _ _ _ _ _; of = c.requires.pass
 
 pub returns-in-Err-clause-answers : goal.returns-in-Err-clause-answers
 returns-in-Err-clause-answers g c =
-    StopsAmong-at_feed _ c.args.bytes.now c.bytes.byte-index _ _ _ _ _ _ _ _ _ _ _ c.in-Err.stop _
-    c.bytes-test.true c.if-byte-eq10.true c.bytes.invariant.takes c.as_slice.ensures.value c.in-Err.ensures.sends c.after.ensures
+    StopsAmong-at_feed _ c.args.bytes.now c.bytes.byte-index _ _ _ _ _ _ _ _ _ _ c.in-Err.stop _
+    c.bytes-test.true c.if-byte-eq10.true c.bytes.invariant.takes c.in-Err.ensures.sends c.after.ensures
 
 pub bytes-preserved : goal.bytes-preserved
 bytes-preserved g c =
     let so_far = c.bytes.invariant in
     elim c.if-byte-eq10.branch [
       | then-byte-eq10+in-Ok w ↦ record {
-        takes = rw (w.pass-is, w.writer-is, w.line-is, w.count-is)
-            (TakesBytes-at_feed _ c.args.bytes.now c.bytes.byte-index _ _ _ _ _ _ _ _ _ _ _ _ w.in-Ok.field-0
-            c.bytes-test.true w.if-byte-eq10.true so_far.takes w.as_slice.ensures.value w.in-Ok.ensures.sends w.clear.ensures);
+        takes = rw (w.pass-is, w.writer-is, w.buffers-is, w.count-is)
+            (TakesBytes-at_feed _ c.args.bytes.now c.bytes.byte-index _ _ _ _ _ _ _ _ _ _ _ w.in-Ok.field-0
+            c.bytes-test.true w.if-byte-eq10.true so_far.takes w.in-Ok.ensures.sends w.clear.ensures);
         of = rw w.pass-is w.in-Ok.ensures.pass;
         few = omega arith;
       }
       | else-byte-eq10 w ↦ record {
-        takes = rw (w.pass-is, w.writer-is, w.line-is, w.count-is)
+        takes = rw (w.pass-is, w.writer-is, w.buffers-is, w.count-is)
             (TakesBytes-at_other _ c.args.bytes.now c.bytes.byte-index _ _ _ _ _ _ _ _ _
             c.bytes-test.true w.if-byte-eq10.false so_far.takes w.keep.ensures);
         of = rw w.pass-is so_far.of;

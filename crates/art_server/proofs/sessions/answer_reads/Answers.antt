@@ -5,7 +5,7 @@ use Rattle.art_server.proofs.sessions.answer_reads.Goals as goal
 
 pub reads-init : goal.reads-init
 reads-init g c = record {
-  read = rw c.new-line.ensures (HasRead-none _ _ _ _);
+  read = rw c.new.ensures (HasRead-none _ _ _ _);
   of = c.requires;
   room = refl;
   counted = HasCounted-none _;
@@ -18,8 +18,8 @@ finish-requires-clause-room g c =
 
 pub returns-in-Ok-eq0-clause-session : goal.returns-in-Ok-eq0-clause-session
 returns-in-Ok-eq0-clause-session g c =
-    RunsSession-finish _ _ _ _ _ _ _ _ _ _ _ _ _ _ _ _ _ c.reads.invariant.read c.in-Ok-eq0.ensures.bytes.0 (omega arith)
-    c.as_slice.ensures.value (omega arith) c.finish.ensures.finishes
+    RunsSession-finish _ _ _ _ _ _ _ _ _ _ _ _ _ _ _ _ c.reads.invariant.read c.in-Ok-eq0.ensures.bytes.0 (omega arith)
+    (omega arith) c.finish.ensures.finishes
 
 pub answer_bytes-requires-clause-room : goal.answer_bytes-requires-clause-room
 answer_bytes-requires-clause-room g c =

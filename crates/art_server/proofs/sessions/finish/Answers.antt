@@ -5,17 +5,17 @@ use Rattle.art_server.proofs.sessions.finish.Goals as goal
 
 pub returns-then-is_empty-clause-finishes : goal.returns-then-is_empty-clause-finishes
 returns-then-is_empty-clause-finishes g c =
-    let none : length c.args.line.now ≡ 0 = grind (arith, nat_tests) in
+    let none : length c.args.buffers.now.line.items ≡ 0 = grind (arith, nat_tests) in
     rw c.ended.ensures (Finishes-empty _ _ _ _ _ none)
 
 pub returns-in-Ok-clause-finishes : goal.returns-in-Ok-clause-finishes
 returns-in-Ok-clause-finishes g c =
-    let some : 0 < length c.args.line.now = grind (arith, nat_tests) in
+    let some : 0 < length c.args.buffers.now.line.items = grind (arith, nat_tests) in
     let sends = c.in-Ok.ensures.sends in
     rw c.ended-in-Ok.ensures (Finishes-answered _ _ _ _ _ _ _ some sends.written sends.appends sends.answers)
 
 pub returns-in-Err-clause-finishes : goal.returns-in-Err-clause-finishes
 returns-in-Err-clause-finishes g c =
-    let some : 0 < length c.args.line.now = grind (arith, nat_tests) in
+    let some : 0 < length c.args.buffers.now.line.items = grind (arith, nat_tests) in
     let sends = c.in-Err.ensures.sends in
     rw c.after.ensures (Finishes-cut _ _ _ _ _ _ _ c.in-Err.stop some sends.written sends.appends sends.answers)
