@@ -10,6 +10,8 @@ mod command_line;
 mod help;
 mod options;
 mod program;
+#[cfg(test)]
+mod rows;
 mod run_faults;
 mod settings;
 #[cfg(test)]
