@@ -23,6 +23,8 @@ Lines on standard input, and the reply to each on standard output:
   [\"insert\",[5],9]           [\"inserted\"], or [\"present\",7] where the row stands with 7
   [\"remove\",[5]]             [\"removed\",9], or [\"absent\"]
   [\"get\",[5]]                [\"found\",9], or [\"absent\"]
+  [\"scan\",[0],[9],2]         [\"rows\",[[[1],7],[[5],9]],true]: the first rows from 0 to 9, at most 2,
+                             and whether they are 2
   a line that is refused     [\"refused\",1,\"BadLine\"] and the like; nothing changes
 
 Statuses:
@@ -35,4 +37,5 @@ Statuses:
 
 Examples:
   printf '[\"insert\",[\"a\",5],9]\\n[\"get\",[\"a\",5]]\\n' | art_index run --schema text8,u8
-  printf '[\"insert\",[1],9]\\n[\"insert\",[2],9]\\n' | art_index run --leaves 1";
+  printf '[\"insert\",[1],9]\\n[\"insert\",[2],9]\\n' | art_index run --leaves 1
+  printf '[\"insert\",[1],9]\\n[\"scan\",[0],[9],100]\\n' | art_index run";
