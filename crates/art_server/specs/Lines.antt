@@ -74,7 +74,7 @@ tuple_told (Ok tuple) = Ok tuple
 abbrev pub elements_in : Data → Result Items LineFault
 elements_in d = ok_or (as_array d) BadCommand
 
--- the tuple of an array in its place
+-- the tuple that an array in its place says
 abbrev pub tuple_in : Data → Result Tuple LineFault
 tuple_in d = do
   elements ← elements_in d

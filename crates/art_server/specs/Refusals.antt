@@ -92,7 +92,7 @@ fault_refusal (table.Full pool) = Full
 fault_refusal (table.Crowded blocker) = Crowded
 fault_refusal (table.Exhausted cell) = Exhausted
 
--- of a scan that lists nothing
+-- of a scan that is refused
 abbrev pub scan_refusal : ScanFault → Refusal
 scan_refusal (scan.Value fault) = value_refusal fault
 scan_refusal scan.BadRange = BadRange

@@ -43,12 +43,7 @@ pub(crate) fn last_of(rt: &impl Abort, table: &Table, passes: &mut Vec<Pass>) ->
 }
 
 /// A table of these columns and sizes, and the last of its passes.
-pub(crate) fn alone(
-    rt: &impl Abort,
-    alloc: Global,
-    columns: &str,
-    config: Config,
-) -> (Table, Pass)
+pub(crate) fn alone(rt: &impl Abort, alloc: Global, columns: &str, config: Config) -> (Table, Pass)
     ensures { IsPassOf result.0 result.1 }
 {
     let (table, mut passes) = opened(rt, alloc, columns, config);

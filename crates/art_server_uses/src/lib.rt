@@ -1,5 +1,5 @@
-//! Tests of what no clause of `art_server` says: the texts that clients see, lines as they write them, and
-//! readers and writers that fail.
+//! Tests of what no clause of `art_server` says: the texts that clients see, lines as they write them, scans in
+//! sessions, and readers and writers that fail.
 #![tactic(auto)]
 
 #[cfg(test)]
