@@ -1,5 +1,5 @@
 -- A scan between two of its looks: what its pass saw so far, what is listed, and how many turns are left.
-use Rattle.std.proofs.Common.{◌≡◌, ◌⊎◌, ℕ, ◌+◌, ◌*◌, ◌<◌, ◌≤◌, true, List, [], ◌∷◌, ◌++◌, length, Option, Some, None, inl, inr, refl, sym, ap, ◌∙◌, subst, arith}
+use Rattle.std.proofs.Common.{◌≡◌, ◌⊎◌, ℕ, ◌+◌, ◌<◌, ◌≤◌, true, List, [], ◌∷◌, ◌++◌, length, Option, Some, None, inl, inr, refl, sym, ap, ◌∙◌, subst, arith}
 use Rattle.std.proofs.lemmas.List.{length_push}
 use Rattle.std.specs.List.{cons_option}
 use Rattle.std.specs.Prelude.{Ok, Err}
@@ -12,7 +12,7 @@ use Rattle.art_key.specs.declared.events.Event.{Event}
 use Rattle.art_model.specs.declared.rows.Row.{Row}
 use Rattle.art_scan.specs.Scans.{HasTiled, MakesLooks, UsedTurns}
 use Rattle.art_scan.specs.Tiles.{AreTiles, IsTile, Tile, rows_of}
-use Rattle.art_scan.specs.Tilings.{with_found}
+use Rattle.art_scan.specs.Tilings.{IsTiling, with_found}
 use Rattle.art_scan.specs.declared.tilings.Tiling.{Tiling}
 use Rattle.art_shared.specs.SamePass.{SamePass}
 use Rattle.art_shared.specs.declared.pass.Pass.{Pass as Seat}
@@ -57,7 +57,7 @@ looks_push pass (t ∷ tiles) tile seen own seen' own' seen'' own'' made between
     (made.0, made.1, looks_push pass tiles tile _ _ seen' own' seen'' own'' made.2 between before sees owns)
 
 -- a look that saw nothing changes nothing
-looks_still : (pass : ℕ) (tiles : List Tile) (seen own : _) (seen' own' seen'' own'' : _) → MakesLooks pass seen own tiles seen' own' → seen'' ≡ seen' → own'' ≡ own'
+pub looks_still : (pass : ℕ) (tiles : List Tile) (seen own : _) (seen' own' seen'' own'' : _) → MakesLooks pass seen own tiles seen' own' → seen'' ≡ seen' → own'' ≡ own'
     → MakesLooks pass seen own tiles seen'' own''
 looks_still pass [] seen own seen' own' seen'' own'' made sees owns = (sees ∙ made.0, owns ∙ made.1)
 looks_still pass (t ∷ tiles) seen own seen' own' seen'' own'' made sees owns = (made.0, made.1, looks_still pass tiles _ _ seen' own' seen'' own'' made.2 sees owns)
@@ -82,7 +82,7 @@ one_found : (rows : List Row) (o : Option Row) → length (with_found rows o) �
 one_found rows (Some r) = let more = length_push rows r in omega (arith, more)
 one_found rows None = omega arith
 
-same_then : (a b c : Seat) → SamePass a b → SamePass b c → SamePass a c
+pub same_then : (a b c : Seat) → SamePass a b → SamePass b c → SamePass a c
 same_then a b c x y = record {
   number = y.number ∙ x.number;
   table = y.table ∙ x.table;
@@ -92,19 +92,6 @@ same_then a b c x y = record {
 }
 
 -- ---- between two looks
-
--- the pass was p and is q: it tiled the range as far as the scan has come, the rows that it found are listed, and so many turns are left
-pub record IsTiling (t : Table) (from end : Bound) (limit turns : ℕ) (p q : Pass) (rows : List Row) (g : Tiling) : Type 0 where
-  pub tiles : List Tile
-  pub tiled : HasTiled t from g.from tiles p q
-  pub rows_are : rows ≡ rows_of tiles
-  pub few : length rows ≤ limit
-  pub within : (tiles ≡ []) ⊎ ((g.from ≡ end) ⊎ (is_before g.from end ≡ true))
-  pub end_is : g.end ≡ end
-  pub limit_is : g.limit ≡ limit
-  pub used : (view_of q).steps + g.turns ≡ (view_of p).steps + turns + 3 * length tiles
-  pub some : g.turns + 3 * length tiles ≤ turns
-  pub fewer : turns + 30000 * (view_of p).failures ≤ g.turns + 30000 * ((view_of q).failures + length tiles)
 
 -- before the first
 pub begun : (t : Table) (limit : ℕ) (p : Pass) (rows : List Row) (g : Tiling) → IsPassOf t p → rows ≡ [] → g.limit ≡ limit → IsTiling t g.from g.end limit g.turns p p rows g

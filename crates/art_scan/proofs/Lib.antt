@@ -2,9 +2,11 @@ pub mod Alone
 pub mod Begun
 pub mod Between
 pub mod Bounds
+pub mod Commands
 pub mod Ended
 pub mod Found
 pub mod Keys
 pub mod Listed
+pub mod LooksOn
 pub mod Replays
 pub mod Tiled

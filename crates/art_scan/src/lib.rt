@@ -23,10 +23,13 @@
 mod ends;
 mod faults;
 mod laws;
+mod looking;
+mod running;
 mod scans;
 mod tilings;
 
 pub use ends::after_ends_range;
 pub use faults::ScanFault;
 pub use laws::{looks_at_one_state_are_answers, looks_that_tile_are_scans};
+pub use running::{Ending, Running, start_command};
 pub use scans::{More, scan};

@@ -1,13 +1,18 @@
 //! Scans that are made at once.
-ghost use Rattle.std.specs.Prelude.{◌≡◌};
+ghost use Rattle.std.specs.Prelude.{◌≡◌, ℕ};
+ghost use Rattle.art_model.specs.Rows.{Tuple as TupleOf};
 ghost use Rattle.art_scan.specs.Scans.{Scans};
+ghost use Rattle.art_scan.specs.Tilings.{IsScanning};
+ghost use Rattle.art_table.specs.Jobs.{IsOf};
 ghost use Rattle.art_table.specs.Tables.{IsPassOf};
+ghost use Rattle.art_table.specs.declared.jobs.Outcome.TheVariants.{Seen as saw};
+ghost use Rattle.art_table.specs.declared.passes.Pass.{Pass as PassOf};
 
 use crate::ScanFault;
 use crate::tilings::Tiling;
 use arrayvec::ArrayVec;
 use art_model::{Row, Tuple};
-use art_table::{Pass, Table, look};
+use art_table::{Outcome, Pass, Seen, Table, look};
 
 /// Whether a scan stopped at its limit, or at the end of its range.
 #[derive(Clone, Copy, Debug, PartialEq, Eq)]
@@ -36,7 +41,25 @@ pub fn scan(
     ensures scans { Scans table.now lo.now hi.now limit turns pass.old out.new.items result pass.new }
 {
     out.clear();
-    let mut tiling = Tiling::new(table.schema(), lo, hi, limit, turns)?;
+    let tiling = Tiling::new(table.schema(), lo, hi, limit, turns)?;
+    look_to_the_end(table, pass, tiling, out)
+}
+
+/// Makes all looks that are left of a scan.
+pub(crate) fn look_to_the_end(
+    table: &Table,
+    pass: &mut Pass,
+    tiling: Tiling,
+    out: &mut ArrayVec<Row, 100>,
+) -> Result<More, ScanFault>
+    requires { (lo : TupleOf) × (hi : TupleOf) × (limit : ℕ) × (turns : ℕ) × (p : PassOf) ×
+        IsScanning table.now lo hi limit turns p pass.old out.old.items tiling }
+    ensures pass { IsPassOf table.now pass.new }
+    ensures scans { (lo hi : TupleOf) (limit turns : ℕ) (p : PassOf) →
+        IsScanning table.now lo hi limit turns p pass.old out.old.items tiling →
+        Scans table.now lo hi limit turns p out.new.items result pass.new }
+{
+    let mut tiling = tiling;
     while tiling.goes_on(out.len()) {
         let Ok(seen) = look(table, pass, &tiling.from, &tiling.end, tiling.turns) else {
             out.clear();
@@ -45,4 +68,15 @@ pub fn scan(
         tiling.told(seen, pass.turns_left(), out);
     }
     Ok(tiling.more(out.len()))
+}
+
+/// What a look has seen, by its outcome.
+pub(crate) fn seen_in(outcome: Outcome) -> Seen
+    requires { IsOf saw outcome }
+    ensures { saw result ≡ outcome }
+{
+    match outcome {
+        Outcome::Seen(seen) => seen,
+        _ => unreachable!(),
+    }
 }

@@ -4,6 +4,7 @@ ghost use Rattle.std.specs.List.{cons_option};
 ghost use Rattle.art_key.specs.Bounds.{is_before};
 ghost use Rattle.art_key.specs.Histories.{StandsIn, bound_at};
 ghost use Rattle.art_key.specs.Spelling.{spelling};
+ghost use Rattle.art_scan.specs.Running.{wants_look};
 ghost use Rattle.art_scan.specs.Scans.{more_at, scan_fault};
 ghost use Rattle.art_scan.specs.Tilings.{with_found};
 ghost use Rattle.art_step.specs.Deeds.{bound_of};
@@ -66,6 +67,15 @@ impl Tiling {
         ensures { result ≡ (nat_lt listed self.now.limit && is_before self.now.from self.now.end) }
     {
         listed < self.limit && self.from.before(&self.end)
+    }
+
+    /// Whether it looks on after a look that has seen this, where so many rows were listed before.
+    pub(crate) fn goes_on_after(&self, seen: &Seen, listed: &[Row]) -> bool
+        requires { length listed.now < 100 }
+        ensures { result ≡ wants_look listed.now self.now (Some seen.now) }
+    {
+        let found = usize::from(seen.row.is_some());
+        listed.len() + found < self.limit && seen.hi.before(&self.end)
     }
 
     /// A look has seen this, and left so many turns.

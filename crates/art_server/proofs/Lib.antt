@@ -2,6 +2,7 @@ pub mod LineLaws
 pub mod TupleLaws
 pub mod ReplyLaws
 pub mod Printable
+pub mod EndingLaws
 pub mod StreamLaws
 pub mod SessionLaws
 pub mod StepLaws

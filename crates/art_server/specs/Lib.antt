@@ -3,6 +3,7 @@ pub mod Lines
 pub mod Replies
 pub mod Streams
 pub mod Sessions
+pub mod Endings
 pub mod Steps
 pub mod Given
 pub mod Counted

@@ -51,10 +51,10 @@ IsReplyOf (Ok (outcome.Found value)) reply = reply ≡ Ok (Found value)
 IsReplyOf (Ok (outcome.Seen seen)) reply = ⊥
 IsReplyOf (Err fault) reply = reply ≡ Err (fault_refusal fault)
 
--- the pass p made a call of the job, whose reply is this, and is q then
-pub record AnswersJob (t : Table) (job : Job) (p : Pass) (reply : Result Reply Refusal) (q : Pass) : Type 0 where
+-- the pass p made a call of the job in so many turns, whose reply is this, and is q then
+pub record AnswersJobIn (t : Table) (job : Job) (turns : ℕ) (p : Pass) (reply : Result Reply Refusal) (q : Pass) : Type 0 where
   pub result : Result Outcome Fault
-  pub ends : Ends t job most_turns p result q
+  pub ends : Ends t job turns p result q
   pub told : IsReplyOf result reply
 
 -- whether as many rows as the limit were listed
@@ -67,19 +67,29 @@ abbrev pub IsReplyOfScan : List Row → Result More ScanFault → Result Reply R
 IsReplyOfScan rows (Ok more) reply = reply ≡ Ok (Rows (record { items = rows }) (is_limit more))
 IsReplyOfScan rows (Err fault) reply = reply ≡ Err (scan_refusal fault)
 
--- the pass p made a scan from the one tuple to the other, whose reply is this, and is q then
-pub record AnswersScan (t : Table) (lo hi : Tuple) (limit : ℕ) (p : Pass) (reply : Result Reply Refusal) (q : Pass) : Type 0 where
+-- the pass p made a scan from the one tuple to the other in so many turns, whose reply is this, and is q then
+pub record AnswersScanIn (t : Table) (lo hi : Tuple) (limit turns : ℕ) (p : Pass) (reply : Result Reply Refusal) (q : Pass) : Type 0 where
   pub rows : List Row
   pub result : Result More ScanFault
-  pub scans : Scans t lo hi limit most_turns p rows result q
+  pub scans : Scans t lo hi limit turns p rows result q
   pub told : IsReplyOfScan rows result reply
 
--- the pass p did the command, was told this reply, and is q then
+-- the pass p did the command in so many turns, was told this reply, and is q then
+abbrev pub AnswersCommandIn : Table → Command → ℕ → Pass → Result Reply Refusal → Pass → Type 0
+AnswersCommandIn t (Insert tuple value) turns p reply q = AnswersJobIn t (jobs.Insert tuple value) turns p reply q
+AnswersCommandIn t (Remove tuple) turns p reply q = AnswersJobIn t (jobs.Remove tuple) turns p reply q
+AnswersCommandIn t (Get tuple) turns p reply q = AnswersJobIn t (jobs.Get tuple) turns p reply q
+AnswersCommandIn t (Scan lo hi limit) turns p reply q = AnswersScanIn t lo hi limit turns p reply q
+
+-- the same, in the turns that a session gives
+abbrev pub AnswersJob : Table → Job → Pass → Result Reply Refusal → Pass → Type 0
+AnswersJob t job p reply q = AnswersJobIn t job most_turns p reply q
+
+abbrev pub AnswersScan : Table → Tuple → Tuple → ℕ → Pass → Result Reply Refusal → Pass → Type 0
+AnswersScan t lo hi limit p reply q = AnswersScanIn t lo hi limit most_turns p reply q
+
 abbrev pub AnswersCommand : Table → Command → Pass → Result Reply Refusal → Pass → Type 0
-AnswersCommand t (Insert tuple value) p reply q = AnswersJob t (jobs.Insert tuple value) p reply q
-AnswersCommand t (Remove tuple) p reply q = AnswersJob t (jobs.Remove tuple) p reply q
-AnswersCommand t (Get tuple) p reply q = AnswersJob t (jobs.Get tuple) p reply q
-AnswersCommand t (Scan lo hi limit) p reply q = AnswersScan t lo hi limit p reply q
+AnswersCommand t command p reply q = AnswersCommandIn t command most_turns p reply q
 
 -- ---- what lines are answered
 

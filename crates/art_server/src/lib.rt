@@ -5,10 +5,14 @@
 //! bytes of a writer: each line is answered by the pass as the line before left it, and the end says how many
 //! replies were wholly written, and whether one more was begun. A session reads a `Counted` reader, so that its contract can
 //! say which reads it makes: at most 1,000,000, and none after one that fails.
+//!
+//! A command that is made step by step ends in an `Ending` of `art_scan`: `print_ending` gives the text of its reply. `write_text` writes a
+//! text as a session writes a reply, for whoever writes lines of its own.
 #![tactic(auto)]
 
 mod accounts;
 mod counted;
+mod endings;
 mod lines;
 mod refusals;
 mod replies;
@@ -16,8 +20,9 @@ mod sessions;
 mod streams;
 
 pub use counted::Counted;
+pub use endings::{endings_are_answers, print_ending};
 pub use lines::{LINE_BYTES, LineFault, long_lines_are_alike, parse_line};
 pub use refusals::Refusal;
 pub use replies::print_reply;
 pub use sessions::{EndCause, SessionEnd, session};
-pub use streams::lines_are_read_back;
+pub use streams::{lines_are_read_back, write_text};

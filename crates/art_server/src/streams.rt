@@ -10,8 +10,9 @@ pub fn lines_are_read_back()
     ensures { (lines : List (List ℕ)) → All HasNoFeed lines → lines_of (flat_map with_feed lines) ≡ lines }
 {}
 
-/// Writes all of the text and flushes. The first write that fails or takes no byte ends it, after some front of the text.
-pub(crate) fn write_text<W: Write>(writer: &mut W, text: &[u8]) -> io::Result<()>
+/// Writes all of the text and flushes, as a session writes a reply. The first write that fails or takes no byte ends it, after some front
+/// of the text, and so does a flush that fails, after all of it.
+pub fn write_text<W: Write>(writer: &mut W, text: &[u8]) -> io::Result<()>
     ensures { WritesFront text.now (W.contents writer.old) (W.contents writer.new) result }
 {
     let mut rest = text;

@@ -22,7 +22,7 @@ use Rattle.art_step.specs.declared.deeds.Deed.{Deed as ByteDeed}
 use Rattle.art_step.specs.declared.views.Sizes.{Sizes}
 use Rattle.art_step.specs.declared.views.View.{View}
 use Rattle.art_table.proofs.Histories.{sees_typed, told_typed}
-use Rattle.art_table.specs.Calls.{HasEnded, HasTurnsLeft, LeavesTurns, Sees}
+use Rattle.art_table.specs.Calls.{HasEnded, HasTurnsLeft, IsUnderWay, LeavesTurns, Sees}
 use Rattle.art_table.specs.Jobs.{HasRange, IsRange, Within, job_fault, key_at, result_of, seen_of, wish_of}
 use Rattle.art_table.specs.Tables.{IsPassOf, caller_of, number_of, schema_in, seen_by, sizes_in, turns_left_by, view_of}
 use Rattle.art_table.specs.declared.jobs.Job.{Job}
@@ -135,3 +135,8 @@ module _ (t : Table) (j : Job) (given turns restarts : ℕ) (p q : Pass) (o : Ca
     answered = refl;
     grounds = called;
   }
+
+-- a call that was under way, and has ended so
+pub has_ended_here : (t : Table) (j : Job) (given turns restarts : ℕ) (p a : Pass) (o : CallOutcome) → IsUnderWay t j given turns p a
+    → HasCalled (sizes_in t) (wish_of (schema_in t) j) given turns restarts (view_of p) (caller_of a) o (view_of a) → HasEnded t j given turns p (result_of (schema_in t) o) a
+has_ended_here t j given turns restarts p a o way called = has_ended t j given turns restarts p a o way.began way.stands way.range way.of way.same called

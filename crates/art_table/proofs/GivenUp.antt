@@ -1,5 +1,5 @@
 -- An attempt that is given up, or that is not.
-use Rattle.std.proofs.Common.{◌≡◌, ◌≤◌, ℕ, None, refl, sym, subst}
+use Rattle.std.proofs.Common.{◌≡◌, ◌≤◌, ℕ, None, refl, sym, subst, arith}
 use Rattle.std.specs.Box.{with_value}
 use Rattle.std.specs.Prelude.{Result, Ok, Err, IsErr}
 use Rattle.art_call.specs.Calls.{IsCalling, StaysApart, Wish}
@@ -8,6 +8,7 @@ use Rattle.art_change.proofs.GivenUp.{free_untold}
 use Rattle.art_change.specs.Writes.{HoldsOrTold}
 use Rattle.art_step.specs.declared.views.Sizes.{Sizes}
 use Rattle.art_step.specs.declared.views.View.{View}
+use Rattle.art_table.specs.Attempts.{IsGivenUp}
 use Rattle.art_table.specs.Calls.{IsUnderWay, Sees}
 use Rattle.art_table.specs.Jobs.{told_by, wish_of}
 use Rattle.art_table.specs.Tables.{IsPassOf, caller_of, schema_in, sizes_in, view_of}
@@ -54,3 +55,12 @@ idle_free t p of = free_untold (view_of p) (view_of p) of.caller.ready.frame.may
 pub refused_none : (t : Table) (j : Job) (p q : Pass) (r : Result Outcome Fault) → IsErr r → Sees t p q (told_by j r) → Sees t p q None
 refused_none t j p q (Err f) refused sees = sees
 refused_none t j p q (Ok o) refused sees = cc
+
+-- a pass that made no step has told nothing
+pub nothing_made : (t : Table) (turns : ℕ) (p : Pass) → IsPassOf t p → IsGivenUp t turns p p
+nothing_made t turns p of = record {
+  pass = of;
+  same = record { number = refl; table = refl; seat = refl; basis = refl; told = refl };
+  sees = (refl, refl);
+  steps = omega arith;
+}

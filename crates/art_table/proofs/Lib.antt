@@ -1,4 +1,4 @@
-mod Answered
+pub mod Answered
 mod AtOnce
 mod Begun
 mod Called

@@ -1,18 +1,20 @@
 //! Calls that are made step by step.
-ghost use Rattle.std.specs.Prelude.{◌≡◌, ◌⊎◌, ℕ, ◌≤◌, IfErr, IfOk, OnOk, Option, None, Some, true};
+ghost use Rattle.std.specs.Prelude.{◌≡◌, ◌⊎◌, ℕ, ◌≤◌, IfErr, IfOk, IfSome, OnOk, OnSome, Option, None, Some, true};
 ghost use Rattle.art_call.specs.Calls.{restarts_in};
 ghost use Rattle.art_call.specs.Made.{MakesStep};
 ghost use Rattle.art_change.specs.Writes.{HoldsOrTold};
-ghost use Rattle.art_table.specs.Attempts.{HasStopped, Progresses};
-ghost use Rattle.art_table.specs.Calls.{Ends, IsAttempt, Sees};
+ghost use Rattle.art_key.specs.Bounds.{is_before};
+ghost use Rattle.art_table.specs.Attempts.{HasStopped, IsGivenUp, Progresses, answer_of};
+ghost use Rattle.art_table.specs.Calls.{Ends, IsAttempt};
 ghost use Rattle.art_table.specs.Jobs.{IsRange};
-ghost use Rattle.art_table.specs.Tables.{IsPassOf, caller_of, sizes_in, view_of};
+ghost use Rattle.art_table.specs.Tables.{IsPassOf, caller_of, sizes_in, turns_left_by, view_of};
 ghost use Rattle.art_table.specs.declared.jobs.Job.{Job as JobOf};
+ghost use Rattle.art_table.specs.declared.jobs.Job.TheVariants.{Look as look_job};
 ghost use Rattle.art_table.specs.declared.passes.Pass.{Pass as PassOf};
 
 use crate::{Fault, Job, Outcome, Pass, Table};
 use art_call::Made;
-use art_key::ValueFault;
+use art_key::{Bound, ValueFault};
 use art_step::StepKind;
 
 /// A call that is under way, with the pass that makes it. It must be finished or abandoned.
@@ -35,11 +37,27 @@ pub enum Progress {
 pub fn start(table: &Table, pass: Pass, job: Job, turns: u32) -> Attempt
     requires pass { IsPassOf table.now pass }
     requires range { IsRange job }
-    ensures { IsAttempt table.now job turns pass result }
+    ensures attempt { IsAttempt table.now job turns pass result }
+    ensures still { view_of result.pass ≡ view_of pass }
 {
     let mut pass = pass;
     let refused = pass.begin(table, &job, turns).err();
     Attempt { pass, refused }
+}
+
+/// Begins a look of the range from `lo` on, before `hi`, by the pass, in so many turns. It makes no step.
+pub fn start_look(table: &Table, pass: Pass, lo: &Bound, hi: &Bound, turns: u32) -> Attempt
+    requires pass { IsPassOf table.now pass }
+    requires range { is_before lo.now hi.now ≡ true }
+    ensures attempt { IsAttempt table.now (look_job lo.now hi.now) turns pass result }
+    ensures still { view_of result.pass ≡ view_of pass }
+{
+    let mut pass = pass;
+    pass.begin_look(table, lo, hi, turns);
+    Attempt {
+        pass,
+        refused: None,
+    }
 }
 
 impl Attempt {
@@ -57,6 +75,31 @@ impl Attempt {
             Some(Made { kind, event }) => Progress::Made(kind, event),
             None => Progress::Ended,
         }
+    }
+
+    /// How it ended, if no step is left.
+    pub fn answer(&self, table: &Table) -> Option<Result<Outcome, Fault>>
+        requires { (j : JobOf) × (turns : ℕ) × (p : PassOf) × IsAttempt table.now j turns p self.now }
+        ensures at { result ≡ answer_of table.now self.now }
+        ensures pass { OnSome result (IsPassOf table.now self.now.pass) }
+        ensures ends { IfSome result (λ r. (j : JobOf) (turns : ℕ) (p : PassOf) → IsAttempt table.now j turns p self.now →
+            Ends table.now j turns p r self.now.pass) }
+    {
+        match self.refused {
+            Some(fault) => Some(Err(Fault::Value(fault))),
+            None => self.pass.ended(table),
+        }
+    }
+
+    /// Its pass, which may call again, begins a look of the range from `lo` on, before `hi`, in so many turns. It makes no step.
+    pub fn look_on(&mut self, table: &Table, lo: &Bound, hi: &Bound, turns: u32)
+        requires pass { IsPassOf table.now self.old.pass }
+        requires range { is_before lo.now hi.now ≡ true }
+        ensures attempt { IsAttempt table.now (look_job lo.now hi.now) turns self.old.pass self.new }
+        ensures still { view_of self.new.pass ≡ view_of self.old.pass }
+    {
+        self.refused = None;
+        self.pass.begin_look(table, lo, hi, turns);
     }
 
     /// Makes all steps that are left: the pass comes back, with the answer.
@@ -77,8 +120,8 @@ impl Attempt {
     /// event was made, the attempt comes back as it was.
     pub fn abandon(self, table: &Table) -> Result<Pass, Attempt>
         requires { (j : JobOf) × (turns : ℕ) × (p : PassOf) × IsAttempt table.now j turns p self }
-        ensures pass { IfOk result (λ q. (j : JobOf) (turns : ℕ) (p : PassOf) → IsAttempt table.now j turns p self →
-            IsPassOf table.now q × Sees table.now p q None) }
+        ensures given { IfOk result (λ q. (j : JobOf) (turns : ℕ) (p : PassOf) → IsAttempt table.now j turns p self →
+            IsGivenUp table.now turns p q) }
         ensures back { IfErr result (λ a. a ≡ self) }
         ensures why { IfErr result (λ a. (j : JobOf) (turns : ℕ) (p : PassOf) → IsAttempt table.now j turns p self →
             HoldsOrTold (view_of p) (view_of a.pass)) }
@@ -94,6 +137,13 @@ impl Attempt {
         }
         let _ = pass.run(table);
         Ok(pass)
+    }
+
+    /// How many turns are left, where it is a get or a look.
+    pub fn turns_left(&self) -> u32
+        ensures { result ≡ turns_left_by self.now.pass }
+    {
+        self.pass.turns_left()
     }
 
     /// How often it began anew.

@@ -84,8 +84,7 @@ pub fn look(
     ensures pass { IsPassOf table.now pass.new }
     ensures ends { Ends table.now (jobs.Look lo.now hi.now) turns pass.old (with_result saw result) pass.new }
 {
-    let Bound::At(key) = lo else { unreachable!() };
-    pass.caller.begin_look(key, hi, turns);
+    pass.begin_look(table, lo, hi, turns);
     match pass.run(table) {
         Ok(outcome) => Ok(looked_of(outcome)),
         Err(fault) => Err(fault),

@@ -52,7 +52,7 @@ mod marks;
 mod passes;
 mod tables;
 
-pub use attempts::{Attempt, Progress, start};
+pub use attempts::{Attempt, Progress, start, start_look};
 pub use calls::{Inserted, get, insert, look, remove};
 pub use closing::{CloseFault, CloseRefusal, Closed, close};
 pub use configs::Config;

@@ -1,12 +1,15 @@
 //! A pass: who may call a table.
-ghost use Rattle.std.specs.Prelude.{◌≡◌, ℕ, IfErr, IfNone, IfSome, IsErr, OnErr, OnOk, Some};
+ghost use Rattle.std.specs.Prelude.{◌≡◌, ℕ, IfErr, IfNone, IfSome, IsErr, OnErr, OnOk, Some, true};
+ghost use Rattle.std.specs.Option.{option_map};
 ghost use Rattle.art_call.specs.Calls.{Refuses, outcome_at};
 ghost use Rattle.art_call.specs.Made.{MakesStep};
 ghost use Rattle.art_call.specs.declared.outcomes.Outcome.{Outcome as CallOutcome};
 ghost use Rattle.art_table.specs.Calls.{HasEnded, IsUnderWay};
-ghost use Rattle.art_table.specs.Jobs.{IsRange, job_fault};
+ghost use Rattle.art_key.specs.Bounds.{is_before};
+ghost use Rattle.art_table.specs.Jobs.{IsRange, job_fault, result_of};
 ghost use Rattle.art_table.specs.Tables.{IsPassOf, caller_of, number_of, schema_in, sizes_in, turns_left_by, view_of};
 ghost use Rattle.art_table.specs.declared.jobs.Job.{Job as JobOf};
+ghost use Rattle.art_table.specs.declared.jobs.Job.TheVariants.{Look as look_job};
 ghost use Rattle.art_table.specs.declared.passes.Pass.{Pass as PassOf};
 
 use crate::jobs::result_of;
@@ -43,6 +46,7 @@ impl Pass {
         ensures begun { OnOk result (IsUnderWay table.now job.now turns turns self.old self.new) }
         ensures fault { IfErr result (λ f. job_fault (schema_in table.now) job.now ≡ Some f) }
         ensures kept { OnErr result (self.new ≡ self.old) }
+        ensures still { view_of self.new ≡ view_of self.old }
     {
         let schema = table.schema();
         match job {
@@ -62,6 +66,29 @@ impl Pass {
             Job::Look(Bound::End, _) => unreachable!(),
         }
         Ok(())
+    }
+
+    /// Begins a look of the range from `lo` on, before `hi`.
+    pub(crate) fn begin_look(&mut self, table: &Table, lo: &Bound, hi: &Bound, turns: u32)
+        requires pass { IsPassOf table.now self.old }
+        requires range { is_before lo.now hi.now ≡ true }
+        ensures begun { IsUnderWay table.now (look_job lo.now hi.now) turns turns self.old self.new }
+        ensures still { view_of self.new ≡ view_of self.old }
+    {
+        let _ = table.schema();
+        let Bound::At(key) = lo else { unreachable!() };
+        self.caller.begin_look(key, hi, turns);
+    }
+
+    /// How the call ended, if it has.
+    pub(crate) fn ended(&self, table: &Table) -> Option<Result<Outcome, Fault>>
+        requires { (j : JobOf) × (given : ℕ) × (turns : ℕ) × (p : PassOf) × IsUnderWay table.now j given turns p self.now }
+        ensures at { result ≡ option_map (result_of (schema_in table.now)) (outcome_at (caller_of self.now)) }
+        ensures ended { IfSome result (λ r. (j : JobOf) (given turns : ℕ) (p : PassOf) → IsUnderWay table.now j given turns p self.now →
+            HasEnded table.now j given turns p r self.now) }
+    {
+        let outcome = self.caller.outcome()?;
+        Some(result_of(table.schema(), outcome))
     }
 
     /// Makes the next step of the call, or none where it has ended.

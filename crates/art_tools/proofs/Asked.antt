@@ -1,5 +1,5 @@
 -- What the matches of `art_index` are, by the words.
-use Rattle.std.proofs.Common.{◌≡◌, ◌∙◌, codes, true, false, refl, sym, ap, subst, ⊎_elim, true≢false, List, [], Option, Some, None, Bor, take, option_map, option_and_then}
+use Rattle.std.proofs.Common.{◌≡◌, ◌∙◌, ◌⊎◌, codes, true, false, refl, sym, ap, subst, inl, inr, ⊎_elim, true≢false, List, [], Option, Some, None, take, option_map, option_and_then}
 use Rattle.std.specs.Str.{bytes_eq}
 use Rattle.clap.specs.Words.{App, HasMatchesOf, Row, Text, fault_of, first_of, first_value, found_of, is_simple_and_free, rows_of, subcommand_name_of, subcommand_of, subcommand_rows_of}
 use Rattle.clap.specs.Simple.{built, built_leaf, help_shape}
@@ -23,11 +23,12 @@ module _ (a : App) (words : List Text) (is : a ≡ art_index_app) where
   pub same_subcommand : (m : ArgMatches) → HasMatchesOf a words m → subcommand_rows_of m ≡ subcommand_of art_index_app words
   same_subcommand m h = subst (λ (a : App). HasMatchesOf a words m → subcommand_rows_of m ≡ subcommand_of art_index_app words) (sym is) (λ h. (h refl).1) h
 
--- words without fault name `run`
-pub asks_for_run : (words : List Text) → fault_of art_index_app words ≡ [] → subcommand_given words ≡ Some (codes "run")
-asks_for_run words taken =
-    let named = names_own art_index_app (take 1 (built art_index_app).subs) (built_leaf help_shape) words refl refl refl refl taken in
-    named.1 ∙ ⊎_elim (λ e. ap (λ t. Some t) e) (λ none. absurd none) named.2
+-- words without fault name `run` or `step`
+pub asks_for_one : (words : List Text) → fault_of art_index_app words ≡ []
+    → (subcommand_given words ≡ Some (codes "run")) ⊎ (subcommand_given words ≡ Some (codes "step"))
+asks_for_one words taken =
+    let named = names_own art_index_app (take 2 (built art_index_app).subs) (built_leaf help_shape) words refl refl refl refl taken in
+    ⊎_elim (λ run. inl (named.1 ∙ ap (λ t. Some t) run)) (λ others. ⊎_elim (λ step. inr (named.1 ∙ ap (λ t. Some t) step)) (λ none. absurd none) others) named.2
 
 -- ---- what the matches say
 
@@ -54,13 +55,10 @@ pub given_by_words : (a : App) (words : List Text) → a ≡ art_index_app → (
     → Some (rows_of (found_of options)) ≡ option_map (λ s. s.1) (subcommand_rows_of m) → first_value (found_of options) ≡ option_given words
 given_by_words a words is m options matches rows = λ i name. met_options m options words (same_subcommand a words is m matches) rows name i
 
--- where `run` was met, something was met, and its name is no other
-pub none_met : {X : Type 0} (met : Option (Bor Text × X)) → met ≡ None → option_map (λ p. p.0.now) met ≡ Some (codes "run") → ⊥
-none_met met is run = let none : None ≡ Some (codes "run") = ap (option_map (λ p. p.0.now)) (sym is) ∙ run in cc
+-- the name that was met is the one that the words give
+pub name_met : (met name : Text) (given : Option Text) → Some met ≡ given → given ≡ Some name → met ≡ name
+name_met met name given is was = let same : Some met ≡ Some name = is ∙ was in cc
 
-pub other_met : {X : Type 0} (met : Option (Bor Text × X)) (p : Bor Text × X) → met ≡ Some p → option_map (λ p. p.0.now) met ≡ Some (codes "run")
-    → bytes_eq p.0.now (codes "run") ≡ false → ⊥
-other_met met p is run other =
-    let same : Some p.0.now ≡ Some (codes "run") = ap (option_map (λ p. p.0.now)) (sym is) ∙ run in
-    let name : p.0.now ≡ codes "run" = cc in
-    true≢false (rw name at other)
+-- and then it is told from no text that is the same
+pub not_other : (met name : Text) → met ≡ name → bytes_eq name name ≡ true → bytes_eq met name ≡ false → ⊥
+not_other met name is same other = true≢false (sym same ∙ (ap (λ t. bytes_eq t name) (sym is) ∙ other))

@@ -1,26 +1,32 @@
 -- Settings from words that are known.
-use Rattle.std.proofs.Common.{◌≡◌, ◌∙◌, refl, subst, List, [], Result, Ok, Err, IfErr, IfOk, MatchResult}
+use Rattle.std.proofs.Common.{◌≡◌, ◌∙◌, ap, codes, refl, subst, sym, List, [], Option, Some, Result, Ok, Err, IfErr, IfOk, MatchResult, true≢false}
+use Rattle.std.specs.Str.{bytes_eq}
 use Rattle.clap.specs.Words.{Text}
 use Rattle.clap.specs.Kinds.{Kinds}
 use Rattle.art_table.specs.declared.configs.Config.{Config}
 use Rattle.art_table.specs.Sizes.{IsConfig}
 use Rattle.art_tools.specs.declared.settings.Settings.{Settings}
-use Rattle.art_tools.specs.declared.settings.Settings.TheVariants.{Run}
+use Rattle.art_tools.specs.declared.settings.Settings.TheVariants.{Run, Step}
 use Rattle.art_tools.specs.declared.settings.SettingsFault.{SettingsFault}
 use Rattle.art_tools.specs.declared.settings.SettingsFault.TheVariants.{NoMemory, Range, Usage}
 use Rattle.art_tools.specs.Faults.{Explains}
 use Rattle.art_tools.specs.Options.{Given, schema_given, sizes_given}
-use Rattle.art_tools.specs.Settings.{IsAskedBy, RunsWith, option_given}
+use Rattle.art_tools.specs.Settings.{IsAskedBy, RunsWith, option_given, subcommand_given}
 
--- settings run with whatever gives the same schema and the same sizes
-runs_alike : (a b : Given) → schema_given a ≡ schema_given b → sizes_given a ≡ sizes_given b → (s : Settings) → RunsWith a s → RunsWith b s
-runs_alike a b schemas sizes (Run schema leaves n4 n16 n48 n256 counter_start) runs = (runs.0 ∙ schemas, runs.1 ∙ sizes)
+-- the names are two
+apart : ◌≡◌ {A = Option Text} (Some (codes "run")) (Some (codes "step")) → ⊥
+apart e = let same : codes "run" ≡ codes "step" = cc in true≢false (ap (λ t. bytes_eq t (codes "run")) same)
 
--- the settings that the words give are those of these options
-pub settings_known : (words : List Text) (given : Given) (r : Result Settings SettingsFault) → schema_given (option_given words) ≡ schema_given given
-    → sizes_given (option_given words) ≡ sizes_given given → IfOk r (IsAskedBy words) → IfOk r (RunsWith given)
-settings_known words given (Err fault) schemas sizes asked = asked
-settings_known words given (Ok s) schemas sizes asked = runs_alike (option_given words) given schemas sizes s asked.1
+pub not_both : (o : Option Text) → o ≡ Some (codes "run") → o ≡ Some (codes "step") → ⊥
+not_both o run step = apart (sym run ∙ step)
+
+-- the settings that the words give are those of `run` with these options
+pub settings_known : (words : List Text) (given : Given) (r : Result Settings SettingsFault) → subcommand_given words ≡ Some (codes "run")
+    → schema_given (option_given words) ≡ schema_given given → sizes_given (option_given words) ≡ sizes_given given
+    → IfOk r (IsAskedBy words) → IfOk r (RunsWith given)
+settings_known words given (Err fault) runs schemas sizes asked = asked
+settings_known words given (Ok (Run table)) runs schemas sizes asked = (asked.1.0 ∙ schemas, asked.1.1 ∙ sizes)
+settings_known words given (Ok (Step table)) runs schemas sizes asked = absurd (not_both (subcommand_given words) runs asked.0)
 
 -- where nothing is wrong with the words, and the sizes are valid, only memory can run out
 pub only_memory : {T : Type 0} (kinds : Kinds) (sizes : Config) (r : Result T SettingsFault) (P : T → Type 0) → kinds ≡ [] → IsConfig sizes

@@ -11,7 +11,7 @@ use Rattle.clap.specs.Words.{Text}
 use Rattle.clap.proofs.WalkLemmas.{both}
 use Rattle.art_table.specs.declared.configs.Config.{Config}
 use Rattle.art_table.specs.Sizes.{IsConfig}
-use Rattle.art_tools.specs.declared.options.TableOptions.{TableOptions}
+use Rattle.art_tools.specs.declared.settings.TableSettings.{TableSettings}
 use Rattle.art_tools.specs.Options.{Given, HasOptions, HasSaturated, is_digits, saturated, sizes_given}
 
 -- ---- digits
@@ -70,7 +70,7 @@ held_whole sizes valid = λ i. record {
 }
 
 -- options that are valid as they are held are those that are given, whose sizes are valid
-module _ (given : Given) (options : TableOptions) (holds : HasSaturated given options) where
+module _ (given : Given) (options : TableSettings) (holds : HasSaturated given options) where
   pub given_valid : IsConfig options.sizes → IsConfig (sizes_given given)
   given_valid valid = valid_before (sizes_given given) (subst IsConfig holds.1 valid)
 

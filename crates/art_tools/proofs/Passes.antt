@@ -1,15 +1,22 @@
--- A table of one pass.
-use Rattle.std.proofs.Common.{◌≡◌, List, [], ◌∷◌, ◌++◌, length, length-append, inl, inr, refl, sym, ap, subst, arith}
+-- A table of one pass, and one of eight.
+use Rattle.std.proofs.Common.{◌≡◌, ℕ, ◌<◌, List, [], ◌∷◌, ◌++◌, length, length-append, zero, suc, Some, inl, inr, refl, sym, ap, subst, arith, ◌∙◌}
 use Rattle.std.proofs.lemmas.List.{nil_from_length}
 use Rattle.std.specs.List.{slice_get}
 use Rattle.art_key.specs.declared.columns.Column.{Column}
+use Rattle.art_schedule.specs.Schedules.{ComeBack}
+use Rattle.art_shared.specs.SamePass.{SamePass}
 use Rattle.art_step.specs.Views.{Member}
-use Rattle.art_table.specs.Closing.{AreAllPasses, AreOf}
+use Rattle.art_table.specs.Closing.{AreAllPasses, AreOf, Explains}
 use Rattle.art_table.specs.Opening.{IsNew, IsOpened}
 use Rattle.art_table.specs.Tables.{IsPassOf, number_of, sizes_in}
+use Rattle.art_table.specs.declared.closing.CloseRefusal.{CloseRefusal}
+use Rattle.art_table.specs.declared.closing.CloseRefusal.TheVariants as close
 use Rattle.art_table.specs.declared.configs.Config.{Config}
 use Rattle.art_table.specs.declared.passes.Pass.{Pass}
 use Rattle.art_table.specs.declared.tables.Table.{Table}
+use Rattle.art_tools.specs.Schedules.{AreEight, AreInPlace}
+use Rattle.art_tools.specs.Statuses.{unclosed}
+use Rattle.art_tools.specs.declared.run_faults.RunFault.TheVariants.{NoMemory}
 
 -- ---- all passes of the table
 
@@ -23,6 +30,11 @@ one_of t q is p here = subst (IsPassOf t) (sym (only_member q p here)) is
 pub one_is_all : (t : Table) (q : Pass) → (sizes_in t).passes ≡ 1 → number_of q ≡ 0 → AreAllPasses (sizes_in t).passes (q ∷ [])
 one_is_all t q one number = (sym one, λ n below. (q, inl refl, let few = below in omega (arith, one, number, few)))
 
+-- with all passes only memory can be missing
+pub no_memory : (table : Table) (passes : List Pass) (why : CloseRefusal) → AreAllPasses (sizes_in table).passes passes → Explains table passes why → unclosed why ≡ NoMemory
+no_memory table passes close.PassesMissing all why = absurd (why all)
+no_memory table passes close.NoMemory all why = refl
+
 -- ---- as it was opened
 
 pub last_alone : (rest : List Pass) (q : Pass) (passes : List Pass) → passes ≡ rest ++ q ∷ [] → length passes ≡ 1 → rest ≡ []
@@ -33,3 +45,58 @@ last_alone rest q passes split one =
 
 pub new_pass : (schema : List Column) (config : Config) (t : Table) (passes : List Pass) (q : Pass) → IsOpened schema config t passes → passes ≡ q ∷ [] → IsNew t 0 q
 new_pass schema config t passes q opened is = opened.each 0 q (ap (λ (l : List Pass). slice_get l 0) is)
+
+-- ---- eight passes
+
+same_some : {A : Type 0} (x y : A) → Some x ≡ Some y → x ≡ y
+same_some x y e = cc
+
+-- one that is found at a place is among them, and one that is among them is found at a place
+get_member : (xs : List Pass) (n : ℕ) (p : Pass) → slice_get xs n ≡ Some p → Member p xs
+get_member [] n p e = absurd (cc)
+get_member (x ∷ xs) zero p e = inl (sym (same_some x p e))
+get_member (x ∷ xs) (suc n) p e = inr (get_member xs n p e)
+
+member_get : (xs : List Pass) (p : Pass) → Member p xs → (n : ℕ) × (slice_get xs n ≡ Some p)
+member_get [] p here = absurd here
+member_get (x ∷ xs) p (inl same) = (0, ap (λ q. Some q) (sym same))
+member_get (x ∷ xs) p (inr rest) = let there = member_get xs p rest in (suc there.0, there.1)
+
+-- below the length something is found
+get_below : (xs : List Pass) (n : ℕ) → n < length xs → (p : Pass) × (slice_get xs n ≡ Some p)
+get_below [] n below = absurd (omega arith)
+get_below (x ∷ xs) zero below = (x, refl)
+get_below (x ∷ xs) (suc n) below = get_below xs n (omega arith)
+
+module _ (t : Table) (passes : List Pass) (places : AreInPlace t passes) where
+  pub all_of : AreOf t passes
+  all_of p here = let there = member_get passes p here in (places there.0 p there.1).0
+
+  pub all_here : (count : ℕ) → length passes ≡ count → AreAllPasses count passes
+  all_here count long = (
+    long,
+    λ n below. let found = get_below passes n (let few = below in omega (arith, long, few)) in
+        (found.0, get_member passes n found.0 found.1, (places n found.0 found.1).1),
+  )
+
+-- what is found stands below the length
+found_below : (xs : List Pass) (n : ℕ) (p : Pass) → slice_get xs n ≡ Some p → n < length xs
+found_below [] n p e = absurd (cc)
+found_below (x ∷ xs) zero p e = omega arith
+found_below (x ∷ xs) (suc n) p e = let below = found_below xs n p e in omega arith
+
+same_number : (t : Table) (p q : Pass) → SamePass p.seat q.seat → number_of q ≡ number_of p
+same_number t p q same = sym q.seat.own ∙ (same.number ∙ p.seat.own)
+
+-- passes that come back from a schedule stand in their places
+pub back_in_place : (t : Table) (before back : List Pass) → AreEight t before → length back ≡ 8 → ComeBack t before back → AreInPlace t back
+back_in_place t before back eight many come n q found =
+    let below = found_below back n q found in
+    let few = eight.0 in
+    let was = get_below before n (omega (arith, below, many, few)) in
+    let same = come n was.0 q was.1 found in
+    (same.0, same_number t was.0 q same.1 ∙ (eight.1 n was.0 was.1).1)
+
+-- as the table was opened
+pub new_passes : (schema : List Column) (config : Config) (t : Table) (passes : List Pass) → IsOpened schema config t passes → AreInPlace t passes
+new_passes schema config t passes opened n p found = let new = opened.each n p found in (new.of, new.number_is)

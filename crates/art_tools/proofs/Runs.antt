@@ -1,4 +1,4 @@
--- A session that came to the end of its input wrote the output, and which end of a session a fault of a run tells of.
+-- A session that came to the end of its input wrote the output, and which end of a session, or of a schedule, a fault tells of.
 use Rattle.std.proofs.Common.{◌≡◌, ℕ, ◌+◌, Bool, false, if◌then◌else◌, List, [], ◌∷◌, ◌++◌, length, Option, Some, None, Result, Ok, Err, IfErr, OnOk, take, refl, sym, ap, subst, ◌∙◌, append-nil, arith}
 use Rattle.std.proofs.Math.Seq.{take-length}
 use Rattle.std.specs.Option.{option_or}
@@ -10,6 +10,8 @@ use Rattle.art_key.specs.Histories.{replay}
 use Rattle.art_key.specs.declared.columns.Column.{Column}
 use Rattle.art_key.specs.declared.events.Event.{Event}
 use Rattle.art_model.specs.declared.commands.Reply.{Reply}
+use Rattle.art_schedule.specs.declared.stops.ScheduleEnd.{ScheduleEnd}
+use Rattle.art_schedule.specs.declared.stops.ScheduleEnd.TheVariants as schedule
 use Rattle.art_server.specs.declared.refusals.Refusal.{Refusal}
 use Rattle.art_server.specs.declared.sessions.EndCause.{EndCause}
 use Rattle.art_server.specs.declared.sessions.EndCause.TheVariants as end
@@ -21,34 +23,35 @@ use Rattle.art_table.specs.declared.passes.Pass.{Pass}
 use Rattle.art_table.specs.declared.tables.Table.{Table}
 use Rattle.art_tools.specs.Outputs.{HasOutput, Outputs}
 use Rattle.art_tools.specs.declared.run_faults.RunFault.{RunFault}
-use Rattle.art_tools.specs.declared.run_faults.RunFault.TheVariants.{ReadFailed, WriteFailed, Refused, NoMemory, ReadsUsed}
-use Rattle.art_tools.specs.Statuses.{fault_at, fault_in, status_after}
+use Rattle.art_tools.specs.declared.run_faults.RunFault.TheVariants.{ReadFailed, WriteFailed, Refused, NoMemory, ReadsUsed, BadLine}
+use Rattle.art_tools.specs.Statuses.{fault_at, fault_in, schedule_fault, status_after}
 
--- no fault is told only where the session came to the end of the input
-ended_without_fault : (why : EndCause) (closing : Option RunFault) → None ≡ option_or (fault_at why) closing → why ≡ end.Ended
-ended_without_fault end.Ended closing e = λ i. end.Ended
-ended_without_fault end.ReadFault closing e = absurd (cc)
-ended_without_fault end.WriteFault closing e = absurd (cc)
-ended_without_fault end.NoMemory closing e = absurd (cc)
-ended_without_fault end.ReadsUsed closing e = absurd (cc)
+-- no fault is told only where there was none, and then none in the closing
+pub where_closed : {A B : Type 0} (r : Result A RunFault) (told : Option RunFault) (closed : Result B RunFault) (P Q : Type 0)
+    → fault_in r ≡ option_or told (fault_in closed) → OnOk closed P → (told ≡ None → P → Q) → OnOk r Q
+where_closed (Err fault) told closed P Q e closing both = tt
+where_closed (Ok a) None (Ok b) P Q e closing both = both refl closing
+where_closed (Ok a) None (Err fault) P Q e closing both = absurd (cc)
+where_closed (Ok a) (Some fault) closed P Q e closing both = absurd (cc)
+
+-- the same of the end before the closing alone
+pub where_ended : {A B : Type 0} (r : Result A RunFault) (told : Option RunFault) (closed : Result B RunFault) (Q : Type 0)
+    → fault_in r ≡ option_or told (fault_in closed) → (told ≡ None → Q) → OnOk r Q
+where_ended (Err fault) told closed Q e ended = tt
+where_ended (Ok a) None closed Q e ended = ended refl
+where_ended (Ok a) (Some fault) closed Q e ended = absurd (cc)
+
+-- a session that tells none came to the end of the input
+pub session_ended : (why : EndCause) → fault_at why ≡ None → why ≡ end.Ended
+session_ended end.Ended e = refl
+session_ended end.ReadFault e = absurd (cc)
+session_ended end.WriteFault e = absurd (cc)
+session_ended end.NoMemory e = absurd (cc)
+session_ended end.ReadsUsed e = absurd (cc)
 
 -- what was read to the end is what the reader had left
 all_was_read : (input rest read : List ℕ) → input ≡ read ++ rest → rest ≡ [] → read ≡ input
 all_was_read input rest read whole none = sym (append-nil read) ∙ sym (whole ∙ ap (λ xs. read ++ xs) none)
-
--- nor where its table was closed
-closed_without_fault : {B : Type 0} (why : EndCause) (closed : Result B RunFault) (P : Type 0) → None ≡ option_or (fault_at why) (fault_in closed) → OnOk closed P → P
-closed_without_fault end.Ended (Ok b) P e p = p
-closed_without_fault end.Ended (Err fault) P e p = absurd (cc)
-closed_without_fault end.ReadFault closed P e p = absurd (cc)
-closed_without_fault end.WriteFault closed P e p = absurd (cc)
-closed_without_fault end.NoMemory closed P e p = absurd (cc)
-closed_without_fault end.ReadsUsed closed P e p = absurd (cc)
-
-pub where_closed : {A B : Type 0} (r : Result A RunFault) (why : EndCause) (closed : Result B RunFault) (P Q : Type 0) → fault_in r ≡ option_or (fault_at why) (fault_in closed)
-    → OnOk closed P → (why ≡ end.Ended → P → Q) → OnOk r Q
-where_closed (Ok a) why closed P Q e closing both = both (ended_without_fault why (fault_in closed) e) (closed_without_fault why closed P e closing)
-where_closed (Err fault) why closed P Q e closing both = tt
 
 -- ---- the output
 
@@ -109,24 +112,21 @@ session_outputs schema (Some input) (Some rest) held held_after t p q e schema_i
     let output = has_output t p q was new alone runs.0 runs.1 e runs.4 ended schema schema_is in
     (runs.1, subst (λ (bytes : List ℕ). HasOutput schema bytes runs.1) same output, runs.3)
 
--- ---- which end of a session a fault tells of
+-- ---- which end a fault tells of
 
-told_by_end : (fault : RunFault) (why : EndCause) (closing : Option RunFault) → Some fault ≡ option_or (fault_at why) closing → (closing ≡ Some fault → ⊥) → fault_at why ≡ Some fault
-told_by_end fault end.Ended closing e other = absurd (other (sym e))
-told_by_end fault end.ReadFault closing e other = sym e
-told_by_end fault end.WriteFault closing e other = sym e
-told_by_end fault end.NoMemory closing e other = sym e
-told_by_end fault end.ReadsUsed closing e other = sym e
+told_before : (fault : RunFault) (told closing : Option RunFault) → Some fault ≡ option_or told closing → (closing ≡ Some fault → ⊥) → told ≡ Some fault
+told_before fault None closing e other = absurd (other (sym e))
+told_before fault (Some first) closing e other = sym e
 
 not_closing : {B : Type 0} (closed : Result B RunFault) (fault : RunFault) → IfErr closed (λ f. f ≡ NoMemory) → (fault ≡ NoMemory → ⊥) → fault_in closed ≡ Some fault → ⊥
 not_closing (Ok b) fault memory other e = cc
 not_closing (Err f) fault memory other e = let same : fault ≡ NoMemory = cc in other same
 
--- where closing can only want memory, another fault is that of the session's end
-pub told_by_session : {A B : Type 0} (r : Result A RunFault) (closed : Result B RunFault) (why : EndCause) (fault : RunFault) → fault_in r ≡ option_or (fault_at why) (fault_in closed)
-    → IfErr closed (λ f. f ≡ NoMemory) → (fault ≡ NoMemory → ⊥) → r ≡ Err fault → fault_at why ≡ Some fault
-told_by_session r closed why fault outcome memory other is =
-    told_by_end fault why (fault_in closed) (ap fault_in (sym is) ∙ outcome) (not_closing closed fault memory other)
+-- where closing can only want memory, another fault is that of the end before it
+pub told_first : {A B : Type 0} (r : Result A RunFault) (closed : Result B RunFault) (told : Option RunFault) (fault : RunFault) → fault_in r ≡ option_or told (fault_in closed)
+    → IfErr closed (λ f. f ≡ NoMemory) → (fault ≡ NoMemory → ⊥) → r ≡ Err fault → told ≡ Some fault
+told_first r closed told fault outcome memory other is =
+    told_before fault told (fault_in closed) (ap fault_in (sym is) ∙ outcome) (not_closing closed fault memory other)
 
 pub used_up : (why : EndCause) → fault_at why ≡ Some ReadsUsed → why ≡ end.ReadsUsed
 used_up end.Ended e = absurd (cc)
@@ -142,7 +142,51 @@ read_failed end.WriteFault e = absurd (cc)
 read_failed end.NoMemory e = absurd (cc)
 read_failed end.ReadsUsed e = absurd (cc)
 
--- the status that says so
+-- no session ends at a line of a schedule
+pub no_line : (why : EndCause) (line : ℕ) → fault_at why ≡ Some (BadLine line) → ⊥
+no_line end.Ended line e = cc
+no_line end.ReadFault line e = cc
+no_line end.WriteFault line e = cc
+no_line end.NoMemory line e = cc
+no_line end.ReadsUsed line e = cc
+
+-- ---- the same of a schedule
+
+pub schedule_ended : (end : ScheduleEnd) → schedule_fault end ≡ None → end ≡ schedule.Ended
+schedule_ended schedule.Ended e = refl
+schedule_ended (schedule.BadLine line) e = absurd (cc)
+schedule_ended schedule.ReadFault e = absurd (cc)
+schedule_ended schedule.WriteFault e = absurd (cc)
+schedule_ended schedule.NoMemory e = absurd (cc)
+schedule_ended schedule.ReadsUsed e = absurd (cc)
+
+pub schedule_read_failed : (end : ScheduleEnd) → schedule_fault end ≡ Some ReadFailed → end ≡ schedule.ReadFault
+schedule_read_failed schedule.Ended e = absurd (cc)
+schedule_read_failed (schedule.BadLine line) e = absurd (cc)
+schedule_read_failed schedule.ReadFault e = refl
+schedule_read_failed schedule.WriteFault e = absurd (cc)
+schedule_read_failed schedule.NoMemory e = absurd (cc)
+schedule_read_failed schedule.ReadsUsed e = absurd (cc)
+
+pub schedule_used_up : (end : ScheduleEnd) → schedule_fault end ≡ Some ReadsUsed → end ≡ schedule.ReadsUsed
+schedule_used_up schedule.Ended e = absurd (cc)
+schedule_used_up (schedule.BadLine line) e = absurd (cc)
+schedule_used_up schedule.ReadFault e = absurd (cc)
+schedule_used_up schedule.WriteFault e = absurd (cc)
+schedule_used_up schedule.NoMemory e = absurd (cc)
+schedule_used_up schedule.ReadsUsed e = refl
+
+-- no schedule is refused
+pub not_refused : (end : ScheduleEnd) (refusal : Refusal) → schedule_fault end ≡ Some (Refused refusal) → ⊥
+not_refused schedule.Ended refusal e = cc
+not_refused (schedule.BadLine line) refusal e = cc
+not_refused schedule.ReadFault refusal e = cc
+not_refused schedule.WriteFault refusal e = cc
+not_refused schedule.NoMemory refusal e = cc
+not_refused schedule.ReadsUsed refusal e = cc
+
+-- ---- the statuses that say so
+
 pub five_is_used : {A : Type 0} (r : Result A RunFault) → status_after r ≡ 5 → r ≡ Err ReadsUsed
 five_is_used (Ok a) e = absurd (cc)
 five_is_used (Err ReadFailed) e = absurd (cc)
@@ -150,3 +194,22 @@ five_is_used (Err WriteFailed) e = absurd (cc)
 five_is_used (Err (Refused refusal)) e = absurd (cc)
 five_is_used (Err NoMemory) e = absurd (cc)
 five_is_used (Err ReadsUsed) e = refl
+five_is_used (Err (BadLine line)) e = absurd (cc)
+
+pub six_is_line : {A : Type 0} (r : Result A RunFault) → status_after r ≡ 6 → (line : ℕ) × (r ≡ Err (BadLine line))
+six_is_line (Ok a) e = absurd (cc)
+six_is_line (Err ReadFailed) e = absurd (cc)
+six_is_line (Err WriteFailed) e = absurd (cc)
+six_is_line (Err (Refused refusal)) e = absurd (cc)
+six_is_line (Err NoMemory) e = absurd (cc)
+six_is_line (Err ReadsUsed) e = absurd (cc)
+six_is_line (Err (BadLine line)) e = (line, refl)
+
+pub three_is_refused : {A : Type 0} (r : Result A RunFault) → status_after r ≡ 3 → (refusal : Refusal) × (r ≡ Err (Refused refusal))
+three_is_refused (Ok a) e = absurd (cc)
+three_is_refused (Err ReadFailed) e = absurd (cc)
+three_is_refused (Err WriteFailed) e = absurd (cc)
+three_is_refused (Err (Refused refusal)) e = (refusal, refl)
+three_is_refused (Err NoMemory) e = absurd (cc)
+three_is_refused (Err ReadsUsed) e = absurd (cc)
+three_is_refused (Err (BadLine line)) e = absurd (cc)

@@ -1,5 +1,6 @@
 pub mod Faults
 pub mod Options
 pub mod Outputs
+pub mod Schedules
 pub mod Settings
 pub mod Statuses

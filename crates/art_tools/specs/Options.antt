@@ -9,7 +9,7 @@ use Rattle.clap.specs.Walk.{is_empty}
 use Rattle.clap.specs.Words.{App, Rule, Text, new_rule, with_rule}
 use Rattle.clap.specs.declared.error.kind.ErrorKind.TheVariants.{ValueValidation}
 use Rattle.art_table.specs.declared.configs.Config.{Config}
-use Rattle.art_tools.specs.declared.options.TableOptions.{TableOptions}
+use Rattle.art_tools.specs.declared.settings.TableSettings.{TableSettings}
 
 -- the option `--name VALUE`, of any text, which may be left out
 abbrev pub option_rule : Text → Rule
@@ -61,7 +61,7 @@ sizes_given given = record {
 }
 
 -- the options are those that are given
-abbrev pub HasOptions : Given → TableOptions → Type 0
+abbrev pub HasOptions : Given → TableSettings → Type 0
 HasOptions given options = (options.schema.now ≡ schema_given given) × (options.sizes ≡ sizes_given given)
 
 -- ---- for the reading of numbers
@@ -79,5 +79,5 @@ saturated sizes = record {
 }
 
 -- the options are those that are given, each size as its field holds it
-abbrev pub HasSaturated : Given → TableOptions → Type 0
+abbrev pub HasSaturated : Given → TableSettings → Type 0
 HasSaturated given options = (options.schema.now ≡ schema_given given) × (options.sizes ≡ saturated (sizes_given given))

@@ -12,11 +12,18 @@ use Rattle.art_key.specs.Schemas.{schema_of}
 use Rattle.art_table.specs.declared.configs.Config.{Config}
 use Rattle.art_tools.specs.Options.{Given, HasOptions, numbers_fault, schema_given, sizes_given, with_table_options}
 use Rattle.art_tools.specs.declared.settings.Settings.{Settings}
-use Rattle.art_tools.specs.declared.settings.Settings.TheVariants.{Run}
+use Rattle.art_tools.specs.declared.settings.Settings.TheVariants.{Run, Step}
 
--- `run`, with the options of a table
+-- a subcommand with the options of a table
+abbrev pub table_app : Text → App
+table_app name = with_table_options (new_app name)
+
+-- `run`, and `step`
 abbrev pub run_app : App
-run_app = with_table_options (new_app (codes "run"))
+run_app = table_app (codes "run")
+
+abbrev pub step_app : App
+step_app = table_app (codes "step")
 
 -- a command of which a subcommand is wanted
 abbrev pub wanting_subcommand : App → App
@@ -28,7 +35,9 @@ versioned = on_top (λ s. record s { has_version = true })
 
 -- `art_index`, with its version and its subcommands
 abbrev pub art_index_app : App
-art_index_app = with_subcommand (wanting_subcommand (versioned (new_app (codes "art_index")))) run_app.top
+art_index_app =
+    let program = wanting_subcommand (versioned (new_app (codes "art_index"))) in
+    with_subcommand (with_subcommand program run_app.top) step_app.top
 
 -- the subcommand that the words name
 abbrev pub subcommand_given : List Text → Option Text
@@ -44,20 +53,13 @@ words_fault words = or_else (fault_of art_index_app words) (numbers_fault (optio
 
 -- the settings are those of `run` with the options that are given
 abbrev pub RunsWith : Given → Settings → Type 0
-RunsWith given (Run schema leaves n4 n16 n48 n256 counter_start) =
-    let sizes : Config = record {
-      leaves = leaves;
-      n4 = n4;
-      n16 = n16;
-      n48 = n48;
-      n256 = n256;
-      passes = 1;
-      counter_start = counter_start;
-    } in HasOptions given (record { schema = schema; sizes = sizes })
+RunsWith given (Run table) = HasOptions given table
+RunsWith given (Step table) = ⊥
 
--- the settings are those that the words ask for
+-- the settings are those that the words ask for: of the subcommand that they name, with the options that they give
 abbrev pub IsAskedBy : List Text → Settings → Type 0
-IsAskedBy words settings = (subcommand_given words ≡ Some (codes "run")) × RunsWith (option_given words) settings
+IsAskedBy words (Run table) = (subcommand_given words ≡ Some (codes "run")) × HasOptions (option_given words) table
+IsAskedBy words (Step table) = (subcommand_given words ≡ Some (codes "step")) × HasOptions (option_given words) table
 
 -- ---- as the program is given them
 
@@ -72,6 +74,10 @@ faults_of words = words_fault (texts_of words)
 -- the words ask for help, or for the version
 abbrev pub AsksToShow : List (Bor Text) → Type 0
 AsksToShow words = IsAmong DisplayHelp (faults_of words) ⊎ IsAmong DisplayVersion (faults_of words)
+
+-- the words name this subcommand
+abbrev pub AsksFor : List (Bor Text) → Text → Type 0
+AsksFor words name = subcommand_given (texts_of words) ≡ Some name
 
 -- the columns that `--schema` names, or those of `u64`
 abbrev pub schema_asked : List (Bor Text) → Result (List Column) SchemaFault

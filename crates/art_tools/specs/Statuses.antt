@@ -1,15 +1,17 @@
 -- Why a run fails, and with which status the program ends.
-use Rattle.std.specs.Prelude.{ℕ, List, codes, Option, Some, None, Result, Ok, Err}
+use Rattle.std.specs.Prelude.{ℕ, List, ◌++◌, codes, decimal, Option, Some, None, Result, Ok, Err}
 use Rattle.art_table.specs.declared.closing.CloseRefusal.{CloseRefusal}
 use Rattle.art_table.specs.declared.closing.CloseRefusal.TheVariants as close
 use Rattle.art_table.specs.declared.faults.OpenFault.{OpenFault}
 use Rattle.art_table.specs.declared.faults.OpenFault.TheVariants as opening
 use Rattle.art_server.specs.Refusals.{refusal_text}
 use Rattle.art_server.specs.declared.refusals.Refusal.TheVariants.{BadConfig, PassesMissing}
+use Rattle.art_schedule.specs.declared.stops.ScheduleEnd.{ScheduleEnd}
+use Rattle.art_schedule.specs.declared.stops.ScheduleEnd.TheVariants as schedule
 use Rattle.art_server.specs.declared.sessions.EndCause.{EndCause}
 use Rattle.art_server.specs.declared.sessions.EndCause.TheVariants as end
 use Rattle.art_tools.specs.declared.run_faults.RunFault.{RunFault}
-use Rattle.art_tools.specs.declared.run_faults.RunFault.TheVariants.{ReadFailed, WriteFailed, Refused, NoMemory, ReadsUsed}
+use Rattle.art_tools.specs.declared.run_faults.RunFault.TheVariants.{ReadFailed, WriteFailed, Refused, NoMemory, ReadsUsed, BadLine}
 
 abbrev pub status_of : RunFault → ℕ
 status_of ReadFailed = 1
@@ -17,6 +19,7 @@ status_of WriteFailed = 1
 status_of (Refused refusal) = 3
 status_of NoMemory = 4
 status_of ReadsUsed = 5
+status_of (BadLine line) = 6
 
 -- what is printed of a fault
 abbrev pub fault_text : RunFault → List ℕ
@@ -25,6 +28,7 @@ fault_text WriteFailed = codes "write failed"
 fault_text (Refused refusal) = refusal_text refusal
 fault_text NoMemory = codes "no memory"
 fault_text ReadsUsed = codes "reads used up"
+fault_text (BadLine line) = codes "schedule line " ++ decimal line
 
 -- what is wrong where the table is not opened
 abbrev pub unopened : OpenFault → RunFault
@@ -43,6 +47,15 @@ fault_at end.ReadFault = Some ReadFailed
 fault_at end.WriteFault = Some WriteFailed
 fault_at end.NoMemory = Some NoMemory
 fault_at end.ReadsUsed = Some ReadsUsed
+
+-- what is wrong where a schedule ends so
+abbrev pub schedule_fault : ScheduleEnd → Option RunFault
+schedule_fault schedule.Ended = None
+schedule_fault (schedule.BadLine line) = Some (BadLine line)
+schedule_fault schedule.ReadFault = Some ReadFailed
+schedule_fault schedule.WriteFault = Some WriteFailed
+schedule_fault schedule.NoMemory = Some NoMemory
+schedule_fault schedule.ReadsUsed = Some ReadsUsed
 
 -- what is wrong with a run, if it failed
 abbrev pub fault_in : {A : Type 0} → Result A RunFault → Option RunFault

@@ -4,12 +4,12 @@ ghost use Rattle.clap.specs.Words.{app_of, first_value, found_of, kind_of};
 ghost use Rattle.clap.specs.declared.error.kind.ErrorKind.TheVariants.{ValueValidation};
 ghost use Rattle.art_table.specs.Sizes.{IsConfig};
 ghost use Rattle.art_tools.specs.Faults.{Explains};
-ghost use Rattle.art_tools.specs.Options.{Given, HasOptions, numbers_fault, sizes_given};
-ghost use Rattle.art_tools.specs.Settings.{IsAskedBy, RunsWith, art_index_app, faults_of, run_app, sizes_asked, texts_of};
+ghost use Rattle.art_tools.specs.Options.{HasOptions, numbers_fault, sizes_given};
+ghost use Rattle.art_tools.specs.Settings.{IsAskedBy, art_index_app, faults_of, sizes_asked, table_app, texts_of};
 
-use crate::help::{AFTER_HELP, VERSION};
-use crate::options::{NoNumber, TableOptions, read_options, with_table_options};
-use crate::settings::{Settings, SettingsFault};
+use crate::help::{AFTER_HELP, RUN_HELP, STEP_HELP, VERSION};
+use crate::options::{NoNumber, read_options, with_table_options};
+use crate::settings::{Settings, SettingsFault, TableSettings};
 use clap::error::ErrorKind;
 use clap::{ArgMatches, Command};
 use std::alloc::{AllocError, Global};
@@ -26,11 +26,13 @@ pub fn settings<'a>(alloc: Global, words: &'a [&'a str]) -> Result<Settings<'a>,
 {
     let mut program = art_index(alloc)?;
     let matches = program.try_get_matches_from_mut(words)?;
-    match matches.subcommand() {
-        Some(("run", given)) => {
-            let options = table_options(alloc, &mut program, given)?;
-            Ok(run_settings(options))
-        }
+    let Some((name, given)) = matches.subcommand() else {
+        unreachable!();
+    };
+    let table = table_settings(alloc, &mut program, given)?;
+    match name {
+        "run" => Ok(Settings::Run(table)),
+        "step" => Ok(Settings::Step(table)),
         _ => unreachable!(),
     }
 }
@@ -39,41 +41,54 @@ pub fn settings<'a>(alloc: Global, words: &'a [&'a str]) -> Result<Settings<'a>,
 fn art_index<'a>(alloc: Global) -> Result<Command<'a>, AllocError>
     ensures { IfOk result (λ c. app_of c ≡ art_index_app) }
 {
-    let run = run_command(alloc)?;
+    let run = table_command(
+        alloc,
+        "run",
+        "Answers the lines on standard input",
+        RUN_HELP,
+    )?;
+    let step = table_command(alloc, "step", "Runs a schedule of single steps", STEP_HELP)?;
     Command::new(alloc, "art_index")
         .about("An ordered index in memory")
         .after_help(AFTER_HELP)
         .version(VERSION)
         .subcommand_required(true)
-        .subcommand(run)
+        .subcommand(run)?
+        .subcommand(step)
 }
 
-fn run_command<'a>(alloc: Global) -> Result<Command<'a>, AllocError>
-    ensures { IfOk result (λ c. app_of c ≡ run_app) }
+// A subcommand with the options of a table.
+fn table_command<'a>(
+    alloc: Global,
+    name: &'a str,
+    about: &'a str,
+    after_help: &'a str,
+) -> Result<Command<'a>, AllocError>
+    ensures { IfOk result (λ c. app_of c ≡ table_app name.entry.now) }
 {
-    let run = Command::new(alloc, "run")
-        .about("Answers the lines on standard input")
-        .after_help(AFTER_HELP);
-    with_table_options(alloc, run)
+    let command = Command::new(alloc, name)
+        .about(about)
+        .after_help(after_help);
+    with_table_options(alloc, command)
 }
 
 // The options of a table that the matches of a subcommand give, each number in its range.
-fn table_options<'a>(
+fn table_settings<'a>(
     alloc: Global,
     program: &mut Command<'a>,
     given: &ArgMatches<'a>,
-) -> Result<TableOptions<'a>, SettingsFault>
+) -> Result<TableSettings<'a>, SettingsFault>
     ensures has { IfOk result (HasOptions (first_value (found_of given.now))) }
     ensures refused { MatchResult result
         (λ _. (numbers_fault (first_value (found_of given.now)) ≡ []) × IsConfig (sizes_given (first_value (found_of given.now))))
         (Explains (numbers_fault (first_value (found_of given.now))) (sizes_given (first_value (found_of given.now)))) }
 {
     match read_options(given) {
-        Ok(options) => {
-            if !options.sizes.is_valid() {
+        Ok(table) => {
+            if !table.sizes.is_valid() {
                 return Err(SettingsFault::Range);
             }
-            Ok(options)
+            Ok(table)
         }
         Err(fault) => Err(SettingsFault::from(usage_error(alloc, program, fault)?)),
     }
@@ -92,19 +107,4 @@ fn usage_error(
         "invalid value '{value}' for '--{name} <NUMBER>': not a row of digits"
     )?;
     program.error(ErrorKind::ValueValidation, message.as_str())
-}
-
-fn run_settings<'a>(options: TableOptions<'a>) -> Settings<'a>
-    ensures { (given : Given) → HasOptions given options.entry → RunsWith given result }
-{
-    let TableOptions { schema, sizes } = options;
-    Settings::Run {
-        schema,
-        leaves: sizes.leaves,
-        n4: sizes.n4,
-        n16: sizes.n16,
-        n48: sizes.n48,
-        n256: sizes.n256,
-        counter_start: sizes.counter_start,
-    }
 }

@@ -13,7 +13,10 @@ mod program;
 #[cfg(test)]
 mod rows;
 mod run_faults;
+mod schedules;
 mod settings;
+#[cfg(test)]
+mod step_rows;
 #[cfg(test)]
 mod tests;
 

@@ -7,18 +7,10 @@ ghost use Rattle.clap.specs.Words.{app_of, first_value, found_of, items_of, rule
 ghost use Rattle.clap.specs.declared.error.kind.ErrorKind.TheVariants.{ValueValidation};
 ghost use Rattle.art_tools.specs.Options.{HasSaturated, has_digits, is_digits, number_given, numbers_fault, option_rule, with_table_options};
 
+use crate::settings::TableSettings;
 use art_table::Config;
 use clap::{Arg, ArgMatches, Command};
 use std::alloc::{AllocError, Global};
-
-/// What a table is opened with.
-#[derive(Clone, Copy)]
-pub struct TableOptions<'a> {
-    /// `--schema`
-    pub schema: &'a str,
-    /// The numbers, for a table of one pass. One that its field cannot hold stands there as the most that it can.
-    pub sizes: Config,
-}
 
 /// A value that should be a number and is no row of digits.
 #[derive(Clone, Copy)]
@@ -74,7 +66,7 @@ fn option<'a>(alloc: Global, name: &'a str, value: &'a str, help: &'a str) -> Ar
 }
 
 /// Reads the options of a table, unless a number is none.
-pub fn read_options<'a>(given: &ArgMatches<'a>) -> Result<TableOptions<'a>, NoNumber<'a>>
+pub fn read_options<'a>(given: &ArgMatches<'a>) -> Result<TableSettings<'a>, NoNumber<'a>>
     ensures { MatchResult result
         (λ options. (numbers_fault (first_value (found_of given.now)) ≡ []) × HasSaturated (first_value (found_of given.now)) options)
         (λ _. numbers_fault (first_value (found_of given.now)) ≡ ValueValidation ∷ []) }
@@ -89,7 +81,7 @@ pub fn read_options<'a>(given: &ArgMatches<'a>) -> Result<TableOptions<'a>, NoNu
         counter_start: number(given, "counter-start", 0)?,
     };
     let schema = given.get_str("schema").unwrap_or("u64");
-    Ok(TableOptions { schema, sizes })
+    Ok(TableSettings { schema, sizes })
 }
 
 // The number of an option as a size. One past 32 bits is the most that they hold.

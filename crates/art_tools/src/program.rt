@@ -1,5 +1,6 @@
 //! The program over a reader, a writer and a writer for faults.
-ghost use Rattle.std.specs.Prelude.{◌≡◌, ◌≢◌, ◌⊎◌, ◌↔◌, ◌≤◌, [], ◌∷◌, Ok, Err, IsErr, IsOk, IfErr, IfOk, OnOk};
+ghost use Rattle.std.specs.Prelude.{◌≡◌, ◌≢◌, ◌⊎◌, ◌↔◌, ◌≤◌, ℕ, [], ◌∷◌, Ok, Err, codes, IsErr, IsOk, IfErr, IfOk, OnOk};
+ghost use Rattle.std.specs.Io.KnownBytes.{IsAtEnd};
 ghost use Rattle.std.specs.Option.{option_or};
 ghost use Rattle.clap.specs.Values.{kind_of};
 ghost use Rattle.clap.specs.declared.error.kind.ErrorKind.TheVariants.{DisplayHelp, DisplayVersion};
@@ -14,10 +15,11 @@ ghost use Rattle.art_server.specs.declared.refusals.Refusal.{Refusal};
 ghost use Rattle.art_table.specs.Tables.{IsPassOf, number_of, schema_in, seen_by, sizes_in};
 ghost use Rattle.art_tools.specs.Outputs.{Outputs, of_one_pass};
 ghost use Rattle.art_tools.specs.Statuses.{fault_at, fault_in, status_after};
-ghost use Rattle.art_tools.specs.Settings.{faults_of, AsksToShow, schema_asked, sizes_asked};
+ghost use Rattle.art_tools.specs.Settings.{faults_of, AsksFor, AsksToShow, schema_asked, sizes_asked};
 
 use crate::command_line::settings;
 use crate::run_faults::RunFault;
+use crate::schedules::step;
 use crate::settings::{Settings, SettingsFault};
 use art_key::Schema;
 use art_server::{Counted, EndCause, Refusal, session};
@@ -29,7 +31,7 @@ use std::io::{self, Read, Write};
 ///
 /// Replies, help and the version go to `writer`, and what was wrong goes to `faults`, in one line. 0: ended, or help;
 /// 1: a read or a write failed; 2: the words were refused; 3: a number is out of its range, or the schema is none;
-/// 4: want of memory; 5: a million reads were made, each of which gave bytes.
+/// 4: want of memory; 5: a million reads were made, each of which gave bytes; 6: a line of a schedule is none.
 pub fn execute<'a, R: Read, W: Write, E: Write>(
     alloc: Global,
     words: &'a [&'a str],
@@ -37,7 +39,7 @@ pub fn execute<'a, R: Read, W: Write, E: Write>(
     writer: &mut W,
     faults: &mut E,
 ) -> u8
-    ensures status { result ≤ 5 }
+    ensures status { result ≤ 6 }
     ensures quiet { result ≡ 2 → writer.new ≡ writer.old }
     ensures mistake { faults_of words.entry.now ≢ [] → (¬ (AsksToShow words.entry.now)) → (result ≡ 2) ⊎ (result ≡ 4) }
     ensures help { faults_of words.entry.now ≡ DisplayHelp ∷ [] → result ≢ 2 }
@@ -49,34 +51,22 @@ pub fn execute<'a, R: Read, W: Write, E: Write>(
         → (result ≡ 3) ⊎ (result ≡ 4) }
     ensures refused { result ≡ 3 → (faults_of words.entry.now ≡ [])
         × ((¬ (IsConfig (sizes_asked words.entry.now))) ⊎ IsErr (schema_asked words.entry.now)) }
-    ensures ran { faults_of words.entry.now ≡ [] → result ≡ 0
+    ensures ended { faults_of words.entry.now ≡ [] → result ≡ 0 → IsAtEnd (R.remaining (reader_of reader.new)) }
+    ensures ran { faults_of words.entry.now ≡ [] → AsksFor words.entry.now (codes "run") → result ≡ 0
         → Outputs (schema_asked words.entry.now) (R.remaining (reader_of reader.old)) (W.contents writer.old) (W.contents writer.new) }
     ensures reads { AddsReads (reads_of reader.old) (reads_of reader.new) }
     ensures used { result ≡ 5 → MakesReads (reads_of reader.old) (reads_of reader.new) EndCause.ReadsUsed }
+    ensures line { result ≡ 6 → (faults_of words.entry.now ≡ []) × AsksFor words.entry.now (codes "step") }
 {
     match settings(alloc, words) {
-        Ok(
-            Settings::Run {
-                schema,
-                leaves,
-                n4,
-                n16,
-                n48,
-                n256,
-                counter_start,
-            },
-        ) => {
-            let sizes = Config {
-                leaves,
-                n4,
-                n16,
-                n48,
-                n256,
-                passes: 1,
-                counter_start,
-            };
-            status(faults, run(alloc, schema, sizes, reader, writer))
-        }
+        Ok(Settings::Run(table)) => status(
+            faults,
+            run(alloc, table.schema, table.sizes, reader, writer),
+        ),
+        Ok(Settings::Step(table)) => status(
+            faults,
+            step(alloc, table.schema, table.sizes, reader, writer),
+        ),
         Err(SettingsFault::Usage(error)) => tell_usage(&error, writer, faults),
         Err(SettingsFault::Range) => status(faults, Err(RunFault::Refused(Refusal::BadConfig))),
         Err(SettingsFault::NoMemory) => status(faults, Err(RunFault::NoMemory)),
@@ -94,6 +84,7 @@ pub fn run<R: Read, W: Write>(
 ) -> Result<(), RunFault>
     ensures output { OnOk result (Outputs (schema_of schema.now) (R.remaining (reader_of reader.old))
         (W.contents writer.old) (W.contents writer.new)) }
+    ensures ended { OnOk result (IsAtEnd (R.remaining (reader_of reader.new))) }
     ensures schema { (fault : SchemaFault) → schema_of schema.now ≡ Err fault
         → result ≡ Err (RunFault.Refused (schema_refusal fault)) }
     ensures range { IsOk (schema_of schema.now) → (¬ (IsConfig (of_one_pass sizes)))
@@ -105,6 +96,7 @@ pub fn run<R: Read, W: Write>(
         → MakesReads (reads_of reader.old) (reads_of reader.new) EndCause.ReadFault }
     ensures used { result ≡ Err RunFault.ReadsUsed
         → MakesReads (reads_of reader.old) (reads_of reader.new) EndCause.ReadsUsed }
+    ensures lines { (line : ℕ) → result ≢ Err (RunFault.BadLine line) }
 {
     let schema = Schema::parse(schema)?;
     let (table, passes, pass) = empty_table(alloc, schema, sizes)?;

@@ -4,13 +4,18 @@ use art_server::Counted;
 use std::alloc::Global;
 use std::process::Abort;
 
-/// A run with these options answers its input so, and ends well.
+/// A run with these two options answers its input so, and ends well.
 fn check_run(rt: &impl Abort, alloc: Global, options: [&str; 2], input: &[u8], expected: &[u8]) {
     let words = ["art_index", "run", options[0], options[1]];
+    check_words(rt, alloc, &words, input, expected);
+}
+
+/// These words answer their input so, and end well.
+fn check_words(rt: &impl Abort, alloc: Global, words: &[&str], input: &[u8], expected: &[u8]) {
     let mut output = Vec::new(alloc);
     let mut faults = Vec::new(alloc);
     let mut reader = Counted::new(input);
-    let status = execute(alloc, &words, &mut reader, &mut output, &mut faults);
+    let status = execute(alloc, words, &mut reader, &mut output, &mut faults);
     assert_eq!(rt; status, 0);
     assert_eq!(rt; output.as_slice(), expected);
     assert_eq!(rt; faults.as_slice(), b"".as_slice());
@@ -92,6 +97,57 @@ fn an_anchor_at_the_end_of_its_counter_is_not_changed(rt: HostRuntime) {
     let expected = b"[\"refused\",13,\"Exhausted\"]\n[\"absent\"]\n";
     let options = ["--schema=u8", "--counter-start=4611686018427387896"];
     check_run(&rt, rt.alloc(), options, input, expected);
+}
+
+/// Where the counter of a node is at its end, the node is not changed any more; its rows are read as ever.
+#[test]
+fn a_node_at_the_end_of_its_counter_is_read_and_not_changed(rt: HostRuntime) {
+    let input = b"[\"insert\",[1],1]\n[\"insert\",[2],2]\n[\"insert\",[1],5]\n\
+        [\"remove\",[1]]\n[\"get\",[1]]\n";
+    let expected = b"[\"inserted\"]\n[\"refused\",13,\"Exhausted\"]\n[\"present\",1]\n\
+        [\"refused\",13,\"Exhausted\"]\n[\"found\",1]\n";
+    let options = ["--schema=u8", "--counter-start=4611686018427387895"];
+    check_run(&rt, rt.alloc(), options, input, expected);
+}
+
+/// How many changes are left below a shared prefix before a counter is at its end.
+#[test]
+fn a_prefix_is_split_while_a_counter_is_left(rt: HostRuntime) {
+    let input = b"[\"insert\",[257],1]\n[\"insert\",[258],1]\n[\"insert\",[259],1]\n\
+        [\"insert\",[260],1]\n[\"insert\",[515],1]\n[\"get\",[260]]\n";
+    let four = b"[\"inserted\"]\n[\"inserted\"]\n[\"inserted\"]\n[\"inserted\"]\n\
+        [\"refused\",13,\"Exhausted\"]\n[\"found\",1]\n";
+    let three = b"[\"inserted\"]\n[\"inserted\"]\n[\"inserted\"]\n\
+        [\"refused\",13,\"Exhausted\"]\n[\"refused\",13,\"Exhausted\"]\n[\"absent\"]\n";
+    let options = ["--schema=u16", "--counter-start=4611686018427387893"];
+    check_run(&rt, rt.alloc(), options, input, four);
+    let options = ["--schema=u16", "--counter-start=4611686018427387894"];
+    check_run(&rt, rt.alloc(), options, input, three);
+}
+
+/// The one node of 4 children grows to the one of 16, and is free for a prefix; a second prefix finds none. Removals want no number that is
+/// not there.
+#[test]
+fn pools_of_one_node_each(rt: HostRuntime) {
+    let words = [
+        "art_index",
+        "run",
+        "--schema",
+        "u16",
+        "--n4",
+        "1",
+        "--n16",
+        "1",
+    ];
+    let input = b"[\"insert\",[1],1]\n[\"insert\",[2],2]\n[\"insert\",[3],3]\n\
+        [\"insert\",[4],4]\n[\"insert\",[5],5]\n[\"insert\",[257],6]\n[\"insert\",[258],7]\n\
+        [\"remove\",[5]]\n[\"remove\",[4]]\n[\"remove\",[3]]\n[\"remove\",[2]]\n\
+        [\"get\",[1]]\n[\"get\",[257]]\n";
+    let expected = b"[\"inserted\"]\n[\"inserted\"]\n[\"inserted\"]\n\
+        [\"inserted\"]\n[\"inserted\"]\n[\"inserted\"]\n[\"refused\",11,\"Full\"]\n\
+        [\"removed\",5]\n[\"removed\",4]\n[\"removed\",3]\n[\"removed\",2]\n\
+        [\"found\",1]\n[\"found\",6]\n";
+    check_words(&rt, rt.alloc(), &words, input, expected);
 }
 
 #[test]

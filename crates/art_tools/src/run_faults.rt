@@ -20,12 +20,14 @@ pub enum RunFault {
     Refused(Refusal),
     /// An allocation was refused.
     NoMemory,
-    /// A session's reads were used up.
+    /// The reads of a session, or of a schedule, were used up.
     ReadsUsed,
+    /// This line of a schedule is none, where lines count from 1.
+    BadLine(u64),
 }
 
 impl RunFault {
-    /// The status that the program ends with: 1, 3, 4 or 5.
+    /// The status that the program ends with: 1, or 3 to 6.
     pub fn status(self) -> u8
         ensures of { result ≡ status_of self }
         ensures other { result ≢ 2 }
@@ -35,6 +37,7 @@ impl RunFault {
             RunFault::Refused(_) => 3,
             RunFault::NoMemory => 4,
             RunFault::ReadsUsed => 5,
+            RunFault::BadLine(_) => 6,
         }
     }
 }
@@ -52,6 +55,7 @@ impl fmt::Display for RunFault {
             RunFault::Refused(refusal) => write!(f, "{refusal}"),
             RunFault::NoMemory => f.write_str("no memory"),
             RunFault::ReadsUsed => f.write_str("reads used up"),
+            RunFault::BadLine(line) => write!(f, "schedule line {line}"),
         }
     }
 }

@@ -3,29 +3,27 @@ ghost use Rattle.std.specs.Prelude.{◌≡◌};
 ghost use Rattle.art_tools.specs.Faults.{fault_from};
 ghost use Rattle.art_tools.specs.declared.settings.SettingsFault.TheVariants.{NoMemory};
 
+use art_table::Config;
 use clap::error::ErrorKind;
 use std::alloc::AllocError;
 
 /// What the program is asked to do: a variant for each subcommand, with its options.
 #[derive(Clone, Copy)]
 pub enum Settings<'a> {
-    /// `run`
-    Run {
-        /// `--schema`
-        schema: &'a str,
-        /// `--leaves`
-        leaves: u32,
-        /// `--n4`
-        n4: u32,
-        /// `--n16`
-        n16: u32,
-        /// `--n48`
-        n48: u32,
-        /// `--n256`
-        n256: u32,
-        /// `--counter-start`
-        counter_start: u64,
-    },
+    /// `run`: one session.
+    Run(TableSettings<'a>),
+    /// `step`: a schedule of single steps.
+    Step(TableSettings<'a>),
+}
+
+/// What a table is opened with.
+#[derive(Clone, Copy)]
+pub struct TableSettings<'a> {
+    /// `--schema`
+    pub schema: &'a str,
+    /// The numbers, for a table of one pass: each subcommand opens its table with as many as it has. One that its field cannot hold
+    /// stands there as the most that it can.
+    pub sizes: Config,
 }
 
 /// Why there are no settings.

@@ -5,9 +5,9 @@ ghost use Rattle.art_tools.specs.Settings.{RunsWith};
 ghost use Rattle.art_tools.specs.declared.settings.SettingsFault.TheVariants.{NoMemory};
 
 use crate::command_line::settings;
-use crate::help::AFTER_HELP;
+use crate::help::{AFTER_HELP, RUN_HELP, STEP_HELP};
 use crate::program::execute;
-use crate::settings::{Settings, SettingsFault};
+use crate::settings::{Settings, SettingsFault, TableSettings};
 use art_server::Counted;
 use std::alloc::Global;
 use std::io::{self, ErrorKind, Read, Write};
@@ -59,23 +59,26 @@ fn check_settings(
     sizes: [u32; 5],
     counter_start: u64,
 ) {
-    let Ok(
-        Settings::Run {
-            schema: schema_asked,
-            leaves,
-            n4,
-            n16,
-            n48,
-            n256,
-            counter_start: start_asked,
-        },
-    ) = asked
-    else {
-        panic!(rt; "no settings");
+    let Ok(Settings::Run(table)) = asked else {
+        panic!(rt; "no settings of a run");
     };
-    assert_eq!(rt; schema_asked, schema);
-    assert_eq!(rt; [leaves, n4, n16, n48, n256], sizes);
-    assert_eq!(rt; start_asked, counter_start);
+    check_table(rt, table, schema, sizes, counter_start);
+}
+
+fn check_table(
+    rt: &impl Abort,
+    table: TableSettings<'_>,
+    schema: &str,
+    sizes: [u32; 5],
+    counter_start: u64,
+) {
+    let asked = table.sizes;
+    assert_eq!(rt; table.schema, schema);
+    assert_eq!(rt;
+        [asked.leaves, asked.n4, asked.n16, asked.n48, asked.n256],
+        sizes
+    );
+    assert_eq!(rt; asked.counter_start, counter_start);
 }
 
 #[test]
@@ -104,6 +107,23 @@ fn each_option_is_what_is_given_or_its_default(rt: HostRuntime) {
         let words = ["art_index", "run", option, "21"];
         check_settings(&rt, settings(alloc, &words), "u64", sizes, counter_start);
     }
+}
+
+#[test]
+fn a_schedule_has_the_options_of_a_run(rt: HostRuntime) {
+    let words = [
+        "art_index",
+        "step",
+        "--n4=7",
+        "--schema",
+        "u8",
+        "--counter-start",
+        "3",
+    ];
+    let Ok(Settings::Step(table)) = settings(rt.alloc(), &words) else {
+        panic!(&rt; "no settings of a schedule");
+    };
+    check_table(&rt, table, "u8", [4096, 7, 1024, 512, 128], 3);
 }
 
 #[test]
@@ -152,6 +172,10 @@ fn faults_of_words_end_with_two(rt: HostRuntime) {
         &["art_index", "run", "--frob"],
         &["art_index", "run", "--version"],
         &["art_index", "run", "frob"],
+        &["art_index", "run", "step"],
+        &["art_index", "step", "run"],
+        &["art_index", "step", "--frob"],
+        &["art_index", "step", "--leaves=x"],
         &["art_index", "run", "--leaves"],
         &["art_index", "run", "--leaves", "x"],
         &["art_index", "run", "--leaves", ""],
@@ -175,27 +199,43 @@ fn faults_of_words_end_with_two(rt: HostRuntime) {
 
 #[test]
 fn help_ends_with_the_lines_and_the_statuses(rt: HostRuntime) {
-    for (words, first) in [
-        (["art_index", "--help"].as_slice(), "An ordered index"),
-        (&["art_index", "-h"], "An ordered index"),
-        (&["art_index", "help"], "An ordered index"),
-        (&["art_index", "help", "run"], "Answers the lines"),
-        (&["art_index", "run", "--help"], "Answers the lines"),
+    for (words, first, last) in [
+        (
+            ["art_index", "--help"].as_slice(),
+            "An ordered index",
+            AFTER_HELP,
+        ),
+        (&["art_index", "-h"], "An ordered index", AFTER_HELP),
+        (&["art_index", "help"], "An ordered index", AFTER_HELP),
+        (&["art_index", "help", "run"], "Answers the lines", RUN_HELP),
+        (
+            &["art_index", "run", "--help"],
+            "Answers the lines",
+            RUN_HELP,
+        ),
+        (&["art_index", "help", "step"], "Runs a schedule", STEP_HELP),
+        (
+            &["art_index", "step", "--help"],
+            "Runs a schedule",
+            STEP_HELP,
+        ),
     ] {
         let ran = run_on_nothing(rt.alloc(), words);
         assert_eq!(rt; ran.status, 0, "at {words:?}");
         assert!(rt; ran.output.as_slice().starts_with(first.as_bytes()));
         let end = ran.output.as_slice().strip_suffix(b"\n".as_slice());
         let text = end.expect(&rt, "a last line feed");
-        assert!(rt; text.ends_with(AFTER_HELP.as_bytes()));
+        assert!(rt; text.ends_with(last.as_bytes()));
         assert!(rt; ran.faults.is_empty());
     }
 }
 
 #[test]
-fn help_of_run_lists_its_options(rt: HostRuntime) -> Result<(), Fail> {
-    let ran = run_on_nothing(rt.alloc(), &["art_index", "run", "--help"]);
-    let text = std::str::from_utf8(ran.output.as_slice())?;
+fn help_of_run_and_of_step_lists_their_options(rt: HostRuntime) -> Result<(), Fail> {
+    let run = run_on_nothing(rt.alloc(), &["art_index", "run", "--help"]);
+    let run = std::str::from_utf8(run.output.as_slice())?;
+    let step = run_on_nothing(rt.alloc(), &["art_index", "step", "--help"]);
+    let step = std::str::from_utf8(step.output.as_slice())?;
     for option in [
         "--schema <TEXT>",
         "--leaves <NUMBER>",
@@ -205,7 +245,8 @@ fn help_of_run_lists_its_options(rt: HostRuntime) -> Result<(), Fail> {
         "--n256 <NUMBER>",
         "--counter-start <NUMBER>",
     ] {
-        assert!(rt; text.contains(option), "{option}");
+        assert!(rt; run.contains(option), "{option}");
+        assert!(rt; step.contains(option), "{option}");
     }
     Ok(())
 }

@@ -4,6 +4,8 @@
 #[cfg(test)]
 mod attempts;
 #[cfg(test)]
+mod commands;
+#[cfg(test)]
 mod crowded;
 #[cfg(test)]
 mod events;

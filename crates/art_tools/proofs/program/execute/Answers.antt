@@ -10,3 +10,11 @@ returns-in-Ok-Run-clause-schema g c = λ fault none schema.
 
 pub returns-in-Ok-Run-clause-used : goal.returns-in-Ok-Run-clause-used
 returns-in-Ok-Run-clause-used g c = λ five. c.run.ensures.used (five_is_used c.run.result (sym c.status.ensures.of ∙ five))
+
+pub returns-in-Ok-Step-clause-schema : goal.returns-in-Ok-Step-clause-schema
+returns-in-Ok-Step-clause-schema g c = λ fault none schema.
+    let refused = c.step.ensures.schema fault (grind (arith, c.in-Ok-Step.ensures.asked, schema)) in
+    inl (c.status-in-Ok-Step.ensures.of ∙ ap status_after refused)
+
+pub returns-in-Ok-Step-clause-used : goal.returns-in-Ok-Step-clause-used
+returns-in-Ok-Step-clause-used g c = λ five. c.step.ensures.used (five_is_used c.step.result (sym c.status-in-Ok-Step.ensures.of ∙ five))

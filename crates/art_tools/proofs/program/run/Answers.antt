@@ -2,8 +2,8 @@ use Rattle.std.proofs.Common.{subst}
 use Rattle.art_server.specs.Counted.{reader_of}
 use Rattle.art_tools.specs.Outputs.{Outputs}
 use Rattle.art_server.specs.Reads.{MakesReads}
-use Rattle.art_tools.specs.declared.run_faults.RunFault.TheVariants.{ReadFailed, ReadsUsed}
-use Rattle.art_tools.proofs.Runs.{where_closed, session_outputs, told_by_session, used_up, read_failed}
+use Rattle.art_tools.specs.declared.run_faults.RunFault.TheVariants.{ReadFailed, ReadsUsed, BadLine}
+use Rattle.art_tools.proofs.Runs.{where_closed, session_ended, session_outputs, told_first, used_up, read_failed, no_line}
 use Rattle.art_tools.proofs.program.run.Goals as goal
 
 pub returns-clause-output : goal.returns-clause-output
@@ -12,17 +12,27 @@ returns-clause-output g c =
     let held = g.W.Write.contents c.args.writer.now in
     let held_after = g.W.Write.contents c.session-pass.new.writer in
     let e = c.in_ok-table.ensures in
-    where_closed c.outcome.result _ c.give_back-closed.result _ _ c.outcome.ensures c.give_back-closed.ensures.alone (λ ended alone.
+    where_closed c.outcome.result _ c.give_back-closed.result _ _ c.outcome.ensures c.give_back-closed.ensures.alone (λ none alone.
+    let ended = session_ended _ none in
     let wrote = session_outputs c.in_ok-schema.schema left _ held held_after c.in_ok-table.table c.in_ok-table.pass c.session-pass.result.0 _ e.table.0 e.pass.0 e.pass.2 alone
     c.session-pass.ensures.session (c.session-pass.ensures.end ended) ended in
     subst (λ s. Outputs s left held held_after) c.in_ok-schema.ensures wrote)
 
+pub returns-clause-ended : goal.returns-clause-ended
+returns-clause-ended g c =
+    where_closed c.outcome.result _ c.give_back-closed.result _ _ c.outcome.ensures c.give_back-closed.ensures.alone
+    (λ none alone. c.session-pass.ensures.end (session_ended _ none))
+
 pub returns-clause-failed : goal.returns-clause-failed
 returns-clause-failed g c = λ is.
-    let told = told_by_session c.outcome.result _ _ ReadFailed c.outcome.ensures c.give_back-closed.ensures.memory (λ e. cc) is in
+    let told = told_first c.outcome.result _ _ ReadFailed c.outcome.ensures c.give_back-closed.ensures.memory (λ e. cc) is in
     subst (MakesReads _ _) (read_failed _ told) c.session-pass.ensures.reads
 
 pub returns-clause-used : goal.returns-clause-used
 returns-clause-used g c = λ is.
-    let told = told_by_session c.outcome.result _ _ ReadsUsed c.outcome.ensures c.give_back-closed.ensures.memory (λ e. cc) is in
+    let told = told_first c.outcome.result _ _ ReadsUsed c.outcome.ensures c.give_back-closed.ensures.memory (λ e. cc) is in
     subst (MakesReads _ _) (used_up _ told) c.session-pass.ensures.reads
+
+pub returns-clause-lines : goal.returns-clause-lines
+returns-clause-lines g c = λ line is.
+    no_line _ line (told_first c.outcome.result _ _ (BadLine line) c.outcome.ensures c.give_back-closed.ensures.memory (λ e. cc) is)

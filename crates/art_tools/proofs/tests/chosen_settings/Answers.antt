@@ -5,7 +5,7 @@ use Rattle.clap.proofs.OnLiterals.{clap_on_literals}
 use Rattle.art_table.specs.Sizes.{IsConfig}
 use Rattle.art_tools.specs.Faults.{Explains}
 use Rattle.art_tools.specs.Options.{Given, schema_given, sizes_given}
-use Rattle.art_tools.specs.Settings.{IsAskedBy, option_given, words_fault}
+use Rattle.art_tools.specs.Settings.{IsAskedBy, option_given, subcommand_given, words_fault}
 use Rattle.art_tools.proofs.Known.{only_memory, settings_known}
 use Rattle.art_tools.proofs.tests.chosen_settings.Goals as goal
 
@@ -22,6 +22,10 @@ schema_is = refl
 sizes_are : sizes_given (option_given words) ≡ sizes_given given
 unfolding clap_on_literals
 sizes_are = refl
+
+runs : subcommand_given words ≡ Some (codes "run")
+unfolding clap_on_literals
+runs = refl
 
 no_fault : words_fault words ≡ []
 unfolding clap_on_literals
@@ -41,7 +45,7 @@ valid = record {
 pub returns-clause-ok : goal.returns-clause-ok
 returns-clause-ok c =
     let words_are : map (λ s. s.now) c.as_slice.result.now ≡ words = search rules in
-    settings_known words given c.settings.result schema_is sizes_are (subst (λ (w : List Text). IfOk c.settings.result (IsAskedBy w)) words_are c.settings.ensures.asked)
+    settings_known words given c.settings.result runs schema_is sizes_are (subst (λ (w : List Text). IfOk c.settings.result (IsAskedBy w)) words_are c.settings.ensures.asked)
 
 pub returns-clause-err : goal.returns-clause-err
 returns-clause-err c =

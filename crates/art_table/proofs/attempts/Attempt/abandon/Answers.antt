@@ -4,10 +4,10 @@ use Rattle.std.specs.Prelude.{Option}
 use Rattle.std.specs.Box.{with_value}
 use Rattle.art_call.specs.declared.callers.Caller.{Caller}
 use Rattle.art_change.specs.Writes.{HoldsOrTold}
-use Rattle.art_table.proofs.GivenUp.{given_way, idle_free, refused_none, was_free, why_not}
+use Rattle.art_table.proofs.GivenUp.{given_way, idle_free, nothing_made, refused_none, was_free, why_not}
 use Rattle.art_table.proofs.attempts.Attempt.abandon.Goals as goal
-use Rattle.art_table.specs.Calls.{Sees}
-use Rattle.art_table.specs.Tables.{IsPassOf, view_of}
+use Rattle.art_table.specs.Attempts.{IsGivenUp}
+use Rattle.art_table.specs.Tables.{view_of}
 use Rattle.art_table.specs.declared.passes.Pass.{Pass}
 
 none_is : {A : Type 0} (o : Option A) → is_some o ≡ false → o ≡ None
@@ -38,19 +38,24 @@ run-requires c =
     let way = given_way c.args.table.now a.pass c.deref_mut.result.now c.deref_mut.ensures.value r.0 r.1 r.2 (r.3.goes_on none) c.give_up.new.self (e.given c.if-not-give_up.false) e.apart in
     (r.0, r.1, way.0, r.2, way.1)
 
-pub returns-then-is_some-clause-pass : goal.returns-then-is_some-clause-pass
-returns-then-is_some-clause-pass c j turns p at =
+pub returns-then-is_some-clause-given : goal.returns-then-is_some-clause-given
+returns-then-is_some-clause-given c j turns p at =
     let some = some_is c.args.self.refused (sym c.is_some.ensures ∙ c.if-is_some.true) in
-    subst (λ (q : Pass). IsPassOf c.args.table.now q × Sees c.args.table.now p q None) (sym (at.refused some.0 some.1)) (at.began, (refl, refl))
+    subst (λ (q : Pass). IsGivenUp c.args.table.now turns p q) (sym (at.refused some.0 some.1)) (nothing_made c.args.table.now turns p at.began)
 
-pub returns-clause-pass : goal.returns-clause-pass
-returns-clause-pass c j turns p at =
+pub returns-clause-given : goal.returns-clause-given
+returns-clause-given c j turns p at =
     let a = c.args.self in
     let none = none_is a.refused (sym c.is_some.ensures ∙ c.if-is_some.false) in
     let e = c.give_up.ensures in
     let way = given_way c.args.table.now a.pass c.deref_mut.result.now c.deref_mut.ensures.value j turns p (at.goes_on none) c.give_up.new.self (e.given c.if-not-give_up.false) e.apart in
     let k = c.run.ensures.ended j turns way.0 p way.1 in
-    (k.pass, refused_none c.args.table.now j p c.run.new.self c.run.result (c.run.ensures.refused (e.refuses c.if-not-give_up.false)) k.sees)
+    record {
+      pass = k.pass;
+      same = k.same;
+      sees = refused_none c.args.table.now j p c.run.new.self c.run.result (c.run.ensures.refused (e.refuses c.if-not-give_up.false)) k.sees;
+      steps = k.steps;
+    }
 
 pub returns-then-is_some-clause-free : goal.returns-then-is_some-clause-free
 returns-then-is_some-clause-free c j turns p at =

@@ -1,0 +1,3 @@
+pub mod Ops
+pub mod Runs
+pub mod Typed

@@ -1,0 +1,62 @@
+-- What contracts see of an op: the call of a pass that takes turns.
+use Rattle.std.specs.Option.{is_some}
+use Rattle.std.specs.Prelude.{◌≡◌, ℕ, Bool, List, Option, Some, None}
+use Rattle.art_call.specs.Calls.{HasCalled, IsCalling, Wish, outcome_at, restarts_in}
+use Rattle.art_call.specs.Made.{MakesStep}
+use Rattle.art_call.specs.declared.callers.Caller.{Caller}
+use Rattle.art_call.specs.declared.driver.Made.{Made}
+use Rattle.art_call.specs.declared.outcomes.Outcome.{Outcome}
+use Rattle.art_runs.specs.declared.ops.Op.{Op}
+use Rattle.art_step.specs.WordRows.{view_at}
+use Rattle.art_step.specs.declared.views.Sizes.{Sizes}
+use Rattle.art_step.specs.declared.views.View.{View}
+use Rattle.art_world.specs.Contents.{Contents}
+use Rattle.art_world.specs.Turns.{IsRun, TakesTurn}
+
+-- its call
+abbrev pub caller_in : Op → Caller
+caller_in a = a.caller.value
+
+-- how it ended, if it has
+abbrev pub outcome_in : Op → Option Outcome
+outcome_in a = outcome_at (caller_in a)
+
+-- the step that its last turn made, if it made one
+abbrev pub last_in : Op → Option Made
+last_in a = a.last
+
+abbrev pub has_ended : Op → Bool
+has_ended a = is_some (outcome_in a)
+
+-- its call was begun for this wish, of a pass that had the view began then, and goes on or has ended
+pub record IsUnderWay (z : Sizes) (a : Op) (v : View) : Type 0 where
+  pub wish : Wish
+  pub given : ℕ
+  pub turns : ℕ
+  pub began : View
+  pub calling : IsCalling z wish given turns began (caller_in a) v
+
+-- if it has ended, its call ended so, whatever it was begun for
+abbrev pub EndsAsCalled : Op → Type 0
+EndsAsCalled a = (o : Outcome) → outcome_in a ≡ Some o → (z : Sizes) (w : Wish) (given turns : ℕ) (u v : View) →
+    IsCalling z w given turns u (caller_in a) v → HasCalled z w given turns (restarts_in (caller_in a)) u (caller_in a) o v
+
+-- from the view v to w this step was made, or none
+abbrev pub MakesLast : Sizes → Option Made → View → View → Type 0
+MakesLast z (Some made) v w = MakesStep z v w made
+MakesLast z None v w = w ≡ v
+
+-- one turn of the op of the pass p: its call makes one step, which it keeps, or none, and it goes on for what it was begun for
+pub record Goes (p : ℕ) (a : Op) (k : Contents) (b : Op) (l : Contents) : Type 0 where
+  pub last : MakesLast k.sizes (last_in b) (view_at k.views p) (view_at l.views p)
+  pub calling : (w : Wish) (given turns : ℕ) (u : View) → IsCalling k.sizes w given turns u (caller_in a) (view_at k.views p) →
+      IsCalling l.sizes w given turns u (caller_in b) (view_at l.views p)
+  pub ends : EndsAsCalled b
+
+-- the turn is one of the op of the pass p, which has not ended: then the world k is l, and the ops xs are ys
+abbrev pub IsTurnOf : ℕ → Contents → List Op → Contents → List Op → Type 0
+IsTurnOf p k xs l ys = TakesTurn (λ a z v. IsUnderWay z a v) has_ended Goes p k xs l ys
+
+-- the turns of the list, one after another
+abbrev pub IsRunOfOps : List ℕ → Contents → List Op → Contents → List Op → Type 0
+IsRunOfOps turns k xs l ys = IsRun (λ a z v. IsUnderWay z a v) has_ended Goes turns k xs l ys

@@ -1,0 +1,82 @@
+-- What a pass that follows an order does, and what is told of it.
+use Rattle.std.specs.Prelude.{◌≡◌, ℕ, ◌++◌, ◌∷◌, [], List, Bool, not, Ok, Err}
+use Rattle.art_model.specs.declared.commands.Command.{Command}
+use Rattle.art_model.specs.declared.rows.Row.{Row}
+use Rattle.art_schedule.specs.Lines.{Said, start, until, step, end}
+use Rattle.art_server.specs.Refusals.{line_refusal}
+use Rattle.art_server.specs.Lines.{line_says}
+use Rattle.art_server.specs.Endings.{reply_of_ending}
+use Rattle.art_server.specs.Replies.{text_of_reply}
+use Rattle.art_schedule.specs.Seats.{BeginsThere, EndsThere}
+use Rattle.art_schedule.specs.Steps.{MakesFewer, MakesMany, MissesMark, ReachesMark}
+use Rattle.art_scan.specs.declared.running.Ending.{Ending}
+use Rattle.art_server.specs.declared.lines.LineFault.{LineFault}
+use Rattle.art_scan.specs.declared.running.Running.{Running}
+use Rattle.art_table.specs.declared.tables.Table.{Table}
+use Rattle.art_schedule.specs.declared.orders.Told.{Told}
+use Rattle.art_schedule.specs.declared.orders.Told.TheVariants.{Nothing, At, Stepped, Ended}
+use Rattle.art_schedule.specs.declared.seats.Seat.{Seat}
+use Rattle.art_schedule.specs.declared.seats.Seat.TheVariants.{Going}
+
+-- a start wants an idle pass, and each other order a command under way
+abbrev pub fits : Said → Bool → Bool
+fits (start turns text) idle = idle
+fits (until mark times) idle = not idle
+fits (step times) idle = not idle
+fits end idle = not idle
+
+-- the command that the text says is begun
+pub record Begins (t : Table) (turns : ℕ) (text : List ℕ) (old new : Seat) (rows : List Row) : Type 0 where
+  pub command : Command
+  pub says : line_says text ≡ Ok command
+  pub there : BeginsThere t command turns old new rows
+
+-- the text says no command: nothing is begun, and the refusal of the text is told
+pub record IsRefused (text : List ℕ) (old new : Seat) (reply : List ℕ) (restarts : ℕ) : Type 0 where
+  pub fault : LineFault
+  pub says : line_says text ≡ Err fault
+  pub stays : new ≡ old
+  pub reply_is : reply ++ 10 ∷ [] ≡ text_of_reply (Err (line_refusal fault))
+  pub none : restarts ≡ 0
+
+-- the command under way made these steps, and goes on
+pub record GoesOn (old new : Seat) (made : Running → Running → Type 0) : Type 0 where
+  pub running : Running
+  pub running_after : Running
+  pub was : old ≡ Going running
+  pub now : new ≡ Going running_after
+  pub steps : made running running_after
+
+-- what is under way makes all steps that are left, and its reply is told
+pub record TellsEnd (t : Table) (old : Seat) (rows : List Row) (new : Seat) (rows_after : List Row) (reply : List ℕ) (restarts : ℕ)
+    : Type 0 where
+  pub ending : Ending
+  pub there : EndsThere t old rows new rows_after ending restarts
+  pub reply_is : reply ++ 10 ∷ [] ≡ text_of_reply (reply_of_ending rows_after ending)
+
+-- what is under way makes these steps, of which none is left then, and its reply is told
+pub record EndsAfter (t : Table) (old : Seat) (made : Running → Running → List Row → Type 0) (new : Seat) (rows_after : List Row)
+    (reply : List ℕ) (restarts : ℕ) : Type 0 where
+  pub running : Running
+  pub between : Running
+  pub rows_between : List Row
+  pub was : old ≡ Going running
+  pub steps : made running between rows_between
+  pub ends : TellsEnd t (Going between) rows_between new rows_after reply restarts
+
+-- what is told of an order, and what was done
+abbrev pub Obeys : Table → Said → Seat → List Row → Seat → List Row → Told → Type 0
+Obeys t (start turns text) old rows new rows_after Nothing = Begins t turns text old new rows_after
+Obeys t (start turns text) old rows new rows_after (Ended reply restarts) = IsRefused text old new reply.items restarts
+Obeys t (until mark n) old rows new rows_after (At m) = (m ≡ mark) × GoesOn old new (ReachesMark t mark n)
+Obeys t (until mark n) old rows new rows_after (Ended reply restarts) =
+    EndsAfter t old (MissesMark t mark n) new rows_after reply.items restarts
+Obeys t (step n) old rows new rows_after Stepped = GoesOn old new (MakesMany t n)
+Obeys t (step n) old rows new rows_after (Ended reply restarts) = EndsAfter t old (MakesFewer t n) new rows_after reply.items restarts
+Obeys t end old rows new rows_after (Ended reply restarts) = TellsEnd t old rows new rows_after reply.items restarts
+Obeys t said old rows new rows_after told = ⊥
+
+-- the end that is told
+abbrev pub EndsWith : Table → Seat → List Row → Seat → List Row → Told → Type 0
+EndsWith t old rows new rows_after (Ended reply restarts) = TellsEnd t old rows new rows_after reply.items restarts
+EndsWith t old rows new rows_after told = ⊥

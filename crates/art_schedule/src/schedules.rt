@@ -1,0 +1,218 @@
+//! From the lines of a reader to what they print.
+ghost use Rattle.std.specs.Prelude.{◌≡◌, ◌+◌, ◌<◌, ◌≤◌, ◌^◌, [], ◌∷◌, ◌++◌, List, IfErr, IfOk, OnErr, OnOk, length, take};
+ghost use Rattle.std.specs.Io.KnownBytes.{IsAtEnd};
+ghost use Rattle.art_server.specs.Counted.{reader_of, reads_of};
+ghost use Rattle.art_server.specs.Reads.{AddsReads, MakesReads};
+ghost use Rattle.art_server.specs.declared.sessions.EndCause.TheVariants as cause;
+ghost use Rattle.art_schedule.specs.Desks.{IsDesk, ObeysAt, ObeysLine};
+ghost use Rattle.art_schedule.specs.Lines.{HasTimes, said_by};
+ghost use Rattle.art_schedule.specs.Schedules.{ArePassesOf, ComeBack, EndsAtInput, IsStop};
+ghost use Rattle.art_table.specs.declared.passes.Pass.{Pass as PassOf};
+
+use crate::desks::{Desk, close, open};
+use crate::orders::follow;
+use crate::stops::{ScheduleEnd, Stop};
+use crate::tells::tell;
+use crate::{Order, parse};
+use arrayvec::ArrayVec;
+use art_server::{Counted, LINE_BYTES};
+use art_table::{Pass, Table};
+use std::alloc::Global;
+use std::io::{Read, Write};
+
+/// The most reads of one schedule.
+const READS: u32 = 1_000_000;
+
+/// Runs the schedule that the reader gives, on the passes of the table, which have the names A to H in their order. Other threads may use
+/// the table meanwhile.
+///
+/// At most 1,000,000 reads are made, each of at most 4,096 bytes. The first read or write that fails ends the schedule, an interruption
+/// too, and so does the first bad line, for which nothing is printed. What is under way then is run to its end, and nothing is printed of
+/// it. Memory is taken for room for the rows of scans, and for one line's command and what it prints.
+pub fn run_schedule<R: Read, W: Write>(
+    alloc: Global,
+    table: &Table,
+    passes: [Pass; 8],
+    reader: &mut Counted<R>,
+    writer: &mut W,
+) -> ([Pass; 8], ScheduleEnd)
+    requires { ArePassesOf table.now passes }
+    ensures passes { ComeBack table.now passes result.0 }
+    ensures end { result.1 ≡ ScheduleEnd.Ended → IsAtEnd (R.remaining (reader_of reader.new)) }
+    ensures reads { AddsReads (reads_of reader.old) (reads_of reader.new) }
+    ensures used { result.1 ≡ ScheduleEnd.ReadsUsed → MakesReads (reads_of reader.old) (reads_of reader.new) cause.ReadsUsed }
+    ensures failed { result.1 ≡ ScheduleEnd.ReadFault → MakesReads (reads_of reader.old) (reads_of reader.new) cause.ReadFault }
+{
+    match open(alloc, passes) {
+        Ok(desk) => {
+            let mut desk = desk;
+            let end = run_reads(alloc, table, &mut desk, reader, writer);
+            (close(table, desk), end)
+        }
+        Err(passes) => (passes, ScheduleEnd::NoMemory),
+    }
+}
+
+fn run_reads<R: Read, W: Write>(
+    alloc: Global,
+    table: &Table,
+    desk: &mut Desk,
+    reader: &mut Counted<R>,
+    writer: &mut W,
+) -> ScheduleEnd
+    requires { (ps : List PassOf) × IsDesk table.now ps desk.old }
+    ensures keeps { (ps : List PassOf) → IsDesk table.now ps desk.old → IsDesk table.now ps desk.new }
+    ensures end { result ≡ ScheduleEnd.Ended → IsAtEnd (R.remaining (reader_of reader.new)) }
+    ensures reads { AddsReads (reads_of reader.old) (reads_of reader.new) }
+    ensures used { result ≡ ScheduleEnd.ReadsUsed → MakesReads (reads_of reader.old) (reads_of reader.new) cause.ReadsUsed }
+    ensures failed { result ≡ ScheduleEnd.ReadFault → MakesReads (reads_of reader.old) (reads_of reader.new) cause.ReadFault }
+{
+    let mut piece = [0u8; 4096];
+    let mut line = ArrayVec::new();
+    let mut count = 0;
+    'reads: for _ in 0..READS {
+        match reader.read(&mut piece) {
+            Ok(0) => return finish(alloc, table, desk, line.as_slice(), writer, count),
+            Ok(length) => {
+                let bytes = &piece[..length];
+                match obey_bytes(alloc, table, desk, &mut line, bytes, writer, count) {
+                    Ok(more) => count = more,
+                    Err(end) => return end,
+                }
+            }
+            Err(_) => return ScheduleEnd::ReadFault,
+        }
+    }
+    ScheduleEnd::ReadsUsed
+}
+
+/// The last line, if one stands with no line feed after it; and then all that is under way is run to its end, and printed.
+fn finish<W: Write>(
+    alloc: Global,
+    table: &Table,
+    desk: &mut Desk,
+    line: &[u8],
+    writer: &mut W,
+    count: u64,
+) -> ScheduleEnd
+    requires desk { (ps : List PassOf) × IsDesk table.now ps desk.old }
+    requires room { count + 1 < 2 ^ 64 }
+    ensures keeps { (ps : List PassOf) → IsDesk table.now ps desk.old → IsDesk table.now ps desk.new }
+    ensures end { EndsAtInput result }
+{
+    if !line.is_empty() {
+        if let Err(stop) = obey_line(alloc, table, desk, line, writer) {
+            return stop.at(count + 1);
+        }
+    }
+    match end_all(alloc, table, desk, writer) {
+        Ok(()) => ScheduleEnd::Ended,
+        Err(stop) => stop.at(count + 1),
+    }
+}
+
+/// All that is under way is run to its end, in order of the names, and printed.
+fn end_all<W: Write>(
+    alloc: Global,
+    table: &Table,
+    desk: &mut Desk,
+    writer: &mut W,
+) -> Result<(), Stop>
+    requires { (ps : List PassOf) × IsDesk table.now ps desk.old }
+    ensures { (ps : List PassOf) → IsDesk table.now ps desk.old → IsDesk table.now ps desk.new }
+{
+    for place in 0..8 {
+        if !desk.seats[place].is_idle() {
+            obey(alloc, table, desk, place, Order::End, writer)?;
+        }
+    }
+    Ok(())
+}
+
+/// Each line that ends in the bytes is obeyed, and what stands after the last line feed is kept: how many lines these are, with those
+/// before them.
+fn obey_bytes<W: Write>(
+    alloc: Global,
+    table: &Table,
+    desk: &mut Desk,
+    line: &mut ArrayVec<u8, 4097>,
+    bytes: &[u8],
+    writer: &mut W,
+    before: u64,
+) -> Result<u64, ScheduleEnd>
+    requires desk { (ps : List PassOf) × IsDesk table.now ps desk.old }
+    requires room { before + length bytes.now < 2 ^ 64 }
+    ensures keeps { (ps : List PassOf) → IsDesk table.now ps desk.old → IsDesk table.now ps desk.new }
+    ensures count { IfOk result (λ count. count ≤ before + length bytes.now) }
+    ensures stop { IfErr result IsStop }
+{
+    let mut count = before;
+    'bytes: for byte in bytes {
+        if *byte == b'\n' {
+            count += 1;
+            match obey_line(alloc, table, desk, line.as_slice(), writer) {
+                Ok(()) => line.clear(),
+                Err(stop) => return Err(stop.at(count)),
+            }
+        } else {
+            keep(line, *byte);
+        }
+    }
+    Ok(count)
+}
+
+/// A byte past the 4,097th is dropped: the line is too long with it or without it.
+fn keep(line: &mut ArrayVec<u8, 4097>, byte: u8)
+    ensures { line.new.items ≡ take 4097 (line.old.items ++ byte ∷ []) }
+{
+    if !line.is_full() {
+        line.push(byte);
+    }
+}
+
+/// The pass that the line names does what the line says, and what is told of it is printed.
+fn obey_line<W: Write>(
+    alloc: Global,
+    table: &Table,
+    desk: &mut Desk,
+    line: &[u8],
+    writer: &mut W,
+) -> Result<(), Stop>
+    requires { (ps : List PassOf) × IsDesk table.now ps desk.old }
+    ensures keeps { (ps : List PassOf) → IsDesk table.now ps desk.old → IsDesk table.now ps desk.new }
+    ensures obeys { OnOk result (ObeysLine table.now line.now desk.old desk.new (W.contents writer.old) (W.contents writer.new)) }
+{
+    if line.len() > LINE_BYTES {
+        return Err(Stop::BadLine);
+    }
+    match parse(line) {
+        Some(line) => obey(alloc, table, desk, line.pass, line.order, writer),
+        None => Err(Stop::BadLine),
+    }
+}
+
+/// The pass at the place follows the order, and what is told of it is printed.
+fn obey<W: Write>(
+    alloc: Global,
+    table: &Table,
+    desk: &mut Desk,
+    place: usize,
+    order: Order<'_>,
+    writer: &mut W,
+) -> Result<(), Stop>
+    requires desk { (ps : List PassOf) × IsDesk table.now ps desk.old }
+    requires place { place < 8 }
+    requires times { HasTimes order }
+    ensures keeps { (ps : List PassOf) → IsDesk table.now ps desk.old → IsDesk table.now ps desk.new }
+    ensures obeys { OnOk result (ObeysAt table.now place (said_by order.entry) desk.old desk.new
+        (W.contents writer.old) (W.contents writer.new)) }
+{
+    let followed = follow(
+        alloc,
+        table,
+        &mut desk.seats[place],
+        &mut desk.rooms[place],
+        order,
+    );
+    tell(alloc, place, &followed?, writer)
+}
