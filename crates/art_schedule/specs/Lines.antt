@@ -83,8 +83,8 @@ mark_word Event = codes "event"
 --- all that a line can wait for
 abbrev pub marks : List Mark
 marks = Kind kind.Begin ∷ Kind kind.Read ∷ Kind kind.Check ∷ Kind kind.Upgrade ∷ Kind kind.Write ∷ Kind kind.Commit ∷
-  Kind kind.Release ∷ Kind kind.Claim ∷ Kind kind.Take ∷ Kind kind.Give ∷ Kind kind.Epoch ∷ Kind kind.Pin ∷ Kind kind.Advance ∷
-  Kind kind.Watch ∷ Kind kind.Anchor ∷ Event ∷ []
+    Kind kind.Release ∷ Kind kind.Claim ∷ Kind kind.Take ∷ Kind kind.Give ∷ Kind kind.Epoch ∷ Kind kind.Pin ∷ Kind kind.Advance ∷
+    Kind kind.Watch ∷ Kind kind.Anchor ∷ Event ∷ []
 
 abbrev pub mark_said : List ℕ → Option Mark
 mark_said word = find (λ mark. bytes_eq (mark_word mark) word) marks
