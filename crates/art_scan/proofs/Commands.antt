@@ -112,18 +112,18 @@ module _ (t : Table) (l : Looking) (rows rows' : List Row) where
 
 -- ---- a scan that has ended
 
-pub over_pass : (t : Table) (c : Command) (turns : ℕ) (p q : Pass) (r : Result More ScanFault) (rows : List Row) → GoesOn t c turns p (stage.Over q r) rows → IsPassOf t q
-over_pass t (Insert tuple value) turns p q r rows on = absurd on
-over_pass t (Remove tuple) turns p q r rows on = absurd on
-over_pass t (Get tuple) turns p q r rows on = absurd on
-over_pass t (Scan lo hi limit) turns p q r rows on = on.pass
+pub over_pass : (t : Table) (c : Command) (turns : ℕ) (p q : Pass) (r : Result More ScanFault) (n : ℕ) (rows : List Row) → GoesOn t c turns p (stage.Over q r n) rows → IsPassOf t q
+over_pass t (Insert tuple value) turns p q r n rows on = absurd on
+over_pass t (Remove tuple) turns p q r n rows on = absurd on
+over_pass t (Get tuple) turns p q r n rows on = absurd on
+over_pass t (Scan lo hi limit) turns p q r n rows on = on.pass
 
-pub over_ends : (t : Table) (c : Command) (turns : ℕ) (p q : Pass) (r : Result More ScanFault) (rows : List Row) → GoesOn t c turns p (stage.Over q r) rows
+pub over_ends : (t : Table) (c : Command) (turns : ℕ) (p q : Pass) (r : Result More ScanFault) (n : ℕ) (rows : List Row) → GoesOn t c turns p (stage.Over q r n) rows
     → CommandEnds t c turns p rows (ending.Scan r) q
-over_ends t (Insert tuple value) turns p q r rows on = absurd on
-over_ends t (Remove tuple) turns p q r rows on = absurd on
-over_ends t (Get tuple) turns p q r rows on = absurd on
-over_ends t (Scan lo hi limit) turns p q r rows on = on.scans
+over_ends t (Insert tuple value) turns p q r n rows on = absurd on
+over_ends t (Remove tuple) turns p q r n rows on = absurd on
+over_ends t (Get tuple) turns p q r n rows on = absurd on
+over_ends t (Scan lo hi limit) turns p q r n rows on = on.scans
 
 -- ---- how it begins, and how it is refused at once
 
@@ -153,14 +153,14 @@ module _ (t : Table) (lo hi : Tuple) (limit turns : ℕ) (p : Pass) (rows : List
   fault_in f (Err g) = g
   fault_in f (Ok more) = f
 
-  pub refused_at_once : IsPassOf t p → (f : ScanFault) → scan_fault (schema_in t) lo hi limit ≡ Some f → IsOver t lo hi limit turns p rows p (Err f)
+  pub refused_at_once : IsPassOf t p → (f : ScanFault) → scan_fault (schema_in t) lo hi limit ≡ Some f → IsOver t lo hi limit turns p rows p (Err f) 0
   refused_at_once is_pass f some = record {
     pass = is_pass;
     scans = record {
       fault = λ g is. (ap fault_of (same_Some f g (sym some ∙ is)), none, refl);
       scanned = λ is. absurd (some_not_none (scan_fault (schema_in t) lo hi limit) f is some);
     };
-    at_once = λ g is. some ∙ ap Some (ap (fault_in f) is);
+    at_once = λ g is. (some ∙ ap Some (ap (fault_in f) is), refl);
   }
 
 -- a scan that was refused is given up as it is
@@ -172,12 +172,13 @@ no_looks t lo p q is same = record {
   tiles_are = refl;
 }
 
-pub over_given : (t : Table) (c : Command) (turns : ℕ) (p q : Pass) (f : ScanFault) (rows : List Row) → GoesOn t c turns p (stage.Over q (Err f)) rows → IsGivenUp t c p q
-over_given t (Insert tuple value) turns p q f rows on = absurd on
-over_given t (Remove tuple) turns p q f rows on = absurd on
-over_given t (Get tuple) turns p q f rows on = absurd on
-over_given t (Scan lo hi limit) turns p q f rows on =
-    let some = on.at_once f refl in
+pub over_given : (t : Table) (c : Command) (turns : ℕ) (p q : Pass) (f : ScanFault) (n : ℕ) (rows : List Row) → GoesOn t c turns p (stage.Over q (Err f) n) rows
+    → IsGivenUp t c p q
+over_given t (Insert tuple value) turns p q f n rows on = absurd on
+over_given t (Remove tuple) turns p q f n rows on = absurd on
+over_given t (Get tuple) turns p q f n rows on = absurd on
+over_given t (Scan lo hi limit) turns p q f n rows on =
+    let some = (on.at_once f refl).0 in
     let same = (on.scans.fault f some).2 in
     record {
       reached = bound_at (schema_in t) lo;

@@ -55,11 +55,12 @@ pub record LooksNoMore (t : Table) (rows : List Row) (l : Looking) : Type 0 wher
   pub stopped : HasStopped l.attempt
   pub none : wants_look rows l.tiling (seen_by_look (answer_of t l.attempt)) ≡ false
 
--- the scan has ended, and its pass is q: where it was refused, it was for what it says, before any step
-pub record IsOver (t : Table) (lo hi : Tuple) (limit turns : ℕ) (p : Pass) (rows : List Row) (q : Pass) (r : Result More ScanFault) : Type 0 where
+-- The scan has ended, and its pass is q. Where it was refused, it was for what it says, before any step, and it never began anew.
+pub record IsOver (t : Table) (lo hi : Tuple) (limit turns : ℕ) (p : Pass) (rows : List Row) (q : Pass) (r : Result More ScanFault)
+    (restarts : ℕ) : Type 0 where
   pub pass : IsPassOf t q
   pub scans : Scans t lo hi limit turns p rows r q
-  pub at_once : (f : ScanFault) → r ≡ Err f → scan_fault (schema_in t) lo hi limit ≡ Some f
+  pub at_once : (f : ScanFault) → r ≡ Err f → (scan_fault (schema_in t) lo hi limit ≡ Some f) × (restarts ≡ 0)
 
 -- ---- a command
 
@@ -69,7 +70,7 @@ GoesOn t (Insert tuple value) turns p (stage.Call a) rows = IsAttempt t (job.Ins
 GoesOn t (Remove tuple) turns p (stage.Call a) rows = IsAttempt t (job.Remove tuple) turns p a
 GoesOn t (Get tuple) turns p (stage.Call a) rows = IsAttempt t (job.Get tuple) turns p a
 GoesOn t (Scan lo hi limit) turns p (stage.Look l) rows = IsLooking t lo hi limit turns p rows l
-GoesOn t (Scan lo hi limit) turns p (stage.Over q r) rows = IsOver t lo hi limit turns p rows q r
+GoesOn t (Scan lo hi limit) turns p (stage.Over q r n) rows = IsOver t lo hi limit turns p rows q r n
 GoesOn t c turns p s rows = ⊥
 
 abbrev pub IsRunning : Table → Command → ℕ → Pass → Running → List Row → Type 0
@@ -78,7 +79,7 @@ IsRunning t c turns p r rows = GoesOn t c turns p r.stage rows
 abbrev pub pass_at : Stage → Pass
 pass_at (stage.Call a) = a.pass
 pass_at (stage.Look l) = l.attempt.pass
-pass_at (stage.Over q r) = q
+pass_at (stage.Over q r n) = q
 
 -- what its pass knows of the words
 abbrev pub view_in : Running → View
@@ -87,7 +88,7 @@ view_in r = view_of (pass_at r.stage)
 abbrev pub NoStepAt : Table → List Row → Stage → Type 0
 NoStepAt t rows (stage.Call a) = HasStopped a
 NoStepAt t rows (stage.Look l) = LooksNoMore t rows l
-NoStepAt t rows (stage.Over q r) = ⊤
+NoStepAt t rows (stage.Over q r n) = ⊤
 
 -- no step of it is left
 abbrev pub HasNoStep : Table → Running → List Row → Type 0
@@ -120,8 +121,8 @@ IsFree p r = FreeAt p r.stage
 abbrev pub DecidedAt : Pass → Stage → Type 0
 DecidedAt p (stage.Call a) = HoldsOrTold (view_of p) (view_of a.pass)
 DecidedAt p (stage.Look l) = ⊥
-DecidedAt p (stage.Over q (Ok more)) = ⊤
-DecidedAt p (stage.Over q (Err fault)) = ⊥
+DecidedAt p (stage.Over q (Ok more) n) = ⊤
+DecidedAt p (stage.Over q (Err fault) n) = ⊥
 
 -- it cannot be: a cell is held, or its event was made; or the last look of a scan was decided, and has ended
 abbrev pub HasDecided : Pass → Running → Type 0
@@ -136,7 +137,7 @@ restarts_of_looks l = min (l.restarts + calls.restarts_in (caller_of l.attempt.p
 abbrev pub restarts_at : Stage → ℕ
 restarts_at (stage.Call a) = calls.restarts_in (caller_of a.pass)
 restarts_at (stage.Look l) = restarts_of_looks l
-restarts_at (stage.Over q r) = 0
+restarts_at (stage.Over q r n) = n
 
 abbrev pub restarts_in : Running → ℕ
 restarts_in r = restarts_at r.stage

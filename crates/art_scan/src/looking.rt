@@ -3,7 +3,7 @@ ghost use Rattle.std.specs.Prelude.{◌≡◌, ℕ, ◌<◌, IfErr, IfOk, IfSome
 ghost use Rattle.art_key.specs.Bounds.{is_before};
 ghost use Rattle.art_model.specs.Rows.{Tuple as TupleOf};
 ghost use Rattle.art_model.specs.declared.commands.Command.TheVariants.{Scan};
-ghost use Rattle.art_scan.specs.Running.{HasDecided, IsGivenUp, IsLooking, IsRunning, LooksNoMore, restarts_of_looks, seen_by_look, wants_look};
+ghost use Rattle.art_scan.specs.Running.{HasDecided, IsGivenUp, IsLooking, IsRunning, LooksNoMore, restarts_in, restarts_of_looks, seen_by_look, wants_look};
 ghost use Rattle.art_scan.specs.Scans.{Scans};
 ghost use Rattle.art_table.specs.Attempts.{Progresses, answer_of};
 ghost use Rattle.art_table.specs.Calls.{Ends, IsAttempt};
@@ -151,11 +151,12 @@ impl Looking {
         ensures over { IfErr result (λ r. (lo hi : TupleOf) (limit turns : ℕ) (p : PassOf) →
             IsLooking table.now lo hi limit turns p rows.old.items self → IsRunning table.now (Scan lo hi limit) turns p r rows.new.items) }
         ensures why { IfErr result (λ r. (p : PassOf) → HasDecided p r) }
+        ensures restarts { IfErr result (λ r. restarts_in r ≡ restarts_of_looks self) }
     {
         let Looking {
             mut tiling,
             attempt,
-            restarts: _,
+            restarts,
         } = self;
         let attempt = match attempt.abandon(table) {
             Ok(pass) => {
@@ -164,6 +165,7 @@ impl Looking {
             }
             Err(attempt) => attempt,
         };
+        let restarts = restarts.saturating_add(attempt.restarts());
         let (pass, answer) = attempt.finish(table);
         let Ok(outcome) = answer else {
             rows.clear();
@@ -176,7 +178,7 @@ impl Looking {
         }
         let more = tiling.more(rows.len());
         Err(Running {
-            stage: Stage::Over(pass, Ok(more)),
+            stage: Stage::Over(pass, Ok(more), restarts),
         })
     }
 

@@ -37,8 +37,8 @@ pub(crate) enum Stage {
     Call(Attempt),
     /// A scan goes on, by a look, or has ended with that look.
     Look(Looking),
-    /// A scan has ended, and its pass is idle.
-    Over(Pass, Result<More, ScanFault>),
+    /// A scan has ended, after so many restarts, and its pass is idle.
+    Over(Pass, Result<More, ScanFault>, u64),
 }
 
 /// Begins the command by the pass, in so many turns. It makes no step. The rows of a scan go into the list, which is emptied first; it
@@ -63,7 +63,7 @@ pub fn start_command(
         Command::Get(tuple) => Stage::Call(start(table, pass, Job::Get(tuple), turns)),
         Command::Scan(lo, hi, limit) => match Tiling::new(table.schema(), &lo, &hi, limit, turns) {
             Ok(tiling) => Stage::Look(Looking::first(table, pass, tiling)),
-            Err(fault) => Stage::Over(pass, Err(fault)),
+            Err(fault) => Stage::Over(pass, Err(fault), 0),
         },
     };
     Running { stage }
@@ -82,7 +82,7 @@ impl Running {
         match &mut self.stage {
             Stage::Call(attempt) => attempt.step(table),
             Stage::Look(looking) => looking.step(table, rows),
-            Stage::Over(_, _) => Progress::Ended,
+            Stage::Over(_, _, _) => Progress::Ended,
         }
     }
 
@@ -104,7 +104,7 @@ impl Running {
                 let (pass, result) = looking.finish(table, rows);
                 (pass, Ending::Scan(result))
             }
-            Stage::Over(pass, result) => (pass, Ending::Scan(result)),
+            Stage::Over(pass, result, _) => (pass, Ending::Scan(result)),
         }
     }
 
@@ -121,6 +121,7 @@ impl Running {
             IsRunning table.now c turns p self rows.old.items → IsRunning table.now c turns p r rows.new.items) }
         ensures why { IfErr result (λ r. (c : CommandOf) (turns : ℕ) (p : PassOf) → IsRunning table.now c turns p self rows.old.items →
             HasDecided p r) }
+        ensures restarts { IfErr result (λ r. restarts_in r ≡ restarts_in self) }
     {
         let Running { stage } = self;
         match stage {
@@ -134,9 +135,9 @@ impl Running {
                 }),
             },
             Stage::Look(looking) => looking.abandon(table, rows),
-            Stage::Over(pass, result) => match result {
+            Stage::Over(pass, result, restarts) => match result {
                 Ok(more) => Err(Running {
-                    stage: Stage::Over(pass, Ok(more)),
+                    stage: Stage::Over(pass, Ok(more), restarts),
                 }),
                 Err(_) => {
                     rows.clear();
@@ -153,7 +154,7 @@ impl Running {
         match &self.stage {
             Stage::Call(attempt) => attempt.restarts(),
             Stage::Look(looking) => looking.restarts(),
-            Stage::Over(_, _) => 0,
+            Stage::Over(_, _, restarts) => *restarts,
         }
     }
 }

@@ -1,6 +1,5 @@
 -- The places of all passes, one by one.
-use Rattle.std.proofs.Common.{append-nil, ◌++◌, Option, Result, Ok, Err, OnOk, ◌≡◌, ℕ, suc, zero, ◌+◌, ◌<◌, List, [], ◌∷◌, length, ◌≢◌, inl, inr, get_or, get_or-set_other, get_or-set_same, map, All, Some, refl, sym, subst, ap, ◌∙◌, arith}
-use Rattle.std.specs.Io.KnownBytes.{Appends}
+use Rattle.std.proofs.Common.{◌≡◌, ℕ, suc, zero, ◌+◌, ◌<◌, List, [], ◌∷◌, length, ◌≢◌, inl, inr, get_or, get_or-set_other, get_or-set_same, map, All, Some, refl, sym, subst, ap, ◌∙◌, arith}
 use Rattle.std.proofs.Math.ListN.{set}
 use Rattle.std.proofs.lemmas.Bool.{cases_lt}
 use Rattle.std.proofs.lemmas.List.{get_or_default, length-map, set-get_or}
@@ -12,9 +11,7 @@ use Rattle.art_server.specs.Sessions.{IsSamePass}
 use Rattle.art_schedule.specs.Desks.{AreSeated, IsDesk, SettlesAt}
 use Rattle.art_schedule.specs.Schedules.{ArePassesOf, ComeBack}
 use Rattle.art_schedule.specs.Seats.{IsSeat, IsIdle}
-use Rattle.art_schedule.specs.Tells.{TellsLine, told_text}
 use Rattle.art_schedule.specs.declared.desks.Desk.{Desk}
-use Rattle.art_schedule.specs.declared.orders.Told.{Told}
 use Rattle.art_table.specs.declared.passes.Pass.{Pass}
 use Rattle.art_table.specs.declared.tables.Table.{Table}
 use Rattle.art_schedule.specs.declared.seats.Seat.{Seat}
@@ -200,21 +197,3 @@ idle_more place old new before settles within k d less =
           let same : k ≡ place = omega arith in
           rw same (rw get_or-set_same settles.idle))
     ])
-
--- ---- a line that is printed
-
--- where all went well, all of it is printed
-prints_all : {A E : Type 0} (place : ℕ) (told : Told) (held held_after : Option (List ℕ)) (r : Result A E) → TellsLine place told held held_after r
-    → OnOk r (Appends held held_after (told_text place told))
-prints_all place told held held_after (Ok a) tells =
-    subst (Appends held held_after) (sym (tells.whole ∙ ap (λ (l : List ℕ). tells.part ++ l) tells.done ∙ append-nil tells.part)) tells.appends
-prints_all place told held held_after (Err e) tells = tt
-
-so_on : {A E : Type 0} (r : Result A E) (P Q : Type 0) → (P → Q) → OnOk r P → OnOk r Q
-so_on (Ok a) P Q then p = then p
-so_on (Err e) P Q then p = tt
-
-pub ObeysAt-told : {A E : Type 0} (place : ℕ) (told : Told) (held held_after : Option (List ℕ)) (r : Result A E) (Q : Type 0)
-    → TellsLine place told held held_after r → (Appends held held_after (told_text place told) → Q) → OnOk r Q
-ObeysAt-told place told held held_after r Q tells then =
-    so_on r (Appends held held_after (told_text place told)) Q then (prints_all place told held held_after r tells)

@@ -11,7 +11,7 @@ use Rattle.art_schedule.specs.declared.seats.Seat.{Seat}
 use Rattle.art_table.specs.declared.tables.Table.{Table}
 
 module _ (t : Table) (old between new : Seat) (rows rows_between rows_after : List Row) where
-  pub until_ends : (mark : Mark) (n : ℕ) → GoesOn old between (λ r s. ReachesOrStops t mark n r s rows_between false) → (told : Told)
+  pub until_ends : (mark : Mark) (n : ℕ) → GoesOn t old rows between rows_between (λ r s. ReachesOrStops t mark n r s rows_between false) → (told : Told)
       → EndsWith t between rows_between new rows_after told → Obeys t (until mark n) old rows new rows_after told
   until_ends mark n on Nothing ends = absurd ends
   until_ends mark n on (At m) ends = absurd ends
@@ -21,11 +21,12 @@ module _ (t : Table) (old between new : Seat) (rows rows_between rows_after : Li
     between = on.running_after;
     rows_between = rows_between;
     was = on.was;
+    keeps = on.keeps;
     steps = on.steps;
     ends = subst (λ (s : Seat). TellsEnd t s rows_between new rows_after reply.items restarts) on.now ends;
   }
 
-  pub step_ends : (n : ℕ) → GoesOn old between (λ r s. StepsOrStops t n r s rows_between false) → (told : Told)
+  pub step_ends : (n : ℕ) → GoesOn t old rows between rows_between (λ r s. StepsOrStops t n r s rows_between false) → (told : Told)
       → EndsWith t between rows_between new rows_after told → Obeys t (step n) old rows new rows_after told
   step_ends n on Nothing ends = absurd ends
   step_ends n on (At m) ends = absurd ends
@@ -35,6 +36,7 @@ module _ (t : Table) (old between new : Seat) (rows rows_between rows_after : Li
     between = on.running_after;
     rows_between = rows_between;
     was = on.was;
+    keeps = on.keeps;
     steps = on.steps;
     ends = subst (λ (s : Seat). TellsEnd t s rows_between new rows_after reply.items restarts) on.now ends;
   }

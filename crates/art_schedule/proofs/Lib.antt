@@ -5,3 +5,5 @@ pub mod StepLaws
 pub mod Ends
 pub mod SeatLaws
 pub mod DeskLaws
+pub mod TaskLaws
+pub mod WayLaws

@@ -99,16 +99,16 @@ module _ (t : Table) (turns : ℕ) (p : Pass) (rows : List Row) where
   few_at : (c : Command) (s : Stage) → GoesOn t c turns p s rows → (view_of (pass_at s)).steps ≤ (view_of p).steps + 2 * turns + 1000
   few_at (Insert tuple value) (stage.Call a) at = omega (arith, attempt_few t (job.Insert tuple value) turns p a at)
   few_at (Insert tuple value) (stage.Look l) at = absurd at
-  few_at (Insert tuple value) (stage.Over q r) at = absurd at
+  few_at (Insert tuple value) (stage.Over q r n) at = absurd at
   few_at (Remove tuple) (stage.Call a) at = omega (arith, attempt_few t (job.Remove tuple) turns p a at)
   few_at (Remove tuple) (stage.Look l) at = absurd at
-  few_at (Remove tuple) (stage.Over q r) at = absurd at
+  few_at (Remove tuple) (stage.Over q r n) at = absurd at
   few_at (Get tuple) (stage.Call a) at = omega (arith, attempt_few t (job.Get tuple) turns p a at)
   few_at (Get tuple) (stage.Look l) at = absurd at
-  few_at (Get tuple) (stage.Over q r) at = absurd at
+  few_at (Get tuple) (stage.Over q r n) at = absurd at
   few_at (Scan lo hi limit) (stage.Call a) at = absurd at
   few_at (Scan lo hi limit) (stage.Look l) at = look_few t lo hi limit turns p rows l at
-  few_at (Scan lo hi limit) (stage.Over q r) at = scan_few t lo hi limit turns p rows r q at.scans
+  few_at (Scan lo hi limit) (stage.Over q r n) at = scan_few t lo hi limit turns p rows r q at.scans
 
 -- a command that has come so far has made few steps
 steps_few : (t : Table) (c : Command) (turns : ℕ) (p : Pass) (r : Running) (rows : List Row) → IsRunning t c turns p r rows

@@ -5,3 +5,5 @@ pub mod Desks
 pub mod Schedules
 pub mod Tells
 pub mod Orders
+pub mod Tasks
+pub mod Ways

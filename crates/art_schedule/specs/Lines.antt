@@ -1,5 +1,5 @@
 -- What a line of a schedule says.
-use Rattle.std.specs.Prelude.{⊤, ◌<◌, ℕ, ◌+◌, ◌-◌, ◌^◌, ◌==◌, ◌&&◌, nat_lt, nat_le, Bool, if◌then◌else◌, List, [], ◌∷◌, drop, map, codes, bytes_eq, Option, Some, None, option_map}
+use Rattle.std.specs.Prelude.{⊤, ◌<◌, ℕ, ◌+◌, ◌-◌, ◌^◌, ◌==◌, ◌&&◌, nat_lt, nat_le, Bool, if◌then◌else◌, List, [], ◌∷◌, length, drop, map, codes, bytes_eq, Option, Some, None, option_map}
 use Rattle.std.specs.Char.{is_ascii_digit}
 use Rattle.std.specs.Int.Digits.{number_from_digits}
 use Rattle.std.specs.List.{before_first, find, list_all, position_from}
@@ -141,6 +141,10 @@ line_said line = do
   rest ← after_word line
   said ← order_said rest
   Some (pass, said)
+
+-- a line that says an order has at most 4,096 bytes
+abbrev pub line_order : List ℕ → Option (ℕ × Said)
+line_order line = if nat_le (length line) 4096 then line_said line else None
 
 -- a mark is waited for once at least
 abbrev pub HasTimes : Order → Type 0

@@ -7,7 +7,7 @@ use Rattle.art_server.specs.Refusals.{line_refusal}
 use Rattle.art_server.specs.Lines.{line_says}
 use Rattle.art_server.specs.Endings.{reply_of_ending}
 use Rattle.art_server.specs.Replies.{text_of_reply}
-use Rattle.art_schedule.specs.Seats.{BeginsThere, EndsThere}
+use Rattle.art_schedule.specs.Seats.{BeginsThere, EndsThere, KeepsRunning}
 use Rattle.art_schedule.specs.Steps.{MakesFewer, MakesMany, MissesMark, ReachesMark}
 use Rattle.art_scan.specs.declared.running.Ending.{Ending}
 use Rattle.art_server.specs.declared.lines.LineFault.{LineFault}
@@ -39,12 +39,14 @@ pub record IsRefused (text : List ℕ) (old new : Seat) (reply : List ℕ) (rest
   pub reply_is : reply ++ 10 ∷ [] ≡ text_of_reply (Err (line_refusal fault))
   pub none : restarts ≡ 0
 
--- the command under way made these steps, and goes on
-pub record GoesOn (old new : Seat) (made : Running → Running → Type 0) : Type 0 where
+-- the command under way made these steps, and goes on: it is the same command
+pub record GoesOn (t : Table) (old : Seat) (rows : List Row) (new : Seat) (rows_after : List Row) (made : Running → Running → Type 0)
+    : Type 0 where
   pub running : Running
   pub running_after : Running
   pub was : old ≡ Going running
   pub now : new ≡ Going running_after
+  pub keeps : KeepsRunning t running rows running_after rows_after
   pub steps : made running running_after
 
 -- what is under way makes all steps that are left, and its reply is told
@@ -55,12 +57,13 @@ pub record TellsEnd (t : Table) (old : Seat) (rows : List Row) (new : Seat) (row
   pub reply_is : reply ++ 10 ∷ [] ≡ text_of_reply (reply_of_ending rows_after ending)
 
 -- what is under way makes these steps, of which none is left then, and its reply is told
-pub record EndsAfter (t : Table) (old : Seat) (made : Running → Running → List Row → Type 0) (new : Seat) (rows_after : List Row)
+pub record EndsAfter (t : Table) (old : Seat) (rows : List Row) (made : Running → Running → List Row → Type 0) (new : Seat) (rows_after : List Row)
     (reply : List ℕ) (restarts : ℕ) : Type 0 where
   pub running : Running
   pub between : Running
   pub rows_between : List Row
   pub was : old ≡ Going running
+  pub keeps : KeepsRunning t running rows between rows_between
   pub steps : made running between rows_between
   pub ends : TellsEnd t (Going between) rows_between new rows_after reply restarts
 
@@ -68,11 +71,11 @@ pub record EndsAfter (t : Table) (old : Seat) (made : Running → Running → Li
 abbrev pub Obeys : Table → Said → Seat → List Row → Seat → List Row → Told → Type 0
 Obeys t (start turns text) old rows new rows_after Nothing = Begins t turns text old new rows_after
 Obeys t (start turns text) old rows new rows_after (Ended reply restarts) = IsRefused text old new reply.items restarts
-Obeys t (until mark n) old rows new rows_after (At m) = (m ≡ mark) × GoesOn old new (ReachesMark t mark n)
+Obeys t (until mark n) old rows new rows_after (At m) = (m ≡ mark) × GoesOn t old rows new rows_after (ReachesMark t mark n)
 Obeys t (until mark n) old rows new rows_after (Ended reply restarts) =
-    EndsAfter t old (MissesMark t mark n) new rows_after reply.items restarts
-Obeys t (step n) old rows new rows_after Stepped = GoesOn old new (MakesMany t n)
-Obeys t (step n) old rows new rows_after (Ended reply restarts) = EndsAfter t old (MakesFewer t n) new rows_after reply.items restarts
+    EndsAfter t old rows (MissesMark t mark n) new rows_after reply.items restarts
+Obeys t (step n) old rows new rows_after Stepped = GoesOn t old rows new rows_after (MakesMany t n)
+Obeys t (step n) old rows new rows_after (Ended reply restarts) = EndsAfter t old rows (MakesFewer t n) new rows_after reply.items restarts
 Obeys t end old rows new rows_after (Ended reply restarts) = TellsEnd t old rows new rows_after reply.items restarts
 Obeys t said old rows new rows_after told = ⊥
 

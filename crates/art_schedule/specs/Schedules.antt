@@ -1,8 +1,15 @@
--- The passes of a schedule.
-use Rattle.std.specs.Prelude.{◌≡◌, ℕ, List, Some, ⊤}
-use Rattle.std.specs.List.{slice_get}
+-- A schedule, from its passes and the bytes that it reads to the bytes that it writes and its end.
+use Rattle.std.specs.Prelude.{◌≡◌, ℕ, ◌+◌, ◌*◌, ◌≤◌, List, ◌++◌, length, map, Option, Some, ⊤}
+use Rattle.std.specs.Io.KnownBytes.{Appends, Consumes}
+use Rattle.std.specs.List.{range_with_len, slice_get}
 use Rattle.art_table.specs.Tables.{IsPassOf}
 use Rattle.art_server.specs.Sessions.{IsSamePass}
+use Rattle.art_server.specs.Streams.{lines_of, whole_lines}
+use Rattle.art_schedule.specs.Desks.{Places}
+use Rattle.art_schedule.specs.Tasks.{DoesAll, StopsAt, Task, end_at, obey}
+use Rattle.art_schedule.specs.declared.seats.Seat.TheVariants.{Idle}
+use Rattle.art_schedule.specs.declared.stops.Stop.{Stop}
+use Rattle.art_schedule.specs.declared.stops.Stop.TheVariants as stop
 use Rattle.art_table.specs.declared.passes.Pass.{Pass}
 use Rattle.art_table.specs.declared.tables.Table.{Table}
 use Rattle.art_schedule.specs.declared.stops.ScheduleEnd.{ScheduleEnd}
@@ -16,6 +23,63 @@ ArePassesOf t passes = (n : ℕ) (p : Pass) → slice_get passes n ≡ Some p �
 abbrev pub ComeBack : Table → List Pass → List Pass → Type 0
 ComeBack t passes back =
     (n : ℕ) (p q : Pass) → slice_get passes n ≡ Some p → slice_get back n ≡ Some q → IsPassOf t q × IsSamePass p q
+
+-- ---- what a schedule does
+
+-- what is under way at each place, in order of the names
+abbrev pub rest_tasks : List Task
+rest_tasks = map end_at (range_with_len 0 8)
+
+-- the lines of an input that ended, and what is under way then
+abbrev pub tasks_of : List ℕ → List Task
+tasks_of read = map obey (lines_of read) ++ rest_tasks
+
+-- the lines of an input that has not ended
+abbrev pub whole_tasks : List ℕ → List Task
+whole_tasks read = map obey (whole_lines read)
+
+-- all of these tasks were done
+pub record DoesTasks (t : Table) (tasks : List Task) (start : Places) (written : List ℕ) : Type 0 where
+  pub last : Places
+  pub done : DoesAll t tasks start written last
+
+-- the end that it is to stop at the line of this number
+abbrev pub end_of : Stop → ℕ → ScheduleEnd
+end_of stop.BadLine number = BadLine number
+end_of stop.WriteFault number = WriteFault
+end_of stop.NoMemory number = NoMemory
+
+-- one of the tasks stopped the schedule; the first line has the number 1
+pub record IsStopped (t : Table) (read : List ℕ) (start : Places) (written : List ℕ) (end : ScheduleEnd) : Type 0 where
+  pub why : Stop
+  pub count : ℕ
+  pub stops : StopsAt t why (tasks_of read) start written count
+  pub end_is : end ≡ end_of why (count + 1)
+
+-- what was read was done, up to the end
+abbrev pub EndsBy : Table → List ℕ → Places → List ℕ → ScheduleEnd → Type 0
+EndsBy t read start written Ended = DoesTasks t (tasks_of read) start written
+EndsBy t read start written (BadLine number) = IsStopped t read start written (BadLine number)
+EndsBy t read start written ReadFault = DoesTasks t (whole_tasks read) start written
+EndsBy t read start written WriteFault = IsStopped t read start written WriteFault
+EndsBy t read start written NoMemory = IsStopped t read start written NoMemory
+EndsBy t read start written ReadsUsed = DoesTasks t (whole_tasks read) start written × (1000000 ≤ length read)
+
+-- the schedule that these bytes are, on passes that are idle at first: what was written, and its end
+pub record IsSchedule (t : Table) (passes : List Pass) (read written : List ℕ) (end : ScheduleEnd) : Type 0 where
+  pub start : Places
+  pub idle : start.seats ≡ map Idle passes
+  pub rooms : length start.rooms ≡ length passes
+  pub ends : EndsBy t read start written end
+  pub most : length read ≤ 1000000 * 4096
+
+-- a schedule with the reader, from what it had left to what it has left, and the writer, from what it held to what it holds
+abbrev pub RunsSchedule : (left left_after held held_after : Option (List ℕ)) → Table → List Pass → ScheduleEnd → Type 0
+RunsSchedule left left_after held held_after t passes end =
+    (read : List ℕ) × (written : List ℕ)
+    × Consumes left left_after read × Appends held held_after written × IsSchedule t passes read written end
+
+-- ---- for the functions of a schedule
 
 -- the ends that a line makes
 abbrev pub IsStop : ScheduleEnd → Type 0

@@ -61,6 +61,7 @@ pub record Finishes (t : Table) (r : Running) (rows : List Row) (pass : Pass) (e
   pub last : Running
   pub between : List Row
   pub steps : MakesSteps (sizes_in t) (view_in r) made (view_in last)
+  pub keeps : KeepsRunning t r rows last between
   pub none : HasNoStep t last between
   pub restarted : restarts ≡ restarts_in last
   pub ends : (c : Command) (turns : ℕ) (p : Pass) → IsRunning t c turns p r rows → CommandEnds t c turns p rows_after ending pass

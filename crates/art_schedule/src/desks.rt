@@ -80,6 +80,7 @@ fn pass_in(seat: Seat) -> Pass
 /// Each pass at its place, idle. Where there is no memory, the passes come back.
 pub(crate) fn open(alloc: Global, passes: [Pass; 8]) -> Result<Desk, [Pass; 8]>
     ensures desk { IfOk result (λ desk. (t : TableOf) → ArePassesOf t passes → IsDesk t passes desk) }
+    ensures idle { IfOk result (λ desk. desk.seats.items ≡ map idle passes) }
     ensures back { IfErr result (λ back. back ≡ passes) }
 {
     let Ok(rooms) = rooms(alloc) else {

@@ -1,5 +1,5 @@
 //! What a pass is told to do, and what is told of it then.
-ghost use Rattle.std.specs.Prelude.{◌≡◌, ◌<◌, IfErr, IfOk, OnOk, Err, ◌↔◌, take, ◌-◌, vec_len, false, true};
+ghost use Rattle.std.specs.Prelude.{◌≡◌, ◌≢◌, ◌<◌, IfErr, IfOk, OnOk, Err, ◌↔◌, take, ◌-◌, vec_len, false, true};
 ghost use Rattle.art_schedule.specs.Lines.{HasTimes, said_by, start as start_order};
 ghost use Rattle.art_schedule.specs.Orders.{EndsWith, GoesOn, Obeys, fits};
 ghost use Rattle.art_schedule.specs.Steps.{ReachesOrStops, StepsOrStops};
@@ -40,6 +40,7 @@ pub(crate) fn follow(
     ensures keeps { (p : PassOf) → IsSeat table.now p seat.old room.old.items → IsSeat table.now p seat.new room.new.items }
     ensures obeys { IfOk result (Obeys table.now (said_by order.entry) seat.old room.old.items seat.new room.new.items) }
     ensures bad { (result ≡ Err Stop.BadLine) ↔ (fits (said_by order.entry) (is_idle seat.old) ≡ false) }
+    ensures unwritten { IfErr result (λ stop. stop ≢ Stop.WriteFault) }
 {
     match order {
         Order::Start(turns, text) => start(alloc, table, seat, room, turns, text),
@@ -72,6 +73,7 @@ fn start(
     ensures keeps { (p : PassOf) → IsSeat table.now p seat.old room.old.items → IsSeat table.now p seat.new room.new.items }
     ensures obeys { IfOk result (Obeys table.now (start_order turns text.now) seat.old room.old.items seat.new room.new.items) }
     ensures bad { (result ≡ Err Stop.BadLine) ↔ (is_idle seat.old ≡ false) }
+    ensures unwritten { IfErr result (λ stop. stop ≢ Stop.WriteFault) }
 {
     if !seat.is_idle() {
         return Err(Stop::BadLine);
@@ -102,7 +104,7 @@ fn until(
     requires seat { (p : PassOf) × IsSeat table.now p seat.old room.old.items }
     requires some { 0 < times }
     ensures keeps { (p : PassOf) → IsSeat table.now p seat.old room.old.items → IsSeat table.now p seat.new room.new.items }
-    ensures obeys { IfOk result (λ all. GoesOn seat.old seat.new
+    ensures obeys { IfOk result (λ all. GoesOn table.now seat.old room.old.items seat.new room.new.items
         (λ r s. ReachesOrStops table.now mark times r s room.new.items all)) }
     ensures bad { IfErr result (λ stop. (stop ≡ Stop.BadLine) × (is_idle seat.old ≡ true)) }
     ensures going { OnOk result (is_idle seat.old ≡ false) }
@@ -117,7 +119,8 @@ fn until(
 fn step(table: &Table, seat: &mut Seat, room: &mut Room, count: u32) -> Result<bool, Stop>
     requires { (p : PassOf) × IsSeat table.now p seat.old room.old.items }
     ensures keeps { (p : PassOf) → IsSeat table.now p seat.old room.old.items → IsSeat table.now p seat.new room.new.items }
-    ensures obeys { IfOk result (λ all. GoesOn seat.old seat.new (λ r s. StepsOrStops table.now count r s room.new.items all)) }
+    ensures obeys { IfOk result (λ all. GoesOn table.now seat.old room.old.items seat.new room.new.items
+        (λ r s. StepsOrStops table.now count r s room.new.items all)) }
     ensures bad { IfErr result (λ stop. (stop ≡ Stop.BadLine) × (is_idle seat.old ≡ true)) }
     ensures going { OnOk result (is_idle seat.old ≡ false) }
 {
@@ -133,6 +136,7 @@ fn ended(alloc: Global, table: &Table, seat: &mut Seat, room: &mut Room) -> Resu
     ensures keeps { (p : PassOf) → IsSeat table.now p seat.old room.old.items → IsSeat table.now p seat.new room.new.items }
     ensures obeys { IfOk result (EndsWith table.now seat.old room.old.items seat.new room.new.items) }
     ensures bad { (result ≡ Err Stop.BadLine) ↔ (is_idle seat.old ≡ true) }
+    ensures unwritten { IfErr result (λ stop. stop ≢ Stop.WriteFault) }
 {
     if seat.is_idle() {
         return Err(Stop::BadLine);

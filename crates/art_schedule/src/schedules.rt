@@ -1,12 +1,14 @@
 //! From the lines of a reader to what they print.
-ghost use Rattle.std.specs.Prelude.{◌≡◌, ◌+◌, ◌<◌, ◌≤◌, ◌^◌, [], ◌∷◌, ◌++◌, List, IfErr, IfOk, OnErr, OnOk, length, take};
+ghost use Rattle.std.specs.Prelude.{◌≡◌, ◌≢◌, ◌+◌, ◌<◌, ◌≤◌, ◌^◌, [], ◌∷◌, ◌++◌, List, IfErr, IfOk, length, take};
 ghost use Rattle.std.specs.Io.KnownBytes.{IsAtEnd};
 ghost use Rattle.art_server.specs.Counted.{reader_of, reads_of};
 ghost use Rattle.art_server.specs.Reads.{AddsReads, MakesReads};
 ghost use Rattle.art_server.specs.declared.sessions.EndCause.TheVariants as cause;
-ghost use Rattle.art_schedule.specs.Desks.{IsDesk, ObeysAt, ObeysLine};
+ghost use Rattle.art_schedule.specs.Desks.{IsDesk, places_of};
 ghost use Rattle.art_schedule.specs.Lines.{HasTimes, said_by};
-ghost use Rattle.art_schedule.specs.Schedules.{ArePassesOf, ComeBack, EndsAtInput, IsStop};
+ghost use Rattle.art_schedule.specs.Schedules.{ArePassesOf, ComeBack, EndsAtInput, IsStop, RunsSchedule, rest_tasks};
+ghost use Rattle.art_schedule.specs.Tasks.{end_at, obey as obey_task};
+ghost use Rattle.art_schedule.specs.Ways.{Finishes, ObeysBytes, RunsFrom, Tries, TriesAll, TriesAt};
 ghost use Rattle.art_table.specs.declared.passes.Pass.{Pass as PassOf};
 
 use crate::desks::{Desk, close, open};
@@ -38,6 +40,8 @@ pub fn run_schedule<R: Read, W: Write>(
 ) -> ([Pass; 8], ScheduleEnd)
     requires { ArePassesOf table.now passes }
     ensures passes { ComeBack table.now passes result.0 }
+    ensures schedule { RunsSchedule (R.remaining (reader_of reader.old)) (R.remaining (reader_of reader.new))
+        (W.contents writer.old) (W.contents writer.new) table.now passes result.1 }
     ensures end { result.1 ≡ ScheduleEnd.Ended → IsAtEnd (R.remaining (reader_of reader.new)) }
     ensures reads { AddsReads (reads_of reader.old) (reads_of reader.new) }
     ensures used { result.1 ≡ ScheduleEnd.ReadsUsed → MakesReads (reads_of reader.old) (reads_of reader.new) cause.ReadsUsed }
@@ -62,6 +66,8 @@ fn run_reads<R: Read, W: Write>(
 ) -> ScheduleEnd
     requires { (ps : List PassOf) × IsDesk table.now ps desk.old }
     ensures keeps { (ps : List PassOf) → IsDesk table.now ps desk.old → IsDesk table.now ps desk.new }
+    ensures schedule { RunsFrom (R.remaining (reader_of reader.old)) (R.remaining (reader_of reader.new))
+        (W.contents writer.old) (W.contents writer.new) table.now (places_of desk.old) result }
     ensures end { result ≡ ScheduleEnd.Ended → IsAtEnd (R.remaining (reader_of reader.new)) }
     ensures reads { AddsReads (reads_of reader.old) (reads_of reader.new) }
     ensures used { result ≡ ScheduleEnd.ReadsUsed → MakesReads (reads_of reader.old) (reads_of reader.new) cause.ReadsUsed }
@@ -98,6 +104,7 @@ fn finish<W: Write>(
     requires desk { (ps : List PassOf) × IsDesk table.now ps desk.old }
     requires room { count + 1 < 2 ^ 64 }
     ensures keeps { (ps : List PassOf) → IsDesk table.now ps desk.old → IsDesk table.now ps desk.new }
+    ensures finishes { Finishes table.now (W.contents writer.old) (W.contents writer.new) (places_of desk.old) count line.now result }
     ensures end { EndsAtInput result }
 {
     if !line.is_empty() {
@@ -119,14 +126,34 @@ fn end_all<W: Write>(
     writer: &mut W,
 ) -> Result<(), Stop>
     requires { (ps : List PassOf) × IsDesk table.now ps desk.old }
-    ensures { (ps : List PassOf) → IsDesk table.now ps desk.old → IsDesk table.now ps desk.new }
+    ensures keeps { (ps : List PassOf) → IsDesk table.now ps desk.old → IsDesk table.now ps desk.new }
+    ensures ends { TriesAll table.now rest_tasks (places_of desk.old) (places_of desk.new) (W.contents writer.old) (W.contents writer.new) result }
+    ensures fit { IfErr result (λ stop. stop ≢ Stop.BadLine) }
 {
     for place in 0..8 {
-        if !desk.seats[place].is_idle() {
-            obey(alloc, table, desk, place, Order::End, writer)?;
-        }
+        end_place(alloc, table, desk, place, writer)?;
     }
     Ok(())
+}
+
+/// What is under way at the place, if anything is, is run to its end, and printed.
+fn end_place<W: Write>(
+    alloc: Global,
+    table: &Table,
+    desk: &mut Desk,
+    place: usize,
+    writer: &mut W,
+) -> Result<(), Stop>
+    requires desk { (ps : List PassOf) × IsDesk table.now ps desk.old }
+    requires place { place < 8 }
+    ensures keeps { (ps : List PassOf) → IsDesk table.now ps desk.old → IsDesk table.now ps desk.new }
+    ensures ends { Tries table.now (end_at place) (places_of desk.old) (places_of desk.new) (W.contents writer.old) (W.contents writer.new) result }
+    ensures fit { IfErr result (λ stop. stop ≢ Stop.BadLine) }
+{
+    if desk.seats[place].is_idle() {
+        return Ok(());
+    }
+    obey(alloc, table, desk, place, Order::End, writer)
 }
 
 /// Each line that ends in the bytes is obeyed, and what stands after the last line feed is kept: how many lines these are, with those
@@ -143,6 +170,8 @@ fn obey_bytes<W: Write>(
     requires desk { (ps : List PassOf) × IsDesk table.now ps desk.old }
     requires room { before + length bytes.now < 2 ^ 64 }
     ensures keeps { (ps : List PassOf) → IsDesk table.now ps desk.old → IsDesk table.now ps desk.new }
+    ensures obeys { ObeysBytes table.now bytes.now (W.contents writer.old) (W.contents writer.new) (places_of desk.old) (places_of desk.new)
+        before line.old.items line.new.items result }
     ensures count { IfOk result (λ count. count ≤ before + length bytes.now) }
     ensures stop { IfErr result IsStop }
 {
@@ -180,7 +209,8 @@ fn obey_line<W: Write>(
 ) -> Result<(), Stop>
     requires { (ps : List PassOf) × IsDesk table.now ps desk.old }
     ensures keeps { (ps : List PassOf) → IsDesk table.now ps desk.old → IsDesk table.now ps desk.new }
-    ensures obeys { OnOk result (ObeysLine table.now line.now desk.old desk.new (W.contents writer.old) (W.contents writer.new)) }
+    ensures obeys { Tries table.now (obey_task line.now) (places_of desk.old) (places_of desk.new)
+        (W.contents writer.old) (W.contents writer.new) result }
 {
     if line.len() > LINE_BYTES {
         return Err(Stop::BadLine);
@@ -204,8 +234,8 @@ fn obey<W: Write>(
     requires place { place < 8 }
     requires times { HasTimes order }
     ensures keeps { (ps : List PassOf) → IsDesk table.now ps desk.old → IsDesk table.now ps desk.new }
-    ensures obeys { OnOk result (ObeysAt table.now place (said_by order.entry) desk.old desk.new
-        (W.contents writer.old) (W.contents writer.new)) }
+    ensures obeys { TriesAt table.now place (said_by order.entry) (places_of desk.old) (places_of desk.new)
+        (W.contents writer.old) (W.contents writer.new) result }
 {
     let followed = follow(
         alloc,

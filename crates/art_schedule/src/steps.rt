@@ -52,6 +52,7 @@ pub(crate) fn make_until(
     requires going { (p : PassOf) × IsGoing table.now p running.old room.old.items }
     requires some { 0 < times }
     ensures goes_on { (p : PassOf) → IsGoing table.now p running.old room.old.items → IsGoing table.now p running.new room.new.items }
+    ensures keeps { KeepsRunning table.now running.old room.old.items running.new room.new.items }
     ensures made { ReachesOrStops table.now mark times running.old running.new room.new.items result }
 {
     let mut found = 0;

@@ -28,11 +28,13 @@ pub(crate) enum Stop {
 }
 
 impl Stop {
-    ghost use Rattle.art_schedule.specs.Schedules.{IsStop};
+    ghost use Rattle.std.specs.Prelude.{◌≡◌};
+    ghost use Rattle.art_schedule.specs.Schedules.{IsStop, end_of};
 
     /// The end that it is to a schedule, at the line of this number.
     pub(crate) fn at(self, line: u64) -> ScheduleEnd
-        ensures { IsStop result }
+        ensures end { result ≡ end_of self line }
+        ensures stop { IsStop result }
     {
         match self {
             Stop::BadLine => ScheduleEnd::BadLine(line),

@@ -6,3 +6,4 @@ pub mod Known
 pub mod Runs
 pub mod Numbers
 pub mod Passes
+pub mod Stepped

@@ -66,3 +66,8 @@ fault_in (Err fault) = Some fault
 abbrev pub status_after : {A : Type 0} → Result A RunFault → ℕ
 status_after (Ok done) = 0
 status_after (Err fault) = status_of fault
+
+-- the status where this fault is told, or none
+abbrev pub status_told : Option RunFault → ℕ
+status_told None = 0
+status_told (Some fault) = status_of fault

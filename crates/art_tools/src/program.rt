@@ -1,5 +1,5 @@
 //! The program over a reader, a writer and a writer for faults.
-ghost use Rattle.std.specs.Prelude.{◌≡◌, ◌≢◌, ◌⊎◌, ◌↔◌, ◌≤◌, ℕ, [], ◌∷◌, Ok, Err, codes, IsErr, IsOk, IfErr, IfOk, OnOk};
+ghost use Rattle.std.specs.Prelude.{◌≡◌, ◌≢◌, ◌⊎◌, ◌↔◌, ◌≤◌, ℕ, [], ◌∷◌, Option, Ok, Err, codes, IsErr, IsOk, IfErr, IfOk, OnOk};
 ghost use Rattle.std.specs.Io.KnownBytes.{IsAtEnd};
 ghost use Rattle.std.specs.Option.{option_or};
 ghost use Rattle.clap.specs.Values.{kind_of};
@@ -14,7 +14,9 @@ ghost use Rattle.art_server.specs.Refusals.{schema_refusal};
 ghost use Rattle.art_server.specs.declared.refusals.Refusal.{Refusal};
 ghost use Rattle.art_table.specs.Tables.{IsPassOf, number_of, schema_in, seen_by, sizes_in};
 ghost use Rattle.art_tools.specs.Outputs.{Outputs, of_one_pass};
-ghost use Rattle.art_tools.specs.Statuses.{fault_at, fault_in, status_after};
+ghost use Rattle.art_tools.specs.Schedules.{Steps};
+ghost use Rattle.art_tools.specs.Statuses.{fault_at, fault_in, status_after, status_told};
+ghost use Rattle.art_tools.specs.declared.run_faults.RunFault.{RunFault as RunFaultOf};
 ghost use Rattle.art_tools.specs.Settings.{faults_of, AsksFor, AsksToShow, schema_asked, sizes_asked};
 
 use crate::command_line::settings;
@@ -54,6 +56,9 @@ pub fn execute<'a, R: Read, W: Write, E: Write>(
     ensures ended { faults_of words.entry.now ≡ [] → result ≡ 0 → IsAtEnd (R.remaining (reader_of reader.new)) }
     ensures ran { faults_of words.entry.now ≡ [] → AsksFor words.entry.now (codes "run") → result ≡ 0
         → Outputs (schema_asked words.entry.now) (R.remaining (reader_of reader.old)) (W.contents writer.old) (W.contents writer.new) }
+    ensures stepped { faults_of words.entry.now ≡ [] → AsksFor words.entry.now (codes "step") → (told : Option RunFaultOf)
+        × Steps (schema_asked words.entry.now) (sizes_asked words.entry.now) (R.remaining (reader_of reader.old))
+        (R.remaining (reader_of reader.new)) (W.contents writer.old) (W.contents writer.new) told × (result ≡ status_told told) }
     ensures reads { AddsReads (reads_of reader.old) (reads_of reader.new) }
     ensures used { result ≡ 5 → MakesReads (reads_of reader.old) (reads_of reader.new) EndCause.ReadsUsed }
     ensures line { result ≡ 6 → (faults_of words.entry.now ≡ []) × AsksFor words.entry.now (codes "step") }

@@ -10,10 +10,11 @@ ghost use Rattle.art_server.specs.Reads.{AddsReads, MakesReads};
 ghost use Rattle.art_server.specs.Refusals.{schema_refusal};
 ghost use Rattle.art_server.specs.declared.refusals.Refusal.{Refusal};
 ghost use Rattle.art_server.specs.declared.sessions.EndCause.TheVariants as ends;
+ghost use Rattle.art_table.specs.Opening.{IsOpened};
 ghost use Rattle.art_table.specs.Sizes.{IsConfig};
-ghost use Rattle.art_table.specs.Tables.{schema_in, sizes_in};
+ghost use Rattle.art_table.specs.Tables.{sizes_in};
 ghost use Rattle.art_table.specs.declared.passes.Pass.{Pass as PassOf};
-ghost use Rattle.art_tools.specs.Schedules.{AreEight, of_eight_passes};
+ghost use Rattle.art_tools.specs.Schedules.{AreEight, Steps, of_eight_passes};
 ghost use Rattle.art_tools.specs.Statuses.{fault_in, schedule_fault};
 
 use crate::run_faults::RunFault;
@@ -33,6 +34,8 @@ pub fn step<R: Read, W: Write>(
     reader: &mut Counted<R>,
     writer: &mut W,
 ) -> Result<(), RunFault>
+    ensures steps { Steps (schema_of schema.now) sizes (R.remaining (reader_of reader.old)) (R.remaining (reader_of reader.new))
+        (W.contents writer.old) (W.contents writer.new) (fault_in result) }
     ensures ended { OnOk result (IsAtEnd (R.remaining (reader_of reader.new))) }
     ensures schema { (fault : SchemaFault) → schema_of schema.now ≡ Err fault
         → result ≡ Err (RunFault.Refused (schema_refusal fault)) }
@@ -59,7 +62,7 @@ fn table_of_eight(
     schema: Schema,
     sizes: Config,
 ) -> Result<(Table, [Pass; 8]), OpenFault>
-    ensures table { IfOk result (λ opened. (schema_in opened.0 ≡ schema) × ((sizes_in opened.0).passes ≡ 8)) }
+    ensures opened { IfOk result (λ opened. IsOpened schema (of_eight_passes sizes) opened.0 opened.1) }
     ensures passes { IfOk result (λ opened. AreEight opened.0 opened.1) }
     ensures valid { OnOk result (IsConfig (of_eight_passes sizes)) }
     ensures config { IfErr result (λ fault. (fault ≡ OpenFault.BadConfig) ↔ (¬ (IsConfig (of_eight_passes sizes)))) }

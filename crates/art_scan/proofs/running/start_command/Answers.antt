@@ -26,6 +26,6 @@ returns-clause-running c =
           (first_looks t k.lo k.hi k.limit n p rows c.clear.ensures w.in-Ok.tiling w.first.result s (subst (λ (m : ℕ). 0 < m) (sym e.limit.0) e.limit.1) e.order w.first.ensures.tiling w.first.ensures.look)
       | in-Scan+in-Err w ↦ let k = w.in-Scan in
           let some = subst (λ (schema : List Column). scan_fault schema k.lo k.hi k.limit ≡ Some w.in-Err.fault) w.schema.ensures w.in-Err.ensures.fault in
-          as_is t c.args.command (Scan k.lo k.hi k.limit) n p c.match-command.stage (stage.Over p (Err w.in-Err.fault)) rows k.is w.stage-is
+          as_is t c.args.command (Scan k.lo k.hi k.limit) n p c.match-command.stage (stage.Over p (Err w.in-Err.fault) 0) rows k.is w.stage-is
           (refused_at_once t k.lo k.hi k.limit n p rows c.clear.ensures c.requires w.in-Err.fault some)
     ]

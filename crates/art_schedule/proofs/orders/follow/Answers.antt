@@ -12,7 +12,7 @@ pub returns-then-branch-clause-obeys : goal.returns-then-branch-clause-obeys
 returns-then-branch-clause-obeys c =
     let t = c.args.table.now in
     let u = c.in-Until in
-    let on = subst (λ (b : Bool). GoesOn c.args.seat.now c.until.new.seat (λ r s. ReachesOrStops t u.mark u.times r s c.until.new.room.items b)) c.if-branch.true c.in_ok-until-in-Until.ensures.obeys in
+    let on = subst (λ (b : Bool). GoesOn t c.args.seat.now c.args.room.now.items c.until.new.seat c.until.new.room.items (λ r s. ReachesOrStops t u.mark u.times r s c.until.new.room.items b)) c.if-branch.true c.in_ok-until-in-Until.ensures.obeys in
     subst (λ (o : Order). Obeys t (said_by o) c.args.seat.now c.args.room.now.items c.until.new.seat c.until.new.room.items (At u.mark)) (sym u.is) (refl, on)
 
 pub ended-requires : goal.ended-requires
@@ -24,7 +24,7 @@ pub returns-then-branch-2-clause-obeys : goal.returns-then-branch-2-clause-obeys
 returns-then-branch-2-clause-obeys c =
     let t = c.args.table.now in
     let u = c.in-Step in
-    let on = subst (λ (b : Bool). GoesOn c.args.seat.now c.step.new.seat (λ r s. StepsOrStops t u.count r s c.step.new.room.items b)) c.if-branch-2.true c.in_ok-step-in-Step.ensures.obeys in
+    let on = subst (λ (b : Bool). GoesOn t c.args.seat.now c.args.room.now.items c.step.new.seat c.step.new.room.items (λ r s. StepsOrStops t u.count r s c.step.new.room.items b)) c.if-branch-2.true c.in_ok-step-in-Step.ensures.obeys in
     subst (λ (o : Order). Obeys t (said_by o) c.args.seat.now c.args.room.now.items c.step.new.seat c.step.new.room.items Stepped) (sym u.is) on
 
 pub ended-requires-in-Step : goal.ended-requires-in-Step
@@ -36,7 +36,7 @@ pub returns-else-branch-clause-obeys : goal.returns-else-branch-clause-obeys
 returns-else-branch-clause-obeys c =
     let t = c.args.table.now in
     let u = c.in-Until in
-    let on = subst (λ (b : Bool). GoesOn c.args.seat.now c.until.new.seat (λ r s. ReachesOrStops t u.mark u.times r s c.until.new.room.items b)) c.if-branch.false c.in_ok-until-in-Until.ensures.obeys in
+    let on = subst (λ (b : Bool). GoesOn t c.args.seat.now c.args.room.now.items c.until.new.seat c.until.new.room.items (λ r s. ReachesOrStops t u.mark u.times r s c.until.new.room.items b)) c.if-branch.false c.in_ok-until-in-Until.ensures.obeys in
     IfOk-weaker c.ended.result _ _
     (λ told ends. subst (λ (o : Order). Obeys t (said_by o) c.args.seat.now c.args.room.now.items c.ended.new.seat c.ended.new.room.items told) (sym u.is)
     (until_ends t c.args.seat.now c.until.new.seat c.ended.new.seat c.args.room.now.items c.until.new.room.items c.ended.new.room.items u.mark u.times on told ends))
@@ -46,7 +46,7 @@ pub returns-else-branch-2-clause-obeys : goal.returns-else-branch-2-clause-obeys
 returns-else-branch-2-clause-obeys c =
     let t = c.args.table.now in
     let u = c.in-Step in
-    let on = subst (λ (b : Bool). GoesOn c.args.seat.now c.step.new.seat (λ r s. StepsOrStops t u.count r s c.step.new.room.items b)) c.if-branch-2.false c.in_ok-step-in-Step.ensures.obeys in
+    let on = subst (λ (b : Bool). GoesOn t c.args.seat.now c.args.room.now.items c.step.new.seat c.step.new.room.items (λ r s. StepsOrStops t u.count r s c.step.new.room.items b)) c.if-branch-2.false c.in_ok-step-in-Step.ensures.obeys in
     IfOk-weaker c.ended-in-Step.result _ _
     (λ told ends. subst (λ (o : Order). Obeys t (said_by o) c.args.seat.now c.args.room.now.items c.ended-in-Step.new.seat c.ended-in-Step.new.room.items told) (sym u.is)
     (step_ends t c.args.seat.now c.step.new.seat c.ended-in-Step.new.seat c.args.room.now.items c.step.new.room.items c.ended-in-Step.new.room.items u.count on told ends))

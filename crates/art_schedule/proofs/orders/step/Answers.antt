@@ -15,5 +15,6 @@ returns-in-Going-clause-obeys c = record {
   running_after = c.make_steps.new.running;
   was = c.in-Going.is;
   now = refl;
+  keeps = c.make_steps.ensures.keeps;
   steps = subst (λ (n : ℕ). StepsOrStops c.args.table.now n c.in-Going.running c.make_steps.new.running c.make_steps.new.room.items c.make_steps.result) c.from.ensures c.make_steps.ensures.made;
 }

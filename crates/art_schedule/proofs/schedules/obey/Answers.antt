@@ -1,5 +1,6 @@
-use Rattle.std.proofs.Common.{refl, arith}
-use Rattle.art_schedule.proofs.DeskLaws.{IsDesk-at, ObeysAt-told, desk_at, eight_rooms, eight_seats}
+use Rattle.std.proofs.Common.{◌≡◌, Err, refl, rules, arith}
+use Rattle.art_schedule.proofs.DeskLaws.{IsDesk-at, desk_at, eight_rooms, eight_seats}
+use Rattle.art_schedule.proofs.TaskLaws.{TriesAt-told, TriesAt-unfollowed}
 use Rattle.art_schedule.proofs.schedules.obey.Goals as goal
 
 pub index_mut-requires : goal.index_mut-requires
@@ -23,10 +24,16 @@ returns-clause-keeps g c ps desk =
     IsDesk-at c.args.table.now ps c.args.desk.now _ c.args.place _ _ c.follow-followed.new.seat c.follow-followed.new.room
     c.index_mut.ensures.value c.index_mut-2.ensures.value refl refl c.follow-followed.ensures.keeps desk
 
+pub returns-in_err-followed-clause-obeys : goal.returns-in_err-followed-clause-obeys
+returns-in_err-followed-clause-obeys g c =
+    let is : c.from_residual.result ≡ Err c.in_err-followed.field-0.0 = search rules in
+    rw is (TriesAt-unfollowed c.args.table.now c.args.place _ _ _ _ c.index_mut.result.now c.follow-followed.result _ c.index_mut.ensures.value
+    c.follow-followed.ensures.bad c.follow-followed.ensures.unwritten c.in_err-followed.was)
+
 pub returns-clause-obeys : goal.returns-clause-obeys
 returns-clause-obeys g c =
-    ObeysAt-told c.args.place c.in_ok-followed.field-0 _ _ c.tell.result _ c.tell.ensures
-    (λ prints. record {
+    TriesAt-told c.args.table.now c.args.place _ c.in_ok-followed.field-0 _ _ _ _ c.index_mut.result.now c.follow-followed.result _ c.tell.result
+    c.index_mut.ensures.value c.follow-followed.ensures.bad c.in_ok-followed.was c.tell.ensures (record {
       seat = c.index_mut.result.now;
       room = c.index_mut-2.result.now;
       seat_after = c.follow-followed.new.seat;
@@ -37,5 +44,5 @@ returns-clause-obeys g c =
       rooms = refl;
       told = c.in_ok-followed.field-0;
       obeys = c.in_ok-followed.ensures.obeys;
-      prints = prints;
+      prints = refl;
     })

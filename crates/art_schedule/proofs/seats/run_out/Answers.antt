@@ -36,6 +36,7 @@ returns-clause-finishes c =
       last = c.make_steps.new.running;
       between = c.make_steps.new.room.items;
       steps = fewer.steps;
+      keeps = c.make_steps.ensures.keeps;
       none = fewer.none;
       restarted = c.restarts-restarts.ensures;
       ends = λ command turns q runs. c.finish-pass.ensures.ends command turns q (c.make_steps.ensures.keeps.keeps command turns q runs);

@@ -53,3 +53,9 @@ pub unreachable-requires : goal.unreachable-requires
 unreachable-requires c =
     let (p, going) = c.requires.going in
     never_marked _ p _ _ _ _ _ _ _ going c.loop.invariant.keeps c.loop.invariant.made c.loop-test.false
+
+pub returns-then-found-times-clause-keeps : goal.returns-then-found-times-clause-keeps
+returns-then-found-times-clause-keeps c = KeepsRunning-step _ _ _ _ _ _ _ c.loop.invariant.keeps c.in-Made.ensures.goes_on
+
+pub returns-in_default-clause-keeps : goal.returns-in_default-clause-keeps
+returns-in_default-clause-keeps c = KeepsRunning-step _ _ _ _ _ _ _ c.loop.invariant.keeps c.in_default.ensures.goes_on

@@ -1,6 +1,9 @@
-use Rattle.std.proofs.Common.{◌∙◌, ap, arith, inl, sym}
+use Rattle.std.proofs.Common.{◌∙◌, Some, ap, arith, inl, inr, refl, sym}
 use Rattle.art_tools.specs.Statuses.{status_after}
+use Rattle.art_server.specs.declared.refusals.Refusal.TheVariants.{BadConfig}
 use Rattle.art_tools.proofs.Runs.{five_is_used}
+use Rattle.art_tools.proofs.Stepped.{steps_unopened}
+use Rattle.art_tools.specs.declared.run_faults.RunFault.TheVariants.{NoMemory, Refused}
 use Rattle.art_tools.proofs.program.execute.Goals as goal
 
 pub returns-in-Ok-Run-clause-schema : goal.returns-in-Ok-Run-clause-schema
@@ -18,3 +21,11 @@ returns-in-Ok-Step-clause-schema g c = λ fault none schema.
 
 pub returns-in-Ok-Step-clause-used : goal.returns-in-Ok-Step-clause-used
 returns-in-Ok-Step-clause-used g c = λ five. c.step.ensures.used (five_is_used c.step.result (sym c.status-in-Ok-Step.ensures.of ∙ five))
+
+pub returns-in-Err-Range-clause-stepped : goal.returns-in-Err-Range-clause-stepped
+returns-in-Err-Range-clause-stepped g c = λ none asks.
+    (Some (Refused BadConfig), steps_unopened _ _ _ _ _ (inr (BadConfig, refl)), c.status-in-Err-Range.ensures.of)
+
+pub returns-in-Err-NoMemory-clause-stepped : goal.returns-in-Err-NoMemory-clause-stepped
+returns-in-Err-NoMemory-clause-stepped g c = λ none asks.
+    (Some NoMemory, steps_unopened _ _ _ _ _ (inl refl), c.status-in-Err-NoMemory.ensures.of)

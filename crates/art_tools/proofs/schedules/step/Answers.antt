@@ -1,4 +1,6 @@
+use Rattle.std.proofs.Common.{sym}
 use Rattle.art_tools.specs.declared.run_faults.RunFault.TheVariants.{ReadFailed, Refused, ReadsUsed}
+use Rattle.art_tools.proofs.Stepped.{steps_ran}
 use Rattle.art_tools.proofs.Runs.{not_refused, schedule_ended, schedule_read_failed, schedule_used_up, told_first, where_ended}
 use Rattle.art_tools.proofs.schedules.step.Goals as goal
 
@@ -25,3 +27,8 @@ close_all-closed-requires-clause-passes g c =
 
 pub run_schedule-passes-requires : goal.run_schedule-passes-requires
 run_schedule-passes-requires g c = λ n p found. (c.in_ok-table.ensures.passes.1 n p found).0
+
+pub returns-clause-steps : goal.returns-clause-steps
+returns-clause-steps g c =
+    steps_ran _ _ _ _ _ _ _ _ _ _ c.outcome.result c.close_all-closed.result (sym c.in_ok-schema.ensures) c.in_ok-table.ensures.opened
+    c.run_schedule-passes.ensures.schedule c.outcome.ensures c.close_all-closed.ensures

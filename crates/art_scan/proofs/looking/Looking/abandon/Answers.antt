@@ -80,5 +80,5 @@ returns-clause-over c lo hi limit turns p on =
       pass = c.finish-pass.ensures.pass;
       scans = listed_scans t lo hi limit turns p c.finish-pass.result.0 listed g s test c.more-more.result
           (c.more-more.ensures ∙ (ap (λ (n : ℕ). more_at n g.limit) c.len-2.ensures.value ∙ ap (λ (n : ℕ). more_at (length listed) n) s.on.limit_is));
-      at_once = λ f is. cc;
+      at_once = λ f is. absurd (cc);
     }

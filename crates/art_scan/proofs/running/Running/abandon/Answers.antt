@@ -45,7 +45,8 @@ returns-in-Err-result-clause-given c k turns p on =
     let rows = c.args.rows.now.items in
     let q = c.in-Over.pass in
     let over = subst (λ (s : Stage). GoesOn t k turns p s rows) c.in-Over.is on in
-    over_given t k turns p q c.in-Err-result.field-0 rows (subst (λ (r : Result More ScanFault). GoesOn t k turns p (Over q r) rows) c.in-Err-result.is over)
+    over_given t k turns p q c.in-Err-result.field-0 c.in-Over.restarts rows
+    (subst (λ (r : Result More ScanFault). GoesOn t k turns p (Over q r c.in-Over.restarts) rows) c.in-Err-result.is over)
 
 pub returns-in-Ok-clause-free : goal.returns-in-Ok-clause-free
 returns-in-Ok-clause-free c k turns p on =

@@ -1,0 +1,67 @@
+-- What is told of a schedule is told of its end, or of the closing of its table.
+use Rattle.std.proofs.Common.{◌≡◌, ℕ, List, Option, Some, Result, Ok, Err, IfErr, inl, inr, refl, ap, subst, ◌∙◌}
+use Rattle.std.specs.Option.{option_or}
+use Rattle.std.proofs.KnownBytes.{Appends-nil, Consumes-nil}
+use Rattle.art_key.specs.declared.columns.Column.{Column}
+use Rattle.art_key.specs.declared.faults.SchemaFault.{SchemaFault}
+use Rattle.art_schedule.specs.Schedules.{RunsSchedule}
+use Rattle.art_schedule.specs.declared.stops.ScheduleEnd.{ScheduleEnd}
+use Rattle.art_schedule.specs.declared.stops.ScheduleEnd.TheVariants.{Ended, BadLine, ReadFault, WriteFault, NoMemory, ReadsUsed}
+use Rattle.art_table.specs.Opening.{IsOpened}
+use Rattle.art_table.specs.declared.configs.Config.{Config}
+use Rattle.art_table.specs.declared.faults.OpenFault.{OpenFault}
+use Rattle.art_table.specs.declared.faults.OpenFault.TheVariants as opening
+use Rattle.art_table.specs.declared.passes.Pass.{Pass}
+use Rattle.art_table.specs.declared.tables.Table.{Table}
+use Rattle.art_tools.specs.Schedules.{IsToldOf, IsUnopened, NothingRead, Steps, of_eight_passes}
+use Rattle.art_tools.specs.Statuses.{fault_in, schedule_fault, status_after, status_told, unopened}
+use Rattle.art_tools.specs.declared.run_faults.RunFault.{RunFault}
+use Rattle.art_tools.specs.declared.run_faults.RunFault.TheVariants as fault
+
+nothing_read : (left held : Option (List ℕ)) → NothingRead left left held held
+nothing_read left held = record { consumes = Consumes-nil left; appends = Appends-nil held }
+
+-- there is no table
+pub steps_unopened : (schema : Result (List Column) SchemaFault) (sizes : Config) (left held : Option (List ℕ)) (told : Option RunFault)
+    → IsUnopened told → Steps schema sizes left left held held told
+steps_unopened (Ok schema) sizes left held told why = inr (nothing_read left held, why)
+steps_unopened (Err fault) sizes left held told why = (nothing_read left held, why)
+
+pub unopened_fault : (why : OpenFault) → IsUnopened (Some (unopened why))
+unopened_fault opening.BadConfig = inr (_, refl)
+unopened_fault opening.NoMemory = inl refl
+
+told_of : {A B : Type 0} (r : Result A RunFault) (end : ScheduleEnd) (closed : Result B RunFault)
+    → fault_in r ≡ option_or (schedule_fault end) (fault_in closed) → IfErr closed (λ why. why ≡ fault.NoMemory) → IsToldOf end (fault_in r)
+told_of r Ended (Ok b) e none = inl e
+told_of r Ended (Err why) e none = inr (refl, e ∙ ap Some none)
+told_of r (BadLine line) closed e none = inl e
+told_of r ReadFault closed e none = inl e
+told_of r WriteFault closed e none = inl e
+told_of r NoMemory closed e none = inl e
+told_of r ReadsUsed closed e none = inl e
+
+same_columns : (columns schema : List Column) → ◌≡◌ {A = Result (List Column) SchemaFault} (Ok schema) (Ok columns) → columns ≡ schema
+same_columns columns schema is = cc
+
+-- a schedule was run, and the table closed
+pub steps_ran : {A B : Type 0} (schema : Result (List Column) SchemaFault) (columns : List Column) (sizes : Config)
+    (left left_after held held_after : Option (List ℕ)) (t : Table) (passes : List Pass) (end : ScheduleEnd) (r : Result A RunFault)
+    (closed : Result B RunFault)
+    → schema ≡ Ok columns → IsOpened columns (of_eight_passes sizes) t passes → RunsSchedule left left_after held held_after t passes end
+    → fault_in r ≡ option_or (schedule_fault end) (fault_in closed) → IfErr closed (λ why. why ≡ fault.NoMemory)
+    → Steps schema sizes left left_after held held_after (fault_in r)
+steps_ran (Ok schema) columns sizes left left_after held held_after t passes end r closed is opened runs told none = inl (record {
+  table = t;
+  passes = passes;
+  end = end;
+  opened = subst (λ (s : List Column). IsOpened s (of_eight_passes sizes) t passes) (same_columns columns schema is) opened;
+  runs = runs;
+  told_is = told_of r end closed told none;
+})
+steps_ran (Err fault) columns sizes left left_after held held_after t passes end r closed is opened runs told none = absurd (cc)
+
+-- the status tells the fault
+pub status_of_fault : {A : Type 0} (r : Result A RunFault) → status_after r ≡ status_told (fault_in r)
+status_of_fault (Ok a) = refl
+status_of_fault (Err why) = refl
