@@ -191,7 +191,7 @@ module _ (t : Table) where
     some = cut.some;
     whole = cut.whole;
   }
-  end_comes place old new written (Err NoMemory) seat is going within (can, none) = (tt, none)
+  end_comes place old new written (Err NoMemory) seat is going within (can, none) = (can, none)
 
   pub Tries-end : {A : Type 0} (place : ℕ) (old new : Places) (held held_after : Option (List ℕ)) (r : Result A Stop) (seat : Seat)
       → seat ≡ get_or old.seats place seat → is_idle seat ≡ false → place < length old.seats

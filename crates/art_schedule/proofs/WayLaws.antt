@@ -5,8 +5,6 @@ use Rattle.std.specs.List.{range_with_len}
 use Rattle.std.proofs.KnownBytes.{Appends-nil, Appends-trans, Consumes-nil, Consumes-trans, Consumes-kept}
 use Rattle.std.proofs.lemmas.List.{length-map, map-append}
 use Rattle.std.proofs.lemmas.List.FromFn.{length-map-range_with_len, map-range_with_len_more, take-map-range_with_len}
-use Rattle.arrayvec.specs.ArrayVec.{ArrayVec}
-use Rattle.art_model.specs.declared.rows.Row.{Row}
 use Rattle.art_schedule.specs.Desks.{Places}
 use Rattle.art_schedule.specs.Lines.{line_order}
 use Rattle.art_schedule.specs.Schedules.{EndsBy, IsStopped, RunsSchedule, end_of, rest_tasks, tasks_of, whole_tasks}
@@ -503,42 +501,10 @@ module _ (t : Table) where
     runs.written,
     runs.consumes,
     runs.appends,
-    record { start = start; idle = idle; rooms = rooms; ends = runs.ends; most = runs.most },
+    inl (record { start = start; idle = idle; rooms = rooms; ends = runs.ends; most = runs.most }),
   )
-
-  no_rows : Pass → ArrayVec Row
-  no_rows pass = record { items = [] }
 
   -- there was no memory for the places
   pub RunsSchedule-none : (left held : Option (List ℕ)) (passes : List Pass) → RunsSchedule left left held held t passes ends.NoMemory
   RunsSchedule-none left held passes =
-      let start : Places = record { seats = map Idle passes; rooms = map no_rows passes } in (
-        [],
-        [],
-        Consumes-nil left,
-        Appends-nil held,
-        record {
-          start = start;
-          idle = refl;
-          rooms = length-map {A = Pass} {B = ArrayVec Row} passes no_rows;
-          ends = record {
-            why = NoMemory;
-            count = 0;
-            stops = record {
-              before = [];
-              at = end_at 0;
-              after = map end_at (range_with_len 1 7);
-              split = refl;
-              count_is = refl;
-              text = [];
-              part = [];
-              m = start;
-              done = (refl, refl);
-              stops = (tt, refl);
-              whole = refl;
-            };
-            end_is = refl;
-          };
-          most = omega arith;
-        },
-      )
+      ([], [], Consumes-nil left, Appends-nil held, inr (record { unread = refl; unwritten = refl; end_is = refl }))

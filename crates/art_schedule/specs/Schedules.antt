@@ -1,5 +1,5 @@
 -- A schedule, from its passes and the bytes that it reads to the bytes that it writes and its end.
-use Rattle.std.specs.Prelude.{◌≡◌, ℕ, ◌+◌, ◌*◌, ◌≤◌, List, ◌++◌, length, map, Option, Some, ⊤}
+use Rattle.std.specs.Prelude.{◌≡◌, ◌⊎◌, ℕ, ◌+◌, ◌*◌, ◌≤◌, List, [], ◌++◌, length, map, Option, Some, ⊤}
 use Rattle.std.specs.Io.KnownBytes.{Appends, Consumes}
 use Rattle.std.specs.List.{range_with_len, slice_get}
 use Rattle.art_table.specs.Tables.{IsPassOf}
@@ -73,11 +73,18 @@ pub record IsSchedule (t : Table) (passes : List Pass) (read written : List ℕ)
   pub ends : EndsBy t read start written end
   pub most : length read ≤ 1000000 * 4096
 
+-- there was no memory for the places: nothing was read, and nothing written
+pub record HasNoPlaces (read written : List ℕ) (end : ScheduleEnd) : Type 0 where
+  pub unread : read ≡ []
+  pub unwritten : written ≡ []
+  pub end_is : end ≡ NoMemory
+
 -- a schedule with the reader, from what it had left to what it has left, and the writer, from what it held to what it holds
 abbrev pub RunsSchedule : (left left_after held held_after : Option (List ℕ)) → Table → List Pass → ScheduleEnd → Type 0
 RunsSchedule left left_after held held_after t passes end =
     (read : List ℕ) × (written : List ℕ)
-    × Consumes left left_after read × Appends held held_after written × IsSchedule t passes read written end
+    × Consumes left left_after read × Appends held held_after written
+    × (IsSchedule t passes read written end ⊎ HasNoPlaces read written end)
 
 -- ---- for the functions of a schedule
 

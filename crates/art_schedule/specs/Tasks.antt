@@ -1,5 +1,5 @@
 -- What a schedule does, one task after another: its lines, and at the end of its input what is still under way.
-use Rattle.std.specs.Prelude.{◌≡◌, ◌≢◌, ◌⊎◌, ℕ, Bool, true, false, ⊤, List, [], ◌∷◌, ◌++◌, length, slice_index_or, slice_set, Some, None}
+use Rattle.std.specs.Prelude.{◌≡◌, ◌≢◌, ◌⊎◌, ℕ, Bool, true, false, List, [], ◌∷◌, ◌++◌, length, slice_index_or, slice_set, Some, None}
 use Rattle.arrayvec.specs.ArrayVec.{ArrayVec}
 use Rattle.art_model.specs.declared.rows.Row.{Row}
 use Rattle.art_schedule.specs.Desks.{Places}
@@ -81,9 +81,10 @@ abbrev pub IsBad : Task → Places → Type 0
 IsBad (obey line) now = (line_order line ≡ None) ⊎ LineCan line now false
 IsBad (end_at place) now = ⊥
 
+-- a line that says an order, and a place with a command under way, can be done
 abbrev pub IsGood : Task → Places → Type 0
 IsGood (obey line) now = LineCan line now true
-IsGood (end_at place) now = ⊤
+IsGood (end_at place) now = CanDo place end now true
 
 -- of what it prints, which is something, a front was written
 pub record IsCut (does : List ℕ → Places → Type 0) (part : List ℕ) : Type 0 where
