@@ -1,20 +1,24 @@
--- What is told of a schedule is told of its end, or of the closing of its table.
-use Rattle.std.proofs.Common.{◌≡◌, ℕ, List, Option, Some, Result, Ok, Err, IfErr, inl, inr, refl, ap, subst, ◌∙◌}
+-- What is told of a session or a schedule is told of its end, or of the closing of its table.
+use Rattle.std.proofs.Common.{◌≡◌, ℕ, List, [], ◌∷◌, Option, Some, None, Result, Ok, Err, IfErr, inl, inr, refl, ap, subst, ◌∙◌}
 use Rattle.std.specs.Option.{option_or}
 use Rattle.std.proofs.KnownBytes.{Appends-nil, Consumes-nil}
 use Rattle.art_key.specs.declared.columns.Column.{Column}
 use Rattle.art_key.specs.declared.faults.SchemaFault.{SchemaFault}
 use Rattle.art_schedule.specs.Schedules.{RunsSchedule}
 use Rattle.art_schedule.specs.declared.stops.ScheduleEnd.{ScheduleEnd}
-use Rattle.art_schedule.specs.declared.stops.ScheduleEnd.TheVariants.{Ended, BadLine, ReadFault, WriteFault, NoMemory, ReadsUsed}
 use Rattle.art_table.specs.Opening.{IsOpened}
 use Rattle.art_table.specs.declared.configs.Config.{Config}
 use Rattle.art_table.specs.declared.faults.OpenFault.{OpenFault}
 use Rattle.art_table.specs.declared.faults.OpenFault.TheVariants as opening
 use Rattle.art_table.specs.declared.passes.Pass.{Pass}
 use Rattle.art_table.specs.declared.tables.Table.{Table}
-use Rattle.art_tools.specs.Schedules.{IsToldOf, IsUnopened, NothingRead, Steps, of_eight_passes}
-use Rattle.art_tools.specs.Statuses.{fault_in, schedule_fault, status_after, status_told, unopened}
+use Rattle.art_server.specs.Sessions.{RunsSession}
+use Rattle.art_server.specs.declared.sessions.SessionEnd.{SessionEnd}
+use Rattle.art_tools.specs.Outputs.{of_one_pass}
+use Rattle.art_tools.specs.Schedules.{Steps, of_eight_passes}
+use Rattle.art_tools.specs.Sessions.{Runs}
+use Rattle.art_tools.specs.Told.{IsToldOf, IsUnopened, NothingRead}
+use Rattle.art_tools.specs.Statuses.{fault_at, fault_in, schedule_fault, status_after, status_told, unopened}
 use Rattle.art_tools.specs.declared.run_faults.RunFault.{RunFault}
 use Rattle.art_tools.specs.declared.run_faults.RunFault.TheVariants as fault
 
@@ -31,15 +35,11 @@ pub unopened_fault : (why : OpenFault) → IsUnopened (Some (unopened why))
 unopened_fault opening.BadConfig = inr (_, refl)
 unopened_fault opening.NoMemory = inl refl
 
-told_of : {A B : Type 0} (r : Result A RunFault) (end : ScheduleEnd) (closed : Result B RunFault)
-    → fault_in r ≡ option_or (schedule_fault end) (fault_in closed) → IfErr closed (λ why. why ≡ fault.NoMemory) → IsToldOf end (fault_in r)
-told_of r Ended (Ok b) e none = inl e
-told_of r Ended (Err why) e none = inr (refl, e ∙ ap Some none)
-told_of r (BadLine line) closed e none = inl e
-told_of r ReadFault closed e none = inl e
-told_of r WriteFault closed e none = inl e
-told_of r NoMemory closed e none = inl e
-told_of r ReadsUsed closed e none = inl e
+told_of : {A B : Type 0} (r : Result A RunFault) (why : Option RunFault) (closed : Result B RunFault)
+    → fault_in r ≡ option_or why (fault_in closed) → IfErr closed (λ f. f ≡ fault.NoMemory) → IsToldOf why (fault_in r)
+told_of r None (Ok b) e none = inl e
+told_of r None (Err f) e none = inr (refl, e ∙ ap Some none)
+told_of r (Some f) closed e none = inl e
 
 same_columns : (columns schema : List Column) → ◌≡◌ {A = Result (List Column) SchemaFault} (Ok schema) (Ok columns) → columns ≡ schema
 same_columns columns schema is = cc
@@ -57,9 +57,32 @@ steps_ran (Ok schema) columns sizes left left_after held held_after t passes end
   end = end;
   opened = subst (λ (s : List Column). IsOpened s (of_eight_passes sizes) t passes) (same_columns columns schema is) opened;
   runs = runs;
-  told_is = told_of r end closed told none;
+  told_is = told_of r (schedule_fault end) closed told none;
 })
 steps_ran (Err fault) columns sizes left left_after held held_after t passes end r closed is opened runs told none = absurd (cc)
+
+-- the same of a session
+pub runs_unopened : (schema : Result (List Column) SchemaFault) (sizes : Config) (left held : Option (List ℕ)) (told : Option RunFault)
+    → IsUnopened told → Runs schema sizes left left held held told
+runs_unopened (Ok schema) sizes left held told why = inr (nothing_read left held, why)
+runs_unopened (Err fault) sizes left held told why = (nothing_read left held, why)
+
+pub runs_ran : {A B : Type 0} (schema : Result (List Column) SchemaFault) (columns : List Column) (sizes : Config)
+    (left left_after held held_after : Option (List ℕ)) (t : Table) (p q : Pass) (end : SessionEnd) (r : Result A RunFault)
+    (closed : Result B RunFault)
+    → schema ≡ Ok columns → IsOpened columns (of_one_pass sizes) t (p ∷ []) → RunsSession left left_after held held_after t p q end
+    → fault_in r ≡ option_or (fault_at end.why) (fault_in closed) → IfErr closed (λ why. why ≡ fault.NoMemory)
+    → Runs schema sizes left left_after held held_after (fault_in r)
+runs_ran (Ok schema) columns sizes left left_after held held_after t p q end r closed is opened runs told none = inl (record {
+  table = t;
+  pass = p;
+  back = q;
+  end = end;
+  opened = subst (λ (s : List Column). IsOpened s (of_one_pass sizes) t (p ∷ [])) (same_columns columns schema is) opened;
+  runs = runs;
+  told_is = told_of r (fault_at end.why) closed told none;
+})
+runs_ran (Err fault) columns sizes left left_after held held_after t p q end r closed is opened runs told none = absurd (cc)
 
 -- the status tells the fault
 pub status_of_fault : {A : Type 0} (r : Result A RunFault) → status_after r ≡ status_told (fault_in r)

@@ -4,3 +4,5 @@ pub mod Outputs
 pub mod Schedules
 pub mod Settings
 pub mod Statuses
+pub mod Told
+pub mod Sessions

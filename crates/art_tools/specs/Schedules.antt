@@ -1,21 +1,18 @@
 -- The table of a schedule, and what `step` does with it.
-use Rattle.std.specs.Prelude.{◌≡◌, ◌⊎◌, ℕ, List, [], length, Option, Some, Result, Ok, Err}
-use Rattle.std.specs.Io.KnownBytes.{Appends, Consumes}
+use Rattle.std.specs.Prelude.{◌≡◌, ◌⊎◌, ℕ, List, length, Option, Some, Result, Ok, Err}
 use Rattle.std.specs.List.{slice_get}
 use Rattle.art_key.specs.declared.columns.Column.{Column}
 use Rattle.art_key.specs.declared.faults.SchemaFault.{SchemaFault}
 use Rattle.art_schedule.specs.Schedules.{RunsSchedule}
 use Rattle.art_schedule.specs.declared.stops.ScheduleEnd.{ScheduleEnd}
-use Rattle.art_schedule.specs.declared.stops.ScheduleEnd.TheVariants.{Ended}
-use Rattle.art_server.specs.declared.refusals.Refusal.{Refusal}
 use Rattle.art_table.specs.Opening.{IsOpened}
 use Rattle.art_table.specs.Tables.{IsPassOf, number_of}
 use Rattle.art_table.specs.declared.configs.Config.{Config}
 use Rattle.art_table.specs.declared.passes.Pass.{Pass}
 use Rattle.art_table.specs.declared.tables.Table.{Table}
 use Rattle.art_tools.specs.Statuses.{schedule_fault}
+use Rattle.art_tools.specs.Told.{IsToldOf, IsUnopened, NothingRead}
 use Rattle.art_tools.specs.declared.run_faults.RunFault.{RunFault}
-use Rattle.art_tools.specs.declared.run_faults.RunFault.TheVariants.{NoMemory, Refused}
 
 -- the sizes, with eight passes
 abbrev pub of_eight_passes : Config → Config
@@ -31,19 +28,6 @@ AreEight t passes = (length passes ≡ 8) × AreInPlace t passes
 
 -- ---- what `step` does
 
--- nothing was read, and nothing written
-pub record NothingRead (left left_after held held_after : Option (List ℕ)) : Type 0 where
-  pub consumes : Consumes left left_after []
-  pub appends : Appends held held_after []
-
--- why there is no table: it is refused, or there was no memory
-abbrev pub IsUnopened : Option RunFault → Type 0
-IsUnopened told = (told ≡ Some NoMemory) ⊎ ((refusal : Refusal) × (told ≡ Some (Refused refusal)))
-
--- what is told of a schedule that ended so: its fault; or, where it has none, that there was no memory to close its table
-abbrev pub IsToldOf : ScheduleEnd → Option RunFault → Type 0
-IsToldOf end told = (told ≡ schedule_fault end) ⊎ ((end ≡ Ended) × (told ≡ Some NoMemory))
-
 -- a schedule was run on the eight passes of an empty table of the schema and these sizes
 pub record RanSchedule (schema : List Column) (sizes : Config) (left left_after held held_after : Option (List ℕ))
     (told : Option RunFault) : Type 0 where
@@ -52,7 +36,7 @@ pub record RanSchedule (schema : List Column) (sizes : Config) (left left_after 
   pub end : ScheduleEnd
   pub opened : IsOpened schema (of_eight_passes sizes) table passes
   pub runs : RunsSchedule left left_after held held_after table passes end
-  pub told_is : IsToldOf end told
+  pub told_is : IsToldOf (schedule_fault end) told
 
 -- of a schema that is one, a schedule was run, or there was no table for it; nothing is done of another
 abbrev pub Steps : Result (List Column) SchemaFault → Config → (left left_after held held_after : Option (List ℕ)) → Option RunFault → Type 0

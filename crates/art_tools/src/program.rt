@@ -7,14 +7,16 @@ ghost use Rattle.clap.specs.declared.error.kind.ErrorKind.TheVariants.{DisplayHe
 ghost use Rattle.art_key.specs.declared.faults.SchemaFault.{SchemaFault};
 ghost use Rattle.art_key.specs.Schemas.{schema_of};
 ghost use Rattle.art_alone.specs.Laws.{IsAlone};
+ghost use Rattle.art_table.specs.Opening.{IsOpened};
 ghost use Rattle.art_table.specs.Sizes.{IsConfig};
 ghost use Rattle.art_server.specs.Counted.{reader_of, reads_of};
 ghost use Rattle.art_server.specs.Reads.{AddsReads, MakesReads};
 ghost use Rattle.art_server.specs.Refusals.{schema_refusal};
 ghost use Rattle.art_server.specs.declared.refusals.Refusal.{Refusal};
-ghost use Rattle.art_table.specs.Tables.{IsPassOf, number_of, schema_in, seen_by, sizes_in};
+ghost use Rattle.art_table.specs.Tables.{IsPassOf, number_of, seen_by, sizes_in};
 ghost use Rattle.art_tools.specs.Outputs.{Outputs, of_one_pass};
 ghost use Rattle.art_tools.specs.Schedules.{Steps};
+ghost use Rattle.art_tools.specs.Sessions.{Runs};
 ghost use Rattle.art_tools.specs.Statuses.{fault_at, fault_in, status_after, status_told};
 ghost use Rattle.art_tools.specs.declared.run_faults.RunFault.{RunFault as RunFaultOf};
 ghost use Rattle.art_tools.specs.Settings.{faults_of, AsksFor, AsksToShow, schema_asked, sizes_asked};
@@ -59,6 +61,9 @@ pub fn execute<'a, R: Read, W: Write, E: Write>(
     ensures stepped { faults_of words.entry.now ≡ [] → AsksFor words.entry.now (codes "step") → (told : Option RunFaultOf)
         × Steps (schema_asked words.entry.now) (sizes_asked words.entry.now) (R.remaining (reader_of reader.old))
         (R.remaining (reader_of reader.new)) (W.contents writer.old) (W.contents writer.new) told × (result ≡ status_told told) }
+    ensures session { faults_of words.entry.now ≡ [] → AsksFor words.entry.now (codes "run") → (told : Option RunFaultOf)
+        × Runs (schema_asked words.entry.now) (sizes_asked words.entry.now) (R.remaining (reader_of reader.old))
+        (R.remaining (reader_of reader.new)) (W.contents writer.old) (W.contents writer.new) told × (result ≡ status_told told) }
     ensures reads { AddsReads (reads_of reader.old) (reads_of reader.new) }
     ensures used { result ≡ 5 → MakesReads (reads_of reader.old) (reads_of reader.new) EndCause.ReadsUsed }
     ensures line { result ≡ 6 → (faults_of words.entry.now ≡ []) × AsksFor words.entry.now (codes "step") }
@@ -89,6 +94,8 @@ pub fn run<R: Read, W: Write>(
 ) -> Result<(), RunFault>
     ensures output { OnOk result (Outputs (schema_of schema.now) (R.remaining (reader_of reader.old))
         (W.contents writer.old) (W.contents writer.new)) }
+    ensures runs { Runs (schema_of schema.now) sizes (R.remaining (reader_of reader.old)) (R.remaining (reader_of reader.new))
+        (W.contents writer.old) (W.contents writer.new) (fault_in result) }
     ensures ended { OnOk result (IsAtEnd (R.remaining (reader_of reader.new))) }
     ensures schema { (fault : SchemaFault) → schema_of schema.now ≡ Err fault
         → result ≡ Err (RunFault.Refused (schema_refusal fault)) }
@@ -116,7 +123,7 @@ fn empty_table(
     schema: Schema,
     sizes: Config,
 ) -> Result<(Table, Vec<Pass>, Pass), OpenFault>
-    ensures table { IfOk result (λ opened. (schema_in opened.0 ≡ schema) × ((sizes_in opened.0).passes ≡ 1)) }
+    ensures opened { IfOk result (λ opened. IsOpened schema (of_one_pass sizes) opened.0 (opened.2 ∷ [])) }
     ensures room { IfOk result (λ opened. opened.1.items ≡ []) }
     ensures pass { IfOk result (λ opened. IsPassOf opened.0 opened.2 × (number_of opened.2 ≡ 0) × (seen_by opened.0 opened.2 ≡ [])) }
     ensures valid { OnOk result (IsConfig (of_one_pass sizes)) }

@@ -2,7 +2,7 @@ use Rattle.std.proofs.Common.{◌∙◌, Some, ap, arith, inl, inr, refl, sym}
 use Rattle.art_tools.specs.Statuses.{status_after}
 use Rattle.art_server.specs.declared.refusals.Refusal.TheVariants.{BadConfig}
 use Rattle.art_tools.proofs.Runs.{five_is_used}
-use Rattle.art_tools.proofs.Stepped.{steps_unopened}
+use Rattle.art_tools.proofs.Stepped.{runs_unopened, steps_unopened}
 use Rattle.art_tools.specs.declared.run_faults.RunFault.TheVariants.{NoMemory, Refused}
 use Rattle.art_tools.proofs.program.execute.Goals as goal
 
@@ -29,3 +29,11 @@ returns-in-Err-Range-clause-stepped g c = λ none asks.
 pub returns-in-Err-NoMemory-clause-stepped : goal.returns-in-Err-NoMemory-clause-stepped
 returns-in-Err-NoMemory-clause-stepped g c = λ none asks.
     (Some NoMemory, steps_unopened _ _ _ _ _ (inl refl), c.status-in-Err-NoMemory.ensures.of)
+
+pub returns-in-Err-Range-clause-session : goal.returns-in-Err-Range-clause-session
+returns-in-Err-Range-clause-session g c = λ none asks.
+    (Some (Refused BadConfig), runs_unopened _ _ _ _ _ (inr (BadConfig, refl)), c.status-in-Err-Range.ensures.of)
+
+pub returns-in-Err-NoMemory-clause-session : goal.returns-in-Err-NoMemory-clause-session
+returns-in-Err-NoMemory-clause-session g c = λ none asks.
+    (Some NoMemory, runs_unopened _ _ _ _ _ (inl refl), c.status-in-Err-NoMemory.ensures.of)

@@ -1,9 +1,10 @@
-use Rattle.std.proofs.Common.{subst}
+use Rattle.std.proofs.Common.{subst, sym}
 use Rattle.art_server.specs.Counted.{reader_of}
 use Rattle.art_tools.specs.Outputs.{Outputs}
 use Rattle.art_server.specs.Reads.{MakesReads}
 use Rattle.art_tools.specs.declared.run_faults.RunFault.TheVariants.{ReadFailed, ReadsUsed, BadLine}
 use Rattle.art_tools.proofs.Runs.{where_closed, session_ended, session_outputs, told_first, used_up, read_failed, no_line}
+use Rattle.art_tools.proofs.Stepped.{runs_ran}
 use Rattle.art_tools.proofs.program.run.Goals as goal
 
 pub returns-clause-output : goal.returns-clause-output
@@ -14,7 +15,7 @@ returns-clause-output g c =
     let e = c.in_ok-table.ensures in
     where_closed c.outcome.result _ c.give_back-closed.result _ _ c.outcome.ensures c.give_back-closed.ensures.alone (λ none alone.
     let ended = session_ended _ none in
-    let wrote = session_outputs c.in_ok-schema.schema left _ held held_after c.in_ok-table.table c.in_ok-table.pass c.session-pass.result.0 _ e.table.0 e.pass.0 e.pass.2 alone
+    let wrote = session_outputs c.in_ok-schema.schema left _ held held_after c.in_ok-table.table c.in_ok-table.pass c.session-pass.result.0 _ e.opened.schema_is e.pass.0 e.pass.2 alone
     c.session-pass.ensures.session (c.session-pass.ensures.end ended) ended in
     subst (λ s. Outputs s left held held_after) c.in_ok-schema.ensures wrote)
 
@@ -22,6 +23,11 @@ pub returns-clause-ended : goal.returns-clause-ended
 returns-clause-ended g c =
     where_closed c.outcome.result _ c.give_back-closed.result _ _ c.outcome.ensures c.give_back-closed.ensures.alone
     (λ none alone. c.session-pass.ensures.end (session_ended _ none))
+
+pub returns-clause-runs : goal.returns-clause-runs
+returns-clause-runs g c =
+    runs_ran _ _ _ _ _ _ _ _ _ _ _ c.outcome.result c.give_back-closed.result (sym c.in_ok-schema.ensures) c.in_ok-table.ensures.opened
+    c.session-pass.ensures.session c.outcome.ensures c.give_back-closed.ensures.memory
 
 pub returns-clause-failed : goal.returns-clause-failed
 returns-clause-failed g c = λ is.

@@ -1,0 +1,31 @@
+-- What `run` does: one session over a table of its own.
+use Rattle.std.specs.Prelude.{◌⊎◌, ℕ, List, [], ◌∷◌, Option, Result, Ok, Err}
+use Rattle.art_key.specs.declared.columns.Column.{Column}
+use Rattle.art_key.specs.declared.faults.SchemaFault.{SchemaFault}
+use Rattle.art_server.specs.Sessions.{RunsSession}
+use Rattle.art_server.specs.declared.sessions.SessionEnd.{SessionEnd}
+use Rattle.art_table.specs.Opening.{IsOpened}
+use Rattle.art_table.specs.declared.configs.Config.{Config}
+use Rattle.art_table.specs.declared.passes.Pass.{Pass}
+use Rattle.art_table.specs.declared.tables.Table.{Table}
+use Rattle.art_tools.specs.Outputs.{of_one_pass}
+use Rattle.art_tools.specs.Statuses.{fault_at}
+use Rattle.art_tools.specs.Told.{IsToldOf, IsUnopened, NothingRead}
+use Rattle.art_tools.specs.declared.run_faults.RunFault.{RunFault}
+
+-- a session was run by the one pass of an empty table of the schema and these sizes
+pub record RanSession (schema : List Column) (sizes : Config) (left left_after held held_after : Option (List ℕ))
+    (told : Option RunFault) : Type 0 where
+  pub table : Table
+  pub pass : Pass
+  pub back : Pass
+  pub end : SessionEnd
+  pub opened : IsOpened schema (of_one_pass sizes) table (pass ∷ [])
+  pub runs : RunsSession left left_after held held_after table pass back end
+  pub told_is : IsToldOf (fault_at end.why) told
+
+-- of a schema that is one, a session was run, or there was no table for it; nothing is done of another
+abbrev pub Runs : Result (List Column) SchemaFault → Config → (left left_after held held_after : Option (List ℕ)) → Option RunFault → Type 0
+Runs (Ok schema) sizes left left_after held held_after told =
+    RanSession schema sizes left left_after held held_after told ⊎ (NothingRead left left_after held held_after × IsUnopened told)
+Runs (Err fault) sizes left left_after held held_after told = NothingRead left left_after held held_after × IsUnopened told

@@ -1,0 +1,20 @@
+-- Whether there was a table, and what is told at the end.
+use Rattle.std.specs.Prelude.{◌≡◌, ◌⊎◌, ℕ, List, [], Option, Some, None}
+use Rattle.std.specs.Io.KnownBytes.{Appends, Consumes}
+use Rattle.art_server.specs.declared.refusals.Refusal.{Refusal}
+use Rattle.art_tools.specs.declared.run_faults.RunFault.{RunFault}
+use Rattle.art_tools.specs.declared.run_faults.RunFault.TheVariants.{NoMemory, Refused}
+
+-- nothing was read, and nothing written
+pub record NothingRead (left left_after held held_after : Option (List ℕ)) : Type 0 where
+  pub consumes : Consumes left left_after []
+  pub appends : Appends held held_after []
+
+-- why there is no table: it is refused, or there was no memory
+abbrev pub IsUnopened : Option RunFault → Type 0
+IsUnopened told = (told ≡ Some NoMemory) ⊎ ((refusal : Refusal) × (told ≡ Some (Refused refusal)))
+
+-- what is told of a session or a schedule with this fault, or none: that; or, where it has none, that there was no memory to close its
+-- table
+abbrev pub IsToldOf : Option RunFault → Option RunFault → Type 0
+IsToldOf fault told = (told ≡ fault) ⊎ ((fault ≡ None) × (told ≡ Some NoMemory))
