@@ -1,5 +1,5 @@
 -- How a schedule under way goes on byte by byte and read by read, and what it is at its end.
-use Rattle.std.proofs.Common.{◌≡◌, ◌≢◌, ℕ, ◌+◌, ◌*◌, ◌<◌, ◌≤◌, Bool, true, false, List, [], ◌∷◌, ◌++◌, length, get_or, map, take, drop, take-append-drop, Option, Ok, Err, inl, inr, refl, sym, ap, subst, ◌∙◌, arith, append_assoc, append-nil, length-append}
+use Rattle.std.proofs.Common.{◌≡◌, ◌≢◌, ℕ, ◌+◌, ◌*◌, ◌<◌, ◌≤◌, Bool, true, false, List, [], ◌∷◌, ◌++◌, length, get_or, map, take, drop, take-append-drop, Option, Ok, Err, inl, inr, Result, IfErr, refl, sym, ap, subst, ◌∙◌, arith, append_assoc, append-nil, length-append}
 use Rattle.std.specs.Io.KnownBytes.{Appends, Consumes, Keeps}
 use Rattle.std.specs.List.{range_with_len}
 use Rattle.std.proofs.KnownBytes.{Appends-nil, Appends-trans, Consumes-nil, Consumes-trans, Consumes-kept}
@@ -8,8 +8,8 @@ use Rattle.std.proofs.lemmas.List.FromFn.{length-map-range_with_len, map-range_w
 use Rattle.art_schedule.specs.Desks.{Places}
 use Rattle.art_schedule.specs.Lines.{line_order}
 use Rattle.art_schedule.specs.Schedules.{EndsBy, IsStopped, RunsSchedule, end_of, rest_tasks, tasks_of, whole_tasks}
-use Rattle.art_schedule.specs.Tasks.{Does, DoesAll, IsBad, LineCan, StopsAt, StopsFor, Task, end_at, obey}
-use Rattle.art_schedule.specs.Ways.{Finishes, IsUnderWay, RunsFrom, StopsAmong, TakesBytes, Tries, TriesAll}
+use Rattle.art_schedule.specs.Tasks.{Does, DoesAll, IsBad, LineCan, StopsFor, Task, end_at, obey}
+use Rattle.art_schedule.specs.Ways.{ComesOfAll, ComesToEnd, EndsUnderWay, IsUnderWay, RunsFrom, StopsAmong, TakesBytes, Tries, TriesAll, TriesRest}
 use Rattle.art_schedule.specs.declared.stops.ScheduleEnd.{ScheduleEnd}
 use Rattle.art_schedule.specs.declared.stops.ScheduleEnd.TheVariants as ends
 use Rattle.art_schedule.specs.declared.stops.Stop.{Stop}
@@ -222,62 +222,43 @@ module _ (t : Table) where
   stopped_ends NoMemory number read start written stopped = stopped
 
   -- the last line had no line feed, and stops the schedule
-  pub Finishes-stopped : {A : Type 0} (held held_after : Option (List ℕ)) (p q : Places) (count : ℕ) (line : List ℕ) (stop : Stop)
-      (end : ScheduleEnd)
-      → 0 < length line → Tries {A = A} t (obey line) p q held held_after (Err stop) → end ≡ end_of stop (count + 1)
-      → Finishes t held held_after p count line end
-  Finishes-stopped held held_after p q count line stop end some tries is = record {
+  pub TriesRest-stopped : {A B : Type 0} (held held_after : Option (List ℕ)) (p q : Places) (count : ℕ) (line : List ℕ) (stop : Stop)
+      → 0 < length line → Tries {A = A} t (obey line) p q held held_after (Err stop)
+      → TriesRest {A = B} t held held_after p count line (Err stop)
+  TriesRest-stopped held held_after p q count line stop some tries = record {
     written = tries.written;
     appends = tries.appends;
     reaches = λ taken sent start way.
-        subst (EndsBy t taken start (sent ++ tries.written)) (sym is)
-        (stopped_ends stop (count + 1) taken start (sent ++ tries.written)
-        (stopped_next taken sent start p count line tries.written stop [] taken way tries.comes
-        (lines_of-last taken line way.kept some ∙ sym (append-nil (whole_lines taken ++ last_part taken ∷ [])))));
+        stopped_next taken sent start p count line tries.written stop [] taken way tries.comes
+        (lines_of-last taken line way.kept some ∙ sym (append-nil (whole_lines taken ++ last_part taken ∷ [])));
   }
 
   -- each line was obeyed: where there was a last one without a line feed, that too
-  pub record HasObeyed (held held_after : Option (List ℕ)) (old new : Places) (count : ℕ) (line : List ℕ) : Type 0 where
+  pub record HasObeyed (held held_after : Option (List ℕ)) (old new : Places) (line : List ℕ) : Type 0 where
     pub written : List ℕ
     pub appends : Appends held held_after written
-    pub reaches : (taken sent : List ℕ) (start : Places) → IsUnderWay t taken sent start old count line
+    pub reaches : (count : ℕ) (taken sent : List ℕ) (start : Places) → IsUnderWay t taken sent start old count line
         → DoesAll t (map obey (lines_of taken)) start (sent ++ written) new
 
-  pub HasObeyed-none : (held : Option (List ℕ)) (p : Places) (count : ℕ) (line : List ℕ) → length line ≡ 0 → HasObeyed held held p p count line
-  HasObeyed-none held p count line empty = record {
+  pub HasObeyed-none : (held : Option (List ℕ)) (p : Places) (line : List ℕ) → length line ≡ 0 → HasObeyed held held p p line
+  HasObeyed-none held p line empty = record {
     written = [];
     appends = Appends-nil held;
-    reaches = λ taken sent start way.
+    reaches = λ count taken sent start way.
         let lines = lines_of-short taken _ refl (part_none (last_part taken) line way.kept empty) in
         subst (λ (l : List (List ℕ)). DoesAll t (map obey l) start (sent ++ []) p) (sym lines)
         (subst (λ (l : List ℕ). DoesAll t (whole_tasks taken) start l p) (sym (append-nil sent)) way.done);
   }
 
-  pub HasObeyed-last : {A : Type 0} (held held_after : Option (List ℕ)) (p q : Places) (count : ℕ) (line : List ℕ) (a : A)
-      → 0 < length line → Tries t (obey line) p q held held_after (Ok a) → HasObeyed held held_after p q count line
-  HasObeyed-last held held_after p q count line a some tries = record {
+  pub HasObeyed-last : {A : Type 0} (held held_after : Option (List ℕ)) (p q : Places) (line : List ℕ) (a : A)
+      → 0 < length line → Tries t (obey line) p q held held_after (Ok a) → HasObeyed held held_after p q line
+  HasObeyed-last held held_after p q line a some tries = record {
     written = tries.written;
     appends = tries.appends;
-    reaches = λ taken sent start way.
+    reaches = λ count taken sent start way.
         let fed = under_way_fed taken sent start p q count line tries.written way tries.comes in
         let same : whole_lines (taken ++ 10 ∷ []) ≡ lines_of taken = lines_fed taken ∙ sym (lines_of-last taken line way.kept some) in
         subst (λ (l : List (List ℕ)). DoesAll t (map obey l) start (sent ++ tries.written) q) same fed.done;
-  }
-
-  -- and all that was under way was run to its end
-  pub Finishes-ended : {A : Type 0} (held held_mid held_after : Option (List ℕ)) (p m q : Places) (count : ℕ) (line : List ℕ) (a : A)
-      → HasObeyed held held_mid p m count line → TriesAll t rest_tasks m q held_mid held_after (Ok a)
-      → Finishes t held held_after p count line ends.Ended
-  Finishes-ended held held_mid held_after p m q count line a has tries = record {
-    written = has.written ++ tries.written;
-    appends = Appends-trans held held_mid held_after has.written tries.written has.appends tries.appends;
-    reaches = λ taken sent start way. record {
-      last = q;
-      done =
-          subst (λ (l : List ℕ). DoesAll t (tasks_of taken) start l q) (append_assoc sent has.written tries.written)
-          (DoesAll-append t (map obey (lines_of taken)) rest_tasks start m q (sent ++ has.written) tries.written
-          (has.reaches taken sent start way) tries.comes);
-    };
   }
 
   same_end : (stop : Stop) (a b : ℕ) → stop ≢ BadLine → end_of stop a ≡ end_of stop b
@@ -285,28 +266,48 @@ module _ (t : Table) where
   same_end WriteFault a b good = refl
   same_end NoMemory a b good = refl
 
-  -- one of the ends stops it
-  pub Finishes-unended : {A : Type 0} (held held_mid held_after : Option (List ℕ)) (p m q : Places) (count : ℕ) (line : List ℕ) (stop : Stop)
-      (end : ScheduleEnd)
-      → HasObeyed held held_mid p m count line → TriesAll {A = A} t rest_tasks m q held_mid held_after (Err stop) → stop ≢ BadLine
-      → end ≡ end_of stop (count + 1)
-      → Finishes t held held_after p count line end
-  Finishes-unended held held_mid held_after p m q count line stop end has tries good is = record {
+  -- after all lines, what was under way was run to its end, or one of these ends stops the schedule
+  rest_comes : {A : Type 0} (m q : Places) (count : ℕ) (r : Result A Stop) (read sent written : List ℕ) (start : Places)
+      → DoesAll t (map obey (lines_of read)) start sent m → ComesOfAll t rest_tasks m q written r → IfErr r (λ stop. stop ≢ BadLine)
+      → ComesToEnd t read start (sent ++ written) count r
+  rest_comes m q count (Ok a) read sent written start lines ends good =
+      record { last = q; done = DoesAll-append t (map obey (lines_of read)) rest_tasks start m q sent written lines ends }
+  rest_comes m q count (Err stop) read sent written start lines (k, stops) good =
+      let tasks = map obey (lines_of read) in
+      record {
+        why = stop;
+        count = length tasks + k;
+        stops = StopsAt-later t stop tasks rest_tasks start m sent written k lines stops;
+        end_is = same_end stop (count + 1) (length tasks + k + 1) good;
+      }
+
+  pub TriesRest-ends : {A : Type 0} (held held_mid held_after : Option (List ℕ)) (p m q : Places) (count : ℕ) (line : List ℕ)
+      (r : Result A Stop)
+      → HasObeyed held held_mid p m line → TriesAll t rest_tasks m q held_mid held_after r → IfErr r (λ stop. stop ≢ BadLine)
+      → TriesRest t held held_after p count line r
+  TriesRest-ends held held_mid held_after p m q count line r has tries good = record {
     written = has.written ++ tries.written;
     appends = Appends-trans held held_mid held_after has.written tries.written has.appends tries.appends;
     reaches = λ taken sent start way.
-        let lines = map obey (lines_of taken) in
-        let (k, stops) = tries.comes in
-        let later = StopsAt-later t stop lines rest_tasks start m (sent ++ has.written) tries.written k (has.reaches taken sent start way) stops in
-        subst (EndsBy t taken start (sent ++ (has.written ++ tries.written))) (sym is)
-        (stopped_ends stop (count + 1) taken start (sent ++ (has.written ++ tries.written)) (record {
-          why = stop;
-          count = length lines + k;
-          stops =
-              subst (λ (l : List ℕ). StopsAt t stop (tasks_of taken) start l (length lines + k))
-              (append_assoc sent has.written tries.written) later;
-          end_is = same_end stop (count + 1) (length lines + k + 1) good;
-        }));
+        subst (λ (l : List ℕ). ComesToEnd t taken start l count r) (append_assoc sent has.written tries.written)
+        (rest_comes m q count r taken (sent ++ has.written) tries.written start (has.reaches count taken sent start way) tries.comes good);
+  }
+
+  pub EndsUnderWay-ended : {A : Type 0} (held held_after : Option (List ℕ)) (p : Places) (count : ℕ) (line : List ℕ) (a : A)
+      → TriesRest t held held_after p count line (Ok a) → EndsUnderWay t held held_after p count line ends.Ended
+  EndsUnderWay-ended held held_after p count line a tries =
+      record { written = tries.written; appends = tries.appends; reaches = tries.reaches }
+
+  pub EndsUnderWay-stopped : {A : Type 0} (held held_after : Option (List ℕ)) (p : Places) (count : ℕ) (line : List ℕ) (stop : Stop)
+      (end : ScheduleEnd)
+      → TriesRest {A = A} t held held_after p count line (Err stop) → end ≡ end_of stop (count + 1)
+      → EndsUnderWay t held held_after p count line end
+  EndsUnderWay-stopped held held_after p count line stop end tries is = record {
+    written = tries.written;
+    appends = tries.appends;
+    reaches = λ taken sent start way.
+        subst (EndsBy t taken start (sent ++ tries.written)) (sym is)
+        (stopped_ends stop (count + 1) taken start (sent ++ tries.written) (tries.reaches taken sent start way));
   }
 
   -- ---- what is under way at the places, one after another
@@ -422,7 +423,7 @@ module _ (t : Table) where
   pub RunsFrom-finish : (reads : ℕ) (left left_mid left_after held held_mid held_after : Option (List ℕ)) (start p : Places)
       (count : ℕ) (line piece : List ℕ) (bytes : ℕ) (end : ScheduleEnd)
       → HasRead reads left left_mid held held_mid start p count line → Consumes left_mid left_after (take bytes piece) → bytes ≡ 0
-      → reads ≤ 1000000 → Finishes t held_mid held_after p count line end → RunsFrom left left_after held held_after t start end
+      → reads ≤ 1000000 → EndsUnderWay t held_mid held_after p count line end → RunsFrom left left_after held held_after t start end
   RunsFrom-finish reads left left_mid left_after held held_mid held_after start p count line piece bytes end has consumes none bound
       finishes =
       let most = has.at_most in

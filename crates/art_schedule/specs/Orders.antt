@@ -57,8 +57,8 @@ pub record TellsEnd (t : Table) (old : Seat) (rows : List Row) (new : Seat) (row
   pub reply_is : reply ++ 10 ∷ [] ≡ text_of_reply (reply_of_ending rows_after ending)
 
 -- what is under way makes these steps, of which none is left then, and its reply is told
-pub record EndsAfter (t : Table) (old : Seat) (rows : List Row) (made : Running → Running → List Row → Type 0) (new : Seat) (rows_after : List Row)
-    (reply : List ℕ) (restarts : ℕ) : Type 0 where
+pub record EndsAfter (t : Table) (old : Seat) (rows : List Row) (made : Running → Running → List Row → Type 0)
+    (new : Seat) (rows_after : List Row) (reply : List ℕ) (restarts : ℕ) : Type 0 where
   pub running : Running
   pub between : Running
   pub rows_between : List Row

@@ -1,9 +1,9 @@
 -- The steps of a schedule, for its own functions.
-use Rattle.std.specs.Prelude.{◌≡◌, ℕ, ◌*◌, ◌≤◌, true, false, List, [], ◌++◌, length, take, Option, Result, Ok, Err}
+use Rattle.std.specs.Prelude.{◌≡◌, ℕ, ◌+◌, ◌*◌, ◌≤◌, true, false, List, [], ◌++◌, length, take, Option, Result, Ok, Err}
 use Rattle.std.specs.Io.KnownBytes.{Appends, Consumes}
 use Rattle.art_schedule.specs.Desks.{Places}
 use Rattle.art_schedule.specs.Lines.{Said}
-use Rattle.art_schedule.specs.Schedules.{EndsBy, IsStopped, whole_tasks}
+use Rattle.art_schedule.specs.Schedules.{DoesTasks, EndsBy, IsStopped, end_of, tasks_of, whole_tasks}
 use Rattle.art_schedule.specs.Tasks.{CanDo, Does, DoesAll, IsCut, ObeysAt, StopsAt, StopsFor, Task}
 use Rattle.art_schedule.specs.declared.stops.ScheduleEnd.{ScheduleEnd}
 use Rattle.art_schedule.specs.declared.stops.Stop.{Stop}
@@ -83,8 +83,21 @@ ObeysBytes t bytes held held_after old new before line line_after (Ok count) =
     TakesBytes t bytes held held_after old new before count line line_after
 ObeysBytes t bytes held held_after old new before line line_after (Err end) = StopsAmong t bytes held held_after old before line end
 
+-- all tasks of an input that ended were done, or one of them stopped the schedule; so many lines were whole
+abbrev pub ComesToEnd : {A : Type 0} → Table → List ℕ → Places → List ℕ → ℕ → Result A Stop → Type 0
+ComesToEnd t read start written count (Ok _) = DoesTasks t (tasks_of read) start written
+ComesToEnd t read start written count (Err stop) = IsStopped t read start written (end_of stop (count + 1))
+
+-- the input of a schedule under way ended: its last line, and what was under way then
+pub record TriesRest {A : Type 0} (t : Table) (held held_after : Option (List ℕ)) (old : Places) (before : ℕ) (line : List ℕ)
+    (result : Result A Stop) : Type 0 where
+  pub written : List ℕ
+  pub appends : Appends held held_after written
+  pub reaches : (taken sent : List ℕ) (start : Places) → IsUnderWay t taken sent start old before line
+      → ComesToEnd t taken start (sent ++ written) before result
+
 -- a schedule under way was brought to its end
-pub record Finishes (t : Table) (held held_after : Option (List ℕ)) (old : Places) (before : ℕ) (line : List ℕ) (end : ScheduleEnd)
+pub record EndsUnderWay (t : Table) (held held_after : Option (List ℕ)) (old : Places) (before : ℕ) (line : List ℕ) (end : ScheduleEnd)
     : Type 0 where
   pub written : List ℕ
   pub appends : Appends held held_after written

@@ -1,5 +1,5 @@
 //! From the lines of a reader to what they print.
-ghost use Rattle.std.specs.Prelude.{◌≡◌, ◌≢◌, ◌+◌, ◌<◌, ◌≤◌, ◌^◌, [], ◌∷◌, ◌++◌, List, IfErr, IfOk, length, take};
+ghost use Rattle.std.specs.Prelude.{◌≡◌, ◌≢◌, ℕ, ◌+◌, ◌<◌, ◌≤◌, ◌^◌, [], ◌∷◌, ◌++◌, List, IfErr, IfOk, length, take};
 ghost use Rattle.std.specs.Io.KnownBytes.{IsAtEnd};
 ghost use Rattle.art_server.specs.Counted.{reader_of, reads_of};
 ghost use Rattle.art_server.specs.Reads.{AddsReads, MakesReads};
@@ -8,7 +8,7 @@ ghost use Rattle.art_schedule.specs.Desks.{IsDesk, places_of};
 ghost use Rattle.art_schedule.specs.Lines.{HasTimes, said_by};
 ghost use Rattle.art_schedule.specs.Schedules.{ArePassesOf, ComeBack, EndsAtInput, IsStop, RunsSchedule, rest_tasks};
 ghost use Rattle.art_schedule.specs.Tasks.{end_at, obey as obey_task};
-ghost use Rattle.art_schedule.specs.Ways.{Finishes, ObeysBytes, RunsFrom, Tries, TriesAll, TriesAt};
+ghost use Rattle.art_schedule.specs.Ways.{EndsUnderWay, ObeysBytes, RunsFrom, Tries, TriesAll, TriesAt, TriesRest};
 ghost use Rattle.art_table.specs.declared.passes.Pass.{Pass as PassOf};
 
 use crate::desks::{Desk, close, open};
@@ -92,7 +92,7 @@ fn run_reads<R: Read, W: Write>(
     ScheduleEnd::ReadsUsed
 }
 
-/// The last line, if one stands with no line feed after it; and then all that is under way is run to its end, and printed.
+/// The input has ended: what is left is done.
 fn finish<W: Write>(
     alloc: Global,
     table: &Table,
@@ -104,18 +104,31 @@ fn finish<W: Write>(
     requires desk { (ps : List PassOf) × IsDesk table.now ps desk.old }
     requires room { count + 1 < 2 ^ 64 }
     ensures keeps { (ps : List PassOf) → IsDesk table.now ps desk.old → IsDesk table.now ps desk.new }
-    ensures finishes { Finishes table.now (W.contents writer.old) (W.contents writer.new) (places_of desk.old) count line.now result }
+    ensures finishes { EndsUnderWay table.now (W.contents writer.old) (W.contents writer.new) (places_of desk.old) count line.now result }
     ensures end { EndsAtInput result }
 {
-    if !line.is_empty() {
-        if let Err(stop) = obey_line(alloc, table, desk, line, writer) {
-            return stop.at(count + 1);
-        }
-    }
-    match end_all(alloc, table, desk, writer) {
+    match obey_rest(alloc, table, desk, line, writer) {
         Ok(()) => ScheduleEnd::Ended,
         Err(stop) => stop.at(count + 1),
     }
+}
+
+/// The last line, if one stands with no line feed after it; and then all that is under way is run to its end, and printed.
+fn obey_rest<W: Write>(
+    alloc: Global,
+    table: &Table,
+    desk: &mut Desk,
+    line: &[u8],
+    writer: &mut W,
+) -> Result<(), Stop>
+    requires { (ps : List PassOf) × IsDesk table.now ps desk.old }
+    ensures keeps { (ps : List PassOf) → IsDesk table.now ps desk.old → IsDesk table.now ps desk.new }
+    ensures rest { (count : ℕ) → TriesRest table.now (W.contents writer.old) (W.contents writer.new) (places_of desk.old) count line.now result }
+{
+    if !line.is_empty() {
+        obey_line(alloc, table, desk, line, writer)?;
+    }
+    end_all(alloc, table, desk, writer)
 }
 
 /// All that is under way is run to its end, in order of the names, and printed.
@@ -127,7 +140,8 @@ fn end_all<W: Write>(
 ) -> Result<(), Stop>
     requires { (ps : List PassOf) × IsDesk table.now ps desk.old }
     ensures keeps { (ps : List PassOf) → IsDesk table.now ps desk.old → IsDesk table.now ps desk.new }
-    ensures ends { TriesAll table.now rest_tasks (places_of desk.old) (places_of desk.new) (W.contents writer.old) (W.contents writer.new) result }
+    ensures ends { TriesAll table.now rest_tasks (places_of desk.old) (places_of desk.new)
+        (W.contents writer.old) (W.contents writer.new) result }
     ensures fit { IfErr result (λ stop. stop ≢ Stop.BadLine) }
 {
     for place in 0..8 {
@@ -147,7 +161,8 @@ fn end_place<W: Write>(
     requires desk { (ps : List PassOf) × IsDesk table.now ps desk.old }
     requires place { place < 8 }
     ensures keeps { (ps : List PassOf) → IsDesk table.now ps desk.old → IsDesk table.now ps desk.new }
-    ensures ends { Tries table.now (end_at place) (places_of desk.old) (places_of desk.new) (W.contents writer.old) (W.contents writer.new) result }
+    ensures ends { Tries table.now (end_at place) (places_of desk.old) (places_of desk.new)
+        (W.contents writer.old) (W.contents writer.new) result }
     ensures fit { IfErr result (λ stop. stop ≢ Stop.BadLine) }
 {
     if desk.seats[place].is_idle() {

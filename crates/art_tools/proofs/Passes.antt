@@ -1,7 +1,8 @@
 -- A table of one pass, and one of eight.
-use Rattle.std.proofs.Common.{◌≡◌, ℕ, ◌<◌, List, [], ◌∷◌, ◌++◌, length, length-append, zero, suc, Some, inl, inr, refl, sym, ap, subst, arith, ◌∙◌}
+use Rattle.std.proofs.Common.{◌≡◌, ℕ, ◌<◌, List, [], ◌∷◌, ◌++◌, length, length-append, zero, suc, Option, Some, inl, inr, refl, sym, ap, subst, arith, ◌∙◌}
 use Rattle.std.proofs.lemmas.List.{nil_from_length}
 use Rattle.std.specs.List.{slice_get}
+use Rattle.std.specs.Option.{option_to_list}
 use Rattle.art_key.specs.declared.columns.Column.{Column}
 use Rattle.art_schedule.specs.Schedules.{ComeBack}
 use Rattle.art_shared.specs.SamePass.{SamePass}
@@ -37,11 +38,18 @@ no_memory table passes close.NoMemory all why = refl
 
 -- ---- as it was opened
 
-pub last_alone : (rest : List Pass) (q : Pass) (passes : List Pass) → passes ≡ rest ++ q ∷ [] → length passes ≡ 1 → rest ≡ []
+last_alone : (rest : List Pass) (q : Pass) (passes : List Pass) → passes ≡ rest ++ q ∷ [] → length passes ≡ 1 → rest ≡ []
 last_alone rest q passes split one =
     let whole = ap (length {A = Pass}) split in
     let parts = length-append rest (q ∷ []) in
     nil_from_length rest (omega (arith, whole, parts, one))
+
+-- the last of one pass is that pass
+pub only_pass : (passes rest : List Pass) (o : Option Pass) (q : Pass) → passes ≡ rest ++ option_to_list o → o ≡ Some q → length passes ≡ 1
+    → passes ≡ q ∷ []
+only_pass passes rest o q split is one =
+    let whole : passes ≡ rest ++ q ∷ [] = split ∙ ap (λ (x : Option Pass). rest ++ option_to_list x) is in
+    whole ∙ ap (λ (l : List Pass). l ++ q ∷ []) (last_alone rest q passes whole one)
 
 pub new_pass : (schema : List Column) (config : Config) (t : Table) (passes : List Pass) (q : Pass) → IsOpened schema config t passes → passes ≡ q ∷ [] → IsNew t 0 q
 new_pass schema config t passes q opened is = opened.each 0 q (ap (λ (l : List Pass). slice_get l 0) is)

@@ -39,7 +39,8 @@ pub record RanSchedule (schema : List Column) (sizes : Config) (left left_after 
   pub told_is : IsToldOf (schedule_fault end) told
 
 -- of a schema that is one, a schedule was run, or there was no table for it; nothing is done of another
-abbrev pub Steps : Result (List Column) SchemaFault → Config → (left left_after held held_after : Option (List ℕ)) → Option RunFault → Type 0
+abbrev pub Steps : Result (List Column) SchemaFault → Config → (left left_after held held_after : Option (List ℕ)) → Option RunFault
+    → Type 0
 Steps (Ok schema) sizes left left_after held held_after told =
     RanSchedule schema sizes left left_after held held_after told ⊎ (NothingRead left left_after held held_after × IsUnopened told)
 Steps (Err fault) sizes left left_after held held_after told = NothingRead left left_after held held_after × IsUnopened told

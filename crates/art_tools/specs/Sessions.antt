@@ -25,7 +25,8 @@ pub record RanSession (schema : List Column) (sizes : Config) (left left_after h
   pub told_is : IsToldOf (fault_at end.why) told
 
 -- of a schema that is one, a session was run, or there was no table for it; nothing is done of another
-abbrev pub Runs : Result (List Column) SchemaFault → Config → (left left_after held held_after : Option (List ℕ)) → Option RunFault → Type 0
+abbrev pub Runs : Result (List Column) SchemaFault → Config → (left left_after held held_after : Option (List ℕ)) → Option RunFault
+    → Type 0
 Runs (Ok schema) sizes left left_after held held_after told =
     RanSession schema sizes left left_after held held_after told ⊎ (NothingRead left left_after held held_after × IsUnopened told)
 Runs (Err fault) sizes left left_after held held_after told = NothingRead left left_after held held_after × IsUnopened told
