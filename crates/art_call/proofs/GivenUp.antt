@@ -4,7 +4,8 @@ use Rattle.art_call.specs.Calls.{GoesOn, Get, Insert, IsCalling, Look, Remove, W
 use Rattle.art_call.specs.declared.callers.Call.{Call}
 use Rattle.art_call.specs.declared.callers.Call.TheVariants as call
 use Rattle.art_call.specs.declared.callers.Caller.{Caller}
-use Rattle.art_change.proofs.GivenUp.{free_untold, refusing_is_free}
+use Rattle.art_change.proofs.GivenUp.{refusing_is_free}
+pub use Rattle.art_change.proofs.GivenUp.{free_untold}
 use Rattle.art_change.specs.Writes as writes
 use Rattle.art_change.specs.Writes.{HoldsOrTold}
 use Rattle.art_change.specs.declared.writes.Stage.{Stage}

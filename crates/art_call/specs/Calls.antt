@@ -10,7 +10,8 @@ use Rattle.art_call.specs.declared.outcomes.Outcome.{Outcome}
 use Rattle.art_call.specs.declared.outcomes.Outcome.TheVariants as outcome
 use Rattle.art_change.specs.Tries.{key_of, value_of}
 use Rattle.art_change.specs.Writes as writes
-use Rattle.art_change.specs.Writes.{HasGround, HoldsOrTold, IsApart, IsReady, WillRefuse}
+use Rattle.art_change.specs.Writes.{HasGround, IsApart, IsReady, WillRefuse}
+pub use Rattle.art_change.specs.Writes.{HoldsOrTold, IsFresh}
 use Rattle.art_change.specs.declared.tries.Job.{Job}
 use Rattle.art_change.specs.declared.tries.Job.TheVariants as job
 use Rattle.art_change.specs.declared.writes.Outcome.{Outcome as WriteOutcome}

@@ -43,6 +43,7 @@ mod driver;
 mod kinds;
 mod outcomes;
 
+pub use art_change::Outcome as WriteOutcome;
 pub use callers::Caller;
 pub use driver::Made;
 pub use outcomes::Outcome;

@@ -1,7 +1,5 @@
 -- Commands that are made step by step.
 use Rattle.std.specs.Prelude.{◌≡◌, ℕ, ◌+◌, ◌-◌, ◌^◌, ◌<◌, ◌&&◌, Bool, true, false, List, length, min, nat_lt, Option, Some, None, Result, Ok, Err, ⊤}
-use Rattle.art_call.specs.Calls as calls
-use Rattle.art_change.specs.Writes.{HoldsOrTold}
 use Rattle.art_key.specs.Bounds.{is_before}
 use Rattle.art_key.specs.Histories.{bound_at}
 use Rattle.art_key.specs.declared.bounds.Bound.{Bound}
@@ -22,6 +20,8 @@ use Rattle.art_scan.specs.declared.tilings.Tiling.{Tiling}
 use Rattle.art_step.specs.declared.views.View.{View}
 use Rattle.art_table.specs.Attempts.{HasStopped, answer_of}
 use Rattle.art_table.specs.Calls.{IsAttempt, Sees}
+use Rattle.art_table.specs.Steps as steps
+use Rattle.art_table.specs.Steps.{HoldsOrTold}
 use Rattle.art_table.specs.Tables.{IsPassOf, caller_of, schema_in, view_of}
 use Rattle.art_table.specs.declared.faults.Fault.{Fault}
 use Rattle.art_table.specs.declared.jobs.Job.TheVariants as job
@@ -132,10 +132,10 @@ HasDecided p r = DecidedAt p r.stage
 
 -- together, up to the most that 64 bits hold
 abbrev pub restarts_of_looks : Looking → ℕ
-restarts_of_looks l = min (l.restarts + calls.restarts_in (caller_of l.attempt.pass)) (2 ^ 64 - 1)
+restarts_of_looks l = min (l.restarts + steps.restarts_in (caller_of l.attempt.pass)) (2 ^ 64 - 1)
 
 abbrev pub restarts_at : Stage → ℕ
-restarts_at (stage.Call a) = calls.restarts_in (caller_of a.pass)
+restarts_at (stage.Call a) = steps.restarts_in (caller_of a.pass)
 restarts_at (stage.Look l) = restarts_of_looks l
 restarts_at (stage.Over q r n) = n
 

@@ -6,8 +6,7 @@ use Rattle.art_model.specs.declared.commands.Command.{Command}
 use Rattle.art_model.specs.declared.rows.Row.{Row}
 use Rattle.art_scan.specs.Running.{IsRunning, HasNoStep, view_in, GoesOn, IsLooking, pass_at}
 use Rattle.art_table.specs.Tables.{view_of, sizes_in, schema_in}
-use Rattle.art_call.specs.Made.{MakesStep}
-use Rattle.art_call.specs.declared.driver.Made.{Made}
+use Rattle.art_table.specs.Steps.{Made, MakesStep}
 use Rattle.art_step.specs.declared.views.View.{View}
 use Rattle.art_schedule.specs.Seats.{IsGoing, KeepsRunning}
 use Rattle.art_schedule.specs.Steps.{MakesSteps, MakesMany, MakesFewer, StepsOrStops, ReachesMark, MissesMark, is_marked, marked}

@@ -5,7 +5,7 @@ use Rattle.art_model.specs.declared.rows.Row.{Row}
 use Rattle.art_scan.specs.Endings.{CommandEnds}
 use Rattle.art_scan.specs.Running.{HasNoStep, IsRunning, restarts_in, view_in}
 use Rattle.art_table.specs.Tables.{IsPassOf, sizes_in, view_of}
-use Rattle.art_call.specs.declared.driver.Made.{Made}
+use Rattle.art_table.specs.Steps.{Made}
 use Rattle.art_server.specs.Sessions.{IsSamePass}
 use Rattle.art_schedule.specs.Steps.{MakesSteps}
 use Rattle.art_scan.specs.declared.running.Ending.{Ending}

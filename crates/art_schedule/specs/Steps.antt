@@ -3,8 +3,7 @@ use Rattle.std.specs.Prelude.{◌≡◌, ℕ, ◌+◌, ◌<◌, Bool, true, fals
 use Rattle.art_model.specs.declared.rows.Row.{Row}
 use Rattle.art_scan.specs.Running.{HasNoStep, view_in}
 use Rattle.art_table.specs.Tables.{sizes_in}
-use Rattle.art_call.specs.Made.{MakesStep}
-use Rattle.art_call.specs.declared.driver.Made.{Made}
+use Rattle.art_table.specs.Steps.{Made, MakesStep}
 use Rattle.art_step.specs.declared.views.View.{View}
 use Rattle.art_schedule.specs.declared.lines.Mark.{Mark}
 use Rattle.art_schedule.specs.declared.lines.Mark.TheVariants.{Kind, Event}

@@ -6,3 +6,4 @@ pub mod Marks
 pub mod Opening
 pub mod Sizes
 pub mod Tables
+pub mod Steps

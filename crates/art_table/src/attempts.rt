@@ -1,8 +1,7 @@
 //! Calls that are made step by step.
 ghost use Rattle.std.specs.Prelude.{◌≡◌, ◌⊎◌, ℕ, ◌≤◌, IfErr, IfOk, IfSome, OnOk, OnSome, Option, None, Some, true};
-ghost use Rattle.art_call.specs.Calls.{restarts_in};
+ghost use Rattle.art_call.specs.Calls.{HoldsOrTold, restarts_in};
 ghost use Rattle.art_call.specs.Made.{MakesStep};
-ghost use Rattle.art_change.specs.Writes.{HoldsOrTold};
 ghost use Rattle.art_key.specs.Bounds.{is_before};
 ghost use Rattle.art_table.specs.Attempts.{HasStopped, IsGivenUp, Progresses, answer_of};
 ghost use Rattle.art_table.specs.Calls.{Ends, IsAttempt};

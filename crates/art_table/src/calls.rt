@@ -3,7 +3,6 @@ ghost use Rattle.std.specs.Prelude.{◌≡◌, ◌≢◌, ℕ, List, None, true}
 ghost use Rattle.arrayvec.specs.ArrayVec.{ArrayVec};
 ghost use Rattle.art_call.specs.Calls.{Insert as insert_wish, Remove as remove_wish, may_end};
 ghost use Rattle.art_call.specs.Outcomes.{of_seek, of_write};
-ghost use Rattle.art_change.specs.declared.writes.Outcome.TheVariants.{Overlaps as overlaps};
 ghost use Rattle.art_key.specs.Bounds.{is_before};
 ghost use Rattle.art_key.specs.declared.columns.Column.{Column};
 ghost use Rattle.art_table.specs.Calls.{Ends};
@@ -13,7 +12,7 @@ ghost use Rattle.art_table.specs.declared.jobs.Job.TheVariants as jobs;
 ghost use Rattle.art_table.specs.declared.jobs.Outcome.TheVariants.{Seen as saw};
 
 use crate::{Fault, Outcome, Pass, Seen, Table};
-use art_change::Outcome as WriteOutcome;
+use art_call::WriteOutcome;
 use art_key::{Bound, encode};
 use art_model::Tuple;
 use art_seek::Outcome as SeekOutcome;
@@ -94,7 +93,7 @@ pub fn look(
 /// What an insert answers that ended so, or why it is refused.
 fn inserted_of(outcome: WriteOutcome) -> Result<Inserted, Fault>
     requires may { (k : ArrayVec ℕ) × (value : ℕ) × (may_end (insert_wish k value) (of_write outcome) ≡ true) }
-    requires apart { outcome ≢ overlaps }
+    requires apart { outcome ≢ WriteOutcome.Overlaps }
     ensures { (schema : List Column) → with_result of_inserted result ≡ result_of schema (of_write outcome) }
 {
     match outcome {
