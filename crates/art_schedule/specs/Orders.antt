@@ -7,7 +7,7 @@ use Rattle.art_server.specs.Refusals.{line_refusal}
 use Rattle.art_server.specs.Lines.{line_says}
 use Rattle.art_server.specs.Endings.{reply_of_ending}
 use Rattle.art_server.specs.Replies.{text_of_reply}
-use Rattle.art_schedule.specs.Seats.{BeginsThere, EndsThere, KeepsRunning}
+use Rattle.art_schedule.specs.Seats.{BeginsThere, EndsThere, IsIdle, KeepsRunning}
 use Rattle.art_schedule.specs.Steps.{MakesFewer, MakesMany, MissesMark, ReachesMark}
 use Rattle.art_scan.specs.declared.running.Ending.{Ending}
 use Rattle.art_server.specs.declared.lines.LineFault.{LineFault}
@@ -31,10 +31,11 @@ pub record Begins (t : Table) (turns : ℕ) (text : List ℕ) (old new : Seat) (
   pub says : line_says text ≡ Ok command
   pub there : BeginsThere t command turns old new rows
 
--- the text says no command: nothing is begun, and the refusal of the text is told
+-- the text says no command: nothing is begun by the idle pass, and the refusal of the text is told
 pub record IsRefused (text : List ℕ) (old new : Seat) (reply : List ℕ) (restarts : ℕ) : Type 0 where
   pub fault : LineFault
   pub says : line_says text ≡ Err fault
+  pub idle : IsIdle old
   pub stays : new ≡ old
   pub reply_is : reply ++ 10 ∷ [] ≡ text_of_reply (Err (line_refusal fault))
   pub none : restarts ≡ 0

@@ -18,6 +18,7 @@ returns-in_ok-text-in_default c =
       obeys = record {
         fault = fault;
         says = c.in-Err.ensures.said c.in_default.not-NoMemory;
+        idle = (let fits = c.if-not-is_idle.false in let same = c.is_idle.ensures in cc);
         stays = refl;
         reply_is = ap (λ (l : List ℕ). l ++ 10 ∷ []) (c.without_feed.ensures ∙ front_of _ text.items front 10 text.ok.0 is);
         none = refl;
