@@ -123,7 +123,8 @@ fn obey_rest<W: Write>(
 ) -> Result<(), Stop>
     requires { (ps : List PassOf) × IsDesk table.now ps desk.old }
     ensures keeps { (ps : List PassOf) → IsDesk table.now ps desk.old → IsDesk table.now ps desk.new }
-    ensures rest { (count : ℕ) → TriesRest table.now (W.contents writer.old) (W.contents writer.new) (places_of desk.old) count line.now result }
+    ensures rest { (count : ℕ) → TriesRest table.now (W.contents writer.old) (W.contents writer.new)
+        (places_of desk.old) count line.now result }
 {
     if !line.is_empty() {
         obey_line(alloc, table, desk, line, writer)?;
