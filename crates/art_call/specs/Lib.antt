@@ -1,3 +1,4 @@
+pub mod AsAsked
 pub mod Calls
 pub mod Kinds
 pub mod Made

@@ -1,5 +1,6 @@
 //! Makes the steps of a call.
 ghost use Rattle.std.specs.Prelude.{◌≡◌, ◌≢◌, ℕ, ◌+◌, ◌≤◌, IfSome, IfNone, List, Some, true};
+ghost use Rattle.art_call.specs.AsAsked.{GoesAsAsked, WriteGoes};
 ghost use Rattle.art_call.specs.Calls.{HasCalled, IsAdmitted, IsCalling, Refuses, StaysApart, Wish, is_refusal, outcome_at, restarts_in, steps_left};
 ghost use Rattle.art_call.specs.Made.{MakesStep, tells};
 ghost use Rattle.art_call.specs.declared.outcomes.Outcome.{Outcome as OutcomeOf};
@@ -102,6 +103,8 @@ fn step_of_write<S: EpochSteps>(
         writes.Fits (S.sizes steps.old) u ps write.old room.old (places_of limbo.old) (S.view steps.old) }
     ensures only { S.only steps.old steps.new }
     ensures some { IfSome result (MakesStep (S.sizes steps.old) (S.view steps.old) (S.view steps.new)) }
+    ensures asked { IfSome result (λ made. WriteGoes (S.sizes steps.old) (S.view steps.old) write.old room.old (places_of limbo.old)
+        (S.view steps.new) write.new room.new (places_of limbo.new)) }
     ensures none { IfNone result ((S.view steps.new ≡ S.view steps.old) × ((o : WriteOutcome) × (writes.ended_at write.new ≡ Some o))) }
     ensures job { write.new.job ≡ write.old.job }
     ensures turns { write.new.turns ≡ write.old.turns }
@@ -132,6 +135,7 @@ impl Caller {
             IsCalling (S.sizes steps.old) w given turns u self.old (S.view steps.old) × IsAdmitted (S.admits steps.old) w }
         ensures only { S.only steps.old steps.new }
         ensures some { IfSome result (MakesStep (S.sizes steps.old) (S.view steps.old) (S.view steps.new)) }
+        ensures asked { IfSome result (λ made. GoesAsAsked (S.sizes steps.old) (S.view steps.old) self.old (S.view steps.new) self.new) }
         ensures none { IfNone result ((S.view steps.new ≡ S.view steps.old) × ((o : OutcomeOf) × (outcome_at self.new ≡ Some o))) }
         ensures refuses { Refuses self.old → Refuses self.new }
         ensures apart { AreApart (S.admits steps.old) → StaysApart self.old → StaysApart self.new }

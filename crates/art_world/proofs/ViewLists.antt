@@ -5,8 +5,10 @@ use Rattle.art_step.specs.declared.views.View.{View}
 use Rattle.art_step.specs.Effects.{Instant}
 use Rattle.art_step.specs.Opening.{newcomer}
 use Rattle.art_step.specs.Views.{SetsView}
-use Rattle.art_world.specs.Contents.{Contents, IsStepped, OnlyStepsOf, StepBy, memory_now}
-use Rattle.art_step.specs.WordRows.{views_of, view_at}
+use Rattle.art_world.specs.Contents.{Contents, IsSoundWorld, IsStepped, OnlyStepsOf, StepBy, memory_now}
+use Rattle.art_world.specs.Lasting.{IsLasting}
+use Rattle.art_world.proofs.Lasting.{lasting_on}
+use Rattle.art_step.specs.WordRows.{memory_of, view_at, views_of}
 use Rattle.art_step.specs.declared.views.Sizes.{Sizes}
 use Rattle.art_step.proofs.Moves.{Moves}
 
@@ -99,3 +101,14 @@ stepped Row so {k} {now} {before} {us} {p} {new} seen same inside t =
     subst (λ (j : Contents). p < length j.views → IsStepped p j after Row so) seen
     (λ inside. stepped_by Row so k us p new inside (subst (λ (ws : List ℕ). StepBy k.sizes ws us p Row so k.views new) same t))
     inside
+
+-- the world after one step of a sound one is sound
+pub sound_after : (Row : View → View → Type 0) (so : Instant) {k : Contents} {before us : List ℕ} {p : ℕ} {new : List View} → before ≡ k.words → length us ≡ length before → p < length k.views
+    → StepBy k.sizes before us p Row so k.views new → IsSoundWorld k → IsSoundWorld (record { sizes = k.sizes; words = us; views = new })
+sound_after Row so {k} {before} {us} {p} {new} same long inside t r = record {
+  long = long ∙ (ap length same ∙ r.long);
+  count = ap length t.set ∙ (length_set_view k.views p t.view ∙ r.count);
+  sound = t.sound;
+  lasting = lasting_on k.sizes p (memory_of k.sizes before) (views_of k.views) (memory_of k.sizes us) (views_of new) t.step t.sound
+      (subst (λ (ws : List ℕ). IsLasting k.sizes (memory_of k.sizes ws) (views_of k.views)) (sym same) r.lasting);
+}

@@ -9,6 +9,7 @@ use Rattle.art_step.specs.Steps.{AtStep, OneStep}
 use Rattle.art_step.specs.Views.{Memory, Views}
 use Rattle.art_step.specs.WordRows.{memory_of, view_at, views_of}
 use Rattle.art_step.specs.WordPlaces.{word_count}
+use Rattle.art_world.specs.Lasting.{IsLasting}
 
 -- ---- what a contract sees of a world
 
@@ -25,6 +26,7 @@ pub record IsSoundWorld (k : Contents) : Type 0 where
   pub long : length k.words ≡ word_count k.sizes
   pub count : length k.views ≡ k.sizes.passes
   pub sound : IsSound k.sizes (memory_now k) (views_of k.views)
+  pub lasting : IsLasting k.sizes (memory_now k) (views_of k.views)
 
 -- this happened to the words of the world
 abbrev pub AtOnce : Instant → Contents → Contents → Type 0

@@ -11,6 +11,7 @@ ghost use Rattle.art_step.specs.Views.{size_of};
 ghost use Rattle.art_step.specs.WordPlaces.{HasFreeWord, IsInside, first_place, word_count};
 ghost use Rattle.art_step.specs.WordRows.{views_of};
 ghost use Rattle.art_world.specs.Contents.{memory_now};
+ghost use Rattle.art_world.specs.Lasting.{IsLasting};
 
 use art_cell::{Cell, Pool};
 use art_ghosts::Ghost;
@@ -22,8 +23,8 @@ use std::marker::Model;
 /// All words, and, for proofs alone, the view of each pass.
 ///
 /// Between any two steps there is a legal history whose replay the tree of the cells shows, each cell has one holder at
-/// most, unchanged stamps vouch for what was noted under them, each number is in one place, and words have their forms: that
-/// is the invariant of this type.
+/// most, unchanged stamps vouch for what was noted under them, each number is in one place, words have their forms, no cell of
+/// the tree is obsolete, and each pass found what it has found at its own steps: that is the invariant of this type.
 #[derive(Drop)]
 pub struct World {
     pub(crate) sizes: Sizes,
@@ -55,6 +56,7 @@ impl World {
         ensures words { length self.now.words ≡ word_count self.now.sizes }
         ensures passes { length self.now.views ≡ self.now.sizes.passes }
         ensures sound { IsSound self.now.sizes (memory_now self.now) (views_of self.now.views) }
+        ensures lasting { IsLasting self.now.sizes (memory_now self.now) (views_of self.now.views) }
     {
         let _ = &self.sizes;
     }

@@ -1,8 +1,9 @@
-use Rattle.std.proofs.Common.{◌≡◌, ℕ, true, ◌∙◌, refl, ap, sym, subst, arith}
+use Rattle.std.proofs.Common.{◌≡◌, ℕ, suc, zero, true, ◌∙◌, refl, ap, sym, subst, arith}
 use Rattle.std.specs.Option.{is_some}
 use Rattle.std.specs.Prelude.{Option, None, Some}
 use Rattle.arrayvec.specs.ArrayVec.{ArrayVec}
 use Rattle.art_call.proofs.driver.step_of_write.Goals as goal
+use Rattle.art_call.specs.AsAsked.{WriteMakes}
 use Rattle.art_call.specs.Made.{MakesStep}
 use Rattle.art_attempt.specs.declared.rooms.Room.{Room}
 use Rattle.art_change.proofs.Overlaps.{still_apart}
@@ -31,6 +32,7 @@ loop-steps-init g c = record {
   refuses = λ r. r;
   apart = λ keys a. a;
   left = omega arith;
+  waits = (zero, (refl, refl, refl));
   fits = λ u ps fits. fits;
 }
 
@@ -106,6 +108,32 @@ returns-in-Some-clause-some g c =
     subst (λ (v : View). MakesStep (g.S.Steps.sizes c.args.steps.now) v w c.in-Some.made) i.same
     (subst (λ (z : Sizes). MakesStep z (g.S.Steps.view l.steps) w c.in-Some.made) (g.met.S.Steps.only_sizes c.args.steps.now l.steps i.only) made)
 
+pub returns-in-Some-clause-asked : goal.returns-in-Some-clause-asked
+returns-in-Some-clause-asked g c =
+    let l = c.loop-steps in
+    let i = l.invariant in
+    let e = c.step-stepped.ensures in
+    let new = c.step-stepped.new in
+    let sizes = g.met.S.Steps.only_sizes c.args.steps.now l.steps i.only in
+    let makes : WriteMakes (g.S.Steps.sizes l.steps) (g.S.Steps.view l.steps) l.write l.room (places_of l.limbo) (g.S.Steps.view new.steps) new.write new.room (places_of new.limbo) = record {
+      asked = c.step-stepped.result.asked;
+      answer = c.step-stepped.result.answer;
+      asks = e.asked;
+      allowed = e.allowed;
+      row = e.row;
+      left = e.left;
+      fits = e.fits;
+    } in
+    record {
+      times = i.waits.0;
+      between = l.write;
+      room = l.room;
+      waiting = places_of l.limbo;
+      waits = i.waits.1;
+      makes = subst (λ (v : View). WriteMakes (g.S.Steps.sizes c.args.steps.now) v l.write l.room (places_of l.limbo) (g.S.Steps.view new.steps) new.write new.room (places_of new.limbo)) i.same
+          (subst (λ (z : Sizes). WriteMakes z (g.S.Steps.view l.steps) l.write l.room (places_of l.limbo) (g.S.Steps.view new.steps) new.write new.room (places_of new.limbo)) sizes makes);
+    }
+
 pub returns-in-Some-clause-job : goal.returns-in-Some-clause-job
 returns-in-Some-clause-job g c = c.step-stepped.ensures.job ∙ c.loop-steps.invariant.job
 
@@ -166,6 +194,20 @@ loop-steps-preserved g c =
       refuses = λ refuses. e.refuses (i.refuses refuses);
       apart = λ keys a. e.apart (still_apart (g.S.Steps.admits c.args.steps.now) (g.S.Steps.admits l.steps) (λ k. (g.met.S.Steps.only_admits c.args.steps.now l.steps k i.only).0) keys) (i.apart keys a);
       left = omega (arith, left, less);
+      waits = (
+        suc i.waits.0,
+        (
+          l.write,
+          l.room,
+          places_of l.limbo,
+          i.waits.1,
+          subst
+              (λ (t : View). WriteMakes (g.S.Steps.sizes c.args.steps.now) t l.write l.room (places_of l.limbo) t c.step-stepped.new.write c.step-stepped.new.room (places_of c.step-stepped.new.limbo)) i.same
+              (subst (λ (t : View). WriteMakes (g.S.Steps.sizes c.args.steps.now) v l.write l.room (places_of l.limbo) t c.step-stepped.new.write c.step-stepped.new.room (places_of c.step-stepped.new.limbo)) none
+              (subst (λ (z : Sizes). WriteMakes z v l.write l.room (places_of l.limbo) w c.step-stepped.new.write c.step-stepped.new.room (places_of c.step-stepped.new.limbo)) sizes
+              record { asked = c.step-stepped.result.asked; answer = c.step-stepped.result.answer; asks = e.asked; allowed = e.allowed; row = e.row; left = e.left; fits = e.fits })),
+        ),
+      );
       fits = λ u ps fits. subst (λ (z : Sizes). Fits z u ps c.step-stepped.new.write c.step-stepped.new.room (places_of c.step-stepped.new.limbo) w) sizes
           (e.fits u ps (subst (λ (z : Sizes). Fits z u ps l.write l.room (places_of l.limbo) v) (sym sizes) (i.fits u ps fits)));
     }

@@ -1,6 +1,7 @@
 -- So far no step was made.
-use Rattle.std.proofs.Common.{◌≡◌, ◌≤◌, List}
+use Rattle.std.proofs.Common.{◌≡◌, ◌≤◌, ℕ, List}
 use Rattle.art_call.proofs.driver.step_of_write.Given as goal
+use Rattle.art_call.specs.AsAsked.{WriteWaits}
 use Rattle.art_change.specs.Tries.{SameKey}
 use Rattle.art_change.specs.Writes.{Fits, IsApart, WillRefuse, steps_left}
 use Rattle.art_step.specs.Histories.{AreApart}
@@ -18,6 +19,8 @@ invariant-loop-steps g l = record {
   refuses : WillRefuse l.fn.write → WillRefuse l.write;
   apart : AreApart (g.S.Steps.admits l.fn.steps) → IsApart l.fn.write → IsApart l.write;
   left : steps_left l.write l.room (places_of l.limbo) ≤ steps_left l.fn.write l.fn.room (places_of l.fn.limbo);
+  waits : (times : ℕ) × WriteWaits times (g.S.Steps.sizes l.fn.steps) (g.S.Steps.view l.fn.steps) l.fn.write l.fn.room (places_of l.fn.limbo)
+      l.write l.room (places_of l.limbo);
   fits : (u : View) (ps : List Place) → Fits (g.S.Steps.sizes l.fn.steps) u ps l.fn.write l.fn.room (places_of l.fn.limbo) (g.S.Steps.view l.fn.steps) →
       Fits (g.S.Steps.sizes l.fn.steps) u ps l.write l.room (places_of l.limbo) (g.S.Steps.view l.steps);
 }

@@ -1,8 +1,8 @@
 -- What a step makes of the views stands in the list.
-use Rattle.std.proofs.Common.{List, sym, subst}
+use Rattle.std.proofs.Common.{List, ◌<◌, length, ap, sym, subst}
 use Rattle.art_step.specs.declared.views.View.{View}
 use Rattle.art_world.specs.Contents.{Contents, IsSoundWorld, StepBy}
-use Rattle.art_world.proofs.ViewLists.{next, stepped}
+use Rattle.art_world.proofs.ViewLists.{next, sound_after, stepped}
 use Rattle.art_world.proofs.world.World.find.Goals as goal
 
 pub changed-requires : goal.changed-requires
@@ -14,3 +14,6 @@ changed-requires g c =
 
 pub returns : goal.returns
 returns g c = stepped g.K.Shows.shown g.K.Shows.happens c.self.view_is c.copied.ensures c.requires.pass c.changed.ensures
+
+pub invariant_of-self : goal.invariant_of-self
+invariant_of-self g c = sound_after g.K.Shows.shown g.K.Shows.happens c.copied.ensures (ap length (sym c.copied.ensures)) (subst (λ (k : Contents). c.args.pass < length k.views) (sym c.self.view_is) c.requires.pass) c.changed.ensures c.self.invariant

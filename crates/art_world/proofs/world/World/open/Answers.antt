@@ -8,6 +8,7 @@ use Rattle.art_step.specs.WordRows.{newcomers}
 use Rattle.art_step.proofs.OpeningWords.{anchor_version, node_version, opens, length-opening_words, length_newcomers}
 use Rattle.art_step.proofs.StepOpens.{open_law}
 use Rattle.art_world.specs.Opening.{OpensAt}
+use Rattle.art_world.proofs.Lasting.{lasting_opens}
 use Rattle.std.specs.Prelude.{◌≤◌}
 use Rattle.art_world.proofs.world.World.open.Goals.{After-first_views}
 use Rattle.art_world.proofs.world.World.open.Goals as goal
@@ -24,7 +25,12 @@ opened c = opens_at c.args.sizes.now c.args.counter_start c.requires _ _ c.in_ok
 pub invariant_of-result : goal.invariant_of-result
 invariant_of-result c =
     let o = opened c in
-    record { long = ap length o.words ∙ length-opening_words c.args.sizes.now c.args.counter_start; count = ap length o.views ∙ length_newcomers 0 c.args.sizes.now.passes; sound = open_law _ _ _ o.opens }
+    record {
+      long = ap length o.words ∙ length-opening_words c.args.sizes.now c.args.counter_start;
+      count = ap length o.views ∙ length_newcomers 0 c.args.sizes.now.passes;
+      sound = open_law _ _ _ o.opens;
+      lasting = lasting_opens _ _ _ o.opens;
+    }
 
 pub returns : goal.returns
 returns c = opened c

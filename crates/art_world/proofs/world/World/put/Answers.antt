@@ -1,8 +1,8 @@
 -- What a step makes of the views stands in the list.
-use Rattle.std.proofs.Common.{List, ◌<◌, length, sym, subst, slice_set, arith}
+use Rattle.std.proofs.Common.{List, ◌<◌, length, ap, sym, ◌∙◌, subst, slice_set, arith, length-set}
 use Rattle.art_step.specs.declared.views.View.{View}
 use Rattle.art_world.specs.Contents.{Contents, IsSoundWorld, StepBy}
-use Rattle.art_world.proofs.ViewLists.{next, stepped}
+use Rattle.art_world.proofs.ViewLists.{next, sound_after, stepped}
 use Rattle.art_world.proofs.world.World.put.Goals as goal
 
 pub changed-requires : goal.changed-requires
@@ -19,3 +19,6 @@ pub index_mut-requires : goal.index_mut-requires
 index_mut-requires g c =
     let low = subst (λ (k : Contents). c.args.place < length k.words) (sym c.self.view_is) (c.requires.place (subst IsSoundWorld c.self.view_is c.self.invariant)) in
     omega (arith, low)
+
+pub invariant_of-self : goal.invariant_of-self
+invariant_of-self g c = sound_after g.K.Shows.shown g.K.Shows.happens c.copied.ensures (length-set _ c.args.place c.args.word ∙ ap length (sym c.copied.ensures)) (subst (λ (k : Contents). c.args.pass < length k.views) (sym c.self.view_is) c.requires.pass) c.changed.ensures c.self.invariant

@@ -10,7 +10,7 @@ use Rattle.art_world.proofs.world.steps.StepperSteps.check.Goals as goal
 pub load-found-requires : goal.load-found-requires
 load-found-requires c =
     let s = c.args.self.now in
-    let low = stamp_low (world_of s) (pass_of s) s.inside (record { long = c.stays_sound.ensures.words; count = c.stays_sound.ensures.passes; sound = c.stays_sound.ensures.sound }) c.args.stamp c.requires.may.stamp c.requires.inside in
+    let low = stamp_low (world_of s) (pass_of s) s.inside (record { long = c.stays_sound.ensures.words; count = c.stays_sound.ensures.passes; sound = c.stays_sound.ensures.sound; lasting = c.stays_sound.ensures.lasting }) c.args.stamp c.requires.may.stamp c.requires.inside in
     omega (arith, low)
 
 pub find-requires-clause-moves : goal.find-requires-clause-moves

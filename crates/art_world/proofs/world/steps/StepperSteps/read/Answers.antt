@@ -9,7 +9,7 @@ use Rattle.art_world.proofs.world.steps.StepperSteps.read.Goals as goal
 pub load-value-requires : goal.load-value-requires
 load-value-requires c =
     let s = c.args.self.now in
-    stamp_word_low (world_of s) (pass_of s) s.inside (record { long = c.stays_sound.ensures.words; count = c.stays_sound.ensures.passes; sound = c.stays_sound.ensures.sound }) c.args.stamp c.args.place c.requires.may.stamp c.requires.inside c.requires.may.place.1
+    stamp_word_low (world_of s) (pass_of s) s.inside (record { long = c.stays_sound.ensures.words; count = c.stays_sound.ensures.passes; sound = c.stays_sound.ensures.sound; lasting = c.stays_sound.ensures.lasting }) c.args.stamp c.args.place c.requires.may.stamp c.requires.inside c.requires.may.place.1
 
 pub find-requires-clause-moves : goal.find-requires-clause-moves
 find-requires-clause-moves c i =

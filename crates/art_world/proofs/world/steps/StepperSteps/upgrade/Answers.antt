@@ -25,7 +25,7 @@ not_last b x says off = ⊎_elim
 pub load-found-requires : goal.load-found-requires
 load-found-requires c =
     let s = c.args.self.now in
-    let low = stamp_low (world_of s) (pass_of s) s.inside (record { long = c.stays_sound.ensures.words; count = c.stays_sound.ensures.passes; sound = c.stays_sound.ensures.sound }) c.args.stamp c.requires.stamp c.requires.inside in
+    let low = stamp_low (world_of s) (pass_of s) s.inside (record { long = c.stays_sound.ensures.words; count = c.stays_sound.ensures.passes; sound = c.stays_sound.ensures.sound; lasting = c.stays_sound.ensures.lasting }) c.args.stamp c.requires.stamp c.requires.inside in
     omega (arith, low)
 
 pub find-requires-clause-moves : goal.find-requires-clause-moves

@@ -1,0 +1,13 @@
+pub mod Alone
+pub mod Calls
+pub mod Calm
+pub mod Cells
+pub mod Finding
+pub mod Found
+pub mod Making
+pub mod Numbers
+pub mod Phases
+pub mod Seeks
+pub mod Tries
+pub mod Versions
+pub mod Writes
