@@ -1,3 +1,4 @@
+mod Alone
 pub mod Growing
 pub mod Histories
 pub mod Places

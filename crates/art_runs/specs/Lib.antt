@@ -1,3 +1,4 @@
+pub mod Alone
 pub mod Ops
 pub mod Runs
 pub mod Typed

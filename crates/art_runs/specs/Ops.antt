@@ -1,6 +1,7 @@
 -- What contracts see of an op: the call of a pass that takes turns.
 use Rattle.std.specs.Option.{is_some}
-use Rattle.std.specs.Prelude.{◌≡◌, ℕ, Bool, List, Option, Some, None}
+use Rattle.std.specs.Prelude.{◌≡◌, ℕ, Bool, List, Option, Some, None, ⊤}
+use Rattle.art_call.specs.AsAsked.{GoesAsAsked}
 use Rattle.art_call.specs.Calls.{HasCalled, IsCalling, Wish, outcome_at, restarts_in}
 use Rattle.art_call.specs.Made.{MakesStep}
 use Rattle.art_call.specs.declared.callers.Caller.{Caller}
@@ -46,9 +47,16 @@ abbrev pub MakesLast : Sizes → Option Made → View → View → Type 0
 MakesLast z (Some made) v w = MakesStep z v w made
 MakesLast z None v w = w ≡ v
 
--- one turn of the op of the pass p: its call makes one step, which it keeps, or none, and it goes on for what it was begun for
+-- the step, if one was made, is the one that the call c asked for, which is d then
+abbrev pub AsksLast : Sizes → Option Made → View → Caller → View → Caller → Type 0
+AsksLast z (Some made) v c w d = GoesAsAsked z v c w d
+AsksLast z None v c w d = ⊤
+
+-- one turn of the op of the pass p: its call makes one step, the one that it asks for, which it keeps, or none, and it goes on for what
+-- it was begun for
 pub record Goes (p : ℕ) (a : Op) (k : Contents) (b : Op) (l : Contents) : Type 0 where
   pub last : MakesLast k.sizes (last_in b) (view_at k.views p) (view_at l.views p)
+  pub asked : AsksLast k.sizes (last_in b) (view_at k.views p) (caller_in a) (view_at l.views p) (caller_in b)
   pub calling : (w : Wish) (given turns : ℕ) (u : View) → IsCalling k.sizes w given turns u (caller_in a) (view_at k.views p) →
       IsCalling l.sizes w given turns u (caller_in b) (view_at l.views p)
   pub ends : EndsAsCalled b

@@ -1,11 +1,12 @@
-use Rattle.std.proofs.Common.{◌≡◌, ◌⊎◌, ◌∙◌, ℕ, Option, Some, None, IfSome, inl, inr, ap, subst, sym}
+use Rattle.std.proofs.Common.{◌≡◌, ◌∙◌, ℕ, Option, Some, None, IfSome, ap, subst, sym}
 use Rattle.std.specs.Prelude.{IfNone}
+use Rattle.art_call.specs.AsAsked.{GoesAsAsked}
 use Rattle.art_call.specs.Calls.{IsCalling, Wish}
 use Rattle.art_call.specs.Made.{MakesStep}
 use Rattle.art_call.specs.declared.callers.Caller.{Caller}
 use Rattle.art_call.specs.declared.driver.Made.{Made}
 use Rattle.art_call.specs.declared.outcomes.Outcome.{Outcome}
-use Rattle.art_runs.specs.Ops.{EndsAsCalled, Goes, MakesLast, caller_in, last_in}
+use Rattle.art_runs.specs.Ops.{AsksLast, EndsAsCalled, Goes, MakesLast, caller_in, last_in}
 use Rattle.art_runs.specs.declared.ops.Op.{Op}
 use Rattle.art_step.specs.WordRows.{view_at}
 use Rattle.art_step.specs.declared.views.Sizes.{Sizes}
@@ -18,6 +19,10 @@ made_by : (z : Sizes) (v w : View) (P : Type 0) (o : Option Made) → IfSome o (
 made_by z v w P None some none = none.0
 made_by z v w P (Some made) some none = some
 
+asked_by : (z : Sizes) (v w : View) (c d : Caller) (o : Option Made) → IfSome o (λ (made : Made). GoesAsAsked z v c w d) → AsksLast z o v c w d
+asked_by z v w c d None some = tt
+asked_by z v w c d (Some made) some = some
+
 so_ended : (P : Outcome → Type 0) (r s : Option Outcome) → r ≡ s → IfSome r P → (o : Outcome) → s ≡ Some o → P o
 so_ended P r s same told o is = subst (λ (x : Option Outcome). IfSome x P) (same ∙ is) told
 
@@ -25,13 +30,14 @@ so_ended P r s same told o is = subst (λ (x : Option Outcome). IfSome x P) (sam
 goes_on : (s t : Stepper) (c : Caller) (w : Wish) (given turns : ℕ) (u : View) → OnlyStepped s t → IsCalling (sizes_of s) w given turns u c (view_of t) → IsCalling (sizes_of t) w given turns u c (view_of t)
 goes_on s t c w given turns u only calling = subst (λ (z : Sizes). IsCalling z w given turns u c (view_of t)) (sym (only_sizes s t only)) calling
 
-goes_at : (s t : Stepper) (a b : Op) → OnlyStepped s t → MakesLast (sizes_of s) (last_in b) (view_of s) (view_of t)
+goes_at : (s t : Stepper) (a b : Op) → OnlyStepped s t → MakesLast (sizes_of s) (last_in b) (view_of s) (view_of t) → AsksLast (sizes_of s) (last_in b) (view_of s) (caller_in a) (view_of t) (caller_in b)
     → ((w : Wish) (given turns : ℕ) (u : View) → IsCalling (sizes_of s) w given turns u (caller_in a) (view_of s) → IsCalling (sizes_of s) w given turns u (caller_in b) (view_of t))
     → EndsAsCalled b → Goes (pass_of s) a (world_of s) b (world_of t)
-goes_at s t a b only step calling ends =
+goes_at s t a b only step asked calling ends =
     let same : view_of t ≡ view_at (world_of t).views (pass_of s) = ap (λ (p : ℕ). view_at (world_of t).views p) only.pass in
     record {
       last = subst (λ (x : View). MakesLast (sizes_of s) (last_in b) (view_of s) x) same step;
+      asked = subst (λ (x : View). AsksLast (sizes_of s) (last_in b) (view_of s) (caller_in a) x (caller_in b)) same asked;
       calling = λ w given turns u goes. subst (λ (x : View). IsCalling (sizes_of t) w given turns u (caller_in b) x) same (goes_on s t (caller_in b) w given turns u only (calling w given turns u goes));
       ends = ends;
     }
@@ -55,5 +61,7 @@ returns-clause-makes c =
     let s = c.args.stepper.now in
     let t = c.step-self.new.steps in
     goes_at s t c.args.self.now _ c.step-self.ensures.only (made_by (sizes_of s) (view_of s) (view_of t) _ c.step-self.result c.step-self.ensures.some c.step-self.ensures.none)
+    (subst (λ (a : Caller). AsksLast (sizes_of s) c.step-self.result (view_of s) a (view_of t) c.step-self.new.self) c.deref_mut.ensures.value
+    (asked_by (sizes_of s) (view_of s) (view_of t) _ c.step-self.new.self c.step-self.result c.step-self.ensures.asked))
     (λ w given turns u calling. c.step-self.ensures.calling w given turns u (subst (λ (a : Caller). IsCalling (sizes_of s) w given turns u a (view_of s)) (sym c.deref_mut.ensures.value) calling))
     (λ o is. so_ended _ c.outcome-ended.result _ c.outcome-ended.ensures.at c.outcome-ended.ensures.called o is)
