@@ -12,7 +12,7 @@ use Rattle.art_runs.specs.Alone.{AreTurnsOf, GoesAlone, NamesNoOp}
 use Rattle.art_runs.specs.Ops.{AsksLast, EndsAsCalled, Goes, IsRunOfOps, IsTurnOf, IsUnderWay, MakesLast, caller_in, has_ended, last_in, outcome_in}
 use Rattle.art_runs.specs.declared.ops.Op.{Op}
 use Rattle.art_solo.specs.Alone.{IsAlone}
-use Rattle.art_solo.specs.Solo.{BeginLaw, EndLaw, HasViews, IsSolo, StepLaw}
+use Rattle.art_solo.specs.Solo.{BeginLaw, EndLaw, HasViews, IsSolo, RestartLaw, StepLaw}
 use Rattle.art_step.proofs.Determined.{steps_count}
 use Rattle.art_step.specs.Sound.{IsSound}
 use Rattle.art_step.specs.Steps.{OneStep}
@@ -155,10 +155,10 @@ not_ended : (a : Op) → outcome_in a ≡ None → EndsAsCalled a
 not_ended a none o is = absurd (cc (none, is))
 
 -- from the beginning of its call on
-pub goes_alone : BeginLaw → StepLaw → EndLaw → (p : ℕ) (a : Op) (w : Wish) (given most : ℕ) (ts : List ℕ) (k : Contents) (xs : List Op) (l : Contents) (ys : List Op) → IsRunOfOps ts k xs l ys
+pub goes_alone : BeginLaw → StepLaw → RestartLaw → EndLaw → (p : ℕ) (a : Op) (w : Wish) (given most : ℕ) (ts : List ℕ) (k : Contents) (xs : List Op) (l : Contents) (ys : List Op) → IsRunOfOps ts k xs l ys
     → IsSound k.sizes (memory_now k) (views_of k.views) → IsLasting k.sizes (memory_now k) (views_of k.views) → length k.views ≡ k.sizes.passes → p < length k.views → slice_get xs p ≡ Some a
     → IsCalling k.sizes w given most (view_at k.views p) (caller_in a) (view_at k.views p) → AreTurnsOf p ts xs → IsAlone p (views_of k.views) → GoesAlone k l ys p a most
-goes_alone begins steps ends p a w given most ts k xs l ys run sound lasting count there is calling all alone =
+goes_alone begins steps restarts ends p a w given most ts k xs l ys run sound lasting count there is calling all alone =
     let u : View = view_at k.views p in
     let idle = began_idle k.sizes most u (caller_in a) u w (caller_in a).call calling.goes_on in
     let first : Solo p w given most u (outcome_in a ≡ None) k xs = record {
@@ -177,6 +177,7 @@ goes_alone begins steps ends p a w given most ts k xs l ys run sound lasting cou
       now = last.op;
       is = last.is;
       none_failed = last.solo.failures;
+      never_anew = restarts l.sizes w given most u (caller_in last.op) (view_at l.views p) last.calling last.solo.failures;
       ends = λ fresh o at.
           ends l.sizes p (memory_now l) (views_of l.views) u (view_at l.views p) w given most (restarts_in (caller_in last.op)) last.past (caller_in last.op) o last.solo
           (last.ends fresh o at l.sizes w given most u (view_at l.views p) last.calling);

@@ -19,10 +19,11 @@ abbrev pub AreTurnsOf : ℕ → List ℕ → List Op → Type 0
 AreTurnsOf p turns xs = (t : ℕ) → Member t turns → (t ≡ p) ⊎ NamesNoOp t xs
 
 -- from the world k to the world l no step of the op a failed: each begin found a clear word, each check and each upgrade an unchanged
--- one, and each take the bit that it looked for. If it ended meanwhile, it never began anew, limbo was not crowded, and it is busy only
--- where it had few turns
+-- one, and each take the bit that it looked for; and it never began anew. If it ended meanwhile, limbo was not crowded, and it is busy
+-- only where it had few turns
 pub record GoesAlone (k l : Contents) (ys : List Op) (p : ℕ) (a : Op) (most : ℕ) : Type 0 where
   pub now : Op
   pub is : slice_get ys p ≡ Some now
   pub none_failed : (view_at l.views p).failures ≡ (view_at k.views p).failures
-  pub ends : outcome_in a ≡ None → (o : Outcome) → outcome_in now ≡ Some o → EndsAlone l.sizes most (restarts_in (caller_in now)) o
+  pub never_anew : restarts_in (caller_in now) ≡ 0
+  pub ends : outcome_in a ≡ None → (o : Outcome) → outcome_in now ≡ Some o → EndsAlone l.sizes most o

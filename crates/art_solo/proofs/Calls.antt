@@ -62,13 +62,13 @@ begins_solo z p m f u c sound lasting alone at idle = record {
 -- ---- at each step
 
 -- what a write knows, and what a seek
-write_fits : (z : Sizes) (turns : ℕ) (u : View) (c : Caller) (n : Write) (v : View) (w : Wish) → GoesOn z w turns u c (call.Write n) v → (ps : List Place) × writes.Fits z u ps n c.room (places_of c.limbo) v
+pub write_fits : (z : Sizes) (turns : ℕ) (u : View) (c : Caller) (n : Write) (v : View) (w : Wish) → GoesOn z w turns u c (call.Write n) v → (ps : List Place) × writes.Fits z u ps n c.room (places_of c.limbo) v
 write_fits z turns u c n v (Insert k value) goes = (goes.waited, goes.fits)
 write_fits z turns u c n v (Remove k) goes = (goes.waited, goes.fits)
 write_fits z turns u c n v (Get k) goes = absurd goes
 write_fits z turns u c n v (Look lo hi) goes = absurd goes
 
-seek_fits : (z : Sizes) (turns : ℕ) (u : View) (c : Caller) (n : Seek) (v : View) (w : Wish) → GoesOn z w turns u c (call.Seek n) v → seeks.Fits z c.key.items c.hi u n c.trail v
+pub seek_fits : (z : Sizes) (turns : ℕ) (u : View) (c : Caller) (n : Seek) (v : View) (w : Wish) → GoesOn z w turns u c (call.Seek n) v → seeks.Fits z c.key.items c.hi u n c.trail v
 seek_fits z turns u c n v (Get k) goes = subst (λ (a : ArrayVec ℕ). seeks.Fits z a.items c.hi u n c.trail v) (sym goes.key_is) goes.fits
 seek_fits z turns u c n v (Look lo hi) goes =
     let s = goes.0 in
@@ -171,7 +171,6 @@ module _ (z : Sizes) (m : Memory) (u v : View) (had : HasFound m u v) (turns res
 
 pub ends_alone : EndLaw
 ends_alone z p m f u v wish given turns restarts c d o solo called = record {
-  anew = let failed = called.failed in let none = solo.failures in omega (arith, failed, none);
   room = λ b is. wish_not_crowded z m u v solo.found turns restarts d b wish
       (subst (λ (e : Outcome). may_end wish e ≡ true) is called.may) (subst (λ (e : Outcome). HasGroundOf z wish turns restarts u d e v) is called.ground);
   busy = λ is limited. (let few = (called.busy is).few limited in let none = solo.failures in omega (arith, few, none));

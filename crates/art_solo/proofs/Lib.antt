@@ -7,6 +7,7 @@ pub mod Found
 pub mod Making
 pub mod Numbers
 pub mod Phases
+pub mod Restarts
 pub mod Seeks
 pub mod Tries
 pub mod Versions

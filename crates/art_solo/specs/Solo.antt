@@ -2,7 +2,7 @@
 use Rattle.std.specs.Prelude.{◌≡◌, ◌≢◌, ◌<◌, ℕ, Some}
 use Rattle.art_attempt.specs.Trying.{IsLimited}
 use Rattle.art_call.specs.AsAsked.{GoesAsAsked}
-use Rattle.art_call.specs.Calls.{HasCalled, IsCalling, Wish}
+use Rattle.art_call.specs.Calls.{HasCalled, IsCalling, Wish, restarts_in}
 use Rattle.art_call.specs.declared.callers.Call.{Call}
 use Rattle.art_call.specs.declared.callers.Call.TheVariants as call
 use Rattle.art_call.specs.declared.callers.Caller.{Caller}
@@ -49,13 +49,16 @@ StepLaw = (z : Sizes) (p : ℕ) (m : Memory) (f : Views) (m' : Memory) (f' : Vie
     (c d : Caller) → IsCalling z wish given turns u c v → IsSolo z p m f u v c → GoesAsAsked z v c w d → HasViews z f →
     OneStep z p m f m' f' → IsSound z m' f' → f p ≡ Some v → f' p ≡ Some w → IsSolo z p m' f' u w d
 
--- of a call that ended so: it never began anew, limbo was not crowded, and where it is busy it had few turns, in a table within its
--- limits
-pub record EndsAlone (z : Sizes) (turns restarts : ℕ) (o : Outcome) : Type 0 where
-  pub anew : restarts ≡ 0
+-- a call of which no step failed never began anew
+abbrev pub RestartLaw : Type 0
+RestartLaw = (z : Sizes) (wish : Wish) (given turns : ℕ) (u : View) (c : Caller) (v : View) → IsCalling z wish given turns u c v →
+    v.failures ≡ u.failures → restarts_in c ≡ 0
+
+-- a call that ended so did not find limbo crowded, and where it is busy it had few turns, in a table within its limits
+pub record EndsAlone (z : Sizes) (turns : ℕ) (o : Outcome) : Type 0 where
   pub room : (b : Blocker) → o ≢ outcome.Crowded b
   pub busy : o ≡ outcome.Busy → IsLimited z → turns < 30000
 
 abbrev pub EndLaw : Type 0
 EndLaw = (z : Sizes) (p : ℕ) (m : Memory) (f : Views) (u v : View) (wish : Wish) (given turns restarts : ℕ) (c d : Caller)
-    (o : Outcome) → IsSolo z p m f u v c → HasCalled z wish given turns restarts u d o v → EndsAlone z turns restarts o
+    (o : Outcome) → IsSolo z p m f u v c → HasCalled z wish given turns restarts u d o v → EndsAlone z turns o

@@ -28,15 +28,16 @@
 //!
 //! # What is proved
 //!
-//! `IsSolo` holds at the beginning of a call of an idle pass (`begins`), stays at each of its steps (`steps`), and so the call ends with no
-//! restart, not crowded, and busy only where it had few turns (`ends`).
+//! `IsSolo` holds at the beginning of a call of an idle pass (`begins`) and stays at each of its steps (`steps`), so none of them fails
+//! and the call never begins anew (`restarts`). It ends neither crowded nor, where it had turns enough, busy (`ends`).
 #![tactic(auto)]
 
-ghost use Rattle.art_solo.specs.Solo.{BeginLaw, EndLaw, StepLaw};
+ghost use Rattle.art_solo.specs.Solo.{BeginLaw, EndLaw, RestartLaw, StepLaw};
 
 /// A call of an idle pass that alone makes steps meets no failure, whatever it is asked for.
 pub fn calls_alone_do_not_fail()
     ensures begins { BeginLaw }
     ensures steps { StepLaw }
+    ensures restarts { RestartLaw }
     ensures ends { EndLaw }
 {}

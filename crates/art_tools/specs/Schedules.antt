@@ -3,7 +3,7 @@ use Rattle.std.specs.Prelude.{◌≡◌, ◌⊎◌, ℕ, List, length, Option, S
 use Rattle.std.specs.List.{slice_get}
 use Rattle.art_key.specs.declared.columns.Column.{Column}
 use Rattle.art_key.specs.declared.faults.SchemaFault.{SchemaFault}
-use Rattle.art_schedule.specs.Schedules.{RunsSchedule}
+use Rattle.art_schedule.specs.Schedules.{ComeBack, RunsSchedule}
 use Rattle.art_schedule.specs.declared.stops.ScheduleEnd.{ScheduleEnd}
 use Rattle.art_table.specs.Opening.{IsOpened}
 use Rattle.art_table.specs.Tables.{IsPassOf, number_of}
@@ -11,7 +11,7 @@ use Rattle.art_table.specs.declared.configs.Config.{Config}
 use Rattle.art_table.specs.declared.passes.Pass.{Pass}
 use Rattle.art_table.specs.declared.tables.Table.{Table}
 use Rattle.art_tools.specs.Statuses.{schedule_fault}
-use Rattle.art_tools.specs.Told.{IsToldOf, IsUnopened, NothingRead}
+use Rattle.art_tools.specs.Told.{IsClosedBy, IsToldOf, IsUnopened, NothingRead}
 use Rattle.art_tools.specs.declared.run_faults.RunFault.{RunFault}
 
 -- the sizes, with eight passes
@@ -28,15 +28,19 @@ AreEight t passes = (length passes ≡ 8) × AreInPlace t passes
 
 -- ---- what `step` does
 
--- a schedule was run on the eight passes of an empty table of the schema and these sizes
+-- a schedule was run on the eight passes of an empty table of the schema and these sizes, which was closed with the passes as they came
+-- back
 pub record RanSchedule (schema : List Column) (sizes : Config) (left left_after held held_after : Option (List ℕ))
     (told : Option RunFault) : Type 0 where
   pub table : Table
   pub passes : List Pass
+  pub back : List Pass
   pub end : ScheduleEnd
   pub opened : IsOpened schema (of_eight_passes sizes) table passes
   pub runs : RunsSchedule left left_after held held_after table passes end
+  pub come : ComeBack table passes back
   pub told_is : IsToldOf (schedule_fault end) told
+  pub closed : IsClosedBy told table back
 
 -- of a schema that is one, a schedule was run, or there was no table for it; nothing is done of another
 abbrev pub Steps : Result (List Column) SchemaFault → Config → (left left_after held held_after : Option (List ℕ)) → Option RunFault

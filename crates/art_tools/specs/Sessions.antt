@@ -10,10 +10,10 @@ use Rattle.art_table.specs.declared.passes.Pass.{Pass}
 use Rattle.art_table.specs.declared.tables.Table.{Table}
 use Rattle.art_tools.specs.Outputs.{of_one_pass}
 use Rattle.art_tools.specs.Statuses.{fault_at}
-use Rattle.art_tools.specs.Told.{IsToldOf, IsUnopened, NothingRead}
+use Rattle.art_tools.specs.Told.{IsClosedBy, IsToldOf, IsUnopened, NothingRead}
 use Rattle.art_tools.specs.declared.run_faults.RunFault.{RunFault}
 
--- a session was run by the one pass of an empty table of the schema and these sizes
+-- a session was run by the one pass of an empty table of the schema and these sizes, which was closed with the pass as it came back
 pub record RanSession (schema : List Column) (sizes : Config) (left left_after held held_after : Option (List ℕ))
     (told : Option RunFault) : Type 0 where
   pub table : Table
@@ -23,6 +23,7 @@ pub record RanSession (schema : List Column) (sizes : Config) (left left_after h
   pub opened : IsOpened schema (of_one_pass sizes) table (pass ∷ [])
   pub runs : RunsSession left left_after held held_after table pass back end
   pub told_is : IsToldOf (fault_at end.why) told
+  pub closed : IsClosedBy told table (back ∷ [])
 
 -- of a schema that is one, a session was run, or there was no table for it; nothing is done of another
 abbrev pub Runs : Result (List Column) SchemaFault → Config → (left left_after held held_after : Option (List ℕ)) → Option RunFault

@@ -1,7 +1,11 @@
 -- Whether there was a table, and what is told at the end.
-use Rattle.std.specs.Prelude.{◌≡◌, ◌⊎◌, ℕ, List, [], Option, Some, None}
+use Rattle.std.specs.Prelude.{◌≡◌, ◌⊎◌, ℕ, List, [], Option, Some, None, ⊤}
 use Rattle.std.specs.Io.KnownBytes.{Appends, Consumes}
 use Rattle.art_server.specs.declared.refusals.Refusal.{Refusal}
+use Rattle.art_table.specs.Closing.{IsClosed}
+use Rattle.art_table.specs.declared.closing.Closed.{Closed}
+use Rattle.art_table.specs.declared.passes.Pass.{Pass}
+use Rattle.art_table.specs.declared.tables.Table.{Table}
 use Rattle.art_tools.specs.declared.run_faults.RunFault.{RunFault}
 use Rattle.art_tools.specs.declared.run_faults.RunFault.TheVariants.{NoMemory, Refused}
 
@@ -13,6 +17,11 @@ pub record NothingRead (left left_after held held_after : Option (List ℕ)) : T
 -- why there is no table: it is refused, or there was no memory
 abbrev pub IsUnopened : Option RunFault → Type 0
 IsUnopened told = (told ≡ Some NoMemory) ⊎ ((refusal : Refusal) × (told ≡ Some (Refused refusal)))
+
+-- where nothing is told, the table was closed with these passes
+abbrev pub IsClosedBy : Option RunFault → Table → List Pass → Type 0
+IsClosedBy None t passes = (c : Closed) × IsClosed t passes c
+IsClosedBy (Some fault) t passes = ⊤
 
 -- what is told of a session or a schedule with this fault, or none: that; or, where it has none, that there was no memory to close its
 -- table

@@ -7,6 +7,7 @@ ghost use Rattle.clap.specs.declared.error.kind.ErrorKind.TheVariants.{DisplayHe
 ghost use Rattle.art_key.specs.declared.faults.SchemaFault.{SchemaFault};
 ghost use Rattle.art_key.specs.Schemas.{schema_of};
 ghost use Rattle.art_alone.specs.Laws.{IsAlone};
+ghost use Rattle.art_table.specs.Closing.{IsClosed};
 ghost use Rattle.art_table.specs.Opening.{IsOpened};
 ghost use Rattle.art_table.specs.Sizes.{IsConfig};
 ghost use Rattle.art_server.specs.Counted.{reader_of, reads_of};
@@ -14,6 +15,7 @@ ghost use Rattle.art_server.specs.Reads.{AddsReads, MakesReads};
 ghost use Rattle.art_server.specs.Refusals.{schema_refusal};
 ghost use Rattle.art_server.specs.declared.refusals.Refusal.{Refusal};
 ghost use Rattle.art_table.specs.Tables.{IsPassOf, number_of, seen_by, sizes_in};
+ghost use Rattle.art_table.specs.declared.closing.Closed.{Closed as ClosedOf};
 ghost use Rattle.art_tools.specs.Outputs.{Outputs, of_one_pass};
 ghost use Rattle.art_tools.specs.Schedules.{Steps};
 ghost use Rattle.art_tools.specs.Sessions.{Runs};
@@ -161,6 +163,7 @@ fn give_back(alloc: Global, table: Table, mut passes: Vec<Pass>, pass: Pass) -> 
     requires pass { IsPassOf table pass × (number_of pass ≡ 0) }
     requires one { (sizes_in table).passes ≡ 1 }
     ensures alone { OnOk result (IsAlone table pass) }
+    ensures closed { OnOk result ((closed : ClosedOf) × IsClosed table (pass ∷ []) closed) }
     ensures memory { IfErr result (λ fault. fault ≡ RunFault.NoMemory) }
 {
     passes.push(pass)?;

@@ -10,9 +10,11 @@ ghost use Rattle.art_server.specs.Reads.{AddsReads, MakesReads};
 ghost use Rattle.art_server.specs.Refusals.{schema_refusal};
 ghost use Rattle.art_server.specs.declared.refusals.Refusal.{Refusal};
 ghost use Rattle.art_server.specs.declared.sessions.EndCause.TheVariants as ends;
+ghost use Rattle.art_table.specs.Closing.{IsClosed};
 ghost use Rattle.art_table.specs.Opening.{IsOpened};
 ghost use Rattle.art_table.specs.Sizes.{IsConfig};
 ghost use Rattle.art_table.specs.Tables.{sizes_in};
+ghost use Rattle.art_table.specs.declared.closing.Closed.{Closed as ClosedOf};
 ghost use Rattle.art_table.specs.declared.passes.Pass.{Pass as PassOf};
 ghost use Rattle.art_tools.specs.Schedules.{AreEight, Steps, of_eight_passes};
 ghost use Rattle.art_tools.specs.Statuses.{fault_in, schedule_fault};
@@ -78,7 +80,8 @@ fn table_of_eight(
 fn close_all(alloc: Global, table: Table, passes: [Pass; 8]) -> Result<(), RunFault>
     requires passes { (opened : List PassOf) × AreEight table opened × ComeBack table opened passes }
     requires eight { (sizes_in table).passes ≡ 8 }
-    ensures { IfErr result (λ fault. fault ≡ RunFault.NoMemory) }
+    ensures closed { OnOk result ((closed : ClosedOf) × IsClosed table passes closed) }
+    ensures memory { IfErr result (λ fault. fault ≡ RunFault.NoMemory) }
 {
     let passes = Vec::from_array(alloc, passes)?;
     match close(alloc, table, passes) {

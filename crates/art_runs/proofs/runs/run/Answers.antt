@@ -24,5 +24,5 @@ returns-clause-alone c p op w given most is calling turns alone =
     let world = c.stays_sound.ensures in
     let low = slice_get_within c.args.ops.now p op is in
     let few = c.requires.passes in
-    goes_alone laws.begins laws.steps laws.ends p op w given most c.args.turns.now k c.args.ops.now c.run.new.self c.run.new.actors c.run.ensures.run world.sound world.lasting world.passes (omega (arith, low, few))
+    goes_alone laws.begins laws.steps laws.restarts laws.ends p op w given most c.args.turns.now k c.args.ops.now c.run.new.self c.run.new.actors c.run.ensures.run world.sound world.lasting world.passes (omega (arith, low, few))
     is calling turns alone

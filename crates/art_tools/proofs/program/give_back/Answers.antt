@@ -20,3 +20,8 @@ returns-clause-memory c =
     let here = c.in_ok-push.ensures.items ∙ ap (λ (l : List Pass). l ++ q ∷ []) c.requires.room in
     let all = subst (AreAllPasses (sizes_in t).passes) (sym here) (one_is_all t q c.requires.one c.requires.pass.1) in
     c.from.ensures ∙ no_memory t _ _ all c.in-Err.ensures.why
+
+pub returns-in-Ok-clause-closed : goal.returns-in-Ok-clause-closed
+returns-in-Ok-clause-closed c =
+    let here = c.in_ok-push.ensures.items ∙ ap (λ (l : List Pass). l ++ c.args.pass ∷ []) c.requires.room in
+    (c.in-Ok.field-0, subst (λ (l : List Pass). IsClosed c.args.table l c.in-Ok.field-0) here c.in-Ok.ensures.closed)

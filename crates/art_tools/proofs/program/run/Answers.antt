@@ -27,7 +27,7 @@ returns-clause-ended g c =
 pub returns-clause-runs : goal.returns-clause-runs
 returns-clause-runs g c =
     runs_ran _ _ _ _ _ _ _ _ _ _ _ c.outcome.result c.give_back-closed.result (sym c.in_ok-schema.ensures) c.in_ok-table.ensures.opened
-    c.session-pass.ensures.session c.outcome.ensures c.give_back-closed.ensures.memory
+    c.session-pass.ensures.session c.give_back-closed.ensures.closed c.outcome.ensures c.give_back-closed.ensures.memory
 
 pub returns-clause-failed : goal.returns-clause-failed
 returns-clause-failed g c = λ is.

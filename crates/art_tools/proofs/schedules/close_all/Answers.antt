@@ -1,4 +1,5 @@
 use Rattle.std.proofs.Common.{◌≡◌, ◌∙◌, List, length, rules, subst, sym}
+use Rattle.art_table.specs.Closing.{IsClosed}
 use Rattle.art_table.specs.Tables.{sizes_in}
 use Rattle.art_table.specs.declared.passes.Pass.{Pass}
 use Rattle.art_schedule.specs.Schedules.{ComeBack}
@@ -13,8 +14,11 @@ close-requires c =
     let (opened, eight, come) = c.requires.passes in
     all_of t items (back_in_place t opened items eight long (subst (ComeBack t opened) (sym c.in_ok-passes.ensures.items) come))
 
-pub returns : goal.returns
-returns c =
+pub returns-in-Ok-clause-closed : goal.returns-in-Ok-clause-closed
+returns-in-Ok-clause-closed c = (c.in-Ok.field-0, subst (λ (l : List Pass). IsClosed c.args.table l c.in-Ok.field-0) c.in_ok-passes.ensures.items c.in-Ok.ensures.closed)
+
+pub returns-clause-memory : goal.returns-clause-memory
+returns-clause-memory c =
     let t = c.args.table in
     let items : List Pass = c.in_ok-passes.passes.items in
     let long : length items ≡ 8 = search rules in

@@ -11,15 +11,15 @@ returns-clause-ended g c =
 
 pub returns-clause-refused : goal.returns-clause-refused
 returns-clause-refused g c = λ refusal is.
-    absurd (not_refused _ refusal (told_first c.outcome.result _ _ (Refused refusal) c.outcome.ensures c.close_all-closed.ensures (λ e. cc) is))
+    absurd (not_refused _ refusal (told_first c.outcome.result _ _ (Refused refusal) c.outcome.ensures c.close_all-closed.ensures.memory (λ e. cc) is))
 
 pub returns-clause-failed : goal.returns-clause-failed
 returns-clause-failed g c = λ is.
-    c.run_schedule-passes.ensures.failed (schedule_read_failed _ (told_first c.outcome.result _ _ ReadFailed c.outcome.ensures c.close_all-closed.ensures (λ e. cc) is))
+    c.run_schedule-passes.ensures.failed (schedule_read_failed _ (told_first c.outcome.result _ _ ReadFailed c.outcome.ensures c.close_all-closed.ensures.memory (λ e. cc) is))
 
 pub returns-clause-used : goal.returns-clause-used
 returns-clause-used g c = λ is.
-    c.run_schedule-passes.ensures.used (schedule_used_up _ (told_first c.outcome.result _ _ ReadsUsed c.outcome.ensures c.close_all-closed.ensures (λ e. cc) is))
+    c.run_schedule-passes.ensures.used (schedule_used_up _ (told_first c.outcome.result _ _ ReadsUsed c.outcome.ensures c.close_all-closed.ensures.memory (λ e. cc) is))
 
 pub close_all-closed-requires-clause-passes : goal.close_all-closed-requires-clause-passes
 close_all-closed-requires-clause-passes g c =
@@ -30,5 +30,5 @@ run_schedule-passes-requires g c = λ n p found. (c.in_ok-table.ensures.passes.1
 
 pub returns-clause-steps : goal.returns-clause-steps
 returns-clause-steps g c =
-    steps_ran _ _ _ _ _ _ _ _ _ _ c.outcome.result c.close_all-closed.result (sym c.in_ok-schema.ensures) c.in_ok-table.ensures.opened
-    c.run_schedule-passes.ensures.schedule c.outcome.ensures c.close_all-closed.ensures
+    steps_ran _ _ _ _ _ _ _ _ _ _ _ c.outcome.result c.close_all-closed.result (sym c.in_ok-schema.ensures) c.in_ok-table.ensures.opened
+    c.run_schedule-passes.ensures.schedule c.run_schedule-passes.ensures.passes c.close_all-closed.ensures.closed c.outcome.ensures c.close_all-closed.ensures.memory
