@@ -2,15 +2,22 @@
 ghost use Rattle.std.specs.Prelude.{◌≤◌, length};
 ghost use Rattle.art_epoch.specs.Pins.{MayPin};
 
-use crate::leaf::{EIGHT_LEAVES, LINKED, turns_of};
 use art_find::Got;
 use art_key::{Bound, Key};
 use art_look::{Seen, Trail};
 use art_seek::{Aim, KeySought, RangeSought, Seek, Seeker, Stepped, step};
-use art_step::EpochSteps;
-use art_visitor::{KEY, VALUE, Visitor};
+use art_step::{EpochSteps, Sizes};
 use art_world::World;
 use std::test::*;
+
+const EIGHT_LEAVES: Sizes = Sizes {
+    leaves: 8,
+    n4: 1,
+    n16: 1,
+    n48: 1,
+    n256: 1,
+    passes: 2,
+};
 
 /// How a get ends so that met no failure.
 fn got(got: Got) -> KeySought {
@@ -64,32 +71,6 @@ fn a_seeker_sees_all_of_an_empty_tree(rt: HostRuntime) -> Result<(), Fail> {
         }
     );
     assert_eq!(rt; world.pass_word(1), 0);
-    Ok(())
-}
-
-#[test]
-fn a_seeker_finds_the_leaf_that_stands(rt: HostRuntime) -> Result<(), Fail> {
-    let mut world = World::open(rt.alloc(), &EIGHT_LEAVES, 0)?;
-    let mut visitors = [Visitor::new()];
-    world.run(&mut visitors, &[0; LINKED]);
-    let mut seeker = Seeker::new();
-    let key = key_of(KEY);
-    let mut pass = world.at(1);
-    assert_eq!(rt; seeker.get(&mut pass, &key, 6), got(Got::Busy));
-    assert_eq!(rt; seeker.get(&mut pass, &key, 7), got(Got::Found(VALUE)));
-    assert_eq!(rt; seeker.get(&mut pass, &key_of(0), 1_000), got(Got::Absent));
-    let sought = seeker.look(&mut pass, &key, &Bound::End, 7);
-    let seen = sought.seen.expect(&rt, "seven steps are enough");
-    assert_eq!(rt;
-        seen,
-        Seen {
-            lo: key_of(KEY),
-            hi: Bound::End,
-            row: Some((key_of(KEY), VALUE)),
-        }
-    );
-    assert_eq!(rt; world.pass_word(1), 0);
-    assert_eq!(rt; turns_of(visitors), 20);
     Ok(())
 }
 

@@ -85,7 +85,8 @@ pub runs_ran : {A B : Type 0} (schema : Result (List Column) SchemaFault) (colum
     (left left_after held held_after : Option (List ℕ)) (t : Table) (p q : Pass) (end : SessionEnd) (r : Result A RunFault)
     (closed : Result B RunFault)
     → schema ≡ Ok columns → IsOpened columns (of_one_pass sizes) t (p ∷ []) → RunsSession left left_after held held_after t p q end
-    → OnOk closed ((c : Closed) × IsClosed t (q ∷ []) c) → fault_in r ≡ option_or (fault_at end.why) (fault_in closed) → IfErr closed (λ why. why ≡ fault.NoMemory)
+    → OnOk closed ((c : Closed) × IsClosed t (q ∷ []) c)
+    → fault_in r ≡ option_or (fault_at end.why) (fault_in closed) → IfErr closed (λ why. why ≡ fault.NoMemory)
     → Runs schema sizes left left_after held held_after (fault_in r)
 runs_ran (Ok schema) columns sizes left left_after held held_after t p q end r closed is opened runs shut told none = inl (record {
   table = t;

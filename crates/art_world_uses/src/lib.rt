@@ -1,6 +1,6 @@
 //! Worked rows of cells, leaves, numbers and paths, most of them over a world of one thread.
 //!
-//! Each test makes few steps of one pass. Whole changes, in turns with those of other passes, stand in `art_cell_uses`.
+//! Each test makes few steps of one pass. Whole changes, in turns with those of other passes, stand in `art_runs_uses`.
 //! Nothing stands above this crate.
 #![tactic(auto)]
 

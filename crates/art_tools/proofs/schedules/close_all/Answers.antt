@@ -15,7 +15,9 @@ close-requires c =
     all_of t items (back_in_place t opened items eight long (subst (ComeBack t opened) (sym c.in_ok-passes.ensures.items) come))
 
 pub returns-in-Ok-clause-closed : goal.returns-in-Ok-clause-closed
-returns-in-Ok-clause-closed c = (c.in-Ok.field-0, subst (λ (l : List Pass). IsClosed c.args.table l c.in-Ok.field-0) c.in_ok-passes.ensures.items c.in-Ok.ensures.closed)
+returns-in-Ok-clause-closed c =
+    let got = c.in-Ok.field-0 in
+    (got, subst (λ (l : List Pass). IsClosed c.args.table l got) c.in_ok-passes.ensures.items c.in-Ok.ensures.closed)
 
 pub returns-clause-memory : goal.returns-clause-memory
 returns-clause-memory c =
