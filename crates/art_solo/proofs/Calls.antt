@@ -107,7 +107,7 @@ steps_solo z p m f m' f' u v w wish given turns c d calling solo goes views step
     let on = call_on z p m f m' f' u v w turns wish c d solo at c.call d.call calling.goes_on solo.current goes in
     record {
       alone = alone_on z p m f m' f' step solo.alone;
-      lasting = lasting_on z p m f m' f' step sound solo.lasting;
+      lasting = lasting_on z p m f m' f' step solo.lasting;
       timely = solo.timely;
       found = finds_on z p u v w m f m' f' step views solo.alone before after solo.found;
       failures = on.0 ∙ solo.failures;

@@ -25,7 +25,7 @@ use Rattle.art_step.specs.Steps.Take as take_free
 use Rattle.art_step.specs.Steps.Take.{if_word, last_found}
 use Rattle.art_step.specs.Steps.Write as write
 use Rattle.art_step.specs.Views.{Member, Memory, Views, SetsView, bit_of, free_bit, free_index, is_free, number_at, pool_of, pool_rank}
-use Rattle.art_step.proofs.FreeBits.{SetsFree, bit_again, frees_number, index_again, pool_again, set_is_free, takes_number}
+use Rattle.art_step.proofs.FreeBits.{SetsFree, free_by_bit, frees_number, set_is_free, takes_bit}
 use Rattle.art_step.proofs.SetsView.{member_append}
 use Rattle.art_step.proofs.StepNumbers.{not_free}
 use Rattle.art_step.proofs.WordPlaces.{same_pool}
@@ -172,17 +172,7 @@ module _ (v : View) (m m' : Memory) (pool : Pool) (i : ℕ) (ws : List ℕ) wher
 
   by_test : (k : ℕ) → k < 64 → (b : Bool) → (bit_of word k == 1) ≡ b → SetsFreeWord m pool i (if b then word - 2 ^ k else word) m'
       → KeepsOwn m m' v.hand (if b then taken_view k else missed_view k).hand
-  by_test k low true bit sets =
-      let d : Link = number_at pool i k in
-      let same_pool : pool_of d ≡ pool = pool_again pool (64 * i + k) in
-      let index : free_index d ≡ i = index_again pool i k low in
-      let place : free_bit d ≡ k = bit_again pool i k low in
-      let same : m.free_word (pool_of d) (free_index d) ≡ word = ap₂ m.free_word same_pool index in
-      let free : is_free m d ≡ true = set_is_free m pool i k low bit in
-      let cleared : m.free_word (pool_of d) (free_index d) - 2 ^ free_bit d ≡ word - 2 ^ k = ap₂ (λ (w j : ℕ). w - 2 ^ j) same place in
-      let of_number : SetsFreeWord m (pool_of d) (free_index d) (m.free_word (pool_of d) (free_index d) - 2 ^ free_bit d) m' =
-      subst (λ (y : Pool × ℕ × ℕ). SetsFreeWord m y.0 y.1 y.2 m') (λ j. (sym same_pool j, sym index j, sym cleared j)) sets in
-      comes m m' d ws v.hand (takes_number m m' d free of_number)
+  by_test k low true bit sets = comes m m' (number_at pool i k) ws v.hand (takes_bit m m' pool i k low bit sets)
   by_test k low false bit sets = noted m m' pool i v.hand sets
 
   taken_keeps : (bit : Option ℕ) → IfSome bit (λ k. k < 64) → SetsFreeWord m pool i (take_free.without_bit bit word) m' → KeepsOwn m m' v.hand (take_free.view_after v pool i bit word ws).hand
@@ -260,9 +250,7 @@ IsSet m xs pool i k = (bit_of (m.free_word pool i) k ≡ 1) ⊎ ((x : InHand) ×
 
 -- the bit of a free number is set
 free_is_set : (m : Memory) (pool : Pool) (i k : ℕ) → k < 64 → is_free m (number_at pool i k) ≡ true → bit_of (m.free_word pool i) k ≡ 1
-free_is_set m pool i k low free =
-    let word : m.free_word (pool_of (number_at pool i k)) (free_index (number_at pool i k)) ≡ m.free_word pool i = ap₂ m.free_word (pool_again pool (64 * i + k)) (index_again pool i k low) in
-    sym (ap₂ (λ (x j : ℕ). bit_of x j) word (bit_again pool i k low)) ∙ eqb-true _ 1 free
+free_is_set m pool i k low free = eqb-true _ 1 (sym (free_by_bit m pool i k low) ∙ free)
 
 keeps_set : (m m' : Memory) (xs xs' : List InHand) (pool : Pool) (i k : ℕ) → k < 64 → KeepsOwn m m' xs xs' → IsSet m xs pool i k → IsSet m' xs' pool i k
 keeps_set m m' xs xs' pool i k low o set =

@@ -1,5 +1,5 @@
 -- What the words of free numbers say where one bit of one of them changes.
-use Rattle.std.proofs.Common.{◌≡◌, ◌≢◌, ℕ, ◌+◌, ◌-◌, ◌*◌, ◌^◌, ◌<◌, ◌==◌, Bool, true, false, sym, refl, ap, ap₂, ◌∙◌, ⊎_elim, arith}
+use Rattle.std.proofs.Common.{◌≡◌, ◌≢◌, ℕ, ◌+◌, ◌-◌, ◌*◌, ◌^◌, ◌<◌, ◌==◌, Bool, true, false, sym, refl, ap, ap₂, ◌∙◌, ⊎_elim, subst, arith}
 use Rattle.std.proofs.lemmas.Bool.{cases_eq, eqb-true, eqb-false}
 use Rattle.art_cell.specs.declared.cells.Link.{Link}
 use Rattle.art_cell.specs.declared.cells.Link.TheVariants.{Leaf as leaf, Node as node}
@@ -28,17 +28,21 @@ link_again (leaf l) = refl
 link_again (node n) = elim n.layout as (λ (k : Layout). link_in_pool (pool_of_layout k) n.number ≡ node (record { layout = k; number = n.number })) [ Node4 ↦ refl | _ ↦ refl ]
 
 -- the number at a bit of a word has this word and this bit
-pub index_again : (pool : Pool) (i k : ℕ) → k < 64 → free_index (number_at pool i k) ≡ i
+index_again : (pool : Pool) (i k : ℕ) → k < 64 → free_index (number_at pool i k) ≡ i
 index_again pool i k low = let n = number_again pool (64 * i + k) in omega (arith, n)
 
-pub bit_again : (pool : Pool) (i k : ℕ) → k < 64 → free_bit (number_at pool i k) ≡ k
+bit_again : (pool : Pool) (i k : ℕ) → k < 64 → free_bit (number_at pool i k) ≡ k
 bit_again pool i k low = let n = number_again pool (64 * i + k) in omega (arith, n)
 
--- a number whose bit is set is free
-pub set_is_free : (m : Memory) (pool : Pool) (i k : ℕ) → k < 64 → (bit_of (m.free_word pool i) k == 1) ≡ true → is_free m (number_at pool i k) ≡ true
-set_is_free m pool i k low is =
+-- a number is free where its bit is set
+pub free_by_bit : (m : Memory) (pool : Pool) (i k : ℕ) → k < 64 → is_free m (number_at pool i k) ≡ (bit_of (m.free_word pool i) k == 1)
+free_by_bit m pool i k low =
     let word : m.free_word (pool_of (number_at pool i k)) (free_index (number_at pool i k)) ≡ m.free_word pool i = ap₂ m.free_word (pool_again pool (64 * i + k)) (index_again pool i k low) in
-    ap₂ (λ (x j : ℕ). bit_of x j == 1) word (bit_again pool i k low) ∙ is
+    ap₂ (λ (x j : ℕ). bit_of x j == 1) word (bit_again pool i k low)
+
+-- so a number whose bit is set is free
+pub set_is_free : (m : Memory) (pool : Pool) (i k : ℕ) → k < 64 → (bit_of (m.free_word pool i) k == 1) ≡ true → is_free m (number_at pool i k) ≡ true
+set_is_free m pool i k low is = free_by_bit m pool i k low ∙ is
 
 -- two numbers of one pool, word and bit are one
 same_number : (e d : Link) → pool_of e ≡ pool_of d → free_index e ≡ free_index d → free_bit e ≡ free_bit d → e ≡ d
@@ -103,7 +107,7 @@ frees_number m f m' f' d taken sets =
     sets_free m m' d (h + 2 ^ k) sets true (ap (λ (bit : ℕ). bit == 1) (bit_more h k clear)) (λ j other. bit_more_elsewhere h k j clear other)
 
 -- to subtract the bit of a free number takes it
-pub takes_number : (m m' : Memory) (d : Link) → is_free m d ≡ true → SetsFreeWord m (pool_of d) (free_index d) (m.free_word (pool_of d) (free_index d) - 2 ^ free_bit d) m' → SetsFree m d false m'
+takes_number : (m m' : Memory) (d : Link) → is_free m d ≡ true → SetsFreeWord m (pool_of d) (free_index d) (m.free_word (pool_of d) (free_index d) - 2 ^ free_bit d) m' → SetsFree m d false m'
 takes_number m m' d free sets =
     let k : ℕ = free_bit d in
     let h : ℕ = m.free_word (pool_of d) (free_index d) in
@@ -112,3 +116,17 @@ takes_number m m' d free sets =
     let back : h - 2 ^ k + 2 ^ k ≡ h = omega arith in
     let clear : bit_of (h - 2 ^ k) k ≡ 0 = bit_less (h - 2 ^ k) k (ap (λ (n : ℕ). bit_of n k) back ∙ full) in
     sets_free m m' d (h - 2 ^ k) sets false (ap (λ (bit : ℕ). bit == 1) clear) (λ j other. sym (bit_more_elsewhere (h - 2 ^ k) k j clear other) ∙ ap (λ (n : ℕ). bit_of n j) back)
+
+-- to clear the bit k of the word i of a pool, where it is set, takes the number that has that bit
+pub takes_bit : (m m' : Memory) (pool : Pool) (i k : ℕ) → k < 64 → (bit_of (m.free_word pool i) k == 1) ≡ true
+    → SetsFreeWord m pool i (m.free_word pool i - 2 ^ k) m' → SetsFree m (number_at pool i k) false m'
+takes_bit m m' pool i k low is sets =
+    let d : Link = number_at pool i k in
+    let same_pool : pool_of d ≡ pool = pool_again pool (64 * i + k) in
+    let index : free_index d ≡ i = index_again pool i k low in
+    let place : free_bit d ≡ k = bit_again pool i k low in
+    let same : m.free_word (pool_of d) (free_index d) ≡ m.free_word pool i = ap₂ m.free_word same_pool index in
+    let cleared : m.free_word (pool_of d) (free_index d) - 2 ^ free_bit d ≡ m.free_word pool i - 2 ^ k = ap₂ (λ (w j : ℕ). w - 2 ^ j) same place in
+    let of_number : SetsFreeWord m (pool_of d) (free_index d) (m.free_word (pool_of d) (free_index d) - 2 ^ free_bit d) m' =
+    subst (λ (y : Pool × ℕ × ℕ). SetsFreeWord m y.0 y.1 y.2 m') (λ j. (sym same_pool j, sym index j, sym cleared j)) sets in
+    takes_number m m' d (set_is_free m pool i k low is) of_number

@@ -1,5 +1,5 @@
 -- Steps that move one number: a free one is taken, and one in hand or in limbo goes back.
-use Rattle.std.proofs.Common.{◌≡◌, ◌≢◌, ◌⊎◌, ◌↔◌, ℕ, ◌+◌, ◌-◌, ◌*◌, ◌^◌, ◌<◌, ◌≤◌, ◌==◌, Bool, true, false, List, ◌∷◌, length, inl, inr, sym, refl, ap, ap₂, ◌∙◌, subst, ⊎_elim}
+use Rattle.std.proofs.Common.{◌≡◌, ◌≢◌, ◌⊎◌, ◌↔◌, ℕ, ◌+◌, ◌-◌, ◌^◌, ◌<◌, ◌≤◌, ◌==◌, Bool, true, false, List, ◌∷◌, length, inl, inr, sym, refl, ap, ap₂, ◌∙◌, subst, ⊎_elim}
 use Rattle.std.proofs.lemmas.Bool.{cases_eq, cases_Bool}
 use Rattle.std.specs.Prelude.{if◌then◌else◌, Option, Some, None, IfSome, ⊤}
 use Rattle.art_cell.specs.declared.layouts.Pool.{Pool}
@@ -24,10 +24,10 @@ use Rattle.art_step.specs.Steps.Take as take_free
 use Rattle.art_step.specs.Steps.Give as give
 use Rattle.art_step.specs.Effects.{SetsFreeWord}
 use Rattle.art_step.specs.Steps.Take.{IsTaken}
-use Rattle.art_step.specs.Views.{HaveChildWords, Member, Memory, words_in, IsClear, IsLocked, IsObsolete, IsVersion, bit_of, cell_named, free_bit, free_index, is_free, number_at, pool_of, pool_rank, Views, SetsView}
+use Rattle.art_step.specs.Views.{HaveChildWords, Member, Memory, words_in, IsClear, IsLocked, IsObsolete, IsVersion, bit_of, cell_named, is_free, number_at, pool_rank, Views, SetsView}
 use Rattle.art_step.proofs.Histories.{history_stays}
 use Rattle.art_step.proofs.SoundParts.{IdleHolds, account_on, unstamped_turn, holder_same, formed_turn}
-use Rattle.art_step.proofs.FreeBits.{SetsFree, bit_again, frees_number, index_again, pool_again, set_is_free, takes_number}
+use Rattle.art_step.proofs.FreeBits.{SetsFree, frees_number, set_is_free, takes_bit}
 use Rattle.art_step.proofs.Gathered.{key_member}
 use Rattle.art_step.proofs.StepNotes.{quiet}
 use Rattle.art_step.proofs.WordPlaces.{same_pool}
@@ -347,16 +347,8 @@ module _ (z : Sizes) (p : ℕ) (v : View) (m : Memory) (f : Views) (m' : Memory)
   by_test : (k : ℕ) → k < 64 → (b : Bool) → (bit_of word k == 1) ≡ b → IfSome (if b then Some (number_at pool i k) else None) (λ d. IsTaken m d copy)
       → SetsFreeWord m pool i (if b then word - 2 ^ k else word) m' → SetsView f p (if b then with_number k else without_number k) g → IsSound z m' g
   by_test k low true bit copied sets t =
-      let d : Link = number_at pool i k in
-      let same_pool : pool_of d ≡ pool = pool_again pool (64 * i + k) in
-      let index : free_index d ≡ i = index_again pool i k low in
-      let place : free_bit d ≡ k = bit_again pool i k low in
-      let same : m.free_word (pool_of d) (free_index d) ≡ word = ap₂ m.free_word same_pool index in
-      let free : is_free m d ≡ true = set_is_free m pool i k low bit in
-      let cleared : m.free_word (pool_of d) (free_index d) - 2 ^ free_bit d ≡ word - 2 ^ k = ap₂ (λ (w j : ℕ). w - 2 ^ j) same place in
-      let of_number : SetsFreeWord m (pool_of d) (free_index d) (m.free_word (pool_of d) (free_index d) - 2 ^ free_bit d) m' =
-      subst (λ (y : Pool × ℕ × ℕ). SetsFreeWord m y.0 y.1 y.2 m') (λ j. (sym same_pool j, sym index j, sym cleared j)) sets in
-      takes z p v m f m' g is r d copy (record { word = Free pool i word; step = v.steps + 1 } ∷ v.found) free copied (takes_number m m' d free of_number) t
+      takes z p v m f m' g is r (number_at pool i k) copy (record { word = Free pool i word; step = v.steps + 1 } ∷ v.found)
+          (set_is_free m pool i k low bit) copied (takes_bit m m' pool i k low bit sets) t
   by_test k low false bit copied sets t = noted sets t
 
   by_bit : (bit : Option ℕ) → IfSome bit (λ k. k < 64) → IfSome (take_free.taken pool i bit word) (λ d. IsTaken m d copy)

@@ -39,7 +39,7 @@ use Rattle.art_step.specs.Steps.Upgrade.{HasClaimedNone}
 use Rattle.art_step.specs.Steps.Watch as watch
 use Rattle.art_step.specs.Steps.Write as write
 use Rattle.art_step.specs.Views.{IsInLimbo, IsLocked, IsObsolete, Member, Memory, SetsView, Views, bit_of, free_bit, free_index, is_free, number_at, pool_of, pool_rank}
-use Rattle.art_step.proofs.FreeBits.{SetsFree, bit_again, frees_number, index_again, pool_again, set_is_free, takes_number}
+use Rattle.art_step.proofs.FreeBits.{SetsFree, frees_number, takes_bit}
 use Rattle.art_step.proofs.Gathered.{member_key}
 use Rattle.art_step.proofs.SetsView.{each_view, member_back, member_front}
 use Rattle.art_step.proofs.StepCommits.{either_member}
@@ -213,14 +213,7 @@ module _ (z : Sizes) (p : ℕ) (v : View) (m : Memory) (f : Views) (m' : Memory)
       → Keeps (if b then with_number k else without_number k)
   by_test k low true bit sets d e =
       let c : Link = number_at pool i k in
-      let same_pool : pool_of c ≡ pool = pool_again pool (64 * i + k) in
-      let index : free_index c ≡ i = index_again pool i k low in
-      let place : free_bit c ≡ k = bit_again pool i k low in
-      let same : m.free_word (pool_of c) (free_index c) ≡ word = ap₂ m.free_word same_pool index in
-      let cleared : m.free_word (pool_of c) (free_index c) - 2 ^ free_bit c ≡ word - 2 ^ k = ap₂ (λ (w j : ℕ). w - 2 ^ j) same place in
-      let of_number : SetsFreeWord m (pool_of c) (free_index c) (m.free_word (pool_of c) (free_index c) - 2 ^ free_bit c) m' =
-      subst (λ (y : Pool × ℕ × ℕ). SetsFreeWord m y.0 y.1 y.2 m') (λ j. (sym same_pool j, sym index j, sym cleared j)) sets in
-      let taken : SetsFree m c false m' = takes_number m m' c (set_is_free m pool i k low bit) of_number in
+      let taken : SetsFree m c false m' = takes_bit m m' pool i k low bit sets in
       ⊎_elim
       (λ (is : d ≡ c). inr (inl (record { link = c; words = copy }, inl refl, sym is)))
       (λ (other : d ≢ c). ⊎_elim
@@ -375,8 +368,8 @@ module _ (z : Sizes) (p : ℕ) (v : View) (m : Memory) (f : Views) (m' : Memory)
           (k.words (cell.Node n) o)
 
 -- what lasts before a step lasts after it
-pub lasting_on : (z : Sizes) (p : ℕ) (m : Memory) (f : Views) (m' : Memory) (f' : Views) → OneStep z p m f m' f' → IsSound z m' f' → IsLasting z m f → IsLasting z m' f'
-lasting_on z p m f m' f' t sound old = lasts z p t.view m f m' f' t.before t.sound (turn z p t.view m f m' f' t.before t.sound t.kind) old
+pub lasting_on : (z : Sizes) (p : ℕ) (m : Memory) (f : Views) (m' : Memory) (f' : Views) → OneStep z p m f m' f' → IsLasting z m f → IsLasting z m' f'
+lasting_on z p m f m' f' t old = lasts z p t.view m f m' f' t.before t.sound (turn z p t.view m f m' f' t.before t.sound t.kind) old
 
 -- ---- at opening
 

@@ -109,6 +109,6 @@ sound_after Row so {k} {before} {us} {p} {new} same long inside t r = record {
   long = long ∙ (ap length same ∙ r.long);
   count = ap length t.set ∙ (length_set_view k.views p t.view ∙ r.count);
   sound = t.sound;
-  lasting = lasting_on k.sizes p (memory_of k.sizes before) (views_of k.views) (memory_of k.sizes us) (views_of new) t.step t.sound
+  lasting = lasting_on k.sizes p (memory_of k.sizes before) (views_of k.views) (memory_of k.sizes us) (views_of new) t.step
       (subst (λ (ws : List ℕ). IsLasting k.sizes (memory_of k.sizes ws) (views_of k.views)) (sym same) r.lasting);
 }
