@@ -1,16 +1,11 @@
 //! Histories of typed rows: which are legal.
+use crate::tuples::tuple_of;
 use arrayvec::ArrayVec;
 use art_key::{Bound, Deed, Event, Key, Schema, encode, legal};
-use art_model::{Command, NoMemory, Reply, Row, Tuple, Value};
+use art_model::{Command, NoMemory, Reply, Row, Tuple};
 use std::alloc::Global;
 use std::process::Abort;
 use std::test::Fail;
-
-fn tuple_of(number: i128) -> Tuple {
-    let mut tuple = Tuple::new();
-    tuple.push(Value::Int(number));
-    tuple
-}
 
 fn schema(rt: &impl Abort) -> Schema {
     Schema::parse("u64").expect(rt, "a schema")

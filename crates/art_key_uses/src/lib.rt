@@ -11,3 +11,5 @@ mod rows;
 mod scans;
 #[cfg(test)]
 mod schemas;
+#[cfg(test)]
+mod tuples;

@@ -1,14 +1,9 @@
 //! The map answers worked examples.
+use crate::tuples::tuple_of;
 use arrayvec::ArrayVec;
-use art_model::{Command, NoMemory, Reply, Row, SortedRows, Text, Tuple, Value};
+use art_model::{Command, NoMemory, Reply, Row, SortedRows, Text, Value};
 use std::process::Abort;
 use std::test::Fail;
-
-fn tuple_of(number: i128) -> Tuple {
-    let mut tuple = Tuple::new();
-    tuple.push(Value::Int(number));
-    tuple
-}
 
 fn scan(
     rt: &impl Abort,

@@ -1,15 +1,10 @@
 //! What a scan owes while the map changes.
+use crate::tuples::tuple_of;
 use arrayvec::ArrayVec;
-use art_model::{Command, NoMemory, Reply, Row, SortedRows, Tuple, Value, scan_ok};
+use art_model::{Command, NoMemory, Reply, Row, SortedRows, scan_ok};
 use std::alloc::Global;
 use std::process::Abort;
 use std::test::Fail;
-
-fn tuple_of(number: i128) -> Tuple {
-    let mut tuple = Tuple::new();
-    tuple.push(Value::Int(number));
-    tuple
-}
 
 fn map_of(alloc: Global, rows: &[(i128, u64)]) -> Result<SortedRows, NoMemory> {
     let mut map = SortedRows::new(alloc);

@@ -51,7 +51,7 @@ Columns of a schema, one to eight names joined by commas:
 }
 
 /// The statuses, and examples of both subcommands.
-pub(crate) const AFTER_HELP: &str = with_statuses!(
+pub const AFTER_HELP: &str = with_statuses!(
     "\
 run answers one command a line; step shows how commands of several passes come between one
 another, step by step. The help of each has its lines, the columns and the numbers.
@@ -64,7 +64,7 @@ Examples:
 );
 
 /// The numbers of a run, the kinds of column, the lines and their replies, the statuses and examples.
-pub(crate) const RUN_HELP: &str = table_help!(
+pub const RUN_HELP: &str = table_help!(
     "\
 Lines on standard input, and the reply to each on standard output:
   [\"insert\",[5],9]           [\"inserted\"], or [\"present\",7] where the row stands with 7
@@ -83,7 +83,7 @@ Examples:
 );
 
 /// The numbers of a schedule's table, the kinds of column, the lines of a schedule and what they print, the statuses and an example.
-pub(crate) const STEP_HELP: &str = table_help!(
+pub const STEP_HELP: &str = table_help!(
     "\
 Lines on standard input, each of one pass, A to H, and what they print on standard output:
   A start 1000 [\"get\",[5]]   starts the command of a line of run, in 1000 turns; nothing

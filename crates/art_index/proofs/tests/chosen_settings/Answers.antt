@@ -7,7 +7,7 @@ use Rattle.art_tools.specs.Faults.{Explains}
 use Rattle.art_tools.specs.Options.{Given, schema_given, sizes_given}
 use Rattle.art_tools.specs.Settings.{IsAskedBy, option_given, subcommand_given, words_fault}
 use Rattle.art_tools.proofs.Known.{only_memory, settings_known}
-use Rattle.art_tools.proofs.tests.chosen_settings.Goals as goal
+use Rattle.art_index.proofs.tests.chosen_settings.Goals as goal
 
 abbrev words : List Text
 words = codes "art_index" ∷ codes "run" ∷ codes "--schema=u16" ∷ codes "--n48=007" ∷ []

@@ -1,6 +1,6 @@
 //! What a run answers on the tree: nodes that grow and shrink, prefixes, small pools, counters at their end, scans.
-use crate::program::execute;
 use art_server::Counted;
+use art_tools::execute;
 use std::alloc::Global;
 use std::process::Abort;
 

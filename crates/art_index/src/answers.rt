@@ -1,6 +1,6 @@
 //! What a run answers to the lines of worked examples.
-use crate::program::execute;
 use art_server::Counted;
+use art_tools::execute;
 use std::alloc::Global;
 use std::process::Abort;
 use std::test::Fail;

@@ -1,7 +1,7 @@
 //! Gets over a world of one thread.
+use crate::keys::key_of;
 use art_epoch::{pin, unpin};
 use art_find::{Got, Gotten, get};
-use art_key::Key;
 use art_step::Sizes;
 use art_world::World;
 use std::test::*;
@@ -31,8 +31,7 @@ const ABSENT: Gotten = Gotten {
 fn a_get_on_an_empty_tree_takes_three_steps(rt: HostRuntime) -> Result<(), Fail> {
     let mut world = World::open(rt.alloc(), &ONE_PASS, 0)?;
     let mut stepper = world.at(0);
-    let mut key = Key::new();
-    key.push(7);
+    let key = key_of(7);
     pin(&mut stepper);
     assert_eq!(rt; get(&mut stepper, &key, 0), BUSY);
     assert_eq!(rt; get(&mut stepper, &key, 2), BUSY);

@@ -4,11 +4,9 @@ ghost use Rattle.std.specs.Str.{bytes_eq};
 ghost use Rattle.art_tools.specs.Settings.{RunsWith};
 ghost use Rattle.art_tools.specs.declared.settings.SettingsFault.TheVariants.{NoMemory};
 
-use crate::command_line::settings;
-use crate::help::{AFTER_HELP, RUN_HELP, STEP_HELP};
-use crate::program::execute;
-use crate::settings::{Settings, SettingsFault, TableSettings};
 use art_server::Counted;
+use art_tools::command_line::settings;
+use art_tools::{AFTER_HELP, RUN_HELP, STEP_HELP, Settings, SettingsFault, TableSettings, execute};
 use std::alloc::Global;
 use std::io::{self, ErrorKind, Read, Write};
 use std::process::Abort;

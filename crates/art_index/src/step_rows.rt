@@ -1,6 +1,6 @@
 //! What schedules print: how commands of several passes come between one another, step by step.
-use crate::program::execute;
 use art_server::Counted;
+use art_tools::execute;
 use std::alloc::Global;
 use std::process::Abort;
 use std::test::Fail;

@@ -1,26 +1,20 @@
 //! The program `art_index`: an ordered index in memory, answering lines of commands.
 //!
-//! `command_line::settings` reads the words, `program::execute` does what they ask for over a reader and two
-//! writers, and answers the status; `main` hands in the standard streams.
+//! `execute` of `art_tools` reads the words of the command line and does what they ask for; `main` hands in the standard
+//! streams, and ends with the status that it answers.
 #![tactic(auto)]
 
 #[cfg(test)]
 mod answers;
-mod command_line;
-mod help;
-mod options;
-mod program;
 #[cfg(test)]
 mod rows;
-mod run_faults;
-mod schedules;
-mod settings;
 #[cfg(test)]
 mod step_rows;
 #[cfg(test)]
 mod tests;
 
 use art_server::Counted;
+use art_tools::execute;
 use std::alloc::Global;
 use std::io::ErrorKind;
 use std::process::ExitCode;
@@ -41,7 +35,7 @@ fn main(rt: HostRuntime) -> io::Result<ExitCode> {
         }
     };
     let words: Vec<&str> = owned.iter().map(|word| word.as_str()).collect(alloc)?;
-    let status = program::execute(
+    let status = execute(
         alloc,
         words.as_slice(),
         &mut Counted::new(rt.stdin()),

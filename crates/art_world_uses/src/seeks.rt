@@ -2,8 +2,9 @@
 ghost use Rattle.std.specs.Prelude.{◌≤◌, length};
 ghost use Rattle.art_epoch.specs.Pins.{MayPin};
 
+use crate::keys::key_of;
 use art_find::Got;
-use art_key::{Bound, Key};
+use art_key::Bound;
 use art_look::{Seen, Trail};
 use art_seek::{Aim, KeySought, RangeSought, Seek, Seeker, Stepped, step};
 use art_step::{EpochSteps, Sizes};
@@ -29,13 +30,6 @@ const NOTHING_SEEN: RangeSought = RangeSought {
     seen: None,
     restarts: 0,
 };
-
-/// The key of one byte.
-fn key_of(byte: u8) -> Key {
-    let mut key = Key::new();
-    key.push(byte);
-    key
-}
 
 #[test]
 fn a_seeker_gets_from_an_empty_tree_in_three_turns(rt: HostRuntime) -> Result<(), Fail> {

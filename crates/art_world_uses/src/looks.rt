@@ -1,6 +1,7 @@
 //! Looks of ranges over a world of one thread.
+use crate::keys::key_of;
 use art_epoch::{pin, unpin};
-use art_key::{Bound, Key};
+use art_key::Bound;
 use art_look::{Looked, Seen, look_from};
 use art_step::Sizes;
 use art_world::World;
@@ -20,13 +21,6 @@ const BUSY: Looked = Looked {
     seen: None,
     restarts: 0,
 };
-
-/// The key of one byte.
-fn key_of(byte: u8) -> Key {
-    let mut key = Key::new();
-    key.push(byte);
-    key
-}
 
 #[test]
 fn a_look_of_an_empty_tree_sees_all_of_its_range(rt: HostRuntime) -> Result<(), Fail> {

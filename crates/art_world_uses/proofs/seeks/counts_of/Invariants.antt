@@ -1,7 +1,7 @@
 -- So far the seek goes on.
 use Rattle.std.proofs.Common.{◌≡◌}
 use Rattle.art_key.specs.declared.bounds.Bound.TheVariants.{End}
-use Rattle.art_look_uses.proofs.seeks.counts_of.Given as goal
+use Rattle.art_world_uses.proofs.seeks.counts_of.Given as goal
 use Rattle.art_seek.specs.Seeks.{Fits, steps_left}
 use Rattle.art_seek.specs.Walks.{aim_of}
 use Rattle.art_seek.specs.declared.walks.Aim.TheVariants.{Key}
