@@ -348,7 +348,7 @@ module _ (z : Sizes) (p : ℕ) (v : View) (m : Memory) (f : Views) (m' : Memory)
       → SetsFreeWord m pool i (if b then word - 2 ^ k else word) m' → SetsView f p (if b then with_number k else without_number k) g → IsSound z m' g
   by_test k low true bit copied sets t =
       takes z p v m f m' g is r (number_at pool i k) copy (record { word = Free pool i word; step = v.steps + 1 } ∷ v.found)
-          (set_is_free m pool i k low bit) copied (takes_bit m m' pool i k low bit sets) t
+      (set_is_free m pool i k low bit) copied (takes_bit m m' pool i k low bit sets) t
   by_test k low false bit copied sets t = noted sets t
 
   by_bit : (bit : Option ℕ) → IfSome bit (λ k. k < 64) → IfSome (take_free.taken pool i bit word) (λ d. IsTaken m d copy)
