@@ -1,1 +1,2 @@
 mod Ops
+mod Ready

@@ -1,6 +1,7 @@
 //! What the words of a world have: the rows of the tree, and where the numbers of each pool are.
 use art_call::Caller;
 use art_cell::{Cell, Link, Node, Pool};
+use art_epoch::Limbo;
 use art_key::{Schema, decode};
 use art_model::{Command, NoMemory, Reply, SortedRows, Tuple};
 use art_step::pool_of_layout;
@@ -9,7 +10,9 @@ use std::alloc::Global;
 use std::process::Abort;
 
 /// More than there are numbers in a world here.
-const MOST: usize = 2048;
+const MOST: usize = 4096;
+
+const POOLS: [Pool; 5] = [Pool::Leaves, Pool::N4, Pool::N16, Pool::N48, Pool::N256];
 
 /// The pool that the number is of.
 fn pool_of(link: Link) -> Pool {
@@ -64,15 +67,36 @@ pub(crate) fn is_out(world: &World, pool: Pool) -> bool {
     free(world, pool) < world.sizes().pool_size(pool) as usize
 }
 
+/// How many numbers of the pool wait in the limbo.
+fn waiting(limbo: &Limbo, pool: Pool) -> usize {
+    let places = limbo.places().iter();
+    places.filter(|place| pool_of(place.link) == pool).count()
+}
+
 /// How many numbers of the pool wait in the limbos of the passes.
-fn waiting(callers: &[Box<Caller>], pool: Pool) -> usize {
+fn waiting_in_all(callers: &[Box<Caller>], pool: Pool) -> usize {
     let mut count = 0usize;
     for caller in callers {
-        let places = caller.limbo().places().iter();
-        let here = places.filter(|place| pool_of(place.link) == pool).count();
-        count = count.wrapping_add(here);
+        count = count.wrapping_add(waiting(caller.limbo(), pool));
     }
     count
+}
+
+/// How many of these are of the pool.
+fn named_of(links: &[Link], pool: Pool) -> usize {
+    links.iter().filter(|&&link| pool_of(link) == pool).count()
+}
+
+/// Of the pool as many numbers are free, among those that are named in the tree, or waiting as there are.
+fn account_for(rt: &impl Abort, world: &World, links: &[Link], pool: Pool, waiting: usize) {
+    let numbers = free(world, pool)
+        .wrapping_add(named_of(links, pool))
+        .wrapping_add(waiting);
+    assert_eq!(rt;
+        numbers,
+        world.sizes().pool_size(pool) as usize,
+        "of {pool:?}"
+    );
 }
 
 /// Of each pool as many numbers are free, named in the tree, or waiting as there are.
@@ -83,17 +107,26 @@ pub(crate) fn account(
     callers: &[Box<Caller>],
 ) -> Result<(), NoMemory> {
     let links = named(alloc, world)?;
-    for pool in [Pool::Leaves, Pool::N4, Pool::N16, Pool::N48, Pool::N256] {
-        let in_tree = links.iter().filter(|&&link| pool_of(link) == pool).count();
-        let numbers = free(world, pool)
-            .wrapping_add(in_tree)
-            .wrapping_add(waiting(callers, pool));
-        assert_eq!(rt;
-            numbers,
-            world.sizes().pool_size(pool) as usize,
-            "of {pool:?}"
-        );
+    for pool in POOLS {
+        let waiting = waiting_in_all(callers, pool);
+        account_for(rt, world, links.as_slice(), pool, waiting);
     }
+    Ok(())
+}
+
+/// The same of a world of one writer; and as many leaves are named as there are rows.
+pub(crate) fn account_with_rows(
+    rt: &impl Abort,
+    alloc: Global,
+    world: &World,
+    limbo: &Limbo,
+    rows: usize,
+) -> Result<(), NoMemory> {
+    let links = named(alloc, world)?;
+    for pool in POOLS {
+        account_for(rt, world, links.as_slice(), pool, waiting(limbo, pool));
+    }
+    assert_eq!(rt; named_of(links.as_slice(), Pool::Leaves), rows);
     Ok(())
 }
 

@@ -1,11 +1,14 @@
-//! Worked rows of cells, leaves, numbers and paths, and gets and looks of an empty tree, most of them over a world of one thread.
+//! Worked rows of cells, leaves, numbers and paths, gets and looks of an empty tree, and the steps of inserts and removals, one after another,
+//! beside those that were written down; most of them over a world of one thread.
 //!
-//! Each test makes few steps of one pass. Whole changes, in turns with those of other passes, stand in `art_runs_uses`.
+//! Each test makes steps of one pass. Whole changes, in turns with those of other passes, stand in `art_runs_uses`.
 //! Nothing stands above this crate.
 #![tactic(auto)]
 
 #[cfg(test)]
 mod cells;
+#[cfg(test)]
+mod expected;
 #[cfg(test)]
 mod free_numbers;
 #[cfg(test)]
@@ -14,6 +17,8 @@ mod gets;
 mod keys;
 #[cfg(test)]
 mod leaves;
+#[cfg(test)]
+mod lines;
 #[cfg(test)]
 mod looks;
 #[cfg(test)]
@@ -26,3 +31,5 @@ mod reads;
 mod seeks;
 #[cfg(test)]
 mod step_names;
+#[cfg(test)]
+mod traces;

@@ -1,4 +1,4 @@
-use Rattle.std.proofs.Common.{◌≡◌, inl, inr, subst, arith}
+use Rattle.std.proofs.Common.{◌≡◌, inl, inr, subst, arith, rules}
 use Rattle.std.proofs.lemmas.Bool.{cases_lt}
 use Rattle.art_table.proofs.closing.are_all.Goals as goal
 use Rattle.art_table.specs.Closing.{IsHere}
@@ -10,3 +10,6 @@ loop-number-preserved c = λ n below. elim (cases_lt n c.loop-number.number) [
   | inr from ↦ let same : c.loop-number.number ≡ n = omega arith in
       subst (λ (m : ℕ). IsHere m c.args.passes.now) same (c.is_here.ensures.0 c.if-not-is_here.false)
 ]
+
+pub returns : goal.returns
+returns c = search rules

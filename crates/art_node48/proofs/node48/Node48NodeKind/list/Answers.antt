@@ -1,10 +1,13 @@
-use Rattle.std.proofs.Common.{◌+◌, ◌∙◌, ap, sym, arith, inl, inr}
+use Rattle.std.proofs.Common.{rules, ◌+◌, ◌∙◌, ap, sym, arith, inl, inr}
 use Rattle.art_cell.specs.declared.layouts.Layout.TheVariants.{Node48}
 use Rattle.art_cell.specs.Words.{child_of}
 use Rattle.art_cell.specs.Reads.{word_of}
 use Rattle.art_node48.proofs.Index.{ListsByte, listed_to, lists_few}
 use Rattle.art_node48.proofs.node48.Node48NodeKind.list.Goals as goal
 use Rattle.art_node48.proofs.node48.Node48NodeKind.list.Goals.{in-Some, in_default}
+
+pub loop-byte-init : goal.loop-byte-init
+loop-byte-init c = record { few = search rules; items = c.new-entries.ensures }
 
 pub loop-byte-preserved : goal.loop-byte-preserved
 loop-byte-preserved c =

@@ -1,7 +1,7 @@
 -- A new seat is told what the pass sees.
 use Rattle.art_key.specs.Spelling.{IsKeyOf}
 use Rattle.art_step.specs.Histories.{AreAdmitted}
-use Rattle.std.proofs.Common.{◌∙◌, ap, arith, refl, subst, sym}
+use Rattle.std.proofs.Common.{◌∙◌, ap, arith, refl, subst, sym, rules}
 use Rattle.art_shared.specs.Passes.{marked, view_in}
 use Rattle.art_shared.specs.Tables.{schema_in}
 use Rattle.art_shared.proofs.Marking.{seen_begins}
@@ -23,3 +23,12 @@ returns-clause-pass c =
       basis = ap (λ m. m.0.basis) cut.2 ∙ (c.look.ensures.same.basis ∙ c.requires.basis);
       typed = subst (λ m. AreAdmitted (IsKeyOf (schema_in c.args.self.now)) (view_in m.0).seen) (sym cut.2) c.look.ensures.turn.typed;
     }
+
+pub returns-clause-row : goal.returns-clause-row
+returns-clause-row c = search rules
+
+pub returns-clause-at_once : goal.returns-clause-at_once
+returns-clause-at_once c = search rules
+
+pub returns-clause-history : goal.returns-clause-history
+returns-clause-history c = search rules

@@ -1,5 +1,5 @@
 -- The words of the one leaf in hand are written.
-use Rattle.std.proofs.Common.{◌≡◌, ◌+◌, ◌<◌, ◌∙◌, ℕ, ap, sym, subst}
+use Rattle.std.proofs.Common.{◌≡◌, ◌+◌, ◌<◌, ◌∙◌, ℕ, ap, sym, subst, rules}
 use Rattle.art_cell.specs.declared.cells.Link.TheVariants.{Leaf as leaf}
 use Rattle.art_step.specs.Steps.Write as write
 use Rattle.art_shared.specs.Stepper.{basis_of, known_by, sizes_of, view_of}
@@ -15,3 +15,6 @@ store-requires-clause-may c =
     let same : o.0 ≡ l = cc in
     let may : (l < (sizes_of s).leaves) × write.MayLeaf (view_of s) o.1 l c.args.place = subst (λ (a : ℕ). (a < (sizes_of s).leaves) × write.MayLeaf (view_of s) o.1 a c.args.place) same (o.3, o.4) in
     turns_write_leaf (basis_of s) (known_by s) o.1 l c.args.place c.args.value _ (c.word_at-at.ensures ∙ ap (λ (n : ℕ). n + c.args.place) c.place_of-first.ensures) may.0 may.1
+
+pub returns-clause-row : goal.returns-clause-row
+returns-clause-row c = search rules

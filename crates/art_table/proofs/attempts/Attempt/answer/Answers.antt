@@ -1,4 +1,4 @@
-use Rattle.std.proofs.Common.{Option, Some, None}
+use Rattle.std.proofs.Common.{Option, Some, None, rules}
 use Rattle.std.proofs.lemmas.Option.{IfSome_then}
 use Rattle.std.specs.Prelude.{IfSome, OnSome}
 use Rattle.art_table.proofs.Answered.{ends}
@@ -21,3 +21,9 @@ returns-in-None-clause-ends c =
     IfSome_then c.ended.result c.ended.ensures.ended (λ x e j turns p at.
     let way = at.goes_on c.in-None.is in
     ends c.args.table.now j turns p x c.args.self.now.pass way.stands (e j turns turns p way))
+
+pub returns-in-Some-clause-at : goal.returns-in-Some-clause-at
+returns-in-Some-clause-at c = rw c.in-Some.is
+
+pub returns-in-Some-clause-ends : goal.returns-in-Some-clause-ends
+returns-in-Some-clause-ends c = search rules

@@ -1,4 +1,4 @@
-use Rattle.std.proofs.Common.{subst, sym}
+use Rattle.std.proofs.Common.{subst, sym, rules}
 use Rattle.art_table.proofs.Answered.{ends}
 use Rattle.art_table.proofs.attempts.Attempt.finish.Goals as goal
 use Rattle.art_table.specs.Tables.{IsPassOf}
@@ -21,3 +21,6 @@ pub returns-in-Some-clause-pass : goal.returns-in-Some-clause-pass
 returns-in-Some-clause-pass c =
     let r = c.requires in
     subst (λ (q : Pass). IsPassOf c.args.table.now q) (sym (r.3.refused c.in-Some.fault c.in-Some.is)) r.3.began
+
+pub returns-in-Some-clause-ends : goal.returns-in-Some-clause-ends
+returns-in-Some-clause-ends c = search rules

@@ -1,4 +1,4 @@
-use Rattle.std.proofs.Common.{◌≡◌, ◌∙◌, false, Some, None, sym, refl}
+use Rattle.std.proofs.Common.{◌≡◌, ◌∙◌, false, Some, None, sym, refl, rules}
 use Rattle.std.specs.Option.{is_some}
 use Rattle.std.specs.Prelude.{Option}
 use Rattle.art_table.proofs.attempts.Attempt.step.Goals as goal
@@ -31,3 +31,6 @@ returns-in-None-clause-goes_on c j turns p at =
       refused = λ f is. cc;
       goes_on = λ _. c.step.ensures.goes_on j turns turns p (at.goes_on none);
     }
+
+pub returns-in-Some-clause-made : goal.returns-in-Some-clause-made
+returns-in-Some-clause-made c = search rules

@@ -1,0 +1,77 @@
+//! The first pass of a world writes, and looks up.
+ghost use Rattle.std.specs.Prelude.{◌≡◌, ◌<◌, ◌≤◌, IfOk};
+ghost use Rattle.art_change.specs.Writes.{IsWriter};
+ghost use Rattle.art_runs_uses.specs.Writes.{WritesFirst};
+ghost use Rattle.art_step.specs.Views.{last_counter};
+ghost use Rattle.art_world.specs.Stepper.{OnlyStepped, sizes_of, view_of};
+
+use art_change::{Outcome, Writer};
+use art_epoch::{pin, unpin};
+use art_find::{Got, get};
+use art_key::Key;
+use art_model::NoMemory;
+use art_step::Sizes;
+use art_world::{Stepper, World};
+use std::alloc::Global;
+
+/// More turns than any call needs.
+const TURNS: u32 = 1_000_000;
+
+/// A world whose counters begin there, and its writer.
+pub(crate) fn opened(
+    alloc: Global,
+    sizes: &Sizes,
+    counter_start: u64,
+) -> Result<(World, Writer), NoMemory>
+    requires counter { counter_start ≤ last_counter }
+    requires passes { 0 < sizes.now.passes }
+    ensures sizes { IfOk result (λ p. p.0.sizes ≡ sizes.now) }
+    ensures writes { IfOk result (λ p. WritesFirst p.0 p.1) }
+{
+    let world = World::open(alloc, sizes, counter_start)?;
+    let writer = Writer::new(0, sizes);
+    Ok((world, writer))
+}
+
+/// How an insert of the row ends.
+pub(crate) fn puts(world: &mut World, writer: &mut Writer, key: &Key, value: u64) -> Outcome
+    requires { WritesFirst world.old writer.old }
+    ensures sizes { world.new.sizes ≡ world.old.sizes }
+    ensures writes { WritesFirst world.new writer.new }
+{
+    let mut stepper = world.at(0);
+    writer.insert(&mut stepper, key, value, TURNS).outcome
+}
+
+/// How a removal of the key ends.
+pub(crate) fn takes(world: &mut World, writer: &mut Writer, key: &Key) -> Outcome
+    requires { WritesFirst world.old writer.old }
+    ensures sizes { world.new.sizes ≡ world.old.sizes }
+    ensures writes { WritesFirst world.new writer.new }
+{
+    let mut stepper = world.at(0);
+    writer.remove(&mut stepper, key, TURNS).outcome
+}
+
+/// How a get of the key ends, of the pass of the writer.
+fn looks_up(stepper: &mut Stepper<'_>, writer: &Writer, key: &Key) -> Got
+    requires { IsWriter (sizes_of stepper.old) (view_of stepper.old) writer.now }
+    ensures only { OnlyStepped stepper.old stepper.new }
+    ensures may { IsWriter (sizes_of stepper.new) (view_of stepper.new) writer.now }
+{
+    let _ = writer.limbo();
+    pin(stepper);
+    let got = get(stepper, key, TURNS).got;
+    unpin(stepper);
+    got
+}
+
+/// How a get of the key ends.
+pub(crate) fn finds(world: &mut World, writer: &Writer, key: &Key) -> Got
+    requires { WritesFirst world.old writer.now }
+    ensures sizes { world.new.sizes ≡ world.old.sizes }
+    ensures writes { WritesFirst world.new writer.now }
+{
+    let mut stepper = world.at(0);
+    looks_up(&mut stepper, writer, key)
+}

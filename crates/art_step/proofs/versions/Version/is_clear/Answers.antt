@@ -1,0 +1,5 @@
+use Rattle.std.proofs.Common.{rules}
+use Rattle.art_step.proofs.versions.Version.is_clear.Goals as goal
+
+pub returns : goal.returns
+returns c = search rules
