@@ -82,4 +82,5 @@ pub use asked::{Answer, Asked};
 pub use compares::Beside;
 pub use descents::{Descent, LeafSeen, NodeSeen, Stage};
 pub use driver::{Got, Gotten, get, step};
+pub use straight::{Tally, go_down};
 pub use verdicts::Verdict;

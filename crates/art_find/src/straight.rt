@@ -20,7 +20,7 @@ use art_step::{Stamp, Steps};
 
 /// How many steps of a get are left, and how often it began anew.
 #[derive(Clone, Copy)]
-pub(crate) struct Tally {
+pub struct Tally {
     pub left: u32,
     pub restarts: u32,
 }
@@ -46,7 +46,7 @@ const ENOUGH: u32 = 8;
 
 /// Goes straight down from the anchor, or from where the descent stands below a checked cell, as far as nothing stops it. One
 /// step at least is left.
-pub(crate) fn go_down<S: Steps>(steps: &mut S, tally: &mut Tally, descent: &mut Descent, key: &[u8])
+pub fn go_down<S: Steps>(steps: &mut S, tally: &mut Tally, descent: &mut Descent, key: &[u8])
     requires left { 0 < tally.old.left }
     requires goes { IsGoing key.now (S.sizes steps.old) (S.view steps.old) descent.old tally.old }
     ensures only { S.only steps.old steps.new }

@@ -49,7 +49,7 @@ value_not_busy (Some (Some x)) is = cc
 value_not_busy (Some None) is = cc
 value_not_busy None is = cc
 
-value_going : (e : Option (Option ℕ)) → option_map of_value e ≡ None → e ≡ None
+pub value_going : (e : Option (Option ℕ)) → option_map of_value e ≡ None → e ≡ None
 value_going (Some x) is = cc
 value_going None is = refl
 
@@ -57,7 +57,7 @@ seen_ended : (b : Bool) → (if b then Some Seen else None) ≡ Some Seen → b 
 seen_ended true is = refl
 seen_ended false is = cc
 
-seen_going : (b : Bool) → (if b then Some Seen else None) ≡ None → b ≡ false
+pub seen_going : (b : Bool) → (if b then Some Seen else None) ≡ None → b ≡ false
 seen_going true is = cc
 seen_going false is = refl
 

@@ -1,10 +1,11 @@
 -- A descent by a key, or a look of a range: the key k is the one that is looked for, or the lower end of the range.
-use Rattle.std.specs.Prelude.{◌≡◌, ℕ, List, if◌then◌else◌, Option, Some, None}
+use Rattle.std.specs.Prelude.{◌≡◌, ℕ, ◌+◌, ◌≤◌, List, if◌then◌else◌, Option, Some, None}
 use Rattle.std.specs.Option.{option_map}
 use Rattle.art_find.specs.Descents as descents
 use Rattle.art_find.specs.Descents.{IsReading}
 use Rattle.art_find.specs.Driven.{GetFits, get_done}
 use Rattle.art_find.specs.declared.asked.Asked.{Asked}
+use Rattle.art_find.specs.declared.straight.Tally.{Tally}
 use Rattle.art_key.specs.declared.bounds.Bound.{Bound as KeyBound}
 use Rattle.art_look.specs.Driven.{LookFits}
 use Rattle.art_look.specs.Looks as looks
@@ -62,6 +63,13 @@ deed_at (Range m) k hi t = looks.deed_at k hi t m.stage
 abbrev pub Fits : Sizes → List ℕ → KeyBound → View → Walk → Trail → ℕ → View → Type 0
 Fits z k hi u (Key m) t n v = GetFits z k u v m n
 Fits z k hi u (Range m) t n v = LookFits z k hi u v m t n
+
+-- a walk that began with the view u goes on, so many of its turns are left, and so often it began anew
+pub record HasTurns (z : Sizes) (k : List ℕ) (hi : KeyBound) (turns : ℕ) (u : View) (w : Walk) (t : Trail) (c : Tally) (v : View) : Type 0 where
+  pub going : ended_at w ≡ None
+  pub walk : Fits z k hi u w t c.restarts v
+  pub made : v.steps + c.left ≡ u.steps + turns
+  pub few : c.restarts + c.left ≤ 4294967295
 
 -- it stands at its beginning
 pub record IsAtStart (z : Sizes) (k : List ℕ) (hi : KeyBound) (w : Walk) (t : Trail) : Type 0 where

@@ -168,6 +168,7 @@ pub fn finish<S: EpochSteps>(
 {
     let mut seek = seek;
     while seek.ended().is_none() {
+        seek.hurry(steps, key, trail);
         step(steps, &mut seek, key, hi, trail);
     }
     seek

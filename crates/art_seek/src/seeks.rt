@@ -26,9 +26,10 @@ use crate::asked::{cell_in, word_in};
 use crate::walks::Walk;
 use crate::{Aim, Answer, Asked, Outcome};
 use art_epoch::{Asked as FrameStep, Pinning};
-use art_find::Answer as CellAnswer;
+use art_find::{Answer as CellAnswer, Tally};
 use art_key::Bound;
 use art_look::{Seen, Trail};
+use art_step::Steps;
 
 /// Where a seek stands between two of its steps.
 #[derive(Clone, Copy)]
@@ -191,6 +192,33 @@ impl Seek {
         ensures { result.now ≡ self.now.walk }
     {
         &self.walk
+    }
+
+    /// Makes the steps of its walk one after another, where it walks, as far as nothing stops it.
+    pub(crate) fn hurry<S: Steps>(&mut self, steps: &mut S, key: &[u8], trail: &mut Trail)
+        requires short { length key.now ≤ 64 }
+        requires fits { (hi : KeyBound) × (u : View) ×
+            Fits (S.sizes steps.old) key.now hi u self.old trail.old (S.view steps.old) }
+        ensures only { S.only steps.old steps.new }
+        ensures aim { aim_of self.new.walk ≡ aim_of self.old.walk }
+        ensures turns { self.new.turns ≡ self.old.turns }
+        ensures refuses { WillBeBusy self.old → WillBeBusy self.new }
+        ensures ended { ended_at self.new ≡ ended_at self.old }
+        ensures less { steps_left self.new ≤ steps_left self.old }
+        ensures left { (S.view steps.new).steps + steps_left self.new ≡ (S.view steps.old).steps + steps_left self.old }
+        ensures fits { (hi : KeyBound) (u : View) → Fits (S.sizes steps.old) key.now hi u self.old trail.old (S.view steps.old) →
+            Fits (S.sizes steps.old) key.now hi u self.new trail.new (S.view steps.new) }
+    {
+        let SeekStage::Walking = self.stage else {
+            return;
+        };
+        let mut tally = Tally {
+            left: self.left,
+            restarts: self.restarts as u32,
+        };
+        self.walk.hurry(steps, &mut tally, key, trail);
+        self.left = tally.left;
+        self.restarts = u64::from(tally.restarts);
     }
 
     /// A step of the pin was made.

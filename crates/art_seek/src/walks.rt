@@ -1,5 +1,5 @@
 //! A descent by a key, or a look of a range.
-ghost use Rattle.std.specs.Prelude.{◌≡◌, ℕ, List, length, ◌≤◌, Option, None, Some};
+ghost use Rattle.std.specs.Prelude.{◌≡◌, ℕ, List, length, ◌<◌, ◌≤◌, Option, None, Some};
 ghost use Rattle.art_find.specs.Asking.{Answers, IsAllowed, goes_on};
 ghost use Rattle.art_find.specs.Driven.{get_done, restarts_after};
 ghost use Rattle.art_find.specs.declared.asked.Asked.{Asked as AskedStep};
@@ -7,16 +7,16 @@ ghost use Rattle.art_find.specs.declared.asked.Asked.TheVariants.{Settle as sett
 ghost use Rattle.art_key.specs.declared.bounds.Bound.{Bound as KeyBound};
 ghost use Rattle.art_look.specs.Looks as looks;
 ghost use Rattle.art_look.specs.declared.trails.Trail.{Trail as Trailed};
-ghost use Rattle.art_seek.specs.Walks.{Fits, IsAtStart, Settles, aim_of, asks, deed_at, ended_at, of_value, seen_at};
+ghost use Rattle.art_seek.specs.Walks.{Fits, HasTurns, IsAtStart, Settles, aim_of, asks, deed_at, ended_at, of_value, seen_at};
 ghost use Rattle.art_step.specs.declared.views.Sizes.{Sizes};
 ghost use Rattle.art_step.specs.declared.views.Stamp.{Stamp};
 ghost use Rattle.art_step.specs.declared.views.View.{View};
 
-use art_find::{Answer, Asked, Descent};
+use art_find::{Answer, Asked, Descent, Tally, go_down};
 use art_key::{Bound, Key};
-use art_look::{Look, Seen, Trail};
+use art_look::{Look, Seen, Trail, look_on};
 use art_model::Answer as Reply;
-use art_step::{Act, Deed};
+use art_step::{Act, Deed, Steps};
 
 /// What is looked for.
 #[derive(Clone, Copy, Debug, PartialEq, Eq)]
@@ -91,6 +91,32 @@ impl Walk {
         match self {
             Walk::Key(descent) => descent.told(key, answer),
             Walk::Range(look) => look.told(key, trail, answer),
+        }
+    }
+
+    /// Makes its steps one after another, as far as nothing stops it: not the check that settles the answer, and not with the last turn.
+    pub(crate) fn hurry<S: Steps>(
+        &mut self,
+        steps: &mut S,
+        tally: &mut Tally,
+        key: &[u8],
+        trail: &mut Trail,
+    )
+        requires short { length key.now ≤ 64 }
+        requires some { 0 < tally.old.left }
+        requires goes { (hi : KeyBound) × (turns : ℕ) × (u : View) ×
+            HasTurns (S.sizes steps.old) key.now hi turns u self.old trail.old tally.old (S.view steps.old) }
+        ensures only { S.only steps.old steps.new }
+        ensures aim { aim_of self.new ≡ aim_of self.old }
+        ensures some { 0 < tally.new.left }
+        ensures less { tally.new.left ≤ tally.old.left }
+        ensures goes { (hi : KeyBound) (turns : ℕ) (u : View) →
+            HasTurns (S.sizes steps.old) key.now hi turns u self.old trail.old tally.old (S.view steps.old) →
+            HasTurns (S.sizes steps.old) key.now hi turns u self.new trail.new tally.new (S.view steps.new) }
+    {
+        match self {
+            Walk::Key(descent) => go_down(steps, tally, descent, key),
+            Walk::Range(look) => look_on(steps, tally, look, key, trail),
         }
     }
 

@@ -5,8 +5,8 @@ use Rattle.art_seek.specs.Seeks.{Fits, WillBeBusy, steps_left}
 use Rattle.art_seek.specs.Walks.{aim_of}
 use Rattle.art_step.specs.declared.views.View.{View}
 
-abbrev pub invariant-loop-steps : goal.invariant-loop-steps
-invariant-loop-steps g l = record {
+abbrev pub invariant-loop-seek : goal.invariant-loop-seek
+invariant-loop-seek g l = record {
   only : g.S.Steps.only l.fn.steps l.steps;
   sizes : g.S.Steps.sizes l.steps ≡ g.S.Steps.sizes l.fn.steps;
   aim : aim_of l.seek.walk ≡ aim_of l.fn.seek.walk;
@@ -17,5 +17,5 @@ invariant-loop-steps g l = record {
       Fits (g.S.Steps.sizes l.fn.steps) l.key l.hi u l.seek l.trail (g.S.Steps.view l.steps);
 }
 
-abbrev pub decreases-loop-steps : goal.decreases-loop-steps
-decreases-loop-steps g l = steps_left l.seek
+abbrev pub decreases-loop-seek : goal.decreases-loop-seek
+decreases-loop-seek g l = steps_left l.seek
