@@ -97,8 +97,8 @@ pub trait NodeKind {
         ensures { result.items ≡ entries layout (word_of body.now) };
 
     /// Makes the writes the words by which the byte, which has none, gets this child. False, with nothing changed, where the node
-    /// is full.
-    final fn plan_add(body: &Body, byte: u8, child: u64, writes: &mut Writes) -> bool
+    /// is full. A layout that knows which words these are says so itself; else the body is changed and compared.
+    fn plan_add(body: &Body, byte: u8, child: u64, writes: &mut Writes) -> bool
         requires body { IsBodyOf layout body.now }
         requires free { child_of layout (word_of body.now) byte ≡ None }
         requires child { 0 < child }
@@ -117,7 +117,7 @@ pub trait NodeKind {
     }
 
     /// Makes the writes the words by which the byte, which has a child, gets this one.
-    final fn plan_set(body: &Body, byte: u8, child: u64, writes: &mut Writes)
+    fn plan_set(body: &Body, byte: u8, child: u64, writes: &mut Writes)
         requires body { IsBodyOf layout body.now }
         requires there { (c : ℕ) × (child_of layout (word_of body.now) byte ≡ Some c) }
         requires child { 0 < child }
@@ -130,7 +130,7 @@ pub trait NodeKind {
     }
 
     /// Makes the writes the words by which the byte, which has a child, has none.
-    final fn plan_drop(body: &Body, byte: u8, writes: &mut Writes)
+    fn plan_drop(body: &Body, byte: u8, writes: &mut Writes)
         requires body { IsBodyOf layout body.now }
         requires there { (c : ℕ) × (child_of layout (word_of body.now) byte ≡ Some c) }
         ensures plan { IsPlan layout (word_of body.now) writes.new.items (without_child (child_of layout (word_of body.now)) byte) }

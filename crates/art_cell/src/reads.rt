@@ -45,6 +45,7 @@ impl Reads {
     }
 
     /// The word at the place, if it was read.
+    #[inline(always)]
     pub fn get(&self, place: usize) -> Option<u64>
         ensures { result ≡ word_read self.now place }
     {
@@ -56,6 +57,7 @@ impl Reads {
     }
 
     /// Notes the word that was read at a place.
+    #[inline(always)]
     pub fn note(&mut self, place: usize, word: u64)
         requires { place < 266 }
         ensures { self.new ≡ set self.old place (Some word) }

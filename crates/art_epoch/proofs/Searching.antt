@@ -1,13 +1,13 @@
 -- A search for a number of a pool, from step to step.
 use Rattle.std.proofs.Common.{◌≡◌, ◌≢◌, ℕ, ◌+◌, ◌-◌, ◌*◌, ◌^◌, ◌<◌, ◌≤◌, ◌==◌, Bool, true, false, if◌then◌else◌, nat_lt, List, ◌∷◌, length, inl, inr, ⊎_elim, sym, refl, ap, ◌∙◌, subst, arith, ltb-true, ltb-false, w64}
-use Rattle.std.proofs.lemmas.Bool.{cases_Bool, cases_eq, eqb-false, eq-eqb, ne_eqb}
+use Rattle.std.proofs.lemmas.Bool.{cases_Bool, cases_eq, cases_lt, eqb-false, eq-eqb, le-ltb, lt-ltb, ne_eqb}
 use Rattle.std.proofs.lemmas.Nat.Bits.{bit_at-trailing_zeros}
 use Rattle.std.proofs.lemmas.Option.{same_Some}
 use Rattle.std.specs.Int.{trailing_zeros}
 use Rattle.std.specs.Prelude.{Option, Some, None, IfSome}
 use Rattle.art_cell.specs.declared.layouts.Pool.{Pool}
 use Rattle.art_epoch.specs.Asking.{Answers}
-use Rattle.art_epoch.specs.Taking.{Fits, GaveNone, IsLowest, IsSearch, IsSeen, MadeFew, NoneBefore, OnlyTakes, SearchFits, TookLowest, TookNone, WasFound, WasLost, after_clear, after_look, asks, asks_at, looks_made, search_after, steps_left}
+use Rattle.art_epoch.specs.Taking.{Fits, GaveNone, HasTaken, IsLowest, IsSearch, IsSeen, MadeFew, NoneAround, NoneBefore, OnlyTakes, SearchFits, TookFirst, TookLowest, TookNone, WasFound, WasLost, after_clear, after_look, around, asks, asks_at, looks_made, search_after, steps_left}
 use Rattle.art_epoch.specs.declared.asked.Asked.{Asked}
 use Rattle.art_epoch.specs.declared.asked.Asked.TheVariants.{Clear}
 use Rattle.art_epoch.specs.declared.taking.Search.{Search}
@@ -21,6 +21,27 @@ use Rattle.art_step.proofs.FreeBits.{number_again}
 use Rattle.art_step.specs.declared.views.Word.TheVariants.{Free as free_word}
 use Rattle.art_step.specs.Steps.Take as take_free
 use Rattle.art_step.specs.Views.{IsNumber, Member, bit_of, number_at, pool_rank}
+
+-- ---- words that go round
+
+around_ahead : (words first n : ℕ) → n < words - first → around words first n ≡ first + n
+around_ahead words first n low = rw (lt-ltb n (words - first) low) refl
+
+around_back : (words first n : ℕ) → words - first ≤ n → around words first n ≡ n - (words - first)
+around_back words first n high = rw (le-ltb n (words - first) high) refl
+
+pub around_inside : (words first n : ℕ) → n < words → around words first n < words
+around_inside words first n low = ⊎_elim
+    (λ (ahead : n < words - first). let e = around_ahead words first n ahead in omega (arith, e))
+    (λ (back : words - first ≤ n). let e = around_back words first n back in omega (arith, e))
+    (cases_lt n (words - first))
+
+-- each word comes
+around_again : (words first j : ℕ) → j < words → (n : ℕ) × (n < words) × (around words first n ≡ j)
+around_again words first j low = ⊎_elim
+    (λ (before : j < first). let e = around_back words first (j + (words - first)) (omega arith) in (j + (words - first), omega (arith, low), e ∙ omega arith))
+    (λ (past : first ≤ j). let e = around_ahead words first (j - first) (omega arith) in (j - first, omega (arith, low), e ∙ omega arith))
+    (cases_lt j first)
 
 -- ---- the view after a word was found
 
@@ -70,15 +91,15 @@ module _ (v w : View) (pool : Pool) (i x : ℕ) (k : FindsWord v w pool i x) whe
   last_now : take_free.last_found pool i w.found ≡ x
   last_now = ap (take_free.last_found pool i) k.found ∙ rw (eq-eqb (pool_rank pool) (pool_rank pool) refl, eq-eqb i i refl) refl
 
-  before_on : (since n : ℕ) → NoneBefore v since pool n → NoneBefore w since pool n
-  before_on since n o j low = gave_none_on since pool j (o j low)
+  before_on : (since words first n : ℕ) → NoneAround v since pool words first n → NoneAround w since pool words first n
+  before_on since words first n o j low = gave_none_on since pool (around words first j) (o j low)
 
   -- where the word gave none, neither did those before the next
-  before_next : (since : ℕ) → NoneBefore v since pool i → GaveNone w since pool i → NoneBefore w since pool (i + 1)
-  before_next since o none j low = ⊎_elim
-      (λ (e : j ≡ i). subst (GaveNone w since pool) (sym e) none)
-      (λ (other : j ≢ i). before_on since i o j (omega arith))
-      (cases_eq j i)
+  before_next : (since words first n : ℕ) → i ≡ around words first n → NoneAround v since pool words first n → GaveNone w since pool i → NoneAround w since pool words first (n + 1)
+  before_next since words first n here o none j low = ⊎_elim
+      (λ (e : j ≡ n). subst (GaveNone w since pool) (here ∙ ap (around words first) (sym e)) none)
+      (λ (other : j ≢ n). before_on since words first n o j (omega arith))
+      (cases_eq j n)
 
 -- ---- from stage to stage
 
@@ -95,7 +116,7 @@ module _ (z : Sizes) (v0 : View) (m : Taking) (v w : View) (x : ℕ) (fits : Fit
 
     -- the search has come to another stage
     comes_to : (s : Search) → v.steps + 1 + steps_left m.words s ≤ v0.steps + 2 * m.words → v.steps + 1 + v0.failures ≤ v0.steps + looks_made s + w.failures → v.failures ≤ w.failures
-        → SearchFits z v0 w m.pool m.words s → After s
+        → SearchFits z v0 w m.pool m.words m.first s → After s
     comes_to s few counted failed search = let e = finds.steps in let some = fits.some in let before = fits.failed in record {
       words = fits.words;
       few = fits.few;
@@ -111,126 +132,136 @@ module _ (z : Sizes) (v0 : View) (m : Taking) (v w : View) (x : ℕ) (fits : Fit
   counted_at : (s : Search) → m.search ≡ s → MadeFew v0 v (looks_made s)
   counted_at s is = subst (λ (t : Search). MadeFew v0 v (looks_made t)) is fits.counted
 
+  -- the index of the word that comes after so many
+  abbrev at : ℕ → ℕ
+  at n = around m.words m.first n
+
   -- a word was looked at
-  looks : (i : ℕ) → m.search ≡ Looking i → i < m.words → x < 2 ^ 64 → take_free.Outcome z v w m.pool i None x → After (after_look i x)
-  looks i is inside low row =
-      let was : SearchFits z v0 v m.pool m.words (Looking i) = subst (SearchFits z v0 v m.pool m.words) is fits.search in
-      let steps : v.steps + 2 * (m.words - i) ≤ v0.steps + 2 * m.words = subst (λ (s : Search). v.steps + steps_left m.words s ≤ v0.steps + 2 * m.words) is fits.steps in
-      let k = finds i None row in
+  looks : (n : ℕ) → m.search ≡ Looking n → n < m.words → x < 2 ^ 64 → take_free.Outcome z v w m.pool (at n) None x → After (after_look n x)
+  looks n is inside low row =
+      let was : SearchFits z v0 v m.pool m.words m.first (Looking n) = subst (SearchFits z v0 v m.pool m.words m.first) is fits.search in
+      let steps : v.steps + 2 * (m.words - n) ≤ v0.steps + 2 * m.words = subst (λ (s : Search). v.steps + steps_left m.words s ≤ v0.steps + 2 * m.words) is fits.steps in
+      let k = finds (at n) None row in
       let hand : w.hand ≡ v0.hand = ap (λ (u : View). u.hand) row.is ∙ was.2 in
       let same : w.failures ≡ v.failures = ap (λ (u : View). u.failures) row.is in
-      let counted = counted_at (Looking i) is in
-      let now : WasFound w v0.steps m.pool i x (v.steps + 1) = found_now v w m.pool i x k v0.steps fits.some in
+      let counted = counted_at (Looking n) is in
+      let now : WasFound w v0.steps m.pool (at n) x (v.steps + 1) = found_now v w m.pool (at n) x k v0.steps fits.some in
       ⊎_elim
       (λ (none : x ≡ 0).
-      rw (eq-eqb x 0 none) (comes_to i None row (Looking (i + 1)) (omega arith) (omega (arith, same, counted)) (omega (arith, same))
-      (omega arith, before_next v w m.pool i x k v0.steps was.1 (inl (v.steps + 1, subst (λ (y : ℕ). WasFound w v0.steps m.pool i y (v.steps + 1)) none now)), hand)))
+      rw (eq-eqb x 0 none) (comes_to (at n) None row (Looking (n + 1)) (omega arith) (omega (arith, same, counted)) (omega (arith, same))
+      (omega arith, before_next v w m.pool (at n) x k v0.steps m.words m.first n refl was.1 (inl (v.steps + 1, subst (λ (y : ℕ). WasFound w v0.steps m.pool (at n) y (v.steps + 1)) none now)), hand)))
       (λ (some : x ≢ 0).
-      rw (ne_eqb x 0 some) (comes_to i None row (Clearing i (trailing_zeros w64 x)) (omega arith) (omega (arith, same, counted)) (omega (arith, same)) record {
+      rw (ne_eqb x 0 some) (comes_to (at n) None row (Clearing n (trailing_zeros w64 x)) (omega arith) (omega (arith, same, counted)) (omega (arith, same)) record {
         inside = inside;
-        before = before_on v w m.pool i x k v0.steps i was.1;
+        before = before_on v w m.pool (at n) x k v0.steps m.words m.first n was.1;
         word = x;
         lowest = lowest_bit x some low;
         at = v.steps + 1;
         past = let e = k.steps in omega arith;
         found = now;
-        last = last_now v w m.pool i x k;
+        last = last_now v w m.pool (at n) x k;
         hand = hand;
       }))
       (cases_eq x 0)
 
   -- a bit was cleared, or was not there any more
-  clears : (i k : ℕ) → m.search ≡ Clearing i k → take_free.Outcome z v w m.pool i (Some k) x → After (after_clear i k x)
-  clears i k is row =
-      let was : IsSeen v0 v m.pool m.words i k = subst (SearchFits z v0 v m.pool m.words) is fits.search in
-      let steps : v.steps + (2 * (m.words - i) - 1) ≤ v0.steps + 2 * m.words = subst (λ (s : Search). v.steps + steps_left m.words s ≤ v0.steps + 2 * m.words) is fits.steps in
+  clears : (n k : ℕ) → m.search ≡ Clearing n k → take_free.Outcome z v w m.pool (at n) (Some k) x → After (after_clear n k x)
+  clears n k is row =
+      let was : IsSeen v0 v m.pool m.words m.first n k = subst (SearchFits z v0 v m.pool m.words m.first) is fits.search in
+      let steps : v.steps + (2 * (m.words - n) - 1) ≤ v0.steps + 2 * m.words = subst (λ (s : Search). v.steps + steps_left m.words s ≤ v0.steps + 2 * m.words) is fits.steps in
       let inside = was.inside in
-      let f = finds i (Some k) row in
+      let f = finds (at n) (Some k) row in
       by_bit was f (bit_of x k == 1) refl row.there row.long (ap (λ (u : View). u.hand) row.is) (ap (λ (u : View). u.failures) row.is)
     where
       cleared_view : Bool → View
-      cleared_view b = if b then record (take_free.view_noted v m.pool i x) { hand = record { link = number_at m.pool i k; words = row.words } ∷ v.hand }
-          else record (take_free.view_noted v m.pool i x) { failures = v.failures + bit_of (take_free.last_found m.pool i v.found) k }
+      cleared_view b = if b then record (take_free.view_noted v m.pool (at n) x) { hand = record { link = number_at m.pool (at n) k; words = row.words } ∷ v.hand }
+          else record (take_free.view_noted v m.pool (at n) x) { failures = v.failures + bit_of (take_free.last_found m.pool (at n) v.found) k }
 
       -- the bit was there when the word was last found: it was lost, which is a failure
-      lost_one : IsSeen v0 v m.pool m.words i k → (bit_of x k == 1) ≡ false → w.failures ≡ (take_free.view_after v m.pool i (Some k) x row.words).failures → w.failures ≡ v.failures + 1
+      lost_one : IsSeen v0 v m.pool m.words m.first n k → (bit_of x k == 1) ≡ false → w.failures ≡ (take_free.view_after v m.pool (at n) (Some k) x row.words).failures → w.failures ≡ v.failures + 1
       lost_one was unset failures =
-          failures ∙ ap (λ (b : Bool). (cleared_view b).failures) unset ∙ ap (λ (n : ℕ). v.failures + n) (ap (λ (y : ℕ). bit_of y k) was.last ∙ was.lowest.is)
+          failures ∙ ap (λ (b : Bool). (cleared_view b).failures) unset ∙ ap (λ (c : ℕ). v.failures + c) (ap (λ (y : ℕ). bit_of y k) was.last ∙ was.lowest.is)
 
-      by_bit : (was : IsSeen v0 v m.pool m.words i k) → FindsWord v w m.pool i x → (b : Bool) → (bit_of x k == 1) ≡ b
-          → IfSome (if b then Some (number_at m.pool i k) else None) (λ d. IsNumber z d) → IfSome (if b then Some (number_at m.pool i k) else None) (λ d. length row.words ≡ take_free.word_count_of d)
-          → w.hand ≡ (take_free.view_after v m.pool i (Some k) x row.words).hand → w.failures ≡ (take_free.view_after v m.pool i (Some k) x row.words).failures
-          → After (if b then Took i k else Looking (i + 1))
-      by_bit was f true set there long hand failures = comes_to i (Some k) row (Took i k) (let inside = was.inside in let all = subst (λ (s : Search). v.steps + steps_left m.words s ≤ v0.steps + 2 * m.words) is fits.steps in omega arith)
-          (let same : w.failures ≡ v.failures = failures ∙ ap (λ (b : Bool). (cleared_view b).failures) set in let counted = counted_at (Clearing i k) is in omega (arith, same, counted))
-          (let same : w.failures ≡ v.failures = failures ∙ ap (λ (b : Bool). (cleared_view b).failures) set in omega (arith, same)) (
-            was.inside,
-            was.lowest.low,
-            record {
-              index = i;
+      by_bit : (was : IsSeen v0 v m.pool m.words m.first n k) → FindsWord v w m.pool (at n) x → (b : Bool) → (bit_of x k == 1) ≡ b
+          → IfSome (if b then Some (number_at m.pool (at n) k) else None) (λ d. IsNumber z d) → IfSome (if b then Some (number_at m.pool (at n) k) else None) (λ d. length row.words ≡ take_free.word_count_of d)
+          → w.hand ≡ (take_free.view_after v m.pool (at n) (Some k) x row.words).hand → w.failures ≡ (take_free.view_after v m.pool (at n) (Some k) x row.words).failures
+          → After (if b then Took n k else Looking (n + 1))
+      by_bit was f true set there long hand failures = comes_to (at n) (Some k) row (Took n k) (let inside = was.inside in let all = subst (λ (s : Search). v.steps + steps_left m.words s ≤ v0.steps + 2 * m.words) is fits.steps in omega arith)
+          (let same : w.failures ≡ v.failures = failures ∙ ap (λ (b : Bool). (cleared_view b).failures) set in let counted = counted_at (Clearing n k) is in omega (arith, same, counted))
+          (let same : w.failures ≡ v.failures = failures ∙ ap (λ (b : Bool). (cleared_view b).failures) set in omega (arith, same)) record {
+            inside = was.inside;
+            low = was.lowest.low;
+            before = before_on v w m.pool (at n) x f v0.steps m.words m.first n was.before;
+            took = record {
+              index = at n;
               bit = k;
               is = refl;
               there = there;
-              fits = let again = number_again m.pool (64 * i + k) in let inside = was.inside in let low = was.lowest.low in let few = fits.few in omega arith;
-              before = before_on v w m.pool i x f v0.steps i was.before;
+              fits = let again = number_again m.pool (64 * at n + k) in let inside = around_inside m.words m.first n was.inside in let low = was.lowest.low in let few = fits.few in omega (arith, again, inside, low, few);
               word = was.word;
               lowest = was.lowest;
               at = was.at;
-              found = found_on v w m.pool i x f v0.steps m.pool i was.word was.at was.found;
+              found = found_on v w m.pool (at n) x f v0.steps m.pool (at n) was.word was.at was.found;
               words = row.words;
               long = long;
               hand = hand ∙ (ap (λ (b : Bool). (cleared_view b).hand) set
-                  ∙ ap (λ (h : List InHand). record { link = number_at m.pool i k; words = row.words } ∷ h) was.hand);
-            },
-          )
-      by_bit was f false unset there long hand failures = comes_to i (Some k) row (Looking (i + 1)) (let inside = was.inside in let all = subst (λ (s : Search). v.steps + steps_left m.words s ≤ v0.steps + 2 * m.words) is fits.steps in omega arith)
-          (let more = lost_one was unset failures in let counted = counted_at (Clearing i k) is in omega (arith, more, counted)) (let more = lost_one was unset failures in omega (arith, more)) (
+                  ∙ ap (λ (h : List InHand). record { link = number_at m.pool (at n) k; words = row.words } ∷ h) was.hand);
+            };
+            is = refl;
+          }
+      by_bit was f false unset there long hand failures = comes_to (at n) (Some k) row (Looking (n + 1)) (let inside = was.inside in let all = subst (λ (s : Search). v.steps + steps_left m.words s ≤ v0.steps + 2 * m.words) is fits.steps in omega arith)
+          (let more = lost_one was unset failures in let counted = counted_at (Clearing n k) is in omega (arith, more, counted)) (let more = lost_one was unset failures in omega (arith, more)) (
             let inside = was.inside in omega arith,
-            before_next v w m.pool i x f v0.steps was.before (inr record {
+            before_next v w m.pool (at n) x f v0.steps m.words m.first n refl was.before (inr record {
               word = was.word;
               bit = k;
               lowest = was.lowest;
               at = was.at;
-              seen = found_on v w m.pool i x f v0.steps m.pool i was.word was.at was.found;
+              seen = found_on v w m.pool (at n) x f v0.steps m.pool (at n) was.word was.at was.found;
               again = x;
               later = v.steps + 1;
               after = let past = was.past in omega arith;
               gone = let not_one = eqb-false (bit_of x k) 1 unset in omega arith;
-              lost = found_now v w m.pool i x f v0.steps fits.some;
+              lost = found_now v w m.pool (at n) x f v0.steps fits.some;
             }),
             hand ∙ (ap (λ (b : Bool). (cleared_view b).hand) unset ∙ was.hand),
           )
 
 -- what was asked at a stage
-asked_looking : (pool : Pool) (words i : ℕ) (a : Asked) → asks_at pool words (Looking i) ≡ Some a → (i < words) × (Clear pool i None ≡ a)
-asked_looking pool words i a is = by_test (nat_lt i words) refl is
+asked_looking : (pool : Pool) (words first n : ℕ) (a : Asked) → asks_at pool words first (Looking n) ≡ Some a → (n < words) × (Clear pool (around words first n) None ≡ a)
+asked_looking pool words first n a is = by_test (nat_lt n words) refl is
   where
-    by_test : (b : Bool) → nat_lt i words ≡ b → (if b then Some (Clear pool i None) else None) ≡ Some a → (i < words) × (Clear pool i None ≡ a)
-    by_test true low e = (ltb-true i words low, same_Some _ a e)
+    by_test : (b : Bool) → nat_lt n words ≡ b → (if b then Some (Clear pool (around words first n) None) else None) ≡ Some a → (n < words) × (Clear pool (around words first n) None ≡ a)
+    by_test true low e = (ltb-true n words low, same_Some _ a e)
     by_test false low e = absurd (cc)
 
 -- the machine goes on as the step was answered
 pub told_fits : (z : Sizes) (v0 : View) (m : Taking) (v w : View) (a : Asked) (x : ℕ) → x < 2 ^ 64 → Fits z v0 m v → asks m ≡ Some a → Answers z a x v w → Fits z v0 (record m { search = search_after x m.search }) w
 told_fits z v0 m v w a x low fits asked row = by_search m.search refl asked
   where
-    by_search : (s : Search) → m.search ≡ s → asks_at m.pool m.words s ≡ Some a → Fits z v0 (record m { search = search_after x s }) w
-    by_search (Looking i) is e = let k = asked_looking m.pool m.words i a e in looks z v0 m v w x fits i is k.0 low (subst (λ (b : Asked). Answers z b x v w) (sym k.1) row)
-    by_search (Clearing i k) is e = clears z v0 m v w x fits i k is (subst (λ (b : Asked). Answers z b x v w) (sym (same_Some (Clear m.pool i (Some k)) a e)) row)
-    by_search (Took i k) is e = absurd (cc)
+    by_search : (s : Search) → m.search ≡ s → asks_at m.pool m.words m.first s ≡ Some a → Fits z v0 (record m { search = search_after x s }) w
+    by_search (Looking n) is e = let k = asked_looking m.pool m.words m.first n a e in looks z v0 m v w x fits n is k.0 low (subst (λ (b : Asked). Answers z b x v w) (sym k.1) row)
+    by_search (Clearing n k) is e = clears z v0 m v w x fits n k is (subst (λ (b : Asked). Answers z b x v w) (sym (same_Some (Clear m.pool (around m.words m.first n) (Some k)) a e)) row)
+    by_search (Took n k) is e = absurd (cc)
 
 -- ---- the stage is one of 32 bits
 
 pub is_search : (z : Sizes) (v0 : View) (m : Taking) (v : View) (a : Asked) → Fits z v0 m v → asks m ≡ Some a → IsSearch m.search
 is_search z v0 m v a fits asked = by_search m.search fits.search asked
   where
-    by_search : (s : Search) → SearchFits z v0 v m.pool m.words s → asks_at m.pool m.words s ≡ Some a → IsSearch s
-    by_search (Looking i) k e = let low = (asked_looking m.pool m.words i a e).0 in let few = fits.few in omega arith
-    by_search (Clearing i k) o e = let low = o.inside in let few = fits.few in (omega arith, o.lowest.low)
-    by_search (Took i k) o e = tt
+    by_search : (s : Search) → SearchFits z v0 v m.pool m.words m.first s → asks_at m.pool m.words m.first s ≡ Some a → IsSearch s
+    by_search (Looking n) k e = let low = (asked_looking m.pool m.words m.first n a e).0 in let few = fits.few in omega arith
+    by_search (Clearing n k) o e = let low = o.inside in let few = fits.few in (omega arith, o.lowest.low)
+    by_search (Took n k) o e = tt
 
 -- a number that was taken fits 32 bits
-pub took_low : (z : Sizes) (v0 : View) (m : Taking) (v : View) (i k : ℕ) → Fits z v0 m v → m.search ≡ Took i k → 64 * i + k < 2 ^ 32
-took_low z v0 m v i k fits is = let o = subst (SearchFits z v0 v m.pool m.words) is fits.search in let low = o.0 in let bit = o.1 in let few = fits.few in omega arith
+pub took_low : (z : Sizes) (v0 : View) (m : Taking) (v : View) (n k : ℕ) → Fits z v0 m v → m.search ≡ Took n k → 64 * around m.words m.first n + k < 2 ^ 32
+took_low z v0 m v n k fits is =
+    let o = subst (SearchFits z v0 v m.pool m.words m.first) is fits.search in
+    let low = around_inside m.words m.first n o.inside in
+    let bit = o.low in
+    let few = fits.few in
+    omega (arith, low, bit, few)
 
 -- ---- how many steps were made
 
@@ -241,27 +272,43 @@ few_looks z v0 m v fits =
     let counted = fits.counted in
     omega (arith, few, counted)
   where
-    few_at : (s : Search) → SearchFits z v0 v m.pool m.words s → looks_made s ≤ m.words + 1
-    few_at (Looking i) o = let low = o.0 in omega (arith, low)
-    few_at (Clearing i k) o = let low = o.inside in omega (arith, low)
-    few_at (Took i k) o = let low = o.0 in omega (arith, low)
+    few_at : (s : Search) → SearchFits z v0 v m.pool m.words m.first s → looks_made s ≤ m.words + 1
+    few_at (Looking n) o = let low = o.0 in omega (arith, low)
+    few_at (Clearing n k) o = let low = o.inside in omega (arith, low)
+    few_at (Took n k) o = let low = o.inside in omega (arith, low)
 
 -- ---- how it ends
 
-pub took : (z : Sizes) (v0 : View) (m : Taking) (v : View) (i k : ℕ) → Fits z v0 m v → m.search ≡ Took i k → TookLowest z v0 v m.pool (number_at m.pool i k)
-took z v0 m v i k fits is = (subst (SearchFits z v0 v m.pool m.words) is fits.search).2
+pub took : (z : Sizes) (v0 : View) (m : Taking) (v : View) (n k : ℕ) → Fits z v0 m v → m.search ≡ Took n k → TookFirst z v0 v m.pool m.first (number_at m.pool (around m.words m.first n) k)
+took z v0 m v n k fits is =
+    let o = subst (SearchFits z v0 v m.pool m.words m.first) is fits.search in
+    let low = o.inside in
+    let words = fits.words in
+    record {
+      took = o.took;
+      passed = n;
+      few = omega (arith, low, words);
+      is = o.is ∙ ap (λ (c : ℕ). around c m.first n) words;
+      before = subst (λ (c : ℕ). NoneAround v v0.steps m.pool c m.first n) words o.before;
+    }
 
-pub none_taken : (z : Sizes) (v0 : View) (m : Taking) (v : View) → Fits z v0 m v → asks m ≡ None → ((i k : ℕ) → m.search ≢ Took i k) → TookNone z v0 v m.pool
+pub none_taken : (z : Sizes) (v0 : View) (m : Taking) (v : View) → Fits z v0 m v → asks m ≡ None → ((n k : ℕ) → m.search ≢ Took n k) → TookNone z v0 v m.pool
 none_taken z v0 m v fits asked other = by_search m.search refl fits.search asked
   where
-    by_search : (s : Search) → m.search ≡ s → SearchFits z v0 v m.pool m.words s → asks_at m.pool m.words s ≡ None → TookNone z v0 v m.pool
-    by_search (Looking i) is o e = by_test (nat_lt i m.words) refl e
+    by_search : (s : Search) → m.search ≡ s → SearchFits z v0 v m.pool m.words m.first s → asks_at m.pool m.words m.first s ≡ None → TookNone z v0 v m.pool
+    by_search (Looking n) is o e = by_test (nat_lt n m.words) refl e
       where
-        by_test : (b : Bool) → nat_lt i m.words ≡ b → (if b then Some (Clear m.pool i None) else None) ≡ None → TookNone z v0 v m.pool
+        by_test : (b : Bool) → nat_lt n m.words ≡ b → (if b then Some (Clear m.pool (around m.words m.first n) None) else None) ≡ None → TookNone z v0 v m.pool
         by_test true low e = absurd (cc)
         by_test false high e =
-            let past : m.words ≤ i = ltb-false i m.words high in
+            let past : m.words ≤ n = ltb-false n m.words high in
             let words = fits.words in
-            record { none = λ j low. o.1 j (omega arith); hand = o.2 }
-    by_search (Clearing i k) is o e = absurd (cc)
-    by_search (Took i k) is o e = absurd (other i k is)
+            record {
+              none = λ j low.
+                  let p = around_again m.words m.first j (omega (arith, low, words)) in
+                  let inside = p.1 in
+                  subst (GaveNone v v0.steps m.pool) p.2 (o.1 p.0 (omega (arith, inside, past)));
+              hand = o.2;
+            }
+    by_search (Clearing n k) is o e = absurd (cc)
+    by_search (Took n k) is o e = absurd (other n k is)

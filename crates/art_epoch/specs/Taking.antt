@@ -56,6 +56,14 @@ GaveNone v since pool i = WasEmpty v since pool i ⊎ WasLost v since pool i
 abbrev pub NoneBefore : View → ℕ → Pool → ℕ → Type 0
 NoneBefore v since pool n = (i : ℕ) → i < n → GaveNone v since pool i
 
+-- the index of the word that comes after so many others, of so many that go round from the first one on
+abbrev pub around : ℕ → ℕ → ℕ → ℕ
+around words first n = if nat_lt n (words - first) then first + n else n - (words - first)
+
+-- so many words gave none, from the first one on
+abbrev pub NoneAround : View → ℕ → Pool → ℕ → ℕ → ℕ → Type 0
+NoneAround v since pool words first n = (i : ℕ) → i < n → GaveNone v since pool (around words first i)
+
 -- ---- how a call ends
 
 -- nothing changed but steps, failures, what was found, and the hand
@@ -66,15 +74,13 @@ OnlyTakes v w = w ≡ record v { steps = w.steps; failures = w.failures; found =
 abbrev pub MadeFew : View → View → ℕ → Type 0
 MadeFew v w n = w.steps + v.failures ≤ v.steps + n + w.failures
 
--- the number is the lowest of the word that it was found in, and no word before that gave one; it alone came into the hand, and a
--- child word can name it
+-- the number is the lowest of the word that it was found in; it alone came into the hand, and a child word can name it
 pub record TookLowest (z : Sizes) (v w : View) (pool : Pool) (d : Link) : Type 0 where
   pub index : ℕ
   pub bit : ℕ
   pub is : d ≡ number_at pool index bit
   pub there : IsNumber z d
   pub fits : FitsWord d
-  pub before : NoneBefore w v.steps pool index
   pub word : ℕ
   pub lowest : IsLowest word bit
   pub at : ℕ
@@ -83,73 +89,90 @@ pub record TookLowest (z : Sizes) (v w : View) (pool : Pool) (d : Link) : Type 0
   pub long : length words ≡ word_count_of d
   pub hand : w.hand ≡ record { link = d; words = words } ∷ v.hand
 
+-- and no word gave one that comes before that, from the first one on
+pub record TookFirst (z : Sizes) (v w : View) (pool : Pool) (first : ℕ) (d : Link) : Type 0 where
+  pub took : TookLowest z v w pool d
+  pub passed : ℕ
+  pub few : passed < free_words (pool_size z pool)
+  pub is : took.index ≡ around (free_words (pool_size z pool)) first passed
+  pub before : NoneAround w v.steps pool (free_words (pool_size z pool)) first passed
+
 -- no word of the pool gave a number, and the hand stays
 pub record TookNone (z : Sizes) (v w : View) (pool : Pool) : Type 0 where
   pub none : NoneBefore w v.steps pool (free_words (pool_size z pool))
   pub hand : w.hand ≡ v.hand
 
-abbrev pub Takes : Sizes → View → View → Pool → Option Number → Type 0
-Takes z v w pool (Some n) = TookLowest z v w pool (link_of_number n)
-Takes z v w pool None = TookNone z v w pool
+-- of a search from the word with an index on
+abbrev pub Takes : Sizes → View → View → Pool → ℕ → Option Number → Type 0
+Takes z v w pool first (Some n) = TookFirst z v w pool first (link_of_number n)
+Takes z v w pool first None = TookNone z v w pool
 
 -- ---- what the machine knows between two steps
 
 -- the next step
-abbrev pub asks_at : Pool → ℕ → Search → Option Asked
-asks_at pool words (Looking i) = if nat_lt i words then Some (Clear pool i None) else None
-asks_at pool words (Clearing i k) = Some (Clear pool i (Some k))
-asks_at pool words (Took i k) = None
+abbrev pub asks_at : Pool → ℕ → ℕ → Search → Option Asked
+asks_at pool words first (Looking n) = if nat_lt n words then Some (Clear pool (around words first n) None) else None
+asks_at pool words first (Clearing n k) = Some (Clear pool (around words first n) (Some k))
+asks_at pool words first (Took n k) = None
 
 abbrev pub asks : Taking → Option Asked
-asks m = asks_at m.pool m.words m.search
+asks m = asks_at m.pool m.words m.first m.search
 
--- a word index of 32 bits after which there may be another, and a bit of 64
+-- a count of 32 bits after which there may be another, and a bit of 64
 abbrev pub IsSearch : Search → Type 0
-IsSearch (Looking i) = i + 1 < 2 ^ 32
-IsSearch (Clearing i k) = (i + 1 < 2 ^ 32) × (k < 64)
-IsSearch (Took i k) = ⊤
+IsSearch (Looking n) = n + 1 < 2 ^ 32
+IsSearch (Clearing n k) = (n + 1 < 2 ^ 32) × (k < 64)
+IsSearch (Took n k) = ⊤
 
 -- once a word was found: its lowest bit is to be cleared, or the next word looked at
 abbrev pub after_look : ℕ → ℕ → Search
-after_look i x = if x == 0 then Looking (i + 1) else Clearing i (trailing_zeros w64 x)
+after_look n x = if x == 0 then Looking (n + 1) else Clearing n (trailing_zeros w64 x)
 
 abbrev pub after_clear : ℕ → ℕ → ℕ → Search
-after_clear i k x = if bit_of x k == 1 then Took i k else Looking (i + 1)
+after_clear n k x = if bit_of x k == 1 then Took n k else Looking (n + 1)
 
 abbrev pub search_after : ℕ → Search → Search
-search_after x (Looking i) = after_look i x
-search_after x (Clearing i k) = after_clear i k x
-search_after x (Took i k) = Took i k
+search_after x (Looking n) = after_look n x
+search_after x (Clearing n k) = after_clear n k x
+search_after x (Took n k) = Took n k
 
 -- how many steps it makes at most from here on
 abbrev pub steps_left : ℕ → Search → ℕ
-steps_left words (Looking i) = 2 * (words - i)
-steps_left words (Clearing i k) = 2 * (words - i) - 1
-steps_left words (Took i k) = 0
+steps_left words (Looking n) = 2 * (words - n)
+steps_left words (Clearing n k) = 2 * (words - n) - 1
+steps_left words (Took n k) = 0
 
 -- how many steps it made at most, but for one for each that failed: it looked at each word once, and a bit of the last one was taken
 abbrev pub looks_made : Search → ℕ
-looks_made (Looking i) = i
-looks_made (Clearing i k) = i + 1
-looks_made (Took i k) = i + 2
+looks_made (Looking n) = n
+looks_made (Clearing n k) = n + 1
+looks_made (Took n k) = n + 2
 
--- the word was found, last of all, and this is its lowest bit
-pub record IsSeen (v0 v : View) (pool : Pool) (words i k : ℕ) : Type 0 where
-  pub inside : i < words
-  pub before : NoneBefore v v0.steps pool i
+-- the word after so many was found, last of all, and this is its lowest bit
+pub record IsSeen (v0 v : View) (pool : Pool) (words first n k : ℕ) : Type 0 where
+  pub inside : n < words
+  pub before : NoneAround v v0.steps pool words first n
   pub word : ℕ
   pub lowest : IsLowest word k
   pub at : ℕ
   pub past : at ≤ v.steps
-  pub found : WasFound v v0.steps pool i word at
-  pub last : last_found pool i v.found ≡ word
+  pub found : WasFound v v0.steps pool (around words first n) word at
+  pub last : last_found pool (around words first n) v.found ≡ word
   pub hand : v.hand ≡ v0.hand
 
+-- its number was taken
+pub record HasTaken (z : Sizes) (v0 v : View) (pool : Pool) (words first n k : ℕ) : Type 0 where
+  pub inside : n < words
+  pub low : k < 64
+  pub before : NoneAround v v0.steps pool words first n
+  pub took : TookLowest z v0 v pool (number_at pool (around words first n) k)
+  pub is : took.index ≡ around words first n
+
 -- of a pass whose view was v0 when the machine began, and is v
-abbrev pub SearchFits : Sizes → View → View → Pool → ℕ → Search → Type 0
-SearchFits z v0 v pool words (Looking i) = (i ≤ words) × NoneBefore v v0.steps pool i × (v.hand ≡ v0.hand)
-SearchFits z v0 v pool words (Clearing i k) = IsSeen v0 v pool words i k
-SearchFits z v0 v pool words (Took i k) = (i < words) × (k < 64) × TookLowest z v0 v pool (number_at pool i k)
+abbrev pub SearchFits : Sizes → View → View → Pool → ℕ → ℕ → Search → Type 0
+SearchFits z v0 v pool words first (Looking n) = (n ≤ words) × NoneAround v v0.steps pool words first n × (v.hand ≡ v0.hand)
+SearchFits z v0 v pool words first (Clearing n k) = IsSeen v0 v pool words first n k
+SearchFits z v0 v pool words first (Took n k) = HasTaken z v0 v pool words first n k
 
 pub record Fits (z : Sizes) (v0 : View) (m : Taking) (v : View) : Type 0 where
   pub words : m.words ≡ free_words (pool_size z m.pool)
@@ -159,4 +182,4 @@ pub record Fits (z : Sizes) (v0 : View) (m : Taking) (v : View) : Type 0 where
   pub some : v0.steps ≤ v.steps
   pub counted : MadeFew v0 v (looks_made m.search)
   pub failed : v0.failures ≤ v.failures
-  pub search : SearchFits z v0 v m.pool m.words m.search
+  pub search : SearchFits z v0 v m.pool m.words m.first m.search

@@ -1,7 +1,7 @@
 //! Taking a number.
 ghost use Rattle.std.specs.Prelude.{◌≡◌, ◌+◌, ◌*◌, ◌≤◌, ◌<◌, ◌^◌, IfSome, Some, None};
 ghost use Rattle.art_epoch.specs.Asking.{Answers, IsAllowed};
-ghost use Rattle.art_epoch.specs.Taking.{Fits, IsSearch, MadeFew, OnlyTakes, Takes, after_clear, after_look, asks, search_after};
+ghost use Rattle.art_epoch.specs.Taking.{Fits, IsSearch, MadeFew, OnlyTakes, Takes, after_clear, after_look, around, asks, search_after};
 ghost use Rattle.art_step.specs.WordPlaces.{free_words, pool_size};
 
 use crate::{Asked, make};
@@ -11,20 +11,22 @@ use art_step::{EpochSteps, Number, Sizes, free_words};
 /// How far a search for a number has come.
 #[derive(Clone, Copy)]
 pub enum Search {
-    /// The words before this index gave none.
+    /// So many words gave none.
     Looking(u32),
-    /// The word at this index was found with this bit, its lowest.
+    /// The word after so many was found with this bit, its lowest.
     Clearing(u32, u32),
-    /// The number with this bit of the word at this index is in hand.
+    /// The number with this bit of that word is in hand.
     Took(u32, u32),
 }
 
-/// Takes a number of a pool: it looks at the words of free numbers in their order, and of one with a bit it takes the lowest.
-/// A bit that another pass took in between sends it to the next word.
+/// Takes a number of a pool: it looks at the words of free numbers in their order, from one on and all around, and of one with a
+/// bit it takes the lowest. A bit that another pass took in between sends it to the next word.
 #[derive(Clone, Copy)]
 pub struct Taking {
     pool: Pool,
     words: u32,
+    /// The index of the word that it looks at first.
+    first: u32,
     search: Search,
 }
 
@@ -34,37 +36,57 @@ impl Taking {
     ghost use Rattle.art_step.specs.declared.views.View.{View};
     ghost use Rattle.art_epoch.specs.declared.asked.Asked.{Asked as AskedStep};
 
-    /// A number of this pool.
+    /// A number of this pool, from its first word on.
     pub fn new(pool: Pool, sizes: Sizes) -> Taking
         ensures pool { result.pool ≡ pool }
+        ensures first { result.first ≡ 0 }
+        ensures fits { (v : View) → Fits sizes v result v }
+    {
+        Taking::from_word(pool, sizes, 0)
+    }
+
+    /// A number of this pool, from the word with an index on, and all around.
+    pub fn from_word(pool: Pool, sizes: Sizes, first: u32) -> Taking
+        ensures pool { result.pool ≡ pool }
+        ensures first { result.first ≡ first }
         ensures fits { (v : View) → Fits sizes v result v }
     {
         Taking {
             pool,
             words: free_words(sizes.pool_size(pool)) as u32,
+            first,
             search: Search::Looking(0),
         }
     }
 
     /// The next step, or none where it has ended.
+    #[inline(always)]
     pub fn next(&self) -> Option<Asked>
         ensures asks { result ≡ asks self.now }
         ensures allowed { (z : Sizes) (v0 v : View) → Fits z v0 self.now v → IfSome result (IsAllowed z v) }
     {
         match self.search {
-            Search::Looking(index) if index < self.words => {
-                Some(Asked::Clear(self.pool, index, None))
-            }
-            Search::Clearing(index, bit) => Some(Asked::Clear(self.pool, index, Some(bit))),
+            Search::Looking(passed) if passed < self.words => Some(Asked::Clear(
+                self.pool,
+                around(self.words, self.first, passed),
+                None,
+            )),
+            Search::Clearing(passed, bit) => Some(Asked::Clear(
+                self.pool,
+                around(self.words, self.first, passed),
+                Some(bit),
+            )),
             _ => None,
         }
     }
 
     /// The step that it asked for was made, and found this word.
+    #[inline(always)]
     pub fn told(&mut self, word: u64)
         requires { (z : Sizes) × (v0 : View) × (v : View) × (asked : AskedStep) × Fits z v0 self.old v × (asks self.old ≡ Some asked) }
         ensures pool { self.new.pool ≡ self.old.pool }
         ensures words { self.new.words ≡ self.old.words }
+        ensures first { self.new.first ≡ self.old.first }
         ensures fits { (z : Sizes) (v0 v w : View) (asked : AskedStep) → Fits z v0 self.old v → asks self.old ≡ Some asked →
             Answers z asked word v w → Fits z v0 self.new w }
     {
@@ -72,50 +94,70 @@ impl Taking {
     }
 
     /// The number that it took, or none.
+    #[inline(always)]
     pub fn number(&self) -> Option<Number>
         requires { (z : Sizes) × (v0 : View) × (v : View) × Fits z v0 self.now v × (asks self.now ≡ None) }
-        ensures { (z : Sizes) (v0 v : View) → Fits z v0 self.now v → Takes z v0 v self.now.pool result }
+        ensures { (z : Sizes) (v0 v : View) → Fits z v0 self.now v → Takes z v0 v self.now.pool self.now.first result }
     {
         match self.search {
-            Search::Took(index, bit) => Some(Number::in_pool(self.pool, 64 * index + bit)),
+            Search::Took(passed, bit) => {
+                let index = around(self.words, self.first, passed);
+                Some(Number::in_pool(self.pool, 64 * index + bit))
+            }
             _ => None,
         }
     }
 }
 
+/// The index of the word that comes after so many others, where the words go round from the first one on.
+#[inline(always)]
+fn around(words: u32, first: u32, passed: u32) -> u32
+    ensures { result ≡ around words first passed }
+{
+    let ahead = words.saturating_sub(first);
+    if passed < ahead {
+        first + passed
+    } else {
+        passed - ahead
+    }
+}
+
 /// How far the search has come once this word was found.
+#[inline(always)]
 fn after(search: Search, word: u64) -> Search
     requires { IsSearch search }
     ensures { result ≡ search_after word search }
 {
     match search {
-        Search::Looking(index) => looked(index, word),
-        Search::Clearing(index, bit) => cleared(index, bit, word),
-        Search::Took(index, bit) => Search::Took(index, bit),
+        Search::Looking(passed) => looked(passed, word),
+        Search::Clearing(passed, bit) => cleared(passed, bit, word),
+        Search::Took(passed, bit) => Search::Took(passed, bit),
     }
 }
 
-/// The word at the index was looked at.
-fn looked(index: u32, word: u64) -> Search
-    requires { index + 1 < 2 ^ 32 }
-    ensures { result ≡ after_look index word }
+/// The word after so many was looked at.
+#[inline(always)]
+fn looked(passed: u32, word: u64) -> Search
+    requires { passed + 1 < 2 ^ 32 }
+    ensures { result ≡ after_look passed word }
 {
     if word == 0 {
-        return Search::Looking(index + 1);
+        return Search::Looking(passed + 1);
     }
-    Search::Clearing(index, word.trailing_zeros())
+    Search::Clearing(passed, word.trailing_zeros())
 }
 
 /// The word lost the bit, or did not have it.
-fn cleared(index: u32, bit: u32, word: u64) -> Search
-    requires inside { index + 1 < 2 ^ 32 }
+#[inline(always)]
+fn cleared(passed: u32, bit: u32, word: u64) -> Search
+    requires inside { passed + 1 < 2 ^ 32 }
     requires low { bit < 64 }
-    ensures { result ≡ after_clear index bit word }
+    ensures { result ≡ after_clear passed bit word }
 {
     if (word >> bit) % 2 == 1 {
-        return Search::Took(index, bit);
+        return Search::Took(passed, bit);
     }
-    Search::Looking(index + 1)
+    Search::Looking(passed + 1)
 }
 
 /// A number of the pool comes into the hand of the pass: the lowest of the first word of free numbers that is found with a bit
@@ -126,7 +168,7 @@ pub fn take<S: EpochSteps>(steps: &mut S, pool: Pool) -> Option<Number>
     ensures steps { (S.view steps.new).steps ≤ (S.view steps.old).steps + 2 * free_words (pool_size (S.sizes steps.old) pool) }
     ensures counted { MadeFew (S.view steps.old) (S.view steps.new) (free_words (pool_size (S.sizes steps.old) pool) + 1) }
     ensures failed { (S.view steps.old).failures ≤ (S.view steps.new).failures }
-    ensures takes { Takes (S.sizes steps.old) (S.view steps.old) (S.view steps.new) pool result }
+    ensures takes { Takes (S.sizes steps.old) (S.view steps.old) (S.view steps.new) pool 0 result }
 {
     let mut taking = Taking::new(pool, steps.pool_sizes());
     while let Some(asked) = taking.next() {

@@ -114,7 +114,7 @@ module _ (z : Sizes) (k : List ℕ) (value : ℕ) (u v : View) (ps qs : List Pla
 
   pub told_giving : (o : Option Link) (a : Asked) (x : ℕ) (w : View) → first_in s ≡ o → gives_link o ≡ a → Answers z a x v w → ClosingFits z k value u ps us (stage_of o) qs (without_link o s) w
   told_giving (Some d) a x w is asked row = gave d w is (subst (λ (b : Asked). Answers z b x v w) (sym asked) row)
-  told_giving None a x w is asked row = (left w is (subst (λ (b : Asked). Answers z b x v w) (sym asked) row), refl)
+  told_giving None a x w is asked row = (left w is (subst (λ (b : Asked). Answers z b x v w) (sym asked) row), is)
 
 -- each leaves fewer
 pub fewer_given : (s : Stock) (o : Option Link) → first_in s ≡ o → steps_left (stage_of o) (without_link o s) < 1 + count_in s

@@ -1,5 +1,5 @@
 -- The numbers in hand, from step to step.
-use Rattle.std.proofs.Common.{◌≡◌, ◌≢◌, ◌⊎◌, ℕ, ◌+◌, ◌≤◌, false, List, [], ◌∷◌, inl, inr, ⊎_elim, sym, refl, ap, ◌∙◌, subst, arith}
+use Rattle.std.proofs.Common.{◌≡◌, ◌≢◌, ◌⊎◌, ℕ, ◌+◌, ◌/◌, ◌≤◌, false, List, [], ◌∷◌, inl, inr, ⊎_elim, sym, refl, ap, ◌∙◌, subst, arith}
 use Rattle.std.proofs.lemmas.Option.{same_Some}
 use Rattle.std.specs.List.{cons_option}
 use Rattle.std.specs.Option.{option_map, option_or}
@@ -13,7 +13,8 @@ use Rattle.art_cell.specs.declared.layouts.Layout.TheVariants.{Node4, Node16, No
 use Rattle.art_cell.specs.declared.layouts.Pool.TheVariants.{Leaves}
 use Rattle.art_commit.specs.CommitLaws.{HasNode}
 use Rattle.art_epoch.specs.Taking.{TookLowest}
-use Rattle.art_frame.specs.Stocks.{AreIn, HasStock, IsIn, count_in, first_in, node_in, node_link, nothing, one_of, set_node, with_leaf, with_node, without, without_all, words_written}
+use Rattle.art_frame.specs.Stocks.{AreIn, HasStock, IsIn, count_in, first_in, hinted, hinted_at, node_in, node_link, nothing, one_of, set_node, with_leaf, with_node, without, without_all, words_written}
+use Rattle.art_frame.specs.declared.stocks.Hints.{Hints}
 use Rattle.art_frame.specs.declared.stocks.Stock.{Stock}
 use Rattle.art_make.specs.Making.{IsCommitted, linked}
 use Rattle.art_make.specs.Packing.{IsPacked}
@@ -48,6 +49,31 @@ node_here Node4 o s = refl
 node_here Node16 o s = refl
 node_here Node48 o s = refl
 node_here Node256 o s = refl
+
+-- where a search begins is nothing that is in hand
+node_with_leaf : (layout : Layout) (l : ℕ) (s : Stock) → node_in (with_leaf l s) layout ≡ node_in s layout
+node_with_leaf Node4 l s = refl
+node_with_leaf Node16 l s = refl
+node_with_leaf Node48 l s = refl
+node_with_leaf Node256 l s = refl
+
+node_hinted : (layout a : Layout) (i : ℕ) (s : Stock) → node_in (hinted a i s) layout ≡ node_in s layout
+node_hinted Node4 a i s = refl
+node_hinted Node16 a i s = refl
+node_hinted Node48 a i s = refl
+node_hinted Node256 a i s = refl
+
+leaf_hinted : (layout : Layout) (i : ℕ) (s : Stock) → node_in (record s { hints = record s.hints { leaves = i } }) layout ≡ node_in s layout
+leaf_hinted Node4 i s = refl
+leaf_hinted Node16 i s = refl
+leaf_hinted Node48 i s = refl
+leaf_hinted Node256 i s = refl
+
+in_hinted : (d : Link) (s : Stock) (e : Link) → IsIn s e → IsIn (hinted_at d s) e
+in_hinted (leaf l) s (leaf m) i = i
+in_hinted (leaf l) s (node n) i = leaf_hinted n.layout (l / 64) s ∙ i
+in_hinted (node m) s (leaf l) i = i
+in_hinted (node m) s (node n) i = node_hinted n.layout m.layout (m.number / 64) s ∙ i
 
 -- it is that of the layout, or another, whose number stays
 abbrev SameOrOther : Layout → Layout → Type 0
@@ -208,15 +234,28 @@ packed_on z v w l k value place stays p = record {
 node_on : (z : Sizes) (v w : View) (n : Node) → ((x : InHand) → IsInHand v (node n) x → Member x w.hand) → HasNode z v n → HasNode z w n
 node_on z v w n stays p = record { hand = p.hand; has = stays p.hand (p.has, p.link); link = p.link; number = p.number; fits = p.fits }
 
+-- what is in hand does not hang on where a search begins
+pub stock_hinted : (z : Sizes) (k : List ℕ) (value : ℕ) (v : View) (d : Link) (s : Stock) → HasStock z k value v s → HasStock z k value v (hinted_at d s)
+stock_hinted z k value v (leaf l) s o = record {
+  leaf = o.leaf;
+  nodes = λ n is. o.nodes n (sym (leaf_hinted n.layout (l / 64) s) ∙ is);
+  only = λ x i. in_hinted (leaf l) s x.link (o.only x i);
+}
+stock_hinted z k value v (node m) s o = record {
+  leaf = o.leaf;
+  nodes = λ n is. o.nodes n (sym (node_hinted n.layout m.layout (m.number / 64) s) ∙ is);
+  only = λ x i. in_hinted (node m) s x.link (o.only x i);
+}
+
 -- nothing is in hand
-pub has_nothing : (z : Sizes) (k : List ℕ) (value : ℕ) (v : View) → v.hand ≡ [] → HasStock z k value v nothing
-has_nothing z k value v none = record {
+pub has_nothing : (z : Sizes) (k : List ℕ) (value : ℕ) (v : View) (h : Hints) → v.hand ≡ [] → HasStock z k value v (nothing h)
+has_nothing z k value v h none = record {
   leaf = λ l is. absurd (cc);
   nodes = λ n is. absurd (no_node n.layout n.number is);
   only = λ x i. absurd (subst (Member x) none i);
 }
   where
-    no_node : (layout : Layout) (i : ℕ) → node_in nothing layout ≡ Some i → ⊥
+    no_node : (layout : Layout) (i : ℕ) → node_in (nothing h) layout ≡ Some i → ⊥
     no_node Node4 i is = cc
     no_node Node16 i is = cc
     no_node Node48 i is = cc
@@ -284,7 +323,7 @@ nothing_in_hand z k value v s o none = no_member v.hand (λ x i. none_is_in s x.
 pub stock_took_leaf : (z : Sizes) (k : List ℕ) (value : ℕ) (v w : View) (d : Link) (s : Stock) → TookLowest z v w Leaves d → s.leaf ≡ None → HasStock z k value v s → HasStock z k value w (with_leaf (number_of d) s)
 stock_took_leaf z k value v w d s t none o = record {
   leaf = λ l is. subst (λ (i : ℕ). IsPacked z w i k value 0) (same_Some (number_of d) l is) packed;
-  nodes = λ n is. node_on z v w n (λ x i. subst (Member x) (sym t.hand) (inr i.0)) (o.nodes n (sym (node_by_leaf n.layout s (Some (number_of d)) false) ∙ is));
+  nodes = λ n is. node_on z v w n (λ x i. subst (Member x) (sym t.hand) (inr i.0)) (o.nodes n (sym (node_with_leaf n.layout (number_of d) s) ∙ is));
   only = λ x i. ⊎_elim
       (λ (e : x ≡ record { link = d; words = t.words }). subst (IsIn (with_leaf (number_of d) s)) (sym (ap (λ (y : InHand). y.link) e ∙ named)) refl)
       (λ (j : Member x v.hand). on x.link (o.only x j))
@@ -308,7 +347,7 @@ stock_took_leaf z k value v w d s t none o = record {
 
     on : (e : Link) → IsIn s e → IsIn (with_leaf (number_of d) s) e
     on (leaf l) i = absurd (cc)
-    on (node n) i = node_by_leaf n.layout s (Some (number_of d)) false ∙ i
+    on (node n) i = node_with_leaf n.layout (number_of d) s ∙ i
 
 -- of a node
 abbrev pub taken_node : Layout → Link → Node
@@ -317,18 +356,21 @@ taken_node layout d = record { layout = layout; number = number_of d }
 pub stock_took_node : (z : Sizes) (k : List ℕ) (value : ℕ) (v w : View) (layout : Layout) (d : Link) (s : Stock) → TookLowest z v w (pool_of_layout layout) d → node_in s layout ≡ None → HasStock z k value v s → HasStock z k value w (with_node (taken_node layout d) s)
 stock_took_node z k value v w layout d s t none o = record {
   leaf = λ l is.
-      let words : words_written s ≡ words_written (with_node (taken_node layout d) s) = ap (λ (b : Bool). words_of b) (sym (leaf_by_node layout (Some (number_of d)) s).1) in
-      subst (IsPacked z w l k value) words (packed_on z v w l k value (words_written s) (λ x i. subst (Member x) (sym t.hand) (inr i.0)) (o.leaf l (sym (leaf_by_node layout (Some (number_of d)) s).0 ∙ is)));
+      let words : words_written s ≡ words_written (with_node (taken_node layout d) s) = ap (λ (b : Bool). words_of b) (sym (leaf_by_node layout (Some (number_of d)) noted).1) in
+      subst (IsPacked z w l k value) words (packed_on z v w l k value (words_written s) (λ x i. subst (Member x) (sym t.hand) (inr i.0)) (o.leaf l (sym (leaf_by_node layout (Some (number_of d)) noted).0 ∙ is)));
   nodes = λ n is. ⊎_elim
       (λ (same : layout ≡ n.layout). subst (HasNode z w) (one n same is) has)
-      (λ (other : (p : Option ℕ) (r : Stock) → node_in (set_node layout p r) n.layout ≡ node_in r n.layout). node_on z v w n (λ x i. subst (Member x) (sym t.hand) (inr i.0)) (o.nodes n (sym (other _ s) ∙ is)))
+      (λ (other : (p : Option ℕ) (r : Stock) → node_in (set_node layout p r) n.layout ≡ node_in r n.layout). node_on z v w n (λ x i. subst (Member x) (sym t.hand) (inr i.0)) (o.nodes n (sym (other _ noted ∙ node_hinted n.layout layout (number_of d / 64) s) ∙ is)))
       (same_or_other layout n.layout);
   only = λ x i. ⊎_elim
-      (λ (e : x ≡ record { link = d; words = t.words }). subst (IsIn (with_node (taken_node layout d) s)) (sym (ap (λ (y : InHand). y.link) e ∙ named)) (node_here layout (Some (number_of d)) s))
+      (λ (e : x ≡ record { link = d; words = t.words }). subst (IsIn (with_node (taken_node layout d) s)) (sym (ap (λ (y : InHand). y.link) e ∙ named)) (node_here layout (Some (number_of d)) noted))
       (λ (j : Member x v.hand). on x.link (o.only x j))
       (subst (Member x) t.hand i);
 }
   where
+    noted : Stock
+    noted = hinted layout (number_of d / 64) s
+
     words_of : Bool → ℕ
     words_of b = words_written (record s { written = b })
 
@@ -352,12 +394,12 @@ stock_took_node z k value v w layout d s t none o = record {
 
     one : (n : Node) → layout ≡ n.layout → node_in (with_node (taken_node layout d) s) n.layout ≡ Some n.number → taken_node layout d ≡ n
     one n same is =
-        let number : number_of d ≡ n.number = same_Some (number_of d) n.number (sym (node_here layout (Some (number_of d)) s) ∙ (ap (node_in (with_node (taken_node layout d) s)) same ∙ is)) in
+        let number : number_of d ≡ n.number = same_Some (number_of d) n.number (sym (node_here layout (Some (number_of d)) noted) ∙ (ap (node_in (with_node (taken_node layout d) s)) same ∙ is)) in
         ap (λ (i : ℕ). record { layout = layout; number = i }) number ∙ ap (λ (a : Layout). record { layout = a; number = n.number }) same
 
     on : (e : Link) → IsIn s e → IsIn (with_node (taken_node layout d) s) e
-    on (leaf l) i = (leaf_by_node layout (Some (number_of d)) s).0 ∙ i
+    on (leaf l) i = (leaf_by_node layout (Some (number_of d)) noted).0 ∙ i
     on (node n) i = ⊎_elim
         (λ (same : layout ≡ n.layout). let gone : node_in s n.layout ≡ None = subst (λ (a : Layout). node_in s a ≡ None) same none in absurd (cc))
-        (λ (other : (p : Option ℕ) (r : Stock) → node_in (set_node layout p r) n.layout ≡ node_in r n.layout). other _ s ∙ i)
+        (λ (other : (p : Option ℕ) (r : Stock) → node_in (set_node layout p r) n.layout ≡ node_in r n.layout). other _ noted ∙ node_hinted n.layout layout (number_of d / 64) s ∙ i)
         (same_or_other layout n.layout)

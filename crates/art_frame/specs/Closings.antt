@@ -6,7 +6,7 @@ use Rattle.art_epoch.specs.Limbo.{IsLimbo, places_for}
 use Rattle.art_epoch.specs.declared.asked.Asked.{Asked}
 use Rattle.art_epoch.specs.declared.asked.Asked.TheVariants.{Give, Note, Store}
 use Rattle.art_epoch.specs.declared.limbo.Place.{Place}
-use Rattle.art_frame.specs.Stocks.{HasStock, count_in, first_in, nothing, without}
+use Rattle.art_frame.specs.Stocks.{HasStock, count_in, first_in, without}
 use Rattle.art_frame.specs.declared.closings.Closing.{Closing}
 use Rattle.art_frame.specs.declared.closings.Closing.TheVariants.{Labelling, Giving, Ended}
 use Rattle.art_frame.specs.declared.stocks.Stock.{Stock}
@@ -43,7 +43,7 @@ is_ended m = false
 -- what is in hand once the first went back
 abbrev pub without_link : Option Link → Stock → Stock
 without_link (Some d) s = without d s
-without_link None s = nothing
+without_link None s = s
 
 abbrev pub stock_given : Stock → Stock
 stock_given s = without_link (first_in s) s
@@ -107,4 +107,4 @@ pub record IsGiving (z : Sizes) (k : List ℕ) (value : ℕ) (u v : View) (ps qs
 abbrev pub ClosingFits : Sizes → List ℕ → ℕ → View → List Place → List Link → Closing → List Place → Stock → View → Type 0
 ClosingFits z k value u ps us Labelling qs s v = IsLabelling z k value u v ps qs us s
 ClosingFits z k value u ps us Giving qs s v = IsGiving z k value u v ps qs us s
-ClosingFits z k value u ps us Ended qs s v = IsClosed z u v ps qs us × (s ≡ nothing)
+ClosingFits z k value u ps us Ended qs s v = IsClosed z u v ps qs us × (first_in s ≡ None)

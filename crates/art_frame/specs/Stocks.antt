@@ -1,21 +1,47 @@
 -- The numbers that a pass has in hand, as its code and as its view have them.
-use Rattle.std.specs.Prelude.{◌≡◌, ℕ, ◌+◌, List, [], ◌∷◌, Option, Some, None, false, if◌then◌else◌, ⊤}
+use Rattle.std.specs.Prelude.{◌≡◌, ℕ, ◌+◌, ◌*◌, ◌/◌, List, [], ◌∷◌, Option, Some, None, false, if◌then◌else◌, nat_lt, ⊤}
 use Rattle.std.specs.Option.{option_map, option_or}
 use Rattle.art_cell.specs.declared.cells.Link.{Link}
 use Rattle.art_cell.specs.declared.cells.Link.TheVariants.{Leaf as leaf, Node as node}
 use Rattle.art_cell.specs.declared.cells.Node.{Node}
 use Rattle.art_cell.specs.declared.layouts.Layout.{Layout}
 use Rattle.art_cell.specs.declared.layouts.Layout.TheVariants.{Node4, Node16, Node48, Node256}
+use Rattle.art_cell.specs.declared.layouts.Pool.{Pool}
+use Rattle.art_cell.specs.declared.layouts.Pool.TheVariants.{Leaves, N4, N16, N48, N256}
 use Rattle.art_commit.specs.CommitLaws.{HasNode}
+use Rattle.art_frame.specs.declared.stocks.Hints.{Hints}
 use Rattle.art_frame.specs.declared.stocks.Stock.{Stock}
 use Rattle.art_make.specs.Packing.{IsPacked}
 use Rattle.art_step.specs.Views.{Member}
 use Rattle.art_step.specs.declared.views.InHand.{InHand}
+use Rattle.art_step.specs.WordPlaces.{free_words, pool_size}
 use Rattle.art_step.specs.declared.views.Sizes.{Sizes}
 use Rattle.art_step.specs.declared.views.View.{View}
 
-abbrev pub nothing : Stock
-nothing = record { leaf = None; written = false; node4 = None; node16 = None; node48 = None; node256 = None }
+-- nothing is in hand; a search begins at these words
+abbrev pub nothing : Hints → Stock
+nothing h = record { leaf = None; written = false; node4 = None; node16 = None; node48 = None; node256 = None; hints = h }
+
+-- the word of free numbers at which a pass, of so many, looks first in a pool of so many words: passes begin apart
+abbrev pub first_word : ℕ → ℕ → ℕ → ℕ
+first_word own passes words = if nat_lt own passes then own * words / passes else 0
+
+abbrev pub first_hints : Sizes → ℕ → Hints
+first_hints z own = record {
+  leaves = first_word own z.passes (free_words z.leaves);
+  n4 = first_word own z.passes (free_words z.n4);
+  n16 = first_word own z.passes (free_words z.n16);
+  n48 = first_word own z.passes (free_words z.n48);
+  n256 = first_word own z.passes (free_words z.n256);
+}
+
+-- the word of free numbers of the pool at which a search begins
+abbrev pub hint_in : Stock → Pool → ℕ
+hint_in s Leaves = s.hints.leaves
+hint_in s N4 = s.hints.n4
+hint_in s N16 = s.hints.n16
+hint_in s N48 = s.hints.n48
+hint_in s N256 = s.hints.n256
 
 -- the number of a node of the layout
 abbrev pub node_in : Stock → Layout → Option ℕ
@@ -33,7 +59,7 @@ IsIn s (node n) = node_in s n.layout ≡ Some n.number
 
 -- a leaf comes in, whose words are still to be written
 abbrev pub with_leaf : ℕ → Stock → Stock
-with_leaf l s = record s { leaf = Some l; written = false }
+with_leaf l s = record s { leaf = Some l; written = false; hints = record s.hints { leaves = l / 64 } }
 
 -- the number of a node of the layout is this one, or there is none
 abbrev pub set_node : Layout → Option ℕ → Stock → Stock
@@ -42,8 +68,23 @@ set_node Node16 o s = record s { node16 = o }
 set_node Node48 o s = record s { node48 = o }
 set_node Node256 o s = record s { node256 = o }
 
+-- a number of the layout was found in the word of free numbers with this index
+abbrev pub hints_after : Layout → ℕ → Hints → Hints
+hints_after Node4 i h = record h { n4 = i }
+hints_after Node16 i h = record h { n16 = i }
+hints_after Node48 i h = record h { n48 = i }
+hints_after Node256 i h = record h { n256 = i }
+
+abbrev pub hinted : Layout → ℕ → Stock → Stock
+hinted layout i s = record s { hints = hints_after layout i s.hints }
+
+-- a search of its pool begins at the word of this number
+abbrev pub hinted_at : Link → Stock → Stock
+hinted_at (leaf l) s = record s { hints = record s.hints { leaves = l / 64 } }
+hinted_at (node n) s = hinted n.layout (n.number / 64) s
+
 abbrev pub with_number : Layout → ℕ → Stock → Stock
-with_number layout i s = set_node layout (Some i) s
+with_number layout i s = set_node layout (Some i) (hinted layout (i / 64) s)
 
 -- a node comes in
 abbrev pub with_node : Node → Stock → Stock

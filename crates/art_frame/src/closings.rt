@@ -8,7 +8,7 @@ ghost use Rattle.art_epoch.specs.declared.asked.Asked.{Asked as AskedStep};
 ghost use Rattle.art_epoch.specs.declared.asked.Asked.TheVariants.{Note as note};
 ghost use Rattle.art_epoch.specs.declared.limbo.Place.{Place};
 ghost use Rattle.art_frame.specs.Closings.{ClosingFits, IsClosed, MayClose, asks, begins, gives, is_ended, stage_given, steps_left, stock_given};
-ghost use Rattle.art_frame.specs.Stocks.{nothing};
+ghost use Rattle.art_frame.specs.Stocks.{first_in};
 ghost use Rattle.art_frame.specs.declared.closings.Closing.TheVariants.{Giving as giving};
 ghost use Rattle.art_frame.specs.declared.stocks.Stock.{Stock as StockOf};
 ghost use Rattle.art_step.specs.Tokens.{links_of};
@@ -80,7 +80,7 @@ impl Closing {
     pub fn ended(&self) -> bool
         ensures at { result ≡ is_ended self.now }
         ensures closed { (z : Sizes) (k : List ℕ) (value : ℕ) (u v : View) (ps qs : List Place) (us : List LinkOf) (stock : StockOf) →
-            ClosingFits z k value u ps us self.now qs stock v → result ≡ true → IsClosed z u v ps qs us × (stock ≡ nothing) }
+            ClosingFits z k value u ps us self.now qs stock v → result ≡ true → IsClosed z u v ps qs us × (first_in stock ≡ None) }
     {
         match self {
             Closing::Ended => true,
@@ -121,9 +121,6 @@ fn given(stock: &mut Stock) -> Closing
             stock.spend(link);
             Closing::Giving
         }
-        None => {
-            *stock = Stock::new();
-            Closing::Ended
-        }
+        None => Closing::Ended,
     }
 }

@@ -15,7 +15,7 @@ use Rattle.art_step.specs.Views.{size_of, nodes_of, free_index, pool_of, pool_of
 use Rattle.art_cell.specs.Words.{size}
 use Rattle.art_cell.specs.Children.{number_of}
 use Rattle.art_step.specs.WordPlaces.{pool_size, words_each, HasFreeWord, IsInside, is_inside}
-use Rattle.art_step.specs.WordPlaces.{first_cell, cells_end, free_words, first_free_word, epoch_place, word_count, place_of}
+use Rattle.art_step.specs.WordPlaces.{first_cell, cells_end, free_words, first_free_word, free_words_end, word_count, place_of}
 
 -- ---- numbers inside
 
@@ -115,9 +115,9 @@ region_below cell.Anchor = omega arith
 region_below (cell.Leaf l) = omega arith
 region_below (cell.Node n) = elim n.layout as (λ k. region_of k < 6) [ Node4 ↦ omega arith | _ ↦ omega arith ]
 
--- how many words the cells of each region have
+-- how many words the cells of each region have, with the gap after the anchor's
 cell_words : Sizes → List ℕ
-cell_words z = 2 ∷ 10 * z.leaves ∷ 15 * z.n4 ∷ 28 * z.n16 ∷ 90 * z.n48 ∷ 266 * z.n256 ∷ []
+cell_words z = 16 ∷ 10 * z.leaves ∷ 15 * z.n4 ∷ 28 * z.n16 ∷ 90 * z.n48 ∷ 266 * z.n256 ∷ []
 
 cells_stop : (z : Sizes) → start (cell_words z) 6 ≡ cells_end z
 unfolding start cell_words
@@ -194,12 +194,12 @@ rank_below N16 = omega arith
 rank_below N48 = omega arith
 rank_below N256 = omega arith
 
-bits_stop : (z : Sizes) → cells_end z + start (bit_words z) 6 ≡ epoch_place z
+bits_stop : (z : Sizes) → cells_end z + start (bit_words z) 6 ≡ free_words_end z
 unfolding start bit_words
 bits_stop z = omega arith
 
--- the words of free numbers lie after all cells, and before the epoch
-pub free_below : (z : Sizes) (pool : Pool) (i : ℕ) → HasFreeWord z pool i → (cells_end z ≤ first_free_word z pool + i) × (first_free_word z pool + i < epoch_place z)
+-- the words of free numbers lie after all cells, and before the gap in front of the epoch
+pub free_below : (z : Sizes) (pool : Pool) (i : ℕ) → HasFreeWord z pool i → (cells_end z ≤ first_free_word z pool + i) × (first_free_word z pool + i < free_words_end z)
 free_below z pool i low =
     let at = bit_stands z pool i low in
     let up = starts_rise (bit_words z) (1 + pool_rank pool) 6 (rank_below pool) in

@@ -160,13 +160,14 @@ sets_free_word z ws pool i x inside long =
     let at : ℕ = first_free_word z pool + i in
     let us : List ℕ = set ws (first_free_word z pool + i) x in
     let low = free_below z pool i inside in
+    let early : at < epoch_place z = omega (arith, low.1) in
     record {
       here = free_word_found z us pool i inside ∙ get_or-set_same ws at x 0 (omega (arith, long, low.1));
       there = λ q j other. same_free_word z ws us q j (λ within. get_or-set_other ws at (first_free_word z q + j) x 0 (λ e. let same = free_words_apart z q pool j i within inside e in other same.0 same.1));
       version = versions_stay z ws at x low.0;
       words = words_stay z ws at x low.0;
-      epoch = epoch_stays z ws at x low.1;
-      pass_word = pass_words_stay z ws at x low.1;
+      epoch = epoch_stays z ws at x early;
+      pass_word = pass_words_stay z ws at x early;
     }
 
 -- to set the epoch's word sets the epoch alone

@@ -3,7 +3,7 @@ use Rattle.std.specs.Prelude.{ℕ, ◌+◌, ◌-◌, ◌*◌, ◌%◌, ◌^◌, 
 use Rattle.std.specs.List.{range_with_len}
 use Rattle.art_cell.specs.declared.layouts.Pool.TheVariants.{Leaves, N4, N16, N48, N256}
 use Rattle.art_step.specs.declared.views.Sizes.{Sizes}
-use Rattle.art_step.specs.WordPlaces.{cells_end, epoch_place, first_cell, first_free_word, word_count}
+use Rattle.art_step.specs.WordPlaces.{cells_end, epoch_place, first_cell, first_free_word, free_words_end, word_count}
 
 -- the first word of each cell of so many words has this version, and the others are 0
 abbrev pub version_or_zero : ℕ → ℕ → ℕ → ℕ
@@ -31,13 +31,13 @@ opening_free_word z place =
     else first_bits (z.n256 - 64 * (place - first_free_word z N256))
 
 -- the anchor, which is clear and names no root; leaves of zeros; nodes; free numbers; the epoch, which is 1; and
--- the words of the passes, which are idle
+-- the words of the passes, which are idle. In the gaps stands 0.
 abbrev pub opening_word : Sizes → ℕ → ℕ → ℕ
 opening_word z k place =
     if place == 0 then 4 * k
     else if nat_lt place (first_cell z N4) then 0
     else if nat_lt place (cells_end z) then opening_node_word z k place
-    else if nat_lt place (epoch_place z) then opening_free_word z place
+    else if nat_lt place (free_words_end z) then opening_free_word z place
     else if place == epoch_place z then 1
     else 0
 

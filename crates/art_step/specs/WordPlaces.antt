@@ -1,5 +1,6 @@
 -- Where the words of a world stand, in a row: the anchor's, the leaves', the nodes' layout by layout, the words of free numbers
--- pool by pool, the epoch, and the words of the passes.
+-- pool by pool, the epoch, and the words of the passes. The anchor, the epoch and the word of each pass have a gap of words that
+-- nothing reads after them, and so has the last word of free numbers: no two of them share a cache line.
 use Rattle.std.specs.Prelude.{ℕ, ◌+◌, ◌*◌, ◌/◌, ◌<◌, nat_lt, Bool, true, ⊤}
 use Rattle.art_cell.specs.declared.layouts.Layout.TheVariants.{Node4, Node16, Node48, Node256}
 use Rattle.art_cell.specs.declared.layouts.Pool.{Pool}
@@ -27,13 +28,17 @@ words_each N16 = size Node16
 words_each N48 = size Node48
 words_each N256 = size Node256
 
+-- How many words from one word that passes write often to the next: two cache lines of 64 bytes, as processors fetch lines in pairs.
+abbrev pub line_gap : ℕ
+line_gap = 16
+
 -- the place of the first word of a pool's cells
 abbrev pub first_cell : Sizes → Pool → ℕ
-first_cell z Leaves = 2
-first_cell z N4 = 2 + words_each Leaves * z.leaves
-first_cell z N16 = 2 + words_each Leaves * z.leaves + words_each N4 * z.n4
-first_cell z N48 = 2 + words_each Leaves * z.leaves + words_each N4 * z.n4 + words_each N16 * z.n16
-first_cell z N256 = 2 + words_each Leaves * z.leaves + words_each N4 * z.n4 + words_each N16 * z.n16 + words_each N48 * z.n48
+first_cell z Leaves = line_gap
+first_cell z N4 = line_gap + words_each Leaves * z.leaves
+first_cell z N16 = line_gap + words_each Leaves * z.leaves + words_each N4 * z.n4
+first_cell z N48 = line_gap + words_each Leaves * z.leaves + words_each N4 * z.n4 + words_each N16 * z.n16
+first_cell z N256 = line_gap + words_each Leaves * z.leaves + words_each N4 * z.n4 + words_each N16 * z.n16 + words_each N48 * z.n48
 
 -- the place after the last cell
 abbrev pub cells_end : Sizes → ℕ
@@ -51,13 +56,17 @@ first_free_word z N16 = cells_end z + free_words z.leaves + free_words z.n4
 first_free_word z N48 = cells_end z + free_words z.leaves + free_words z.n4 + free_words z.n16
 first_free_word z N256 = cells_end z + free_words z.leaves + free_words z.n4 + free_words z.n16 + free_words z.n48
 
+-- the place after the last word of free numbers
+abbrev pub free_words_end : Sizes → ℕ
+free_words_end z = first_free_word z N256 + free_words z.n256
+
 abbrev pub epoch_place : Sizes → ℕ
-epoch_place z = first_free_word z N256 + free_words z.n256
+epoch_place z = free_words_end z + line_gap
 
 abbrev pub pass_place : Sizes → ℕ → ℕ
-pass_place z p = epoch_place z + 1 + p
+pass_place z p = epoch_place z + line_gap * (1 + p)
 
--- how many words there are
+-- how many words there are, with the gap after the last pass's
 abbrev pub word_count : Sizes → ℕ
 word_count z = pass_place z z.passes
 

@@ -2,7 +2,7 @@
 ghost use Rattle.std.specs.Prelude.{◌≡◌, ◌*◌, ◌+◌, ◌<◌, ◌≤◌, IfOk};
 ghost use Rattle.art_step.specs.OpeningWords.{first_bits, opening_free_word, opening_node_word, opening_word, opening_words, version_or_zero};
 ghost use Rattle.art_step.specs.Views.{last_counter};
-ghost use Rattle.art_step.specs.WordPlaces.{cells_end, epoch_place, first_cell, first_free_word};
+ghost use Rattle.art_step.specs.WordPlaces.{cells_end, first_cell, first_free_word, free_words_end};
 ghost use Rattle.art_cell.specs.declared.layouts.Pool.TheVariants.{Leaves as leaf_pool, N4 as n4_pool};
 
 use crate::{Sizes, pool_of_layout};
@@ -45,7 +45,7 @@ fn node_word(sizes: Sizes, counter_start: u64, place: usize) -> u64
 /// A word of free numbers.
 fn free_word(sizes: Sizes, place: usize) -> u64
     requires from { first_free_word sizes leaf_pool ≤ place }
-    requires before { place < epoch_place sizes }
+    requires before { place < free_words_end sizes }
     ensures { result ≡ opening_free_word sizes place }
 {
     let pool = sizes.pool_of_free_place(place);
@@ -64,7 +64,7 @@ fn opening_word(sizes: Sizes, counter_start: u64, place: usize) -> u64
         0
     } else if place < sizes.cells_end() {
         node_word(sizes, counter_start, place)
-    } else if place < sizes.epoch_place() {
+    } else if place < sizes.free_words_end() {
         free_word(sizes, place)
     } else if place == sizes.epoch_place() {
         1

@@ -1,15 +1,19 @@
 //! Where the words of a world stand: the anchor's, the leaves', the nodes' layout by layout, the words of free numbers pool
-//! by pool, the epoch, and the words of the passes.
+//! by pool, the epoch, and the words of the passes. Each of those that passes write often has cache lines of its own.
 ghost use Rattle.std.specs.Prelude.{◌≡◌, ◌+◌, ◌*◌, ◌<◌, ◌≤◌};
 ghost use Rattle.art_cell.specs.declared.layouts.Pool.TheVariants.{Leaves as leaf_pool, N4 as n4_pool};
 ghost use Rattle.art_cell.specs.Words.{size};
 ghost use Rattle.art_step.specs.Views.{pool_of_layout};
-ghost use Rattle.art_step.specs.WordPlaces.{cells_end, epoch_place, first_cell, first_free_word, free_words, pass_place, place_of, pool_size, word_count};
+ghost use Rattle.art_step.specs.WordPlaces.{cells_end, epoch_place, first_cell, first_free_word, free_words, free_words_end, pass_place, place_of, pool_size, word_count};
 
 use crate::Sizes;
 use art_cell::{Cell, Layout, Pool};
 
+/// How many words from one word that passes write often to the next: two cache lines of 64 bytes, as processors fetch lines in pairs.
+const LINE_GAP: usize = 16;
+
 /// The pool that nodes of the layout come from.
+#[inline(always)]
 pub fn pool_of_layout(layout: Layout) -> Pool
     ensures { result ≡ pool_of_layout layout }
 {
@@ -23,6 +27,7 @@ pub fn pool_of_layout(layout: Layout) -> Pool
 
 impl Sizes {
     /// How many numbers the pool has.
+    #[inline(always)]
     pub fn pool_size(self, pool: Pool) -> u32
         ensures { result ≡ pool_size self pool }
     {
@@ -36,14 +41,15 @@ impl Sizes {
     }
 
     /// The place of the first word of the pool's cells.
+    #[inline(always)]
     pub(crate) fn first_cell(self, pool: Pool) -> usize
         ensures { result ≡ first_cell self pool }
     {
-        let n4 = 2 + 10 * self.leaves as usize;
+        let n4 = LINE_GAP + 10 * self.leaves as usize;
         let n16 = n4 + 15 * self.n4 as usize;
         let n48 = n16 + 28 * self.n16 as usize;
         match pool {
-            Pool::Leaves => 2,
+            Pool::Leaves => LINE_GAP,
             Pool::N4 => n4,
             Pool::N16 => n16,
             Pool::N48 => n48,
@@ -77,12 +83,13 @@ impl Sizes {
     }
 
     /// The place of a cell's first word.
+    #[inline(always)]
     pub fn place_of(self, cell: Cell) -> usize
         ensures { result ≡ place_of self cell }
     {
         match cell {
             Cell::Anchor => 0,
-            Cell::Leaf(number) => 2 + 10 * number as usize,
+            Cell::Leaf(number) => LINE_GAP + 10 * number as usize,
             Cell::Node(node) => {
                 let pool = pool_of_layout(node.layout);
                 self.first_cell(pool) + node.layout.size() * node.number as usize
@@ -91,6 +98,7 @@ impl Sizes {
     }
 
     /// The place of the first word of the pool's free numbers.
+    #[inline(always)]
     pub fn first_free_word(self, pool: Pool) -> usize
         ensures { result ≡ first_free_word self pool }
     {
@@ -109,7 +117,7 @@ impl Sizes {
     /// The pool whose free numbers have a bit in the word at the place.
     pub(crate) fn pool_of_free_place(self, place: usize) -> Pool
         requires from { first_free_word self leaf_pool ≤ place }
-        requires before { place < epoch_place self }
+        requires before { place < free_words_end self }
         ensures from { first_free_word self result ≤ place }
         ensures before { place < first_free_word self result + free_words (pool_size self result) }
     {
@@ -126,11 +134,18 @@ impl Sizes {
         }
     }
 
+    /// The place after the last word of free numbers.
+    pub(crate) fn free_words_end(self) -> usize
+        ensures { result ≡ free_words_end self }
+    {
+        self.first_free_word(Pool::N256) + free_words(self.n256)
+    }
+
     /// The place of the epoch.
     pub fn epoch_place(self) -> usize
         ensures { result ≡ epoch_place self }
     {
-        self.first_free_word(Pool::N256) + free_words(self.n256)
+        self.free_words_end() + LINE_GAP
     }
 
     /// The place of a pass's word.
@@ -138,18 +153,19 @@ impl Sizes {
         requires { pass < self.passes }
         ensures { result ≡ pass_place self pass }
     {
-        self.epoch_place() + 1 + pass
+        self.epoch_place() + LINE_GAP * (1 + pass)
     }
 
     /// How many words there are.
     pub fn word_count(self) -> usize
         ensures { result ≡ word_count self }
     {
-        self.epoch_place() + 1 + self.passes as usize
+        self.epoch_place() + LINE_GAP * (1 + self.passes as usize)
     }
 }
 
 /// How many words have the bits of so many numbers.
+#[inline(always)]
 pub fn free_words(numbers: u32) -> usize
     ensures { result ≡ free_words numbers }
 {

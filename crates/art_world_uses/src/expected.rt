@@ -513,3 +513,25 @@ release n4#0\n\
 epoch\n\
 pin 0\n\
 ";
+
+/// Sixty-four leaves are in use: the word of the last is found empty, and the next has one; a larger node is needed too.
+pub(crate) const INTO_THE_NEXT_WORD: &str = "\
+take leaves word 0\n\
+take leaves word 1\n\
+take leaves word 1 lowest\n\
+take n48 word 0\n\
+take n48 word 0 lowest\n\
+";
+
+/// The next word is where the last leaf was found.
+pub(crate) const WHERE_ONE_WAS_FOUND: &str = "\
+take leaves word 1\n\
+take leaves word 1 lowest\n\
+";
+
+/// A leaf of the first word goes back, and is taken again.
+pub(crate) const WHERE_ONE_WENT_BACK: &str = "\
+give leaves#3\n\
+take leaves word 0\n\
+take leaves word 0 lowest\n\
+";

@@ -1,6 +1,7 @@
 //! Numbers of a pool with more than one free word, and what opens.
 use art_cell::{Link, Pool};
 use art_epoch::{Taking, advance, give, make, take};
+use art_frame::Stock;
 use art_step::{EpochSteps, Number, Sizes, spent};
 use art_world::World;
 use std::process::Abort;
@@ -68,4 +69,27 @@ fn a_number_in_hand_goes_back_and_the_epoch_rises(rt: HostRuntime) -> Result<(),
     advance(&mut stepper);
     assert_eq!(rt; stepper.world.epoch(), 2);
     Ok(())
+}
+
+/// The word of three at which the first search of a pass begins, of so many passes.
+fn check_first_word(rt: &impl Abort, own: u32, passes: u32, wanted: u32) {
+    let sizes = Sizes {
+        leaves: 130,
+        n4: 1,
+        n16: 1,
+        n48: 1,
+        n256: 1,
+        passes,
+    };
+    assert_eq!(rt; Stock::new(own, &sizes).hint(Pool::Leaves), wanted);
+}
+
+#[test]
+fn first_searches_of_passes_begin_apart(rt: HostRuntime) {
+    check_first_word(&rt, 0, 3, 0);
+    check_first_word(&rt, 1, 3, 1);
+    check_first_word(&rt, 2, 3, 2);
+    check_first_word(&rt, 1, 2, 1);
+    check_first_word(&rt, 1, 8, 0);
+    check_first_word(&rt, 7, 8, 2);
 }

@@ -1,5 +1,5 @@
 //! The steps of inserts and removals, one after another, are those that were written down.
-ghost use Rattle.std.specs.Prelude.{◌≡◌};
+ghost use Rattle.std.specs.Prelude.{◌≡◌, ◌<◌};
 ghost use Rattle.art_change.specs.Tries.{IsRoom};
 ghost use Rattle.art_change.specs.Writes.{IsFresh, IsReady};
 ghost use Rattle.art_epoch.specs.Limbo.{places_of};
@@ -9,9 +9,10 @@ ghost use Rattle.art_world.specs.Stepper.{OnlyStepped, sizes_of, view_of};
 use crate::expected;
 use crate::lines::write_line;
 use arrayvec::ArrayString;
-use art_attempt::Room;
-use art_change::{Job, Write, step};
-use art_epoch::Limbo;
+use art_attempt::{Asked as AttemptAsked, Room};
+use art_change::{Asked, Job, Write, step};
+use art_epoch::{Asked as FrameAsked, Limbo};
+use art_gather::Asked as SupplyAsked;
 use art_key::{Key, Schema, encode};
 use art_model::{NoMemory, Tuple, Value};
 use art_step::Sizes;
@@ -29,6 +30,41 @@ const SIZES: Sizes = Sizes {
     passes: 8,
 };
 
+/// Three words of free numbers for the leaves.
+const WIDE: Sizes = Sizes {
+    leaves: 130,
+    n4: 64,
+    n16: 64,
+    n48: 64,
+    n256: 64,
+    passes: 1,
+};
+
+/// Which steps are told.
+#[derive(Clone, Copy)]
+enum Shown {
+    All,
+    /// Those by which a number is looked for, taken or given back.
+    Numbers,
+}
+
+impl Shown {
+    fn has(self, asked: Asked) -> bool {
+        match self {
+            Shown::All => true,
+            Shown::Numbers => is_of_numbers(asked),
+        }
+    }
+}
+
+fn is_of_numbers(asked: Asked) -> bool {
+    match asked {
+        Asked::Frame(FrameAsked::Give(_) | FrameAsked::Free(_)) => true,
+        Asked::Attempt(AttemptAsked::Supply(SupplyAsked::Number(_))) => true,
+        _ => false,
+    }
+}
+
 /// A write of a number: its row comes with this value, or goes.
 type Written = (i128, Option<u64>);
 
@@ -43,6 +79,7 @@ fn steps_of(
     limbo: &mut Limbo,
     key: &Key,
     value: Option<u64>,
+    shown: Shown,
 ) -> Text
     requires sizes { room.old.sizes ≡ sizes_of stepper.old }
     requires ready { IsReady (sizes_of stepper.old) (view_of stepper.old) 0 (places_of limbo.old) room.old.stock }
@@ -53,11 +90,11 @@ fn steps_of(
     match value {
         Some(value) => {
             room.set(key, value);
-            run(rt, stepper, Job::Insert, room, limbo)
+            run(rt, stepper, Job::Insert, room, limbo, shown)
         }
         None => {
             room.set_gone(key);
-            run(rt, stepper, Job::Remove, room, limbo)
+            run(rt, stepper, Job::Remove, room, limbo, shown)
         }
     }
 }
@@ -69,6 +106,7 @@ fn run(
     job: Job,
     room: &mut Room,
     limbo: &mut Limbo,
+    shown: Shown,
 ) -> Text
     requires room { IsRoom (sizes_of stepper.old) job room.old }
     requires ready { IsReady (sizes_of stepper.old) (view_of stepper.old) 0 (places_of limbo.old) room.old.stock }
@@ -84,9 +122,15 @@ fn run(
             return text;
         }
         if let Some(asked) = write.next(room, limbo) {
-            write_line(&mut text, asked).expect(rt, "the text has room");
+            tell(rt, &mut text, asked, shown);
         }
         step(stepper, &mut write, room, limbo);
+    }
+}
+
+fn tell(rt: &impl Abort, text: &mut Text, asked: Asked, shown: Shown) {
+    if shown.has(asked) {
+        write_line(text, asked).expect(rt, "the text has room");
     }
 }
 
@@ -95,7 +139,7 @@ fn empty(sizes: &Sizes) -> (Room, Limbo)
     ensures sizes { result.0.sizes ≡ sizes.now }
     ensures ready { (u : View) → IsFresh sizes.now u 0 → IsReady sizes.now u 0 (places_of result.1) result.0.stock }
 {
-    (Room::new(sizes), Limbo::new())
+    (Room::new(0, sizes), Limbo::new())
 }
 
 /// The key of a number, as the schema spells it.
@@ -112,14 +156,28 @@ fn last_steps(
     schema: &str,
     writes: &[Written],
 ) -> Result<Text, NoMemory> {
-    let mut world = World::open(alloc, &SIZES, 0)?;
+    last_shown(rt, alloc, &SIZES, schema, writes, Shown::All)
+}
+
+/// Those of them that are shown, of a tree with these sizes.
+fn last_shown(
+    rt: &impl Abort,
+    alloc: Global,
+    sizes: &Sizes,
+    schema: &str,
+    writes: &[Written],
+    shown: Shown,
+) -> Result<Text, NoMemory>
+    requires { 0 < sizes.now.passes }
+{
+    let mut world = World::open(alloc, sizes, 0)?;
     let schema = Schema::parse(schema).expect(rt, "a schema");
-    let (mut room, mut limbo) = empty(&SIZES);
+    let (mut room, mut limbo) = empty(sizes);
     let mut stepper = world.at(0);
     let mut text = Text::new();
     for (number, value) in writes {
         let key = key_of(rt, &schema, *number);
-        text = steps_of(rt, &mut stepper, &mut room, &mut limbo, &key, *value);
+        text = steps_of(rt, &mut stepper, &mut room, &mut limbo, &key, *value, shown);
     }
     Ok(text)
 }
@@ -248,4 +306,37 @@ fn a_removal_that_shrinks_a_node16(rt: HostRuntime) -> Result<(), Fail> {
     )?;
     assert_eq!(rt; text.as_str(), expected::THAT_SHRINKS_A_NODE16);
     Ok(())
+}
+
+/// The row with this number, four to a node.
+fn four_to_a_node(number: u8) -> i128 {
+    256 * i128::from(number / 4) + i128::from(number % 4)
+}
+
+/// How numbers are looked for by the last insert of so many rows, and one of the row `gone` is out before it, if there is one.
+fn check_searches(rt: &impl Abort, alloc: Global, rows: usize, gone: Option<u8>, wanted: &str) {
+    let mut writes = [(0, None); 68];
+    for (number, write) in writes.iter_mut().enumerate() {
+        *write = (four_to_a_node(number as u8), Some(1));
+    }
+    if let Some(number) = gone {
+        writes[66] = (four_to_a_node(number), None);
+    }
+    let text = last_shown(
+        rt,
+        alloc,
+        &WIDE,
+        "u16",
+        &writes[..rows.min(68)],
+        Shown::Numbers,
+    );
+    assert_eq!(rt; text.expect(rt, "memory").as_str(), wanted);
+}
+
+#[test]
+fn a_search_begins_where_a_number_was_found_or_went_back(rt: HostRuntime) {
+    let alloc = rt.alloc();
+    check_searches(&rt, alloc, 65, None, expected::INTO_THE_NEXT_WORD);
+    check_searches(&rt, alloc, 67, None, expected::WHERE_ONE_WAS_FOUND);
+    check_searches(&rt, alloc, 68, Some(3), expected::WHERE_ONE_WENT_BACK);
 }

@@ -1,9 +1,10 @@
--- How many words differ, of a stretch of places and of a cell.
-use Rattle.std.proofs.Common.{◌≡◌, ◌≢◌, ℕ, zero, suc, ◌+◌, ◌-◌, ◌<◌, ◌≤◌, Bool, true, false, cond, eqb, List, ◌∷◌, ◌++◌, length, Some, None, refl, ap, ap₂, ◌∙◌, inl, inr, arith, eq-eqb, length-append}
+-- How many words differ, and which, of a stretch of places and of a cell.
+use Rattle.std.proofs.Common.{◌≡◌, ◌≢◌, ℕ, zero, suc, ◌+◌, ◌-◌, ◌<◌, ◌≤◌, Bool, true, false, cond, eqb, List, [], ◌∷◌, ◌++◌, length, Option, Some, None, refl, sym, subst, ap, ap₂, ◌∙◌, inl, inr, arith, eq-eqb, ne_eqb, length-append}
 use Rattle.std.proofs.lemmas.Bool.{cases_eq}
 use Rattle.std.proofs.lemmas.List.Elements.{filter_map-append}
 use Rattle.std.specs.List.{range_with_len, cons_option, filter_map}
 use Rattle.art_cell.specs.declared.layouts.Layout.{Layout}
+use Rattle.art_cell.specs.declared.layouts.Layout.TheVariants.{Node4, Node16, Node48, Node256}
 use Rattle.art_cell.specs.declared.writes.Write.{Write}
 use Rattle.art_cell.specs.Reads.{change_at, changes}
 use Rattle.art_cell.specs.Words.{Words, size}
@@ -76,6 +77,55 @@ module _ (w after : Words) where
       ap (λ (ps : List ℕ). length (filter_map (change_at w after) ps)) (range_both from m n)
       ∙ ap (λ (xs : List Write). length xs) (filter_map-append (change_at w after) (range_with_len from m) (range_with_len (from + m) n))
       ∙ length-append (differing from m) (differing (from + m) n)
+
+  -- ---- which words differ
+
+  no_change : (place : ℕ) → w place ≡ after place → change_at w after place ≡ None
+  no_change place same = ap (λ (b : Bool). cond b None (Some (record { place = place; value = after place }))) (eq-eqb (w place) (after place) same)
+
+  one_change : (place : ℕ) → w place ≢ after place → change_at w after place ≡ Some (record { place = place; value = after place })
+  one_change place other = ap (λ (b : Bool). cond b None (Some (record { place = place; value = after place }))) (ne_eqb (w place) (after place) other)
+
+  nothing_differs : (from n : ℕ) → ((p : ℕ) → from ≤ p → p < from + n → w p ≡ after p) → differing from n ≡ []
+  nothing_differs from zero same = refl
+  nothing_differs from (suc n) same =
+      ap (λ (o : Option Write). cons_option o (differing (from + 1) n)) (no_change from (same from (omega arith) (omega arith)))
+      ∙ nothing_differs (from + 1) n (λ p low high. same p (omega arith) (omega arith))
+
+  -- the words of the list differ, in ascending place, and no others of the stretch
+  abbrev pub AreAll : ℕ → ℕ → List Write → Type 0
+  AreAll from end [] = (p : ℕ) → from ≤ p → p < end → w p ≡ after p
+  AreAll from end (x ∷ xs) =
+      (from ≤ x.place) × (x.place < end) × (x.value ≡ after x.place) × (w x.place ≢ after x.place)
+      × ((p : ℕ) → from ≤ p → p < x.place → w p ≡ after p) × AreAll (x.place + 1) end xs
+
+  differ_from : (n from end : ℕ) (xs : List Write) → from + n ≡ end → AreAll from end xs → differing from n ≡ xs
+  differ_from n from end [] is same = nothing_differs from n (λ p low high. same p low (omega arith))
+  differ_from zero from end (x ∷ xs) is all = absurd (omega (arith, is, all.0, all.1))
+  differ_from (suc n) from end (x ∷ xs) is all =
+      elim (cases_eq from x.place) [
+        | inl here ↦
+            ap (λ (o : Option Write). cons_option o (differing (from + 1) n)) (one_change from (subst (λ (p : ℕ). w p ≢ after p) (sym here) all.3))
+            ∙ ap₂ (λ (y : Write) (ys : List Write). y ∷ ys) (written_at from x here all.2)
+            (differ_from n (from + 1) end xs (omega arith) (subst (λ (p : ℕ). AreAll (p + 1) end xs) (sym here) all.5))
+        | inr other ↦
+            ap (λ (o : Option Write). cons_option o (differing (from + 1) n)) (no_change from (all.4 from (omega arith) (omega (arith, all.0, other))))
+            ∙ differ_from n (from + 1) end (x ∷ xs) (omega arith)
+            (omega (arith, all.0, other), all.1, all.2, all.3, (λ p low high. all.4 p (omega arith) high), all.5)
+      ]
+    where
+      written_at : (p : ℕ) (x : Write) → p ≡ x.place → x.value ≡ after x.place → record { place = p; value = after p } ≡ x
+      written_at p x here value = ap₂ (λ (q v : ℕ). record { place = q; value = v }) here (ap after here ∙ sym value)
+
+  -- of a cell
+  pub exact_changes : (k : Layout) (xs : List Write) → AreAll 1 (size k) xs → xs ≡ changes k w after
+  exact_changes k xs all = sym (differ_from (size k - 1) 1 (size k) xs (some_words k) all)
+    where
+      some_words : (k : Layout) → 1 + (size k - 1) ≡ size k
+      some_words Node4 = omega arith
+      some_words Node16 = omega arith
+      some_words Node48 = omega arith
+      some_words Node256 = omega arith
 
   -- ---- a cell
 

@@ -1,6 +1,6 @@
 -- The steps are those of the machine.
 use Rattle.std.proofs.Common.{◌∙◌, ◌+◌, ℕ, ap, refl, sym, subst}
-use Rattle.art_epoch.specs.Asking.{Answers}
+use Rattle.art_epoch.specs.Asking.{Answers, IsAllowed}
 use Rattle.art_cell.specs.declared.layouts.Pool.{Pool}
 use Rattle.art_epoch.proofs.Searching.{few_looks}
 use Rattle.art_epoch.specs.Taking.{Fits, MadeFew, Takes}
@@ -16,6 +16,7 @@ loop-asked-init g c =
       sizes = refl;
       pool = c.new-taking.ensures.pool;
       words = refl;
+      first = c.new-taking.ensures.first;
       fits = subst (λ (z : Sizes). Fits z (g.S.Steps.view s) c.new-taking.result (g.S.Steps.view s)) c.pool_sizes.ensures (c.new-taking.ensures.fits (g.S.Steps.view s));
     }
 
@@ -31,6 +32,7 @@ loop-asked-preserved g c =
       sizes = g.met.S.Steps.only_sizes t c.make-word.new.steps c.make-word.ensures.only ∙ i.sizes;
       pool = c.told.ensures.pool ∙ i.pool;
       words = c.told.ensures.words ∙ i.words;
+      first = c.told.ensures.first ∙ i.first;
       fits = c.told.ensures.fits z (g.S.Steps.view s) (g.S.Steps.view t) (g.S.Steps.view c.make-word.new.steps) c.in-Some.asked i.fits (sym c.next.ensures.asks ∙ c.in-Some.is) row;
     }
 
@@ -40,7 +42,8 @@ returns-clause-takes g c =
     let t = c.loop-asked.steps in
     let i = c.loop-asked.invariant in
     let z = g.S.Steps.sizes s in
-    subst (λ (p : Pool). Takes z (g.S.Steps.view s) (g.S.Steps.view t) p c.number.result) i.pool (c.number.ensures z (g.S.Steps.view s) (g.S.Steps.view t) i.fits)
+    subst (λ (n : ℕ). Takes z (g.S.Steps.view s) (g.S.Steps.view t) c.args.pool n c.number.result) i.first
+    (subst (λ (p : Pool). Takes z (g.S.Steps.view s) (g.S.Steps.view t) p c.loop-asked.taking.first c.number.result) i.pool (c.number.ensures z (g.S.Steps.view s) (g.S.Steps.view t) i.fits))
 
 pub returns-clause-counted : goal.returns-clause-counted
 returns-clause-counted g c =
@@ -51,3 +54,11 @@ returns-clause-counted g c =
     let words = i.fits.words ∙ ap (λ (p : Pool). free_words (pool_size z p)) i.pool in
     subst (λ (n : ℕ). MadeFew (g.S.Steps.view s) (g.S.Steps.view t) (n + 1)) words
     (few_looks z (g.S.Steps.view s) c.loop-asked.taking (g.S.Steps.view t) i.fits)
+
+pub make-word-requires : goal.make-word-requires
+make-word-requires g c =
+    let s = c.args.steps.now in
+    let t = c.loop-asked.steps in
+    let i = c.loop-asked.invariant in
+    subst (λ (z : Sizes). IsAllowed z (g.S.Steps.view t) c.in-Some.asked) (sym i.sizes)
+    (c.in-Some.ensures.allowed (g.S.Steps.sizes s) (g.S.Steps.view s) (g.S.Steps.view t) i.fits)

@@ -9,6 +9,7 @@ invariant-loop-asked g l = record {
   sizes : g.S.Steps.sizes l.steps ≡ g.S.Steps.sizes l.initial.steps;
   pool : l.taking.pool ≡ l.fn.pool;
   words : l.taking.words ≡ l.initial.taking.words;
+  first : l.taking.first ≡ 0;
   fits : Fits (g.S.Steps.sizes l.initial.steps) (g.S.Steps.view l.initial.steps) l.taking (g.S.Steps.view l.steps);
 }
 

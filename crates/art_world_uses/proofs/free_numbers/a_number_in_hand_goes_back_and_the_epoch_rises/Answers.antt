@@ -28,8 +28,8 @@ may_give z v w pool n none only took = record {
 pub give-requires : goal.give-requires
 give-requires g c =
     let s = c.at-stepper.result in
-    let took = subst (λ (o : Option Number). Takes (sizes_of s) (view_of s) (view_of c.take.new.steps) pool.N4 o) c.expect-taken.ensures c.take.ensures.takes in
-    may_give (sizes_of s) (view_of s) (view_of c.take.new.steps) pool.N4 c.expect-taken.result none c.take.ensures.same took
+    let took = subst (λ (o : Option Number). Takes (sizes_of s) (view_of s) (view_of c.take.new.steps) pool.N4 0 o) c.expect-taken.ensures c.take.ensures.takes in
+    may_give (sizes_of s) (view_of s) (view_of c.take.new.steps) pool.N4 c.expect-taken.result none c.take.ensures.same took.took
   where
     none : (view_of c.at-stepper.result).held ≡ []
     none = search rules

@@ -1,6 +1,6 @@
 -- The steps are those of the machine.
 use Rattle.std.proofs.Common.{◌∙◌, refl, sym, subst}
-use Rattle.art_epoch.specs.Asking.{Answers}
+use Rattle.art_epoch.specs.Asking.{Answers, IsAllowed}
 use Rattle.art_epoch.specs.Taking.{Fits}
 use Rattle.art_step.specs.declared.views.Sizes.{Sizes}
 use Rattle.art_world_uses.proofs.free_numbers.counted_take.Goals as goal
@@ -26,3 +26,11 @@ loop-asked-preserved g c =
       words = c.told.ensures.words ∙ i.words;
       fits = c.told.ensures.fits z (g.S.Steps.view s) (g.S.Steps.view t) (g.S.Steps.view c.make-word.new.steps) c.in-Some.asked i.fits (sym c.next.ensures.asks ∙ c.in-Some.is) row;
     }
+
+pub make-word-requires : goal.make-word-requires
+make-word-requires g c =
+    let s = c.args.steps.now in
+    let t = c.loop-asked.steps in
+    let i = c.loop-asked.invariant in
+    subst (λ (z : Sizes). IsAllowed z (g.S.Steps.view t) c.in-Some.asked) (sym i.sizes)
+    (c.in-Some.ensures.allowed (g.S.Steps.sizes s) (g.S.Steps.view s) (g.S.Steps.view t) i.fits)

@@ -11,5 +11,5 @@ after-self-requires c = let k = c.requires in is_search k.0 k.1 c.args.self.now 
 
 pub returns-clause-fits : goal.returns-clause-fits
 returns-clause-fits c = λ z v0 v w a fits asked row.
-    subst (λ (s : Search). Fits z v0 (record { pool = c.args.self.now.pool; words = c.args.self.now.words; search = s }) w) (sym c.after-self.ensures)
+    subst (λ (s : Search). Fits z v0 (record { pool = c.args.self.now.pool; words = c.args.self.now.words; first = c.args.self.now.first; search = s }) w) (sym c.after-self.ensures)
     (told_fits z v0 c.args.self.now v w a c.args.word (omega arith) fits asked row)
