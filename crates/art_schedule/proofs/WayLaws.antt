@@ -3,7 +3,8 @@ use Rattle.std.proofs.Common.{◌≡◌, ◌≢◌, ℕ, ◌+◌, ◌*◌, ◌<�
 use Rattle.std.specs.Io.KnownBytes.{Appends, Consumes, Keeps}
 use Rattle.std.specs.List.{range_with_len}
 use Rattle.std.proofs.KnownBytes.{Appends-nil, Appends-trans, Consumes-nil, Consumes-trans, Consumes-kept}
-use Rattle.std.proofs.lemmas.List.{length-map, map-append}
+use Rattle.std.proofs.lemmas.List.{length-map, map-append, take_more}
+use Rattle.std.proofs.lemmas.List.Elements.{All-cons, All-nil}
 use Rattle.std.proofs.lemmas.List.FromFn.{length-map-range_with_len, map-range_with_len_more, take-map-range_with_len}
 use Rattle.art_schedule.specs.Desks.{Places}
 use Rattle.art_schedule.specs.Lines.{line_order}
@@ -18,8 +19,17 @@ use Rattle.art_schedule.specs.declared.seats.Seat.TheVariants.{Idle}
 use Rattle.art_table.specs.declared.passes.Pass.{Pass}
 use Rattle.art_table.specs.declared.tables.Table.{Table}
 use Rattle.art_server.specs.Streams.{last_part, lines_of, whole_lines}
-use Rattle.art_server.proofs.StreamLaws.{front_at, length-whole_lines, lines_fed, lines_of-append, lines_of-last, lines_of-short, part_fed, part_none, piece_at, split_lines-other, take_more_kept}
+use Rattle.art_server.proofs.StreamLaws.{length-whole_lines, lines_fed, lines_of-append, lines_of-last, lines_of-short, part_fed, part_none, split_lines-part, take_more_kept}
 use Rattle.art_schedule.proofs.TaskLaws.{DoesAll-append, DoesAll-push, StopsAt-later, line_order-take}
+
+-- the bytes of a piece up to one of them, and behind it
+front_at : (bytes : List ℕ) (i b : ℕ) → i < length bytes → get_or bytes i 0 ≡ b → take i bytes ++ b ∷ [] ≡ take (i + 1) bytes
+front_at bytes i b within is = sym (take_more bytes i 0 within ∙ ap (λ (x : ℕ). take i bytes ++ x ∷ []) is)
+
+piece_at : (bytes : List ℕ) (i b : ℕ) → i < length bytes → get_or bytes i 0 ≡ b → bytes ≡ (take i bytes ++ b ∷ []) ++ drop (i + 1) bytes
+piece_at bytes i b within is =
+    sym (take-append-drop (i + 1) bytes)
+    ∙ ap (λ (t : List ℕ). t ++ drop (i + 1) bytes) (sym (front_at bytes i b within is))
 
 same_order : (line part : List ℕ) → line ≡ take 4097 part → line_order part ≡ line_order line
 same_order line part kept = sym (line_order-take part) ∙ ap line_order (sym kept)
@@ -92,7 +102,7 @@ module _ (t : Table) where
       → IsUnderWay t taken sent start p count line
       → IsUnderWay t (taken ++ b ∷ []) sent start p count (take 4097 (line ++ b ∷ []))
   under_way_longer taken sent start p count line b other way =
-      let split = split_lines-other taken b other in
+      let split = split_lines-part taken (b ∷ []) (All-cons (λ (c : ℕ). c ≢ 10) b [] other (All-nil (λ (c : ℕ). c ≢ 10))) in
       let lines : whole_lines (taken ++ b ∷ []) ≡ whole_lines taken = ap (λ (s : List (List ℕ) × List ℕ). s.0) split in
       let part : last_part (taken ++ b ∷ []) ≡ last_part taken ++ b ∷ [] = ap (λ (s : List (List ℕ) × List ℕ). s.1) split in
       record {
@@ -100,7 +110,7 @@ module _ (t : Table) where
         count_is = way.count_is ∙ ap (length {A = List ℕ}) (sym lines);
         kept =
             ap (λ (l : List ℕ). take 4097 (l ++ b ∷ [])) way.kept
-            ∙ take_more_kept 4097 (last_part taken) b
+            ∙ take_more_kept 4097 (last_part taken) (b ∷ [])
             ∙ ap (take 4097) (sym part);
       }
 

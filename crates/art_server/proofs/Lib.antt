@@ -1,6 +1,9 @@
 pub mod LineLaws
+pub mod NumberLaws
+pub mod TokenLaws
 pub mod TupleLaws
 pub mod ReplyLaws
+pub mod TextLaws
 pub mod Printable
 pub mod EndingLaws
 pub mod StreamLaws

@@ -1,5 +1,5 @@
 -- How the replies and their texts go on with one line more, and what stands at a session's end.
-use Rattle.std.proofs.Common.{◌≡◌, ℕ, ◌+◌, Bool, true, false, List, [], ◌∷◌, ◌++◌, length, take, Result, Ok, Err, refl, sym, subst, ap, ◌∙◌, arith, append_assoc, append-nil, length-append, add-zero}
+use Rattle.std.proofs.Common.{◌≡◌, ℕ, ◌+◌, Bool, true, false, List, [], ◌∷◌, ◌++◌, length, take, drop, take-append-drop, Result, Ok, Err, refl, sym, subst, ap, ◌∙◌, arith, append_assoc, append-nil, length-append, add-zero}
 use Rattle.std.proofs.lemmas.List.{take_at, take_all, length_push}
 use Rattle.std.proofs.lemmas.List.Concat.{flat_map-append}
 use Rattle.art_model.specs.declared.commands.Command.{Command}
@@ -9,6 +9,7 @@ use Rattle.art_table.specs.declared.tables.Table.{Table}
 use Rattle.art_server.specs.declared.lines.LineFault.{LineFault}
 use Rattle.art_server.specs.declared.refusals.Refusal.{Refusal}
 use Rattle.art_server.specs.declared.sessions.EndCause.{EndCause}
+use Rattle.art_server.specs.declared.sessions.EndCause.TheVariants.{WriteFault}
 use Rattle.art_server.specs.Lines.{line_says}
 use Rattle.art_server.specs.Refusals.{line_refusal}
 use Rattle.art_server.specs.Replies.{text_of_reply}
@@ -44,6 +45,13 @@ module _ (t : Table) where
   unfolding AnswersLine
   AnswersLine-take line p reply q answers =
       subst (λ (r : Result Command LineFault). AnswersSaid t r p reply q) (line_says-take line) answers
+
+  -- and the other way round
+  pub AnswersLine-front : (line : List ℕ) (p : Pass) (reply : Result Reply Refusal) (q : Pass) → AnswersLine t line p reply q
+      → AnswersLine t (take 4097 line) p reply q
+  unfolding AnswersLine
+  AnswersLine-front line p reply q answers =
+      subst (λ (r : Result Command LineFault). AnswersSaid t r p reply q) (sym (line_says-take line)) answers
 
   -- ---- one line more
 
@@ -132,4 +140,22 @@ module _ (t : Table) where
               ∙ sym (texts-push replies reply),
         );
         whole = λ other. ap (λ (w : List ℕ). sent ++ w) (cut.whole other) ∙ append-nil sent ∙ text;
+      }
+
+  -- lines from the front are answered, and the last reply counts as cut at its end
+  pub AnswersFront-last : (lines extra all : List (List ℕ)) (written : List ℕ) (p q : Pass) (n : ℕ) (replies : List (Result Reply Refusal))
+      → all ≡ lines ++ extra → n + 1 ≡ length lines → AnswersLines t lines p replies q → written ≡ texts replies
+      → AnswersFront t all written p q (record { why = WriteFault; answered = n; pending = true })
+  AnswersFront-last lines extra all written p q n replies split count answers sent =
+      let front : take (n + 1) all ≡ lines = ap (take (n + 1)) split ∙ take_at lines extra (n + 1) (sym count) in
+      record {
+        within = omega (arith, ap (length {A = List ℕ}) split, length-append lines extra);
+        replies = replies;
+        answers = subst (λ (l : List (List ℕ)). AnswersLines t l p replies q) (sym front) answers;
+        answered = (
+          texts (drop n replies),
+          sent ∙ ap texts (sym (take-append-drop n replies)) ∙ flat_map-append text_of_reply (take n replies) (drop n replies),
+        );
+        begins = ([], append-nil written ∙ sent);
+        whole = λ other. absurd (other refl);
       }

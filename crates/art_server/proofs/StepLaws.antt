@@ -1,8 +1,9 @@
 -- How a session under way goes on, and how it ends.
-use Rattle.std.proofs.Common.{◌≡◌, ◌≢◌, ℕ, ◌+◌, ◌<◌, Bool, true, false, List, [], ◌∷◌, ◌++◌, length, get_or, take, drop, Option, Result, Ok, Err, refl, sym, ap, subst, ◌∙◌, arith, append_assoc, append-nil, length-append}
+use Rattle.std.proofs.Common.{◌≡◌, ℕ, ◌+◌, ◌-◌, ◌<◌, Bool, true, false, List, [], ◌∷◌, ◌++◌, length, take, drop, Option, Result, Ok, Err, refl, sym, ap, subst, ◌∙◌, arith, append_assoc, append-nil, length-append}
 use Rattle.std.proofs.lemmas.List.{length_push}
-use Rattle.std.specs.Io.KnownBytes.{Appends}
-use Rattle.std.proofs.KnownBytes.{Appends-nil, Appends-trans}
+use Rattle.std.specs.Io.KnownBytes.{Appends, Keeps}
+use Rattle.std.proofs.KnownBytes.{Appends-nil, Appends-trans, Appends-kept}
+use Rattle.memchr.specs.Find.{Nowhere, NoneBefore, Passes, is_byte}
 use Rattle.art_model.specs.declared.commands.Reply.{Reply}
 use Rattle.art_table.specs.declared.passes.Pass.{Pass}
 use Rattle.art_table.specs.declared.tables.Table.{Table}
@@ -13,9 +14,9 @@ use Rattle.art_server.specs.declared.sessions.SessionEnd.{SessionEnd}
 use Rattle.art_server.specs.declared.sessions.Stop.{Stop}
 use Rattle.art_server.specs.Sessions.{AnswersLine, AnswersLines, texts, AnswersFront, EndsBy}
 use Rattle.art_server.specs.Steps.{StopsBy, SendsReply, SendsText, AnswersOrStops, AnswersWhole, IsReplyCut, IsCutShort, SendsLine, IsUnderWay, TakesBytes, EndsSession, StopsAmong, Finishes}
-use Rattle.art_server.specs.Streams.{whole_lines, last_part, lines_of}
-use Rattle.art_server.proofs.SessionLaws.{AnswersLine-take, AnswersLines-push, texts-push, AnswersFront-whole, AnswersFront-cut}
-use Rattle.art_server.proofs.StreamLaws.{split_lines-other, lines_of-append, lines_fed, part_fed, lines_of-last, lines_of-short, part_none, take_more_kept, piece_at, front_at}
+use Rattle.art_server.specs.Streams.{whole_lines, last_part, last_line, lines_of, HasNoFeed}
+use Rattle.art_server.proofs.SessionLaws.{AnswersLine-take, AnswersLine-front, AnswersLines-push, texts-push, AnswersFront-whole, AnswersFront-cut, AnswersFront-last}
+use Rattle.art_server.proofs.StreamLaws.{split_lines-part, lines_of-append, lines_fed, part_fed, lines_of-last, lines_of-short, part_none, take_more_kept, no_feed, no_feed-before, piece_at}
 
 one_more : (lines extra all : List (List ℕ)) (line : List ℕ) (n : ℕ) → all ≡ (lines ++ line ∷ []) ++ extra → n ≡ length lines
     → n < length all
@@ -94,23 +95,23 @@ module _ (t : Table) where
         kept = ap (take 4097) (sym (part_fed taken));
       }
 
-  -- another byte
-  under_way_longer : (taken sent : List ℕ) (start p : Pass) (answered : ℕ) (line : List ℕ) (b : ℕ) → b ≢ 10
+  -- bytes with no line feed
+  under_way_longer : (taken sent : List ℕ) (start p : Pass) (answered : ℕ) (line part : List ℕ) → HasNoFeed part
       → IsUnderWay t taken sent start p answered line
-      → IsUnderWay t (taken ++ b ∷ []) sent start p answered (take 4097 (line ++ b ∷ []))
-  under_way_longer taken sent start p answered line b other way =
-      let split = split_lines-other taken b other in
-      let lines : whole_lines (taken ++ b ∷ []) ≡ whole_lines taken = ap (λ (s : List (List ℕ) × List ℕ). s.0) split in
-      let part : last_part (taken ++ b ∷ []) ≡ last_part taken ++ b ∷ [] = ap (λ (s : List (List ℕ) × List ℕ). s.1) split in
+      → IsUnderWay t (taken ++ part) sent start p answered (take 4097 (line ++ part))
+  under_way_longer taken sent start p answered line part none way =
+      let split = split_lines-part taken part none in
+      let lines : whole_lines (taken ++ part) ≡ whole_lines taken = ap (λ (s : List (List ℕ) × List ℕ). s.0) split in
+      let last : last_part (taken ++ part) ≡ last_part taken ++ part = ap (λ (s : List (List ℕ) × List ℕ). s.1) split in
       record {
         replies = way.replies;
         answers = subst (λ (l : List (List ℕ)). AnswersLines t l start way.replies p) (sym lines) way.answers;
         text = way.text;
         count = way.count ∙ ap (length {A = List ℕ}) (sym lines);
         kept =
-            ap (λ (l : List ℕ). take 4097 (l ++ b ∷ [])) way.kept
-            ∙ take_more_kept 4097 (last_part taken) b
-            ∙ ap (take 4097) (sym part);
+            ap (λ (l : List ℕ). take 4097 (l ++ part)) way.kept
+            ∙ take_more_kept 4097 (last_part taken) part
+            ∙ ap (take 4097) (sym last);
       }
 
   pub TakesBytes-nil : (held : Option (List ℕ)) (p : Pass) (answered : ℕ) (line : List ℕ)
@@ -141,20 +142,31 @@ module _ (t : Table) where
         (append_assoc sent before.written written) fed);
   }
 
-  -- the bytes go on with another byte
-  TakesBytes-other : (bytes : List ℕ) (b : ℕ) (held held_after : Option (List ℕ)) (p q : Pass) (answered count : ℕ)
-      (line line_after line_more : List ℕ)
-      → TakesBytes t bytes held held_after p q answered count line line_after → b ≢ 10 → line_more ≡ take 4097 (line_after ++ b ∷ [])
-      → TakesBytes t (bytes ++ b ∷ []) held held_after p q answered count line line_more
-  TakesBytes-other bytes b held held_after p q answered count line line_after line_more before other is = record {
+  -- the bytes go on with some that hold no line feed
+  TakesBytes-part : (bytes part : List ℕ) (held held_after : Option (List ℕ)) (p q : Pass) (answered count : ℕ) (line line_after : List ℕ)
+      → TakesBytes t bytes held held_after p q answered count line line_after → HasNoFeed part
+      → TakesBytes t (bytes ++ part) held held_after p q answered count line (take 4097 (line_after ++ part))
+  TakesBytes-part bytes part held held_after p q answered count line line_after before none = record {
     written = before.written;
     appends = before.appends;
     reaches = λ taken sent start way.
-        let longer = under_way_longer (taken ++ bytes) (sent ++ before.written) start q count line_after b other
-        (before.reaches taken sent start way) in
-        subst (λ (l : List ℕ). IsUnderWay t l (sent ++ before.written) start q count line_more) (append_assoc taken bytes (b ∷ []))
-        (subst (IsUnderWay t ((taken ++ bytes) ++ b ∷ []) (sent ++ before.written) start q count) (sym is) longer);
+        subst (λ (l : List ℕ). IsUnderWay t l (sent ++ before.written) start q count (take 4097 (line_after ++ part)))
+        (append_assoc taken bytes part)
+        (under_way_longer (taken ++ bytes) (sent ++ before.written) start q count line_after part none
+        (before.reaches taken sent start way));
   }
+
+  -- what was written stays so
+  pub TakesBytes-kept : (bytes : List ℕ) (held held_mid held_after : Option (List ℕ)) (p q : Pass) (answered count : ℕ)
+      (line line_after : List ℕ)
+      → TakesBytes t bytes held held_mid p q answered count line line_after → Keeps held_mid held_after
+      → TakesBytes t bytes held held_after p q answered count line line_after
+  TakesBytes-kept bytes held held_mid held_after p q answered count line line_after before keeps =
+      record {
+        written = before.written;
+        appends = Appends-kept held held_mid held_after before.written before.appends keeps;
+        reaches = before.reaches;
+      }
 
   -- ---- the end
 
@@ -260,41 +272,156 @@ module _ (t : Table) where
         );
   }
 
+  -- the last line had no line feed, and its reply was not flushed
+  pub Finishes-unflushed : (held held_after : Option (List ℕ)) (p q : Pass) (answered : ℕ) (line : List ℕ) → 0 < length line
+      → (written : List ℕ) → Appends held held_after written → AnswersWhole t line written p q
+      → Finishes t held held_after p q answered line (record { why = WriteFault; answered = answered; pending = true })
+  Finishes-unflushed held held_after p q answered line some written appends whole =
+      Finishes-cut held held_after p q answered line (record { why = WriteFault; pending = true }) some written appends (record {
+        begins = record { reply = whole.reply; answers = whole.answers; front = ([], append-nil written ∙ whole.text) };
+        whole = λ other. absurd (other refl);
+        cause = refl;
+      })
+
+  -- the replies to the lines of some bytes were not flushed
+  pub StopsAmong-unflushed : (bytes : List ℕ) (held held_mid held_after : Option (List ℕ)) (p q : Pass) (answered count : ℕ)
+      (line line_after : List ℕ) (end : SessionEnd)
+      → TakesBytes t bytes held held_mid p q answered count line line_after → Keeps held_mid held_after → answered < count
+      → end ≡ record { why = WriteFault; answered = count - 1; pending = true }
+      → StopsAmong t bytes held held_after p q answered line end
+  StopsAmong-unflushed bytes held held_mid held_after p q answered count line line_after end before keeps some is =
+      let last : SessionEnd = record { why = WriteFault; answered = count - 1; pending = true } in
+      subst (StopsAmong t bytes held held_after p q answered line) (sym is) (record {
+        written = before.written;
+        appends = Appends-kept held held_mid held_after before.written before.appends keeps;
+        cause = refl;
+        reaches = λ taken sent start way.
+            let reached = before.reaches taken sent start way in
+            let lines = whole_lines (taken ++ bytes) in
+            let rest = last_line (last_part (taken ++ bytes)) in
+            let many : (count - 1) + 1 ≡ length lines = omega (arith, reached.count) in (
+              AnswersFront-last t lines rest (lines_of (taken ++ bytes)) (sent ++ before.written) start q (count - 1) reached.replies refl
+                  many reached.answers reached.text,
+              refl,
+            );
+      })
+
+  -- what was written before a stop stays so
+  pub StopsAmong-kept : (bytes : List ℕ) (held held_mid held_after : Option (List ℕ)) (p q : Pass) (answered : ℕ) (line : List ℕ)
+      (end : SessionEnd)
+      → StopsAmong t bytes held held_mid p q answered line end → Keeps held_mid held_after
+      → StopsAmong t bytes held held_after p q answered line end
+  StopsAmong-kept bytes held held_mid held_after p q answered line end stops keeps =
+      record {
+        written = stops.written;
+        appends = Appends-kept held held_mid held_after stops.written stops.appends keeps;
+        cause = stops.cause;
+        reaches = stops.reaches;
+      }
+
+  -- ---- a line of a piece
+
+  -- what a line is answered its front is
+  front_whole : (line written : List ℕ) (p q : Pass) → AnswersWhole t line written p q → AnswersWhole t (take 4097 line) written p q
+  front_whole line written p q whole =
+      record { reply = whole.reply; answers = AnswersLine-front t line p whole.reply q whole.answers; text = whole.text }
+
+  front_stops : (line written : List ℕ) (p q : Pass) (why : EndCause) (pending : Bool)
+      → IsCutShort t line written p q (record { why = why; pending = pending })
+      → IsCutShort t (take 4097 line) written p q (record { why = why; pending = pending })
+  front_stops line written p q why true cut =
+      let last = cut.begins in
+      record {
+        begins = record { reply = last.reply; answers = AnswersLine-front t line p last.reply q last.answers; front = last.front };
+        whole = cut.whole;
+        cause = cut.cause;
+      }
+  front_stops line written p q why false cut = record { begins = cut.begins; whole = cut.whole; cause = cut.cause }
+
+  -- where the bytes go on with a line, it is answered
+  pub TakesBytes-line : {A : Type 0} (bytes part : List ℕ) (held held_mid held_after : Option (List ℕ)) (p m q : Pass)
+      (answered count : ℕ) (line line_mid line_after : List ℕ) (a : A)
+      → TakesBytes t bytes held held_mid p m answered count line line_mid → HasNoFeed part
+      → SendsLine t (line_mid ++ part) held_mid held_after m q (Ok a) → line_after ≡ []
+      → TakesBytes t ((bytes ++ part) ++ 10 ∷ []) held held_after p q answered (count + 1) line line_after
+  TakesBytes-line bytes part held held_mid held_after p m q answered count line line_mid line_after a before none sends empty =
+      subst (λ (l : List ℕ). TakesBytes t ((bytes ++ part) ++ 10 ∷ []) held held_after p q answered (count + 1) line l) (sym empty)
+      (TakesBytes-feed (bytes ++ part) held held_mid held_after p m q answered count line (take 4097 (line_mid ++ part))
+      (TakesBytes-part bytes part held held_mid p m answered count line line_mid before none)
+      sends.written sends.appends (front_whole (line_mid ++ part) sends.written m q sends.answers))
+
+  -- where the bytes go on with a line, it stops the session
+  pub StopsAmong-line : {A : Type 0} (bytes part more : List ℕ) (held held_mid held_after : Option (List ℕ)) (p m q : Pass)
+      (answered count : ℕ) (line line_mid : List ℕ) (stop : Stop) (end : SessionEnd)
+      → TakesBytes t bytes held held_mid p m answered count line line_mid → HasNoFeed part
+      → SendsLine {A = A} t (line_mid ++ part) held_mid held_after m q (Err stop)
+      → end ≡ record { why = stop.why; answered = count; pending = stop.pending }
+      → StopsAmong t (((bytes ++ part) ++ 10 ∷ []) ++ more) held held_after p q answered line end
+  StopsAmong-line bytes part more held held_mid held_after p m q answered count line line_mid stop end before none sends is =
+      subst (StopsAmong t (((bytes ++ part) ++ 10 ∷ []) ++ more) held held_after p q answered line) (sym is)
+      (StopsAmong-feed (bytes ++ part) more held held_mid held_after p m q answered count line (take 4097 (line_mid ++ part)) stop
+      (TakesBytes-part bytes part held held_mid p m answered count line line_mid before none)
+      sends.written sends.appends (front_stops (line_mid ++ part) sends.written m q stop.why stop.pending sends.answers))
+
   -- ---- the bytes of a piece
 
-  -- at a line feed the line is answered
-  pub TakesBytes-at_feed : {A : Type 0} (bytes : List ℕ) (i : ℕ) (held held_mid held_after : Option (List ℕ)) (p m q : Pass)
-      (answered count : ℕ) (line line_mid line_after : List ℕ) (a : A)
-      → i < length bytes → get_or bytes i 0 ≡ 10 → TakesBytes t (take i bytes) held held_mid p m answered count line line_mid
-      → SendsLine t line_mid held_mid held_after m q (Ok a) → line_after ≡ []
-      → TakesBytes t (take (i + 1) bytes) held held_after p q answered (count + 1) line line_after
-  TakesBytes-at_feed bytes i held held_mid held_after p m q answered count line line_mid line_after a within feed before sends none =
-      let more = TakesBytes-feed (take i bytes) held held_mid held_after p m q answered count line line_mid before sends.written
-      sends.appends sends.answers in
-      subst (λ (l : List ℕ). TakesBytes t (take (i + 1) bytes) held held_after p q answered (count + 1) line l) (sym none)
-      (subst (λ (l : List ℕ). TakesBytes t l held held_after p q answered (count + 1) line []) (front_at bytes i 10 within feed) more)
+  -- a front of the bytes was taken, and these are left
+  pub record HasTaken (bytes rest : List ℕ) (held held_after : Option (List ℕ)) (p q : Pass) (answered count : ℕ)
+      (line line_after : List ℕ) : Type 0 where
+    pub front : List ℕ
+    pub split : bytes ≡ front ++ rest
+    pub takes : TakesBytes t front held held_after p q answered count line line_after
 
-  -- at another byte the line goes on
-  pub TakesBytes-at_other : (bytes : List ℕ) (i : ℕ) (held held_after : Option (List ℕ)) (p q : Pass) (answered count : ℕ)
-      (line line_mid line_after : List ℕ)
-      → i < length bytes → (get_or bytes i 0 ≡ 10 → ⊥) → TakesBytes t (take i bytes) held held_after p q answered count line line_mid
-      → line_after ≡ take 4097 (line_mid ++ get_or bytes i 0 ∷ [])
-      → TakesBytes t (take (i + 1) bytes) held held_after p q answered count line line_after
-  TakesBytes-at_other bytes i held held_after p q answered count line line_mid line_after within other before is =
-      subst (λ (l : List ℕ). TakesBytes t l held held_after p q answered count line line_after)
-      (front_at bytes i (get_or bytes i 0) within refl)
-      (TakesBytes-other (take i bytes) (get_or bytes i 0) held held_after p q answered count line line_mid line_after before other is)
+  pub HasTaken-none : (bytes : List ℕ) (held : Option (List ℕ)) (p : Pass) (answered : ℕ) (line : List ℕ)
+      → HasTaken bytes bytes held held p p answered answered line line
+  HasTaken-none bytes held p answered line = record { front = []; split = refl; takes = TakesBytes-nil held p answered line }
+
+  -- the bytes left at their first line feed
+  at_feed : (bytes front rest : List ℕ) (end : ℕ) → bytes ≡ front ++ rest → end < length rest → Passes (is_byte 10) rest end
+      → bytes ≡ ((front ++ take end rest) ++ 10 ∷ []) ++ drop (end + 1) rest
+  at_feed bytes front rest end split within passes =
+      split
+      ∙ ap (λ (l : List ℕ). front ++ l) (piece_at rest end within passes)
+      ∙ sym (append_assoc front (take end rest ++ 10 ∷ []) (drop (end + 1) rest))
+      ∙ ap (λ (l : List ℕ). l ++ drop (end + 1) rest) (sym (append_assoc front (take end rest) (10 ∷ [])))
+
+  -- at a line feed the line is answered
+  pub HasTaken-feed : {A : Type 0} (bytes rest : List ℕ) (end : ℕ) (held held_mid held_after : Option (List ℕ)) (p m q : Pass)
+      (answered count : ℕ) (line line_mid line_after : List ℕ) (a : A)
+      → HasTaken bytes rest held held_mid p m answered count line line_mid
+      → NoneBefore (Passes (is_byte 10) rest) 0 (length rest) end → Passes (is_byte 10) rest end
+      → SendsLine t (line_mid ++ take end rest) held_mid held_after m q (Ok a) → line_after ≡ []
+      → HasTaken bytes (drop (end + 1) rest) held held_after p q answered (count + 1) line line_after
+  HasTaken-feed bytes rest end held held_mid held_after p m q answered count line line_mid line_after a has first passes sends none =
+      record {
+        front = (has.front ++ take end rest) ++ 10 ∷ [];
+        split = at_feed bytes has.front rest end has.split first.high passes;
+        takes = TakesBytes-line has.front (take end rest) held held_mid held_after p m q answered count line line_mid line_after a
+            has.takes (no_feed-before rest end first) sends none;
+      }
 
   -- at a line feed the line stops the session
-  pub StopsAmong-at_feed : {A : Type 0} (bytes : List ℕ) (i : ℕ) (held held_mid held_after : Option (List ℕ)) (p m q : Pass)
-      (answered count : ℕ) (line line_mid : List ℕ) (stop : Stop) (end : SessionEnd)
-      → i < length bytes → get_or bytes i 0 ≡ 10 → TakesBytes t (take i bytes) held held_mid p m answered count line line_mid
-      → SendsLine {A = A} t line_mid held_mid held_after m q (Err stop)
-      → end ≡ record { why = stop.why; answered = count; pending = stop.pending }
-      → StopsAmong t bytes held held_after p q answered line end
-  StopsAmong-at_feed bytes i held held_mid held_after p m q answered count line line_mid stop end within feed before sends is =
-      let stops = StopsAmong-feed (take i bytes) (drop (i + 1) bytes) held held_mid held_after p m q answered count line line_mid stop
-      before sends.written sends.appends sends.answers in
-      subst (StopsAmong t bytes held held_after p q answered line) (sym is)
-      (subst (λ (l : List ℕ). StopsAmong t l held held_after p q answered line
-      (record { why = stop.why; answered = count; pending = stop.pending })) (sym (piece_at bytes i 10 within feed)) stops)
+  pub StopsAmong-at_feed : {A : Type 0} (bytes rest : List ℕ) (end : ℕ) (held held_mid held_after : Option (List ℕ)) (p m q : Pass)
+      (answered count : ℕ) (line line_mid : List ℕ) (stop : Stop) (why : SessionEnd)
+      → HasTaken bytes rest held held_mid p m answered count line line_mid
+      → NoneBefore (Passes (is_byte 10) rest) 0 (length rest) end → Passes (is_byte 10) rest end
+      → SendsLine {A = A} t (line_mid ++ take end rest) held_mid held_after m q (Err stop)
+      → why ≡ record { why = stop.why; answered = count; pending = stop.pending }
+      → StopsAmong t bytes held held_after p q answered line why
+  StopsAmong-at_feed bytes rest end held held_mid held_after p m q answered count line line_mid stop why has first passes sends is =
+      subst (λ (l : List ℕ). StopsAmong t l held held_after p q answered line why)
+      (sym (at_feed bytes has.front rest end has.split first.high passes))
+      (StopsAmong-line has.front (take end rest) (drop (end + 1) rest) held held_mid held_after p m q answered count line line_mid stop why
+      has.takes (no_feed-before rest end first) sends is)
+
+  -- where no line feed is left the line goes on
+  pub TakesBytes-all : (bytes rest : List ℕ) (held held_after : Option (List ℕ)) (p q : Pass) (answered count : ℕ)
+      (line line_mid line_after : List ℕ)
+      → HasTaken bytes rest held held_after p q answered count line line_mid
+      → Nowhere (Passes (is_byte 10) rest) 0 (length rest)
+      → line_after ≡ take 4097 (line_mid ++ rest)
+      → TakesBytes t bytes held held_after p q answered count line line_after
+  TakesBytes-all bytes rest held held_after p q answered count line line_mid line_after has nowhere is =
+      subst (λ (l : List ℕ). TakesBytes t l held held_after p q answered count line line_after) (sym has.split)
+      (subst (TakesBytes t (has.front ++ rest) held held_after p q answered count line) (sym is)
+      (TakesBytes-part has.front rest held held_after p q answered count line line_mid has.takes (no_feed rest nowhere)))

@@ -1,9 +1,11 @@
 -- How the lines of bytes grow, and what their last part is.
-use Rattle.std.proofs.Common.{◌≡◌, ◌≢◌, ℕ, ◌==◌, ◌≤◌, ◌+◌, ◌<◌, Bool, true, false, List, [], ◌∷◌, ◌++◌, length, get_or, take, drop, take-append-drop, All, refl, sym, ap, ◌∙◌, arith, append_assoc, append-nil, length-take, inl, inr}
+use Rattle.std.proofs.Common.{◌≡◌, ◌≢◌, ℕ, ◌==◌, ◌≤◌, ◌+◌, ◌-◌, ◌<◌, Bool, true, false, List, [], ◌∷◌, ◌++◌, length, get_or, take, drop, take-append-drop, All, refl, sym, ap, ◌∙◌, arith, append_assoc, append-nil, length-take, inl, inr}
 use Rattle.std.specs.List.{flat_map}
-use Rattle.std.proofs.lemmas.Bool.{cases_lt, ne_eqb}
-use Rattle.std.proofs.lemmas.List.{take-append-le, take-take, take_all, take_more, nil_from_length}
+use Rattle.std.proofs.lemmas.Bool.{cases_lt, ne_eqb, eqb-true}
+use Rattle.std.proofs.lemmas.List.{take-append-le, take-take, take_all, take_more, nil_from_length, get_or-take, get_or_default}
 use Rattle.std.proofs.lemmas.List.Elements.{All-head, All-tail}
+use Rattle.std.proofs.Math.Seq.{take-append-add}
+use Rattle.memchr.specs.Find.{Nowhere, NoneBefore, Passes, is_byte}
 use Rattle.art_server.specs.Streams.{split_after, split_lines, whole_lines, last_part, last_line, lines_of, HasNoFeed, with_feed}
 
 -- ---- a byte more at the end
@@ -36,8 +38,19 @@ pub split_lines-feed : (bytes : List ℕ) → split_lines (bytes ++ 10 ∷ []) �
 split_lines-feed bytes = split_lines-push bytes 10
 
 -- another byte makes the last part longer
-pub split_lines-other : (bytes : List ℕ) (b : ℕ) → b ≢ 10 → split_lines (bytes ++ b ∷ []) ≡ (whole_lines bytes, last_part bytes ++ b ∷ [])
+split_lines-other : (bytes : List ℕ) (b : ℕ) → b ≢ 10 → split_lines (bytes ++ b ∷ []) ≡ (whole_lines bytes, last_part bytes ++ b ∷ [])
 split_lines-other bytes b other = split_lines-push bytes b ∙ ap (λ (t : Bool). pushed t b (split_lines bytes)) (ne_eqb b 10 other)
+
+-- bytes with no line feed make the last part longer
+pub split_lines-part : (bytes part : List ℕ) → HasNoFeed part → split_lines (bytes ++ part) ≡ (whole_lines bytes, last_part bytes ++ part)
+split_lines-part bytes [] none =
+    ap split_lines (append-nil bytes) ∙ ap (λ (l : List ℕ). (whole_lines bytes, l)) (sym (append-nil (last_part bytes)))
+split_lines-part bytes (b ∷ part) none =
+    let other = All-head (λ (c : ℕ). c ≢ 10) b part none in
+    ap split_lines (sym (append_assoc bytes (b ∷ []) part))
+    ∙ split_lines-part (bytes ++ b ∷ []) part (All-tail (λ (c : ℕ). c ≢ 10) b part none)
+    ∙ ap (λ (s : List (List ℕ) × List ℕ). (s.0, s.1 ++ part)) (split_lines-other bytes b other)
+    ∙ ap (λ (l : List ℕ). (whole_lines bytes, l)) (append_assoc (last_part bytes) (b ∷ []) part)
 
 -- ---- many bytes more at the end
 
@@ -136,24 +149,43 @@ lines_of-last taken line is some =
 -- ---- the front of a line
 
 -- the front of a longer part is that of the front and what came
-pub take_more_kept : (n : ℕ) (part : List ℕ) (b : ℕ) → take n (take n part ++ b ∷ []) ≡ take n (part ++ b ∷ [])
-take_more_kept n part b =
+pub take_more_kept : (n : ℕ) (part more : List ℕ) → take n (take n part ++ more) ≡ take n (part ++ more)
+take_more_kept n part more =
     elim (cases_lt (length part) n) [
-      | inl short ↦ ap (λ (l : List ℕ). take n (l ++ b ∷ [])) (take_all n part (omega arith))
+      | inl short ↦ ap (λ (l : List ℕ). take n (l ++ more)) (take_all n part (omega arith))
       | inr long ↦ (
           let kept : n ≤ length (take n part) = omega (arith, length-take n part) in
-          take-append-le n (take n part) (b ∷ []) kept
+          take-append-le n (take n part) more kept
           ∙ take-take n n part (omega arith)
-          ∙ sym (take-append-le n part (b ∷ []) long))
+          ∙ sym (take-append-le n part more long))
     ]
 
--- ---- the bytes of a piece
+-- as much of the part as there is room for
+pub take_room : (n : ℕ) (line part : List ℕ) → length line ≤ n → line ++ take (n - length line) part ≡ take n (line ++ part)
+take_room n line part fits =
+    let whole : n ≡ length line + (n - length line) = omega arith in
+    sym (ap (λ (k : ℕ). take k (line ++ part)) whole ∙ take-append-add line part (n - length line))
 
--- a piece at one of its bytes
-pub piece_at : (bytes : List ℕ) (i b : ℕ) → i < length bytes → get_or bytes i 0 ≡ b → bytes ≡ (take i bytes ++ b ∷ []) ++ drop (i + 1) bytes
-piece_at bytes i b within is =
-    sym (take-append-drop (i + 1) bytes)
-    ∙ ap (λ (t : List ℕ). t ++ drop (i + 1) bytes) (take_more bytes i 0 within ∙ ap (λ (x : ℕ). take i bytes ++ x ∷ []) is)
+-- ---- the first line feed of a piece
 
-pub front_at : (bytes : List ℕ) (i b : ℕ) → i < length bytes → get_or bytes i 0 ≡ b → take i bytes ++ b ∷ [] ≡ take (i + 1) bytes
-front_at bytes i b within is = sym (take_more bytes i 0 within ∙ ap (λ (x : ℕ). take i bytes ++ x ∷ []) is)
+-- bytes among which none is found hold none
+pub no_feed : (bytes : List ℕ) → Nowhere (Passes (is_byte 10) bytes) 0 (length bytes) → HasNoFeed bytes
+no_feed bytes nowhere = λ k d within feed.
+    nowhere k (omega arith) within (ap (λ (b : ℕ). b == 10) (get_or_default bytes k 0 d within ∙ feed))
+
+-- no byte before the first feed is one
+pub no_feed-before : (bytes : List ℕ) (end : ℕ) → NoneBefore (Passes (is_byte 10) bytes) 0 (length bytes) end
+    → HasNoFeed (take end bytes)
+no_feed-before bytes end first = λ k d within feed.
+    let few = length-take end bytes in
+    let below : k < end = omega arith in
+    first.before k (omega arith) below
+    (ap (λ (b : ℕ). b == 10) (get_or_default bytes k 0 d (omega arith) ∙ sym (get_or-take end bytes k d below) ∙ feed))
+
+-- a piece at its line feed
+pub piece_at : (bytes : List ℕ) (end : ℕ) → end < length bytes → Passes (is_byte 10) bytes end
+    → bytes ≡ (take end bytes ++ 10 ∷ []) ++ drop (end + 1) bytes
+piece_at bytes end within passes =
+    sym (take-append-drop (end + 1) bytes)
+    ∙ ap (λ (t : List ℕ). t ++ drop (end + 1) bytes)
+    (take_more bytes end 0 within ∙ ap (λ (x : ℕ). take end bytes ++ x ∷ []) (eqb-true (get_or bytes end 0) 10 passes))

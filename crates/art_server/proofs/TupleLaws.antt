@@ -30,7 +30,7 @@ tuple_said-few elements few =
 -- ---- one element after another
 
 -- the values of the first elements, and what the others say
-abbrev with_front : List Value → Result (List Value) ValueFault → Result (List Value) ValueFault
+abbrev pub with_front : List Value → Result (List Value) ValueFault → Result (List Value) ValueFault
 with_front front others = do
   vs ← others
   Ok (front ++ vs)
@@ -40,11 +40,11 @@ pub record IsReadTo (elements : List json.Value) (values : List Value) (n : ℕ)
   pub count : length values ≡ n
   pub rest : with_front values (values_said n (items_view (drop n elements))) ≡ values_said 0 (items_view elements)
 
-nothing_in_front : (others : Result (List Value) ValueFault) → with_front [] others ≡ others
+pub nothing_in_front : (others : Result (List Value) ValueFault) → with_front [] others ≡ others
 nothing_in_front (Ok vs) = refl
 nothing_in_front (Err f) = refl
 
-one_in_front : (front : List Value) (v : Value) (others : Result (List Value) ValueFault)
+pub one_in_front : (front : List Value) (v : Value) (others : Result (List Value) ValueFault)
     → with_front front (with_front (v ∷ []) others) ≡ with_front (front ++ v ∷ []) others
 one_in_front front v (Ok vs) = ap (λ us. Ok us) (sym (append_assoc front (v ∷ []) vs))
 one_in_front front v (Err f) = refl

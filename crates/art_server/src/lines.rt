@@ -4,12 +4,14 @@ ghost use Rattle.art_server.specs.Lines.{number_said, value_said, tuple_said, el
 ghost use Rattle.serde_json.specs.Data.{number, string};
 ghost use Rattle.serde_json.specs.View.{view, number_view, items_view};
 
+use crate::tokens::{Verb, verb_in_tokens};
 use art_key::ValueFault;
 use art_model::{Command, Text, Tuple, Value};
+use json::Scratch;
 use serde_json::{Number, Value as Json};
 use std::alloc::Global;
 use std::error::Error;
-use std::fmt;
+use std::{fmt, mem};
 
 /// The longest line, in bytes, without its line feed.
 pub const LINE_BYTES: usize = 4096;
@@ -67,15 +69,69 @@ impl From<ValueFault> for LineFault {
 /// from 0 to 2^64 - 1. This shape is looked at first, and then the elements of the tuple, of a scan the lower one's before
 /// the upper one's. A tuple has at most eight: true or false, whole numbers from -2^63 to 2^64 - 1, and texts of at most
 /// 24 bytes of UTF-8. The first other element is told, by its place, which counts from 0.
+///
+/// Whoever reads many lines keeps a `LineReader`.
 pub fn parse_line(alloc: Global, line: &[u8]) -> Result<Command, LineFault>
     ensures said { MatchResult result (λ command. line_says line.now ≡ Ok command)
         (λ fault. fault ≢ LineFault.NoMemory → line_says line.now ≡ Err fault) }
     ensures memory { result ≡ Err LineFault.NoMemory
         → (0 < length line.now) × (length line.now ≤ LINE_BYTES) }
 {
-    if line.len() > LINE_BYTES {
-        return Err(LineFault::LineTooLong);
+    LineReader::new(alloc).command(line)
+}
+
+/// Reads one line after another, in memory that it keeps.
+#[derive(Drop)]
+pub struct LineReader {
+    alloc: Global,
+    scratch: Scratch,
+    /// Room for the upper tuple of a scan, which the other lines need not make.
+    hi: Tuple,
+}
+
+impl LineReader {
+    /// Allocates nothing.
+    pub fn new(alloc: Global) -> LineReader {
+        LineReader {
+            alloc,
+            scratch: Scratch::new(alloc),
+            hi: Tuple::new(),
+        }
     }
+
+    /// The command that a line says, as `parse_line` has it.
+    ///
+    /// A line that says one takes no memory but what the reader keeps, which grows to the longest line. Another is read again into
+    /// a tree of values, which tells its fault. The body stands in its caller, where the tuples need not be copied on their way back.
+    #[inline(always)]
+    pub fn command(&mut self, line: &[u8]) -> Result<Command, LineFault>
+        ensures said { MatchResult result (λ command. line_says line.now ≡ Ok command)
+            (λ fault. fault ≢ LineFault.NoMemory → line_says line.now ≡ Err fault) }
+        ensures memory { result ≡ Err LineFault.NoMemory
+            → (0 < length line.now) × (length line.now ≤ LINE_BYTES) }
+    {
+        if line.len() > LINE_BYTES {
+            return Err(LineFault::LineTooLong);
+        }
+        let mut lo = Tuple::new();
+        match verb_in_tokens(&mut self.scratch, line, &mut lo, &mut self.hi) {
+            Some(Verb::Insert(value)) => Ok(Command::Insert(lo, value)),
+            Some(Verb::Remove) => Ok(Command::Remove(lo)),
+            Some(Verb::Get) => Ok(Command::Get(lo)),
+            Some(Verb::Scan(limit)) => Ok(Command::Scan(lo, mem::take(&mut self.hi), limit)),
+            None => command_in_values(self.alloc, line),
+        }
+    }
+}
+
+#[cold]
+#[inline(never)]
+fn command_in_values(alloc: Global, line: &[u8]) -> Result<Command, LineFault>
+    requires { length line.now ≤ LINE_BYTES }
+    ensures said { MatchResult result (λ command. line_says line.now ≡ Ok command)
+        (λ fault. fault ≢ LineFault.NoMemory → line_says line.now ≡ Err fault) }
+    ensures memory { result ≡ Err LineFault.NoMemory → 0 < length line.now }
+{
     match Json::from_slice(alloc, line) {
         Ok(said) => command_in(&said),
         Err(fault) if fault.is_memory() => Err(LineFault::NoMemory),

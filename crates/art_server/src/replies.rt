@@ -7,6 +7,7 @@ ghost use Rattle.serde_json.specs.View.{view, items_of};
 ghost use Rattle.serde_json.specs.Written.{has_float, compact_text};
 
 use crate::Refusal;
+use crate::texts::{TEXT_BYTES, put_reply};
 use art_model::{Answer, NoMemory, Reply, Row, Tuple, Value};
 use serde_json::{Number, Value as Json, json};
 use std::alloc::{AllocError, Global};
@@ -32,7 +33,7 @@ pub fn print_reply(alloc: Global, reply: &Result<Reply, Refusal>) -> Result<Vec<
         Ok(Reply::Absent) => Ok(Answer::Absent),
         Ok(Reply::Found(value)) => Ok(Answer::Found(*value)),
         Ok(Reply::Rows(rows, more)) => {
-            return print_line(alloc, &rows_json(alloc, rows.as_slice(), *more)?);
+            return print_rows(alloc, rows.as_slice(), *more);
         }
         Err(refusal) => Err(*refusal),
     };
@@ -50,7 +51,7 @@ pub(crate) fn print_with(
 {
     match head {
         Ok(ReplyHead::Answer(answer)) => print_answer(alloc, Ok(answer)),
-        Ok(ReplyHead::Rows(more)) => print_line(alloc, &rows_json(alloc, rows, more)?),
+        Ok(ReplyHead::Rows(more)) => print_rows(alloc, rows, more),
         Err(refusal) => print_answer(alloc, Err(refusal)),
     }
 }
@@ -59,20 +60,18 @@ pub(crate) fn print_with(
 fn print_answer(alloc: Global, answer: Result<Answer, Refusal>) -> Result<Vec<u8>, NoMemory>
     ensures { IfOk result (λ text. text.items ≡ text_of_reply (reply_of answer)) }
 {
-    print_line(alloc, &answer_json(alloc, answer)?)
+    let mut room = [0; TEXT_BYTES];
+    let start = put_reply(&mut room, answer);
+    Ok(Vec::from_slice(alloc, &room[start..])?)
 }
 
-fn answer_json(alloc: Global, answer: Result<Answer, Refusal>) -> Result<Json, AllocError>
-    ensures { IfOk result (λ json. view json ≡ reply_data (reply_of answer)) }
+/// The text of the reply that lists these rows, with its line feed. The only error is want of memory.
+pub(crate) fn print_rows(alloc: Global, rows: &[Row], more: bool) -> Result<Vec<u8>, NoMemory>
+    requires { All IsPrintableRow rows.now }
+    ensures { IfOk result (λ text. text.items
+        ≡ text_of_reply (Ok (Rows (record { items = rows.now }) more))) }
 {
-    match answer {
-        Ok(Answer::Inserted) => json!(in alloc; ["inserted"]),
-        Ok(Answer::Present(value)) => json!(in alloc; ["present", value]),
-        Ok(Answer::Removed(value)) => json!(in alloc; ["removed", value]),
-        Ok(Answer::Absent) => json!(in alloc; ["absent"]),
-        Ok(Answer::Found(value)) => json!(in alloc; ["found", value]),
-        Err(refusal) => json!(in alloc; ["refused", refusal.number(), refusal.name()]),
-    }
+    print_line(alloc, &rows_json(alloc, rows, more)?)
 }
 
 fn print_line(alloc: Global, json: &Json) -> Result<Vec<u8>, NoMemory>

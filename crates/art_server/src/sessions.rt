@@ -1,7 +1,8 @@
 //! From the bytes of a reader to the bytes of a writer.
-ghost use Rattle.std.specs.Prelude.{◌≡◌, ◌+◌, ◌<◌, ◌^◌, [], ◌∷◌, ◌++◌, length, take, true, false};
+ghost use Rattle.std.specs.Prelude.{◌≡◌, ◌≢◌, ◌+◌, ◌<◌, ◌^◌, [], ◌++◌, length, take, true, false, Ok, Err, MatchResult};
 ghost use Rattle.std.specs.Io.KnownBytes.{IsAtEnd};
 ghost use Rattle.art_server.specs.Counted.{reader_of, reads_of};
+ghost use Rattle.art_server.specs.Lines.{line_says};
 ghost use Rattle.art_server.specs.Reads.{EndsAtInput, MakesReads};
 ghost use Rattle.art_server.specs.Replies.{IsPrintable, reply_of, reply_with};
 ghost use Rattle.art_server.specs.Sessions.{AnswersCommand, AnswersJob, AnswersScan, IsSamePass, RunsSession};
@@ -9,13 +10,15 @@ ghost use Rattle.art_server.specs.Steps.{SendsReply, SendsLine, AnswersBytes, Fi
 ghost use Rattle.art_table.specs.Tables.{IsPassOf};
 ghost use Rattle.art_table.specs.declared.jobs.Job.TheVariants as jobs;
 
-use crate::replies::{ReplyHead, print_with};
-use crate::streams::write_text;
-use crate::{Counted, LineFault, Refusal, parse_line};
+use crate::replies::{ReplyHead, print_rows};
+use crate::streams::write_whole;
+use crate::texts::{TEXT_BYTES, put_reply};
+use crate::{Counted, LineFault, LineReader, Refusal};
 use arrayvec::ArrayVec;
 use art_model::{Answer, Command, NoMemory, Row, Tuple};
 use art_scan::{More, scan};
 use art_table::{Inserted, Pass, Table, get, insert, remove};
+use memchr::memchr;
 use std::alloc::Global;
 use std::io::{self, Read, Write};
 
@@ -50,11 +53,12 @@ pub struct SessionEnd {
     pub pending: bool,
 }
 
-/// What a session keeps beside its pass: the front of the line under way, and room for the rows that a scan lists.
+/// What a session keeps beside its pass: the front of the line under way, room for the rows of a scan, and the reader of its lines.
 #[derive(Drop)]
 struct Buffers {
     line: ArrayVec<u8, 4097>,
     rows: ArrayVec<Row, 100>,
+    reader: LineReader,
 }
 
 /// Why a line was not answered.
@@ -110,7 +114,8 @@ impl From<io::Error> for Stop {
 ///
 /// At most 1,000,000 reads are made, each of at most 4,096 bytes. The first read or write that fails ends the session, an
 /// interruption too: a caller who wants another try makes it in the reader or the writer. So does a write that takes
-/// no byte. Memory is taken for one line's reading and for its reply alone.
+/// no byte. The replies to the lines of one read are flushed once, before the next read; a flush that fails leaves the last of them
+/// pending. Memory is taken for one line's reading, and for a reply that lists rows.
 pub fn session<R: Read, W: Write>(
     alloc: Global,
     table: &Table,
@@ -149,6 +154,7 @@ fn answer_reads<R: Read, W: Write>(
     let mut buffers = Buffers {
         line: ArrayVec::new(),
         rows: ArrayVec::new(),
+        reader: LineReader::new(alloc),
     };
     let mut answered = 0;
     'reads: for _ in 0..READS {
@@ -177,6 +183,17 @@ fn ended(why: EndCause, answered: u64) -> SessionEnd
     }
 }
 
+/// A flush failed, so nobody knows how much of the last reply came through: it counts as cut, after so many that were written.
+fn flush_failed(answered: u64) -> SessionEnd
+    ensures { result ≡ record { why = EndCause.WriteFault; answered = answered; pending = true } }
+{
+    SessionEnd {
+        why: EndCause::WriteFault,
+        answered,
+        pending: true,
+    }
+}
+
 /// Answers the last line, if one stands with no line feed after it.
 fn finish<W: Write>(
     alloc: Global,
@@ -196,13 +213,16 @@ fn finish<W: Write>(
     if buffers.line.is_empty() {
         return ended(EndCause::Ended, answered);
     }
-    match answer_line(alloc, table, pass, buffers, writer) {
+    if let Err(stop) = answer_line(alloc, table, pass, buffers, &[], writer) {
+        return stop.after(answered);
+    }
+    match writer.flush() {
         Ok(()) => ended(EndCause::Ended, answered + 1),
-        Err(stop) => stop.after(answered),
+        Err(_) => flush_failed(answered),
     }
 }
 
-/// Answers each line that ends in the bytes, and keeps what stands after the last line feed.
+/// Answers each line that ends in the bytes, keeps what stands after the last line feed, and flushes the replies once.
 fn answer_bytes<W: Write>(
     alloc: Global,
     table: &Table,
@@ -218,45 +238,77 @@ fn answer_bytes<W: Write>(
     ensures answers { AnswersBytes table.now bytes.now (W.contents writer.old) (W.contents writer.new) pass.old pass.new
         answered buffers.old.line.items buffers.new.line.items result }
 {
-    let mut count = answered;
-    'bytes: for byte in bytes {
-        if *byte == b'\n' {
-            match answer_line(alloc, table, pass, buffers, writer) {
-                Ok(()) => {
-                    buffers.line.clear();
-                    count += 1;
-                }
-                Err(stop) => return Err(stop.after(count)),
+    let count = match answer_lines(alloc, table, pass, buffers, bytes, writer, answered) {
+        Ok(count) => count,
+        Err(end) => {
+            // The lines before the one that stopped the session were answered: their replies go out, if they can.
+            if end.why != EndCause::WriteFault {
+                let _ = writer.flush();
             }
-        } else {
-            keep(&mut buffers.line, *byte);
+            return Err(end);
         }
+    };
+    if answered < count && writer.flush().is_err() {
+        return Err(flush_failed(count - 1));
     }
     Ok(count)
 }
 
-/// A byte past the 4,097th changes no answer, and is dropped.
-fn keep(line: &mut ArrayVec<u8, 4097>, byte: u8)
-    ensures { line.new.items ≡ take 4097 (line.old.items ++ byte ∷ []) }
+/// Answers each line that ends in the bytes, and keeps what stands after the last line feed. The replies are not flushed.
+fn answer_lines<W: Write>(
+    alloc: Global,
+    table: &Table,
+    pass: &mut Pass,
+    buffers: &mut Buffers,
+    bytes: &[u8],
+    writer: &mut W,
+    answered: u64,
+) -> Result<u64, SessionEnd>
+    requires pass { IsPassOf table.now pass.old }
+    requires room { answered + length bytes.now < 2 ^ 64 }
+    ensures pass { IsPassOf table.now pass.new }
+    ensures answers { AnswersBytes table.now bytes.now (W.contents writer.old) (W.contents writer.new) pass.old pass.new
+        answered buffers.old.line.items buffers.new.line.items result }
 {
-    if !line.is_full() {
-        line.push(byte);
+    let mut count = answered;
+    let mut rest = bytes;
+    'lines: while let Some(end) = memchr(b'\n', rest) {
+        match answer_line(alloc, table, pass, buffers, &rest[..end], writer) {
+            Ok(()) => count += 1,
+            Err(stop) => return Err(stop.after(count)),
+        }
+        rest = &rest[end + 1..];
     }
+    keep(&mut buffers.line, rest);
+    Ok(count)
 }
 
-/// Answers the line that is kept.
+/// A byte past the 4,097th changes no answer, and is dropped.
+fn keep(line: &mut ArrayVec<u8, 4097>, part: &[u8])
+    ensures { line.new.items ≡ take 4097 (line.old.items ++ part.now) }
+{
+    let count = line.remaining_capacity().min(part.len());
+    let Ok(()) = line.try_extend_from_slice(&part[..count]) else {
+        unreachable!()
+    };
+}
+
+/// Answers the line that the part ends. Nothing of it is kept then.
 fn answer_line<W: Write>(
     alloc: Global,
     table: &Table,
     pass: &mut Pass,
     buffers: &mut Buffers,
+    part: &[u8],
     writer: &mut W,
 ) -> Result<(), Stop>
     requires { IsPassOf table.now pass.old }
     ensures pass { IsPassOf table.now pass.new }
-    ensures sends { SendsLine table.now buffers.old.line.items (W.contents writer.old) (W.contents writer.new) pass.old pass.new result }
+    ensures none { buffers.new.line.items ≡ [] }
+    ensures sends { SendsLine table.now (buffers.old.line.items ++ part.now) (W.contents writer.old) (W.contents writer.new)
+        pass.old pass.new result }
 {
-    let head = match parse_line(alloc, buffers.line.as_slice()) {
+    let head = match read_line(&mut buffers.reader, &mut buffers.line, part) {
         Ok(command) => run_command(table, pass, &command, &mut buffers.rows),
         Err(fault) => match fault {
             LineFault::NoMemory => {
@@ -271,7 +323,26 @@ fn answer_line<W: Write>(
     send_reply(alloc, head, buffers.rows.as_slice(), writer)
 }
 
-/// Prints the reply whose rows stand beside it, and writes it.
+/// What the line says that the part ends, behind what is kept of it. It is copied only where something is.
+fn read_line(
+    reader: &mut LineReader,
+    kept: &mut ArrayVec<u8, 4097>,
+    part: &[u8],
+) -> Result<Command, LineFault>
+    ensures said { MatchResult result (λ command. line_says (kept.old.items ++ part.now) ≡ Ok command)
+        (λ fault. fault ≢ LineFault.NoMemory → line_says (kept.old.items ++ part.now) ≡ Err fault) }
+    ensures none { kept.new.items ≡ [] }
+{
+    if kept.is_empty() {
+        return reader.command(part);
+    }
+    keep(kept, part);
+    let said = reader.command(kept.as_slice());
+    kept.clear();
+    said
+}
+
+/// Prints the reply whose rows stand beside it, and writes it. It is not flushed.
 fn send_reply<W: Write>(
     alloc: Global,
     head: Result<ReplyHead, Refusal>,
@@ -281,8 +352,24 @@ fn send_reply<W: Write>(
     requires { IsPrintable (reply_with rows.now head) }
     ensures { SendsReply (reply_with rows.now head) (W.contents writer.old) (W.contents writer.new) result }
 {
-    let text = print_with(alloc, head, rows)?;
-    write_text(writer, text.as_slice())?;
+    match head {
+        Ok(ReplyHead::Answer(answer)) => send_answer(Ok(answer), writer),
+        Ok(ReplyHead::Rows(more)) => {
+            let text = print_rows(alloc, rows, more)?;
+            write_whole(writer, text.as_slice())?;
+            Ok(())
+        }
+        Err(refusal) => send_answer(Err(refusal), writer),
+    }
+}
+
+/// Writes the text of an answer, or of a refusal. It takes no memory.
+fn send_answer<W: Write>(answer: Result<Answer, Refusal>, writer: &mut W) -> Result<(), Stop>
+    ensures { SendsReply (reply_of answer) (W.contents writer.old) (W.contents writer.new) result }
+{
+    let mut room = [0; TEXT_BYTES];
+    let start = put_reply(&mut room, answer);
+    write_whole(writer, &room[start..])?;
     Ok(())
 }
 

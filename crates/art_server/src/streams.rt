@@ -10,9 +10,18 @@ pub fn lines_are_read_back()
     ensures { (lines : List (List ℕ)) → All HasNoFeed lines → lines_of (flat_map with_feed lines) ≡ lines }
 {}
 
-/// Writes all of the text and flushes, as a session writes a reply. The first write that fails or takes no byte ends it, after some front
-/// of the text, and so does a flush that fails, after all of it.
+/// Writes all of the text and flushes. The first write that fails or takes no byte ends it, after some front of the text, and so does a
+/// flush that fails, after all of it.
 pub fn write_text<W: Write>(writer: &mut W, text: &[u8]) -> io::Result<()>
+    ensures { WritesFront text.now (W.contents writer.old) (W.contents writer.new) result }
+{
+    write_whole(writer, text)?;
+    writer.flush()
+}
+
+/// Writes all of the text, as a session writes a reply, and does not flush. The first write that fails or takes no byte ends it, after
+/// some front of the text.
+pub(crate) fn write_whole<W: Write>(writer: &mut W, text: &[u8]) -> io::Result<()>
     ensures { WritesFront text.now (W.contents writer.old) (W.contents writer.new) result }
 {
     let mut rest = text;
@@ -22,5 +31,5 @@ pub fn write_text<W: Write>(writer: &mut W, text: &[u8]) -> io::Result<()>
             count => rest = &rest[count..],
         }
     }
-    writer.flush()
+    Ok(())
 }

@@ -12,3 +12,5 @@ mod replies;
 mod scans;
 #[cfg(test)]
 mod sessions;
+#[cfg(test)]
+mod waiting;

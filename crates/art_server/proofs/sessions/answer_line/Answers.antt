@@ -1,4 +1,4 @@
-use Rattle.std.proofs.Common.{refl}
+use Rattle.std.proofs.Common.{◌++◌, refl}
 use Rattle.art_server.specs.Sessions.{AnswersLine}
 use Rattle.art_server.specs.Replies.{reply_with}
 use Rattle.art_server.proofs.SessionLaws.{AnswersLine-said, AnswersLine-refused}
@@ -8,17 +8,17 @@ use Rattle.art_server.proofs.sessions.answer_line.Goals.{in-Ok, in-Err+in_defaul
 
 pub returns-clause-sends : goal.returns-clause-sends
 returns-clause-sends g c =
-    let line = c.as_slice.result.now in
+    let line = c.args.buffers.now.line.items ++ c.args.part.now in
     let table = c.args.table.now in
     let p = c.args.pass.now in
-    let q = c.match-parse_line.pass in
-    let reply = reply_with c.match-parse_line.buffers.rows.items c.match-parse_line.head in
+    let q = c.match-read_line.pass in
+    let reply = reply_with c.match-read_line.buffers.rows.items c.match-read_line.head in
     let answers : AnswersLine table line p reply q =
-    elim c.match-parse_line.branch [
+    elim c.match-read_line.branch [
       | in-Ok w ↦ rw (w.head-is, w.buffers-is, w.pass-is)
           (AnswersLine-said table line w.in-Ok.command p _ _ w.in-Ok.ensures.said w.run_command-head.ensures.answers)
       | in-Err+in_default w ↦ rw (w.head-is, w.pass-is, w.from.ensures)
           (AnswersLine-refused table line w.in-Err.fault p _ (w.in-Err.ensures.said w.in_default.not-NoMemory) refl)
     ] in
-    let sends = rw c.as_slice-2.ensures.value at c.send_reply.ensures in
-    rw (← c.as_slice.ensures.value) (SendsLine-from_reply table line _ _ p q reply _ answers sends)
+    let sends = rw c.as_slice.ensures.value at c.send_reply.ensures in
+    SendsLine-from_reply table line _ _ p q reply _ answers sends

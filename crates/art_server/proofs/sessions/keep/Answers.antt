@@ -1,16 +1,14 @@
-use Rattle.std.proofs.Common.{◌≡◌, length, sym, ◌∙◌, arith}
-use Rattle.std.proofs.lemmas.Bool.Decides.{nat_tests}
-use Rattle.std.proofs.lemmas.List.{take_all, take-append-le, length_push}
+use Rattle.std.proofs.Common.{◌≡◌, ℕ, ◌-◌, List, ◌++◌, length, take, ap, ◌∙◌, arith}
+use Rattle.std.proofs.lemmas.List.{take_min}
+use Rattle.art_server.proofs.StreamLaws.{take_room}
 use Rattle.art_server.proofs.sessions.keep.Goals as goal
 
-pub returns-then-not-is_full : goal.returns-then-not-is_full
-returns-then-not-is_full c =
+pub returns : goal.returns
+returns c =
     let line = c.args.line.now.items in
-    let more = length_push line c.args.byte in
-    c.push.ensures.items ∙ sym (take_all 4097 _ (grind (arith, nat_tests)))
-
-pub returns-else-not-is_full : goal.returns-else-not-is_full
-returns-else-not-is_full c =
-    let line = c.args.line.now.items in
-    let full : length line ≡ 4097 = grind (arith, nat_tests) in
-    sym (take-append-le 4097 line _ (omega arith) ∙ take_all 4097 line (omega arith))
+    let part = c.args.part.now in
+    let room : c.remaining_capacity.result ≡ 4097 - length line = omega arith in
+    c.in-Ok.ensures.ok
+    ∙ ap (λ (l : List ℕ). line ++ l)
+    (ap (λ (n : ℕ). take n part) c.min-count.ensures ∙ take_min c.remaining_capacity.result part ∙ ap (λ (n : ℕ). take n part) room)
+    ∙ take_room 4097 line part (omega arith)

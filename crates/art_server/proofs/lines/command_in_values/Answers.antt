@@ -4,7 +4,7 @@ use Rattle.serde_json.specs.Errors.{IsMemory}
 use Rattle.art_server.specs.declared.lines.LineFault.{LineFault}
 use Rattle.art_server.specs.declared.lines.LineFault.TheVariants.{NoMemory}
 use Rattle.art_server.proofs.LineLaws.{line_says-read, line_says-refused, read_some}
-use Rattle.art_server.proofs.lines.parse_line.Goals as goal
+use Rattle.art_server.proofs.lines.command_in_values.Goals as goal
 
 said_by : (says r : Result Command LineFault) → says ≡ r → MatchResult r (λ command. says ≡ Ok command)
     (λ fault. fault ≢ NoMemory → says ≡ Err fault)
@@ -17,7 +17,7 @@ returns-in-Ok-clause-said c =
     said_by _ _ (line_says-read c.args.line.now _ (omega arith) read.0 read.1 ∙ sym c.command_in.ensures)
 
 pub returns-in-Ok-clause-memory : goal.returns-in-Ok-clause-memory
-returns-in-Ok-clause-memory c = λ _. (read_some c.args.line.now _ c.in-Ok.ensures.ok.1, c.if-line-gt-LINE_BYTES.false)
+returns-in-Ok-clause-memory c = λ _. read_some c.args.line.now _ c.in-Ok.ensures.ok.1
 
 pub returns-in-Err-2-clause-said : goal.returns-in-Err-2-clause-said
 returns-in-Err-2-clause-said c =
