@@ -1,0 +1,10 @@
+-- Passes of a table.
+use Rattle.std.specs.Prelude.{◌≡◌, ℕ, List, Some}
+use Rattle.std.specs.List.{slice_get}
+use Rattle.art_table.specs.Tables.{IsPassOf}
+use Rattle.art_table.specs.declared.passes.Pass.{Pass}
+use Rattle.art_table.specs.declared.tables.Table.{Table}
+
+-- each is one of the table
+abbrev pub AreOf : Table → List Pass → Type 0
+AreOf t passes = (n : ℕ) (p : Pass) → slice_get passes n ≡ Some p → IsPassOf t p
