@@ -45,7 +45,7 @@ refused_counts : (v w : View) (x : Stamp) (e : UpgradeFault) → upgrade.Refused
 refused_counts v w x (fault.Changed e) k = let is = ap (λ (t : View). t.steps) k.3.is in omega arith
 refused_counts v w x (fault.Exhausted e) k = let is = ap (λ (t : View). t.steps) k.2 in omega arith
 
-change_counts : (z : Sizes) (v w : View) (c : ChangeOf) (a : ChangeAsked) (answer : ChangeAnswer) → MayChange z c v a → ChangeAnswers c a answer v w → v.steps + steps_of answer ≤ w.steps
+pub change_counts : (z : Sizes) (v w : View) (c : ChangeOf) (a : ChangeAsked) (answer : ChangeAnswer) → MayChange z c v a → ChangeAnswers c a answer v w → v.steps + steps_of answer ≤ w.steps
 change_counts z v w c (Upgrade x) (Upgraded (Ok done)) may row = let is = ap (λ (t : View). t.steps) row.is in omega arith
 change_counts z v w c (Upgrade x) (Upgraded (Err e)) may row = refused_counts v w x e row
 change_counts z v w c (Upgrade x) Done may row = absurd row

@@ -3,6 +3,7 @@ pub mod Enters
 pub mod Finds
 pub mod Free
 pub mod Left
+pub mod Looks
 pub mod Overlaps
 pub mod Spent
 pub mod Steps

@@ -66,7 +66,8 @@ pub fn steps_in(answer: Answer) -> u32
     }
 }
 
-fn steps_of(told: ChangeAnswer) -> u32
+/// How many steps of the change were made.
+pub fn steps_of(told: ChangeAnswer) -> u32
     ensures { result ≡ steps_of told }
 {
     match told {

@@ -1,5 +1,5 @@
 //! One attempt of an insert, step by step.
-ghost use Rattle.std.specs.Prelude.{◌≡◌, ◌≢◌, ℕ, ◌-◌, ◌<◌, ◌≤◌, List, length, Some, None, true, false};
+ghost use Rattle.std.specs.Prelude.{◌≡◌, ◌≢◌, ℕ, ◌+◌, ◌-◌, ◌<◌, ◌≤◌, List, length, Some, None, true, false};
 ghost use Rattle.art_attempt.specs.Asking.{Answers, cell_in, steps_in, steps_of};
 ghost use Rattle.art_attempt.specs.Inserting.{Fits, HasMade, HasPlace, HasSupplies, HasVouched, IsFinding, IsRoom};
 ghost use Rattle.art_attempt.specs.Inserting.{IsAnewBy, IsOverlapBy, asks, check_of, deed_at, ended_at, entered_by, entered_so, finding_asks, found_at, free_at, given_up, is_begun, is_free};
@@ -27,16 +27,16 @@ ghost use Rattle.art_step.specs.declared.faults.UpgradeFault.TheVariants.{Change
 ghost use Rattle.art_step.specs.declared.views.Sizes.{Sizes};
 ghost use Rattle.art_step.specs.declared.views.View.{View};
 
-use crate::asked::{cell_in, change_in, word_in};
+use crate::asked::{cell_in, change_in, steps_of, word_in};
 use crate::rooms::wants_of;
 use crate::{Answer, Asked, Room};
 use art_cell::{Cell, Pool};
 use art_decide::{needed, plan_insert};
 use art_find::{Answer as CellAnswer, Asked as CellAsked, Verdict};
-use art_gather::{Supplied, Supplying, Vouched, Vouching};
-use art_make::{Answer as ChangeAnswer, Making};
-use art_place::{Finding, Stand};
-use art_step::{Stamp, UpgradeFault};
+use art_gather::{Supplied, Supplying, Vouched, Vouching, make as make_supply, read_cells};
+use art_make::{Answer as ChangeAnswer, Making, make as make_change};
+use art_place::{Finding, Stand, look};
+use art_step::{EpochSteps, Stamp, UpgradeFault};
 
 /// How an attempt of an insert ended.
 #[derive(Clone, Copy, Debug, PartialEq, Eq)]
@@ -177,6 +177,7 @@ impl Inserting {
     }
 
     /// What comes next on the way to the place of the key, and its check.
+    #[inline(always)]
     fn find_next(&self) -> Option<Asked>
         ensures asks { (r : RoomOf) → result ≡ asks_at stages.Finding self.now r }
         ensures allowed { (z : Sizes) (u v : View) (r : RoomOf) → IsFinding z u self.now r v →
@@ -187,6 +188,7 @@ impl Inserting {
     }
 
     /// What comes next where numbers are brought into the hand.
+    #[inline(always)]
     fn supply_next(&self, room: &Room) -> Option<Asked>
         requires short { length room.now.row.key.items ≤ 64 }
         ensures asks { result ≡ asks_at stages.Supplying self.now room.now }
@@ -201,6 +203,7 @@ impl Inserting {
     }
 
     /// What comes next where the cells are vouched for.
+    #[inline(always)]
     fn vouch_next(&self) -> Option<Asked>
         ensures asks { (r : RoomOf) → result ≡ asks_at stages.Vouching self.now r }
         ensures allowed { (z : Sizes) (u v : View) (r : RoomOf) (d : Deed) → HasVouched z u self.now r v →
@@ -212,6 +215,7 @@ impl Inserting {
     }
 
     /// What comes next where the change is made.
+    #[inline(always)]
     fn make_next(&self, room: &Room) -> Option<Asked>
         ensures asks { result ≡ asks_at stages.Making self.now room.now }
         ensures allowed { (z : Sizes) (u v : View) (d : Deed) → HasMade z u self.now room.now v →
@@ -243,6 +247,7 @@ impl Inserting {
     }
 
     /// The descent goes on, or its way was changed.
+    #[inline(always)]
     fn read_on(&mut self, room: &mut Room, answer: CellAnswer)
         requires stage { self.old.stage ≡ stages.Finding }
         requires nowhere { stand_at self.old.finding ≡ None }
@@ -262,6 +267,193 @@ impl Inserting {
             .told(&mut room.desk, room.row.key.as_slice(), answer);
         if !on {
             self.stage = Stage::Ended(Entered::Anew);
+        }
+    }
+
+    /// Makes steps until the place of the key is known, or its way was changed, as long as more than one turn is left.
+    fn find_on<S: EpochSteps>(&mut self, steps: &mut S, room: &mut Room, left: &mut u32)
+        requires stage { self.old.stage ≡ stages.Finding }
+        requires turn { 0 < left.old }
+        requires fits { (u : View) × Fits (S.sizes steps.old) u self.old room.old (S.view steps.old) }
+        ensures only { S.only steps.old steps.new }
+        ensures row { SameRow room.old room.new }
+        ensures free { is_free self.new ≡ true }
+        ensures not_overlaps { ended_at self.new ≢ Some overlaps }
+        ensures turn { 0 < left.new }
+        ensures less { left.new ≤ left.old }
+        ensures made { (S.view steps.new).steps + left.new ≡ (S.view steps.old).steps + left.old }
+        ensures fits { (u : View) → Fits (S.sizes steps.old) u self.old room.old (S.view steps.old) →
+            Fits (S.sizes steps.old) u self.new room.new (S.view steps.new) }
+    {
+        while *left > 1 {
+            match self.stage {
+                Stage::Finding => {}
+                _ => return,
+            }
+            match self.finding.stand() {
+                Some(_) => return,
+                None => {}
+            }
+            let Some(asked) = self.finding.next() else {
+                return;
+            };
+            let Some(answer) = look(steps, asked) else {
+                return;
+            };
+            *left -= 1;
+            self.read_on(room, answer);
+        }
+    }
+
+    /// Makes steps until all is in hand, or a pool gave no number, as long as more than one turn is left.
+    fn supply_all<S: EpochSteps>(&mut self, steps: &mut S, room: &mut Room, left: &mut u32)
+        requires stage { self.old.stage ≡ stages.Supplying }
+        requires short { length room.old.row.key.items ≤ 64 }
+        requires turn { 0 < left.old }
+        requires fits { (u : View) × Fits (S.sizes steps.old) u self.old room.old (S.view steps.old) }
+        ensures only { S.only steps.old steps.new }
+        ensures row { SameRow room.old room.new }
+        ensures free { is_free self.new ≡ true }
+        ensures not_overlaps { ended_at self.new ≢ Some overlaps }
+        ensures turn { 0 < left.new }
+        ensures less { left.new ≤ left.old }
+        ensures made { (S.view steps.new).steps + left.new ≡ (S.view steps.old).steps + left.old }
+        ensures fits { (u : View) → Fits (S.sizes steps.old) u self.old room.old (S.view steps.old) →
+            Fits (S.sizes steps.old) u self.new room.new (S.view steps.new) }
+    {
+        while *left > 1 {
+            match self.stage {
+                Stage::Supplying => {}
+                _ => return,
+            }
+            let key = room.row.key.as_slice();
+            let Some(asked) = self.supplying.next(key, room.row.value, &room.stock) else {
+                return;
+            };
+            let word = make_supply(steps, asked);
+            *left -= 1;
+            self.supply_told(room, word);
+        }
+    }
+
+    /// Makes the reads of the cells that are vouched for, as long as more than one turn is left.
+    fn read_all<S: EpochSteps>(&mut self, steps: &mut S, room: &mut Room, left: &mut u32)
+        requires stage { self.old.stage ≡ stages.Vouching }
+        requires turn { 0 < left.old }
+        requires fits { (u : View) × Fits (S.sizes steps.old) u self.old room.old (S.view steps.old) }
+        ensures only { S.only steps.old steps.new }
+        ensures stage { self.new.stage ≡ stages.Vouching }
+        ensures row { SameRow room.old room.new }
+        ensures turn { 0 < left.new }
+        ensures less { left.new ≤ left.old }
+        ensures made { (S.view steps.new).steps + left.new ≡ (S.view steps.old).steps + left.old }
+        ensures fits { (u : View) → Fits (S.sizes steps.old) u self.old room.old (S.view steps.old) →
+            Fits (S.sizes steps.old) u self.new room.new (S.view steps.new) }
+    {
+        let both = needed(&self.stand.verdict).above;
+        read_cells(
+            steps,
+            &mut self.vouching,
+            &self.stand,
+            both,
+            &mut room.desk,
+            left,
+        );
+    }
+
+    /// Makes steps until the cells are read and checked, as long as more than one turn is left.
+    fn vouch_all<S: EpochSteps>(&mut self, steps: &mut S, room: &mut Room, left: &mut u32)
+        requires stage { self.old.stage ≡ stages.Vouching }
+        requires turn { 0 < left.old }
+        requires fits { (u : View) × Fits (S.sizes steps.old) u self.old room.old (S.view steps.old) }
+        ensures only { S.only steps.old steps.new }
+        ensures row { SameRow room.old room.new }
+        ensures free { is_free self.new ≡ true }
+        ensures not_overlaps { ended_at self.new ≢ Some overlaps }
+        ensures turn { 0 < left.new }
+        ensures less { left.new ≤ left.old }
+        ensures made { (S.view steps.new).steps + left.new ≡ (S.view steps.old).steps + left.old }
+        ensures fits { (u : View) → Fits (S.sizes steps.old) u self.old room.old (S.view steps.old) →
+            Fits (S.sizes steps.old) u self.new room.new (S.view steps.new) }
+    {
+        while *left > 1 {
+            match self.stage {
+                Stage::Vouching => {}
+                _ => return,
+            }
+            let Some(asked) = self.vouching.next(&self.stand) else {
+                return;
+            };
+            let Some(answer) = look(steps, asked) else {
+                return;
+            };
+            *left -= 1;
+            self.vouch_told(room, answer);
+        }
+    }
+
+    /// Makes all steps that are left of the change; where no cell is locked yet, as long as more than one turn is left.
+    fn make_all<S: EpochSteps>(&mut self, steps: &mut S, room: &mut Room, left: &mut u32)
+        requires stage { self.old.stage ≡ stages.Making }
+        requires turn { 0 < left.old }
+        requires admitted { S.admits steps.old room.old.row.key.items }
+        requires fits { (u : View) × Fits (S.sizes steps.old) u self.old room.old (S.view steps.old) }
+        ensures only { S.only steps.old steps.new }
+        ensures row { SameRow room.old room.new }
+        ensures not_overlaps { ended_at self.new ≢ Some overlaps }
+        ensures turn { is_free self.new ≡ true → ended_at self.new ≡ None → 0 < left.new }
+        ensures later { (S.view steps.old).steps ≤ (S.view steps.new).steps }
+        ensures counted { (S.view steps.old).steps + left.old ≤ (S.view steps.new).steps + left.new }
+        ensures left { (S.view steps.new).steps + steps_left left.new self.new ≤ (S.view steps.old).steps + steps_left left.old self.old }
+        ensures fits { (u : View) → Fits (S.sizes steps.old) u self.old room.old (S.view steps.old) →
+            Fits (S.sizes steps.old) u self.new room.new (S.view steps.new) }
+    {
+        loop {
+            match self.stage {
+                Stage::Making => {}
+                _ => return,
+            }
+            let Some(asked) = self.making.next(&room.change) else {
+                return;
+            };
+            if is_begun(&self.making) && *left <= 1 {
+                return;
+            }
+            let answer = make_change(steps, asked, &room.change);
+            *left = left.saturating_sub(steps_of(answer));
+            self.make_told(room, answer);
+        }
+    }
+
+    /// Makes the steps of the stage where it stands, but for one that tells its event before a change is made.
+    pub fn hurry<S: EpochSteps>(&mut self, steps: &mut S, room: &mut Room, left: &mut u32)
+        requires turn { is_free self.old ≡ true → 0 < left.old }
+        requires admitted { S.admits steps.old room.old.row.key.items }
+        requires short { length room.old.row.key.items ≤ 64 }
+        requires going { ended_at self.old ≡ None }
+        requires fits { (u : View) × Fits (S.sizes steps.old) u self.old room.old (S.view steps.old) }
+        ensures only { S.only steps.old steps.new }
+        ensures row { SameRow room.old room.new }
+        ensures not_overlaps { ended_at self.new ≢ Some overlaps }
+        ensures turn { is_free self.new ≡ true → ended_at self.new ≡ None → 0 < left.new }
+        ensures later { (S.view steps.old).steps ≤ (S.view steps.new).steps }
+        ensures counted { (S.view steps.old).steps + left.old ≤ (S.view steps.new).steps + left.new }
+        ensures left { (S.view steps.new).steps + steps_left left.new self.new ≤ (S.view steps.old).steps + steps_left left.old self.old }
+        ensures fits { (u : View) → Fits (S.sizes steps.old) u self.old room.old (S.view steps.old) →
+            Fits (S.sizes steps.old) u self.new room.new (S.view steps.new) }
+    {
+        if *left == 0 {
+            return;
+        }
+        match self.stage {
+            Stage::Finding => self.find_on(steps, room, left),
+            Stage::Supplying => self.supply_all(steps, room, left),
+            Stage::Vouching => {
+                self.read_all(steps, room, left);
+                self.vouch_all(steps, room, left);
+            }
+            Stage::Making => self.make_all(steps, room, left),
+            Stage::Ended(_) => {}
         }
     }
 
@@ -305,6 +497,7 @@ impl Inserting {
     }
 
     /// A number was sought, or a word of the leaf written.
+    #[inline(always)]
     fn supply_told(&mut self, room: &mut Room, word: u64)
         requires { (z : Sizes) × (u : View) × (v : View) × (w : View) × (asked : SupplyAsked) × IsRoom z room.old ×
             HasSupplies z u self.old room.old v × (supply_asks self.old room.old ≡ Some asked) × SupplyAnswers z asked word v w }
@@ -321,6 +514,7 @@ impl Inserting {
     }
 
     /// It goes on; or all is in hand, and the cells are vouched for; or a pool gave no number.
+    #[inline(always)]
     fn supply_on(&mut self, room: &Room)
         ensures not_anew { ended_at self.new ≢ Some anew }
         ensures not_overlaps { ended_at self.new ≢ Some overlaps }
@@ -400,6 +594,7 @@ impl Inserting {
     }
 
     /// A step of the change was made.
+    #[inline(always)]
     fn make_told(&mut self, room: &mut Room, answer: ChangeAnswer)
         requires stage { self.old.stage ≡ stages.Making }
         requires told { (z : Sizes) × (u : View) × (v : View) × (w : View) × (asked : ChangeAsked) × IsRoom z room.old ×
@@ -413,6 +608,7 @@ impl Inserting {
             steps_left (left - steps_of answer) self.new < making_left left self.old.making }
         ensures anew { ended_at self.new ≡ Some anew → (e : Changed) × (fault_of self.new.making ≡ Some (changed e)) }
         ensures not_overlaps { ended_at self.new ≢ Some overlaps }
+        ensures over { is_free self.new ≡ true → ended_at self.new ≢ None }
     {
         self.making.told(&room.change, answer);
         match self.making.ended() {
@@ -422,6 +618,7 @@ impl Inserting {
     }
 
     /// The change is made, or was given up.
+    #[inline(always)]
     fn made(&mut self, room: &mut Room, made: Result<(), UpgradeFault>)
         ensures row { SameRow room.old room.new }
         ensures stage { self.new.stage ≡ stages.Ended (entered_so made) }

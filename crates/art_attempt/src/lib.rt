@@ -39,7 +39,7 @@ mod driver;
 mod inserting;
 mod rooms;
 
-pub use asked::{Answer, Asked, cell_in, change_in, steps_in, word_in};
+pub use asked::{Answer, Asked, cell_in, change_in, steps_in, steps_of, word_in};
 pub use driver::make;
 pub use inserting::{Entered, Inserting, Stage, is_begun, nowhere, passed};
 pub use rooms::Room;

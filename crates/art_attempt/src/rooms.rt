@@ -3,7 +3,7 @@ ghost use Rattle.std.specs.Prelude.{◌≡◌, ◌≤◌, Some, length};
 ghost use Rattle.art_attempt.specs.Rooms.{number_for, spent_by, wants_of};
 ghost use Rattle.art_attempt.specs.Trying.{IsKey};
 ghost use Rattle.art_plan.specs.Changes.{leaf_linked, node_made};
-ghost use Rattle.art_frame.specs.Stocks.{AreIn, nothing};
+ghost use Rattle.art_frame.specs.Stocks.{AreIn, first_hints, nothing};
 ghost use Rattle.art_make.specs.Making.{linked};
 
 use arrayvec::ArrayVec;
@@ -39,16 +39,16 @@ pub struct Room {
 }
 
 impl Room {
-    /// Of a table with so many numbers: no row comes yet, and nothing is in hand.
-    pub fn new(sizes: &Sizes) -> Room
+    /// Of the pass `own` of a table with so many numbers: no row comes yet, and nothing is in hand.
+    pub fn new(own: u32, sizes: &Sizes) -> Room
         ensures sizes { result.sizes ≡ sizes.now }
-        ensures stock { result.stock ≡ nothing }
+        ensures stock { result.stock ≡ nothing (first_hints sizes.now own) }
     {
         Room {
             row: no_row(),
             gone: no_leaf(),
             sizes: *sizes,
-            stock: Stock::new(),
+            stock: Stock::new(own, sizes),
             desk: Desk::new(),
             lower: Reads::new(),
             bodies: Bodies::new(),

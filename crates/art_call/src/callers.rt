@@ -50,7 +50,7 @@ impl Caller {
     {
         Caller {
             own,
-            room: Room::new(sizes),
+            room: Room::new(own, sizes),
             limbo: Limbo::new(),
             key: Key::new(),
             hi: Bound::End,

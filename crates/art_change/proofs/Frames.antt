@@ -7,9 +7,10 @@ use Rattle.art_attempt.specs.Inserting.{tries_left}
 use Rattle.art_attempt.specs.Trying.{StillTries}
 use Rattle.art_attempt.specs.declared.rooms.Room.{Room}
 use Rattle.art_change.proofs.EitherKind.{IsRefusal, anew_failed, left_by, left_since, refused_so}
-use Rattle.art_change.specs.Tries.{EndFits, EndsSo, HasHand, key_of, value_of}
-use Rattle.art_change.specs.Writes.{HasBegun, HasOutcome, IsClosing, IsDone, ended_left, gone_by, or_busy, outcome_of}
+use Rattle.art_change.specs.Tries.{EndFits, EndsSo, HasHand, IsRoom, SameKey, key_of, value_of}
+use Rattle.art_change.specs.Writes.{HasBegun, HasOutcome, IsClosing, IsDone, IsOpening, ended_left, given, gone_by, or_busy, outcome_of}
 use Rattle.art_change.specs.declared.tries.Job.{Job}
+use Rattle.art_change.specs.declared.tries.Job.TheVariants.{Insert, Remove}
 use Rattle.art_change.specs.declared.tries.Tried.{Tried}
 use Rattle.art_change.specs.declared.tries.Tried.TheVariants as tried
 use Rattle.art_change.specs.declared.tries.Trying.{Trying}
@@ -20,13 +21,42 @@ use Rattle.std.specs.List.{cons_option}
 use Rattle.art_cell.specs.Children.{link_of}
 use Rattle.art_cell.specs.declared.cells.Link.{Link}
 use Rattle.art_epoch.specs.declared.limbo.Place.{Place}
-use Rattle.art_frame.proofs.Stocked.{at_most_five, stock_same}
+use Rattle.art_frame.proofs.Stocked.{at_most_five, stock_hinted, stock_same}
 use Rattle.art_frame.specs.Closings.{MayClose, begins, is_ended, steps_left}
 use Rattle.art_frame.specs.Openings.{IsOpened}
 use Rattle.art_frame.specs.declared.stocks.Stock.{Stock}
 use Rattle.art_step.specs.Tokens.{links_of}
 use Rattle.art_step.specs.declared.views.Sizes.{Sizes}
 use Rattle.art_step.specs.declared.views.View.{View}
+
+-- ---- a number goes back
+
+-- what is known of the opening and of the room does not hang on where searches begin
+pub given_key : (j : Job) (o : Option Link) (r : Room) → SameKey j r (given o r)
+given_key Insert (Some d) r = record { key = refl; value = refl }
+given_key Remove (Some d) r = record { key = refl; value = refl }
+given_key j None r = record { key = refl; value = refl }
+
+pub given_room : (z : Sizes) (j : Job) (o : Option Link) (r : Room) → IsRoom z j r → IsRoom z j (given o r)
+given_room z Insert (Some d) r i = record { sizes = i.sizes; key = i.key }
+given_room z Remove (Some d) r i = record { sizes = i.sizes; key = i.key }
+given_room z j None r i = i
+
+given_has : (z : Sizes) (j : Job) (o : Option Link) (u : View) (r : Room) → HasHand z j u r → HasHand z j u (given o r)
+given_has z Insert (Some d) u r has = stock_hinted z r.row.key.items r.row.value u d r.stock has
+given_has z Remove (Some d) u r has = stock_hinted z r.gone.key.items 0 u d r.stock has
+given_has z j None u r has = has
+
+pub given_opening : (z : Sizes) (u : View) (ps : List Place) (m : Write) (o : Option Link) (r : Room) (qs : List Place) (v : View) → IsOpening z u ps m r qs v → IsOpening z u ps m (given o r) qs v
+given_opening z u ps m o r qs v i = record {
+  opening = i.opening;
+  going = i.going;
+  free = i.free;
+  has = given_has z m.job o u r i.has;
+  later = i.later;
+  full = i.full;
+  fresh = i.fresh;
+}
 
 -- ---- an attempt begins
 

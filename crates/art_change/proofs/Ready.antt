@@ -56,7 +56,7 @@ ready_may z u own j ps r ready room = record {
 
 closed_stock : (z : Sizes) (k : List ℕ) (value : ℕ) (u v : View) (ps qs : List Place) (m : Write) (r : Room) (c : Closing) → is_ended c ≡ true
     → ClosingFits z k value u ps (links_of (gone_by m.outcome r.change)) c qs r.stock v → IsClosed z u v ps qs (links_of (gone_by m.outcome r.change)) × (first_in r.stock ≡ None)
-closed_stock z k value u v ps qs m r closing.Ended is fits = (fits.0, ap first_in fits.1)
+closed_stock z k value u v ps qs m r closing.Ended is fits = (fits.0, fits.1)
 closed_stock z k value u v ps qs m r closing.Labelling is fits = cc
 closed_stock z k value u v ps qs m r closing.Giving is fits = cc
 

@@ -7,6 +7,7 @@ use Rattle.art_attempt.specs.Asking.{cell_in}
 use Rattle.art_attempt.specs.Trying.{IsLimited, StillTries}
 use Rattle.art_attempt.specs.declared.asked.Answer.{Answer as AttemptAnswer}
 use Rattle.art_attempt.specs.declared.rooms.Room.{Room}
+use Rattle.art_cell.specs.declared.cells.Link.{Link}
 use Rattle.art_change.specs.Tries as tries
 use Rattle.art_change.specs.Tries.{EndFits, EndsSo, HasHand, IsRoom, key_of, value_of}
 use Rattle.art_change.specs.declared.asked.Asked.{Asked}
@@ -24,13 +25,15 @@ use Rattle.art_change.specs.declared.writes.Write.{Write}
 use Rattle.art_change.specs.declared.writers.Writer.{Writer}
 use Rattle.art_epoch.specs.Limbo.{IsLimbo, places_of}
 use Rattle.art_epoch.specs.Pins.{MayPin}
+use Rattle.art_epoch.specs.declared.asked.Asked.{Asked as FrameAsked}
+use Rattle.art_epoch.specs.declared.asked.Asked.TheVariants.{Free}
 use Rattle.art_epoch.specs.declared.limbo.Place.{Place}
 use Rattle.art_erase.specs.Erasing.{absent}
 use Rattle.art_frame.specs.Closings as closings
 use Rattle.art_frame.specs.Closings.{ClosingFits}
 use Rattle.art_frame.specs.Openings as openings
 use Rattle.art_frame.specs.Openings.{IsCrowded, IsOpened, MayOpen, OpeningFits}
-use Rattle.art_frame.specs.Stocks.{first_in}
+use Rattle.art_frame.specs.Stocks.{first_in, hinted_at}
 use Rattle.art_frame.specs.declared.stocks.Stock.{Stock}
 use Rattle.art_insert.specs.Puts.{inserted}
 use Rattle.art_insert.specs.declared.leaves.NewLeaf.{NewLeaf}
@@ -66,6 +69,18 @@ outcome_at s o = None
 -- how it ended, if it has
 abbrev pub ended_at : Write → Option Outcome
 ended_at m = outcome_at m.stage m.outcome
+
+-- ---- where searches begin
+
+-- the number that goes back to its pool by a step of the opening
+abbrev pub freed_by : Option FrameAsked → Option Link
+freed_by (Some (Free d)) = Some d
+freed_by a = None
+
+-- it went back: the next search of its pool begins at its word
+abbrev pub given : Option Link → Room → Room
+given (Some d) r = record r { stock = hinted_at d r.stock }
+given None r = r
 
 -- ---- how many steps are left
 

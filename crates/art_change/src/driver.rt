@@ -119,6 +119,7 @@ pub fn finish<S: EpochSteps>(
 {
     let mut write = write;
     while write.ended().is_none() {
+        write.hurry(steps, room);
         step(steps, &mut write, room, limbo);
     }
     write

@@ -1,5 +1,6 @@
 //! An attempt of an insert or of a removal.
-ghost use Rattle.std.specs.Prelude.{◌≡◌, ℕ, ◌-◌, ◌<◌, ◌≤◌, None, Some, true};
+ghost use Rattle.std.specs.Prelude.{◌≡◌, ◌≢◌, ℕ, ◌+◌, ◌-◌, ◌<◌, ◌≤◌, None, Some, true};
+ghost use Rattle.art_change.specs.Made.{key_by};
 ghost use Rattle.art_attempt.specs.Asking.{Answers, IsAllowed, cell_in, steps_in};
 ghost use Rattle.art_attempt.specs.Inserting.{tries_left};
 ghost use Rattle.art_attempt.specs.Trying.{StillTries};
@@ -14,6 +15,7 @@ ghost use Rattle.art_step.specs.declared.views.View.{View};
 use art_attempt::{Answer, Asked, Entered, Inserting, Room};
 use art_cell::{Cell, Pool};
 use art_erase::{Erased, Erasing};
+use art_step::EpochSteps;
 
 /// What a write does.
 #[derive(Clone, Copy, Debug, PartialEq, Eq)]
@@ -100,6 +102,28 @@ impl Trying {
         match self {
             Trying::Inserting(inserting) => inserting.told(room, answer),
             Trying::Erasing(erasing) => erasing.told(room, answer),
+        }
+    }
+
+    /// Makes the steps of the stage where it stands, one after another, but for one that tells its event before a change is made.
+    pub fn hurry<S: EpochSteps>(&mut self, steps: &mut S, room: &mut Room, left: &mut u32)
+        requires turn { is_free self.old ≡ true → 0 < left.old }
+        requires going { ended_at self.old ≡ None }
+        requires admitted { S.admits steps.old (key_by self.old room.old) }
+        requires fits { (u : View) × (job : JobOf) × Fits (S.sizes steps.old) u job self.old room.old (S.view steps.old) }
+        ensures only { S.only steps.old steps.new }
+        ensures key { (z : Sizes) (u v : View) (job : JobOf) → Fits z u job self.old room.old v → SameKey job room.old room.new }
+        ensures apart { ended_at self.new ≢ Some overlaps }
+        ensures turn { is_free self.new ≡ true → ended_at self.new ≡ None → 0 < left.new }
+        ensures later { (S.view steps.old).steps ≤ (S.view steps.new).steps }
+        ensures counted { (S.view steps.old).steps + left.old ≤ (S.view steps.new).steps + left.new }
+        ensures left { (S.view steps.new).steps + steps_left left.new self.new ≤ (S.view steps.old).steps + steps_left left.old self.old }
+        ensures fits { (u : View) (job : JobOf) → Fits (S.sizes steps.old) u job self.old room.old (S.view steps.old) →
+            Fits (S.sizes steps.old) u job self.new room.new (S.view steps.new) }
+    {
+        match self {
+            Trying::Inserting(inserting) => inserting.hurry(steps, room, left),
+            Trying::Erasing(erasing) => erasing.hurry(steps, room, left),
         }
     }
 

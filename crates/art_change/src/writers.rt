@@ -38,7 +38,7 @@ impl Writer {
     {
         Writer {
             own,
-            room: Room::new(sizes),
+            room: Room::new(own, sizes),
             limbo: Limbo::new(),
         }
     }

@@ -8,7 +8,7 @@ ghost use Rattle.art_change.specs.Asking.{Answers, attempt_in};
 ghost use Rattle.art_change.specs.Tries.{EndFits, HasHand, IsRoom, SameKey, asks as attempt_asks, is_free, key_of, value_of};
 ghost use Rattle.art_change.specs.Tries as tries;
 ghost use Rattle.art_change.specs.Writes.{Fits, HasAnswered, HasBegun, HasCounted, HasGround, HasOutcome, HasTurn, IsApart, IsClosing, IsOpening, IsReady, IsTrying, MayWrite, OverlapsBy, RestartsBy, WasOpened};
-ghost use Rattle.art_change.specs.Writes.{HoldsOrTold, WillRefuse, is_refusal, turns_used};
+ghost use Rattle.art_change.specs.Writes.{HoldsOrTold, WillRefuse, freed_by, given, is_refusal, turns_used};
 ghost use Rattle.art_change.specs.Writes.{asks, asks_at, deed_at, ended_at, ended_left, gone_by, left_at, most_steps, or_busy, outcome_of, steps_left};
 ghost use Rattle.art_change.specs.declared.asked.Asked.{Asked as AskedStep};
 ghost use Rattle.art_change.specs.declared.tries.Tried.TheVariants.{Anew as anew, Overlaps as tried_overlaps};
@@ -29,9 +29,10 @@ use crate::asked::{attempt_in, word_in};
 use crate::{Answer, Asked, Job, Tried, Trying};
 use art_attempt::{Answer as AttemptAnswer, Room, steps_in};
 use art_cell::{Cell, Pool};
-use art_epoch::Limbo;
+use art_epoch::{Asked as FrameStep, Limbo};
 use art_frame::{Blocker, Closing, Opened, Opening};
 use art_plan::Change;
+use art_step::EpochSteps;
 
 /// How a write ended.
 #[derive(Clone, Copy, Debug, PartialEq, Eq)]
@@ -55,6 +56,10 @@ pub enum Outcome {
     /// Limbo had fewer than four places.
     Crowded(Blocker),
 }
+
+/// How many stages of an attempt may follow one another with no step of the machine in between: numbers are brought into the hand, cells
+/// are vouched for, the change is made.
+const STAGES: u32 = 3;
 
 /// Where a write stands between two of its steps.
 #[derive(Clone, Copy)]
@@ -145,7 +150,7 @@ impl Write {
         ensures left { steps_left self.new room.new (places_of limbo.new) < steps_left self.old room.old (places_of limbo.old) }
     {
         match self.stage {
-            Stage::Opening => self.open_told(room, limbo, word_in(answer)),
+            Stage::Opening => self.open_on(room, limbo, word_in(answer)),
             Stage::Trying => self.try_told(room, attempt_in(answer)),
             Stage::Closing => self.close_told(room, limbo, word_in(answer)),
             Stage::Ended => {}
@@ -267,6 +272,37 @@ impl Write {
         Some(Asked::Frame(self.closing.next(&room.stock)?))
     }
 
+    /// A step of the opening was made. Where a number went back by it, the next search of its pool begins there.
+    fn open_on(&mut self, room: &mut Room, limbo: &mut Limbo, word: u64)
+        requires stage { self.old.stage ≡ stages.Opening }
+        requires told { (z : Sizes) × (u : View) × (v : View) × (w : View) × (ps : List Place) × (asked : FrameAsked) ×
+            IsRoom z self.old.job room.old × IsOpening z u ps self.old room.old (places_of limbo.old) v ×
+            (opening_asks self.old.opening (places_of limbo.old) ≡ Some asked) × FrameAnswers z asked word v w }
+        ensures job { self.new.job ≡ self.old.job }
+        ensures turns { self.new.turns ≡ self.old.turns }
+        ensures restarts { self.new.restarts ≡ self.old.restarts }
+        ensures refuses { self.old.left ≡ 0 → WillRefuse self.new }
+        ensures overlaps { self.new.outcome ≡ overlaps → self.old.outcome ≡ overlaps }
+        ensures hints { room.new ≡ given (freed_by (opening_asks self.old.opening (places_of limbo.old))) room.old }
+        ensures left { steps_left self.new room.new (places_of limbo.new) < left_at stages.Opening self.old room.old (places_of limbo.old) }
+        ensures fits { (z : Sizes) (u v w : View) (ps : List Place) (asked : FrameAsked) → IsRoom z self.old.job room.old →
+            IsOpening z u ps self.old room.old (places_of limbo.old) v →
+            opening_asks self.old.opening (places_of limbo.old) ≡ Some asked → FrameAnswers z asked word v w →
+            Fits z u ps self.new room.new (places_of limbo.new) w }
+    {
+        self.note_given(room, limbo);
+        self.open_told(room, limbo, word);
+    }
+
+    /// Where a number goes back by the next step of the opening, a search of its pool begins at its word.
+    fn note_given(&self, room: &mut Room, limbo: &Limbo)
+        ensures { room.new ≡ given (freed_by (opening_asks self.now.opening (places_of limbo.now))) room.old }
+    {
+        if let Some(FrameStep::Free(link)) = self.opening.next(limbo) {
+            room.stock.start_at(link);
+        }
+    }
+
     /// A step of the opening was made.
     fn open_told(&mut self, room: &Room, limbo: &mut Limbo, word: u64)
         requires stage { self.old.stage ≡ stages.Opening }
@@ -297,6 +333,7 @@ impl Write {
 
     /// An attempt begins, where turns are left.
     fn go_on(&mut self, room: &Room)
+        ensures going { ended_at self.new ≡ None }
         ensures job { self.new.job ≡ self.old.job }
         ensures turns { self.new.turns ≡ self.old.turns }
         ensures restarts { self.new.restarts ≡ self.old.restarts }
@@ -317,6 +354,7 @@ impl Write {
 
     /// The last attempt has ended so: the frame is closed.
     fn close(&mut self, room: &Room, outcome: Outcome)
+        ensures going { ended_at self.new ≡ None }
         ensures refuses { is_refusal outcome ≡ true → WillRefuse self.new }
         ensures job { self.new.job ≡ self.old.job }
         ensures turns { self.new.turns ≡ self.old.turns }
@@ -331,6 +369,83 @@ impl Write {
         self.outcome = outcome;
         self.closing = Closing::new(gone_by(outcome, &room.change));
         self.stage = Stage::Closing;
+    }
+
+    /// Makes the steps of its attempt, stage after stage, as far as nothing stops it.
+    pub(crate) fn hurry<S: EpochSteps>(&mut self, steps: &mut S, room: &mut Room)
+        requires admitted { S.admits steps.old (key_of self.old.job room.old).items }
+        requires fits { (u : View) × (ps : List Place) × (qs : List Place) ×
+            Fits (S.sizes steps.old) u ps self.old room.old qs (S.view steps.old) }
+        ensures only { S.only steps.old steps.new }
+        ensures job { self.new.job ≡ self.old.job }
+        ensures turns { self.new.turns ≡ self.old.turns }
+        ensures key { SameKey self.old.job room.old room.new }
+        ensures refuses { WillRefuse self.old → WillRefuse self.new }
+        ensures apart { IsApart self.old → IsApart self.new }
+        ensures going { ended_at self.old ≡ None → ended_at self.new ≡ None }
+        ensures later { (S.view steps.old).steps ≤ (S.view steps.new).steps }
+        ensures left { (qs : List Place) → (S.view steps.new).steps + steps_left self.new room.new qs ≤
+            (S.view steps.old).steps + steps_left self.old room.old qs }
+        ensures fits { (u : View) (ps qs : List Place) → Fits (S.sizes steps.old) u ps self.old room.old qs (S.view steps.old) →
+            Fits (S.sizes steps.old) u ps self.new room.new qs (S.view steps.new) }
+    {
+        // what is in hand is vouched for, and what is vouched for is made, with no step of the machine in between
+        'stages: for _ in 0..STAGES {
+            self.hurry_stage(steps, room);
+        }
+    }
+
+    /// Makes the steps of the stage where its attempt stands, one after another.
+    fn hurry_stage<S: EpochSteps>(&mut self, steps: &mut S, room: &mut Room)
+        requires admitted { S.admits steps.old (key_of self.old.job room.old).items }
+        requires fits { (u : View) × (ps : List Place) × (qs : List Place) ×
+            Fits (S.sizes steps.old) u ps self.old room.old qs (S.view steps.old) }
+        ensures only { S.only steps.old steps.new }
+        ensures job { self.new.job ≡ self.old.job }
+        ensures turns { self.new.turns ≡ self.old.turns }
+        ensures key { SameKey self.old.job room.old room.new }
+        ensures refuses { WillRefuse self.old → WillRefuse self.new }
+        ensures apart { IsApart self.old → IsApart self.new }
+        ensures going { ended_at self.old ≡ None → ended_at self.new ≡ None }
+        ensures later { (S.view steps.old).steps ≤ (S.view steps.new).steps }
+        ensures left { (qs : List Place) → (S.view steps.new).steps + steps_left self.new room.new qs ≤
+            (S.view steps.old).steps + steps_left self.old room.old qs }
+        ensures fits { (u : View) (ps qs : List Place) → Fits (S.sizes steps.old) u ps self.old room.old qs (S.view steps.old) →
+            Fits (S.sizes steps.old) u ps self.new room.new qs (S.view steps.new) }
+    {
+        match self.stage {
+            Stage::Trying => self.try_on(steps, room),
+            Stage::Opening | Stage::Closing | Stage::Ended => {}
+        }
+    }
+
+    /// Makes the steps of the stage where its attempt stands.
+    fn try_on<S: EpochSteps>(&mut self, steps: &mut S, room: &mut Room)
+        requires stage { self.old.stage ≡ stages.Trying }
+        requires turn { HasTurn self.old }
+        requires admitted { S.admits steps.old (key_of self.old.job room.old).items }
+        requires trying { (u : View) × (ps : List Place) × (qs : List Place) × IsRoom (S.sizes steps.old) self.old.job room.old ×
+            IsTrying (S.sizes steps.old) u ps self.old room.old qs (S.view steps.old) }
+        ensures only { S.only steps.old steps.new }
+        ensures job { self.new.job ≡ self.old.job }
+        ensures turns { self.new.turns ≡ self.old.turns }
+        ensures key { SameKey self.old.job room.old room.new }
+        ensures apart { IsApart self.old → IsApart self.new }
+        ensures going { ended_at self.new ≡ None }
+        ensures later { (S.view steps.old).steps ≤ (S.view steps.new).steps }
+        ensures left { (qs : List Place) → (S.view steps.new).steps + steps_left self.new room.new qs ≤
+            (S.view steps.old).steps + left_at stages.Trying self.old room.old qs }
+        ensures fits { (u : View) (ps qs : List Place) → IsRoom (S.sizes steps.old) self.old.job room.old →
+            IsTrying (S.sizes steps.old) u ps self.old room.old qs (S.view steps.old) →
+            Fits (S.sizes steps.old) u ps self.new room.new qs (S.view steps.new) }
+    {
+        let mut left = self.left;
+        self.trying.hurry(steps, room, &mut left);
+        self.left = left;
+        match self.trying.ended() {
+            None => {}
+            Some(tried) => self.tried(room, tried),
+        }
     }
 
     /// A step of an attempt was made.
@@ -379,6 +494,7 @@ impl Write {
 
     /// An attempt ended so.
     fn tried(&mut self, room: &Room, tried: Tried)
+        ensures going { ended_at self.new ≡ None }
         ensures job { self.new.job ≡ self.old.job }
         ensures turns { self.new.turns ≡ self.old.turns }
         ensures restarts { (self.new.restarts ≡ self.old.restarts) ⊎ (tried ≡ anew) }

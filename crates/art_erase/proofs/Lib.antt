@@ -4,4 +4,5 @@ pub mod Finds
 pub mod Free
 pub mod Joins
 pub mod Left
+pub mod Stages
 pub mod Vouched

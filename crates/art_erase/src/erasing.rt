@@ -278,7 +278,7 @@ impl Erasing {
     }
 
     /// The descent goes on, or its way was changed.
-    fn find_on(&mut self, room: &mut Room, answer: CellAnswer)
+    pub(crate) fn find_on(&mut self, room: &mut Room, answer: CellAnswer)
         requires stage { self.old.stage ≡ stages.Finding }
         requires nowhere { stand_at self.old.finding ≡ None }
         requires told { (z : SizesOf) × (u : View) × (v : View) × (w : View) × (asked : CellAskedStep) × IsRoom z room.old ×
@@ -365,7 +365,7 @@ impl Erasing {
     }
 
     /// A word of free numbers was looked at.
-    fn supply_told(&mut self, room: &mut Room, layout: Layout, word: u64)
+    pub(crate) fn supply_told(&mut self, room: &mut Room, layout: Layout, word: u64)
         requires { (z : SizesOf) × (u : View) × (v : View) × (w : View) × (asked : SupplyAsked) × IsRoom z room.old ×
             HasSupplies z u layout self.old room.old v × (supply_asks self.old room.old ≡ Some asked) × SupplyAnswers z asked word v w }
         ensures kept { IsKept room.old room.new }
@@ -394,7 +394,7 @@ impl Erasing {
     }
 
     /// A word of the node was read.
-    fn read_told(&mut self, room: &mut Room, rereading: Rereading, answer: CellAnswer)
+    pub(crate) fn read_told(&mut self, room: &mut Room, rereading: Rereading, answer: CellAnswer)
         requires found { HasFound self.old.stand room.old.gone }
         requires more { rereading.place < size_of self.old.stand.stamp.cell }
         ensures kept { IsKept room.old room.new }

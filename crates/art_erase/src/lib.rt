@@ -42,6 +42,7 @@
 
 mod driver;
 mod erasing;
+mod hurry;
 mod making;
 
 pub use driver::make;

@@ -1,5 +1,5 @@
 //! How an attempt of a removal goes on once the cells were vouched for: the change is planned and made.
-ghost use Rattle.std.specs.Prelude.{◌≡◌, ◌≢◌, ℕ, ◌-◌, ◌<◌, Some, true, false};
+ghost use Rattle.std.specs.Prelude.{◌≡◌, ◌≢◌, ℕ, ◌-◌, ◌<◌, None, Some, true, false};
 ghost use Rattle.art_attempt.specs.Asking.{steps_of};
 ghost use Rattle.art_attempt.specs.Inserting.{is_begun, making_left};
 ghost use Rattle.art_decide.specs.Plans.{LocksOnly};
@@ -222,6 +222,7 @@ impl Erasing {
         ensures left { (left : ℕ) → (is_begun self.old.making ≡ true → 0 < left) →
             steps_left (left - steps_of answer) self.new < making_left left self.old.making }
         ensures anew { ended_at self.new ≡ Some anew → (e : Changed) × (fault_of self.new.making ≡ Some (changed e)) }
+        ensures over { is_free self.new ≡ true → ended_at self.new ≢ None }
     {
         self.making.told(&room.change, answer);
         match self.making.ended() {

@@ -14,7 +14,7 @@ use Rattle.art_cell.specs.declared.layouts.Layout.TheVariants.{Node4, Node16, No
 use Rattle.art_cell.specs.declared.layouts.Pool.{Pool}
 use Rattle.art_cell.specs.declared.layouts.Pool.TheVariants.{Leaves}
 use Rattle.art_commit.specs.CommitLaws.{HasNode}
-use Rattle.art_epoch.proofs.Searching.{few_looks}
+use Rattle.art_epoch.proofs.Searching.{around_inside, few_looks}
 use Rattle.art_epoch.specs.Asking.{Answers as NumberAnswers}
 use Rattle.art_epoch.specs.Taking.{NoneBefore, OnlyTakes, SearchFits, Takes, TookLowest, TookNone}
 use Rattle.art_epoch.specs.Taking as taking
@@ -48,22 +48,22 @@ use Rattle.art_step.specs.declared.views.View.{View}
 -- ---- a search
 
 -- as long as it goes on, nothing came into the hand
-searching_hand : (z : Sizes) (v0 v : View) (pool : Pool) (words : ℕ) (s : Search) (a : NumberAsked) → SearchFits z v0 v pool words s → taking.asks_at pool words s ≡ Some a → v.hand ≡ v0.hand
-searching_hand z v0 v pool words (Looking i) a fits is = fits.2
-searching_hand z v0 v pool words (Clearing i k) a fits is = fits.hand
-searching_hand z v0 v pool words (Took i k) a fits is = cc
+searching_hand : (z : Sizes) (v0 v : View) (pool : Pool) (words first : ℕ) (s : Search) (a : NumberAsked) → SearchFits z v0 v pool words first s → taking.asks_at pool words first s ≡ Some a → v.hand ≡ v0.hand
+searching_hand z v0 v pool words first (Looking i) a fits is = fits.2
+searching_hand z v0 v pool words first (Clearing i k) a fits is = fits.hand
+searching_hand z v0 v pool words first (Took i k) a fits is = cc
 
 takes_then : (u v w : View) → OnlyTakes u v → OnlyTakes v w → OnlyTakes u w
 takes_then u v w a b = b ∙ ap (λ (y : View). record y { steps = w.steps; failures = w.failures; found = w.found; hand = w.hand }) a
 
 -- what it tells when it has ended
-pub takes_some : (z : Sizes) (v w : View) (pool : Pool) (o : Option Number) (d : Link) → option_map link_of_number o ≡ Some d → Takes z v w pool o → TookLowest z v w pool d
-takes_some z v w pool (Some n) d is takes = subst (TookLowest z v w pool) (same_Some {A = Link} (link_of_number n) d is) takes
-takes_some z v w pool None d is takes = cc
+pub takes_some : (z : Sizes) (v w : View) (pool : Pool) (first : ℕ) (o : Option Number) (d : Link) → option_map link_of_number o ≡ Some d → Takes z v w pool first o → TookLowest z v w pool d
+takes_some z v w pool first (Some n) d is takes = subst (TookLowest z v w pool) (same_Some {A = Link} (link_of_number n) d is) takes.took
+takes_some z v w pool first None d is takes = cc
 
-pub takes_none : (z : Sizes) (v w : View) (pool : Pool) (o : Option Number) → option_map link_of_number o ≡ None → Takes z v w pool o → TookNone z v w pool
-takes_none z v w pool (Some n) is takes = cc
-takes_none z v w pool None is takes = takes
+pub takes_none : (z : Sizes) (v w : View) (pool : Pool) (first : ℕ) (o : Option Number) → option_map link_of_number o ≡ None → Takes z v w pool first o → TookNone z v w pool
+takes_none z v w pool first (Some n) is takes = cc
+takes_none z v w pool first None is takes = takes
 
 -- before a node is sought the leaf came
 pub before_node : (z : Sizes) (layout : Layout) → steps_before z (pool_of_layout layout) ≡ leaf_steps z
@@ -131,7 +131,7 @@ module _ (z : Sizes) (k : List ℕ) (value : ℕ) (s : Stock) (u : View) (t : Ta
     only = only_sought;
     later = later_sought;
     failures = failures_sought;
-    has = stock_same z k value p.early v s (searching_hand z p.early v t.pool t.words t.search a p.seeks.search is) p.base.has;
+    has = stock_same z k value p.early v s (searching_hand z p.early v t.pool t.words t.first t.search a p.seeks.search is) p.base.has;
   }
 
   pub sought_none : TookNone z p.early v t.pool → OnlySupplies z k value s u v
@@ -297,18 +297,18 @@ leaf_words s l is = record { leaf = l; is = is; written = refl }
 
 -- ---- what it asks for may be done
 
-search_allowed : (z : Sizes) (v0 v : View) (pool : Pool) (words : ℕ) (s : Search) → words ≡ free_words (pool_size z pool) → SearchFits z v0 v pool words s
-    → IfSome (option_map number_asked (taking.asks_at pool words s)) (IsAllowed z v)
-search_allowed z v0 v pool words (Looking i) is fits = by_test (nat_lt i words) refl
+search_allowed : (z : Sizes) (v0 v : View) (pool : Pool) (words first : ℕ) (s : Search) → words ≡ free_words (pool_size z pool) → SearchFits z v0 v pool words first s
+    → IfSome (option_map number_asked (taking.asks_at pool words first s)) (IsAllowed z v)
+search_allowed z v0 v pool words first (Looking i) is fits = by_test (nat_lt i words) refl
   where
-    by_test : (b : Bool) → nat_lt i words ≡ b → IfSome (option_map number_asked (if b then Some (Clear pool i None) else None)) (IsAllowed z v)
-    by_test true low = record { word = subst (λ (n : ℕ). i < n) is (ltb-true i words low); low = tt }
+    by_test : (b : Bool) → nat_lt i words ≡ b → IfSome (option_map number_asked (if b then Some (Clear pool (taking.around words first i) None) else None)) (IsAllowed z v)
+    by_test true low = record { word = subst (λ (n : ℕ). taking.around words first i < n) is (around_inside words first i (ltb-true i words low)); low = tt }
     by_test false low = tt
-search_allowed z v0 v pool words (Clearing i k) is fits = record { word = subst (λ (n : ℕ). i < n) is fits.inside; low = fits.lowest.low }
-search_allowed z v0 v pool words (Took i k) is fits = tt
+search_allowed z v0 v pool words first (Clearing i k) is fits = record { word = subst (λ (n : ℕ). taking.around words first i < n) is (around_inside words first i fits.inside); low = fits.lowest.low }
+search_allowed z v0 v pool words first (Took i k) is fits = tt
 
 taking_allowed : (z : Sizes) (v0 v : View) (t : Taking) → taking.Fits z v0 t v → IfSome (option_map number_asked (taking.asks t)) (IsAllowed z v)
-taking_allowed z v0 v t fits = search_allowed z v0 v t.pool t.words t.search fits.words fits.search
+taking_allowed z v0 v t fits = search_allowed z v0 v t.pool t.words t.first t.search fits.words fits.search
 
 pub allowed : (z : Sizes) (wants : Wants) (k : List ℕ) (value : ℕ) (m : Supplying) (s : Stock) (u v : View) → StageFits z wants k value m s u v → IfSome (asks k value s m) (IsAllowed z v)
 allowed z wants k value (stage.Leaf t) s u v fits = taking_allowed z fits.2.sought.early v t fits.2.sought.seeks

@@ -15,6 +15,7 @@ pub enum Asked {
 }
 
 /// Makes the step that a supplying asks for. It answers the word that was found, and 0 where none is.
+#[inline(always)]
 pub fn make<S: EpochSteps>(steps: &mut S, asked: Asked) -> u64
     requires { IsAllowed (S.sizes steps.old) (S.view steps.old) asked }
     ensures only { S.only steps.old steps.new }

@@ -54,4 +54,4 @@ mod vouching;
 
 pub use asked::{Asked, make};
 pub use supplying::{Supplied, Supplying, Wants};
-pub use vouching::{Vouched, Vouching};
+pub use vouching::{Vouched, Vouching, read_cells};

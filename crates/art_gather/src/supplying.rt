@@ -69,7 +69,11 @@ impl Supplying {
         }
         match stock.leaf() {
             Some(_) => {}
-            None => return leaf_sought(stock, Taking::new(Pool::Leaves, wants.sizes)),
+            None => {
+                let hint = stock.hint(Pool::Leaves);
+                let taking = Taking::from_word(Pool::Leaves, wants.sizes, hint);
+                return leaf_sought(stock, taking);
+            }
         }
         if stock.is_written() {
             return node_wanted(wants, stock);
@@ -78,6 +82,7 @@ impl Supplying {
     }
 
     /// The next step, or none where it has ended.
+    #[inline(always)]
     pub fn next(&self, key: &[u8], value: u64, stock: &Stock) -> Option<Asked>
         requires few { length key.now ≤ 64 }
         ensures asks { result ≡ asks key.now value stock.now self.now }
@@ -90,6 +95,7 @@ impl Supplying {
     }
 
     /// The step that it asked for was made, and found this word.
+    #[inline(always)]
     pub fn told(&mut self, wants: &Wants, stock: &mut Stock, word: u64)
         requires { (z : SizesOf) × (k : List ℕ) × (value : ℕ) × (u : View) × (v : View) × (w : View) × (asked : AskedStep) ×
             Fits z wants.now k value self.old stock.old u v × (asks k value stock.old self.old ≡ Some asked) ×
@@ -118,6 +124,7 @@ impl Supplying {
     }
 
     /// The next step, by the stage alone.
+    #[inline(always)]
     fn asked(&self, key: &[u8], value: u64, stock: &Stock) -> Option<Asked>
         requires few { length key.now ≤ 64 }
         ensures { result ≡ asks key.now value stock.now self.now }
@@ -132,6 +139,7 @@ impl Supplying {
 }
 
 /// The write of the next word of the leaf.
+#[inline(always)]
 fn write_asked(key: &[u8], value: u64, packing: Packing, leaf: u32) -> Option<Asked>
     requires few { length key.now ≤ 64 }
     ensures { result ≡ leaf_asked key.now value packing leaf }
@@ -140,6 +148,7 @@ fn write_asked(key: &[u8], value: u64, packing: Packing, leaf: u32) -> Option<As
 }
 
 /// The search for the number of a leaf found this word.
+#[inline(always)]
 fn leaf_told(stock: &mut Stock, taking: Taking, word: u64) -> Supplying
     requires { (z : SizesOf) × (wants : WantsOf) × (k : List ℕ) × (value : ℕ) × (u : View) × (v : View) × (w : View) ×
         (asked : AskedStep) × Fits z wants k value (leaf_sought taking) stock.old u v ×
@@ -154,6 +163,7 @@ fn leaf_told(stock: &mut Stock, taking: Taking, word: u64) -> Supplying
 }
 
 /// The number of a leaf is sought on; or it was found, and the leaf gets its words; or there is none.
+#[inline(always)]
 fn leaf_sought(stock: &mut Stock, taking: Taking) -> Supplying
     requires { (z : SizesOf) × (early : View) × (v : View) × TakingFits z early taking v }
     ensures { (z : SizesOf) (wants : WantsOf) (k : List ℕ) (value : ℕ) (u v : View) → wants.sizes ≡ z → wants.leaf ≡ true →
@@ -172,6 +182,7 @@ fn leaf_sought(stock: &mut Stock, taking: Taking) -> Supplying
 }
 
 /// A word of the leaf was written.
+#[inline(always)]
 fn leaf_packed(wants: &Wants, stock: &mut Stock, packing: Packing) -> Supplying
     requires { (z : SizesOf) × (k : List ℕ) × (value : ℕ) × (u : View) × (v : View) × (w : View) × (asked : AskedStep) × (word : ℕ) ×
         Fits z wants.now k value (packed packing) stock.old u v × (asks k value stock.old (packed packing) ≡ Some asked) ×
@@ -191,6 +202,7 @@ fn leaf_packed(wants: &Wants, stock: &mut Stock, packing: Packing) -> Supplying
 }
 
 /// What there is to do once the leaf is there, where one is wanted.
+#[inline(always)]
 fn node_wanted(wants: &Wants, stock: &mut Stock) -> Supplying
     requires { (z : SizesOf) × (v : View) × (k : List ℕ) × (value : ℕ) × (wants.now.sizes ≡ z) × HasStock z k value v stock.old }
     ensures keeps { HasLeafWords stock.old → HasLeafWords stock.new }
@@ -204,13 +216,15 @@ fn node_wanted(wants: &Wants, stock: &mut Stock) -> Supplying
     match stock.node(layout) {
         Some(_) => Supplying::Ended(Supplied::Ready),
         None => {
-            let taking = Taking::new(pool_of_layout(layout), wants.sizes);
+            let pool = pool_of_layout(layout);
+            let taking = Taking::from_word(pool, wants.sizes, stock.hint(pool));
             node_sought(layout, stock, taking)
         }
     }
 }
 
 /// The search for the number of a node found this word.
+#[inline(always)]
 fn node_told(wants: &Wants, stock: &mut Stock, taking: Taking, word: u64) -> Supplying
     requires { (z : SizesOf) × (k : List ℕ) × (value : ℕ) × (u : View) × (v : View) × (w : View) × (asked : AskedStep) ×
         Fits z wants.now k value (node_sought taking) stock.old u v ×
@@ -229,6 +243,7 @@ fn node_told(wants: &Wants, stock: &mut Stock, taking: Taking, word: u64) -> Sup
 }
 
 /// The number of a node of the layout is sought on; or it was found; or there is none.
+#[inline(always)]
 fn node_sought(layout: Layout, stock: &mut Stock, taking: Taking) -> Supplying
     requires { (z : SizesOf) × (early : View) × (v : View) × TakingFits z early taking v }
     ensures keeps { HasLeafWords stock.old → HasLeafWords stock.new }

@@ -96,41 +96,39 @@ fn what_was_removed_is_absent(rt: HostRuntime) -> Result<(), Fail> {
     Ok(())
 }
 
-#[test]
-fn a_look_finds_the_one_row_of_its_range(rt: HostRuntime) -> Result<(), Fail> {
-    let (zero, one, two, three) = (at(&rt, 0), at(&rt, 1), at(&rt, 2), at(&rt, 3));
-    let first = looked(zero, two.clone()?, row_of(1, 7));
-    assert!(rt; is_right(&rt, rt.alloc(), first)?);
-    let from_one = looked(one.clone()?, three.clone()?, row_of(1, 7));
-    assert!(rt; is_right(&rt, rt.alloc(), from_one)?);
-    let last = looked(two.clone()?, Bound::End, row_of(3, 7));
-    assert!(rt; is_right(&rt, rt.alloc(), last)?);
-    let none = looked(two, three, None);
-    assert!(rt; is_right(&rt, rt.alloc(), none)?);
-    let past_the_end = looked(Bound::End, Bound::End, None);
-    assert!(rt; is_right(&rt, rt.alloc(), past_the_end)?);
-    let backwards = looked(at(&rt, 4), one, None);
-    assert!(rt; is_right(&rt, rt.alloc(), backwards)?);
-    Ok(())
+fn check_look(
+    rt: &impl Abort,
+    alloc: Global,
+    lo: Bound,
+    hi: Bound,
+    found: Option<Row>,
+    wanted: bool,
+) {
+    let right = is_right(rt, alloc, looked(lo, hi, found)).expect(rt, "room for the rows");
+    assert_eq!(rt; right, wanted);
 }
 
 #[test]
-fn a_look_finds_no_other_rows(rt: HostRuntime) -> Result<(), Fail> {
-    let missed = looked(at(&rt, 0), at(&rt, 2), None);
-    assert!(rt; !is_right(&rt, rt.alloc(), missed)?);
-    let ended_before = looked(at(&rt, 0), at(&rt, 1), row_of(1, 7));
-    assert!(rt; !is_right(&rt, rt.alloc(), ended_before)?);
-    let began_after = looked(at(&rt, 2), at(&rt, 3), row_of(1, 7));
-    assert!(rt; !is_right(&rt, rt.alloc(), began_after)?);
-    let another_value = looked(at(&rt, 0), at(&rt, 2), row_of(1, 8));
-    assert!(rt; !is_right(&rt, rt.alloc(), another_value)?);
-    let another_row = looked(at(&rt, 0), at(&rt, 2), row_of(0, 7));
-    assert!(rt; !is_right(&rt, rt.alloc(), another_row)?);
-    let one_of_two = looked(at(&rt, 0), Bound::End, row_of(1, 7));
-    assert!(rt; !is_right(&rt, rt.alloc(), one_of_two)?);
-    let with_a_fault = looked(at(&rt, 4), Bound::End, row_of(-1, 7));
-    assert!(rt; !is_right(&rt, rt.alloc(), with_a_fault)?);
-    Ok(())
+fn a_look_finds_the_one_row_of_its_range(rt: HostRuntime) {
+    let alloc = rt.alloc();
+    check_look(&rt, alloc, at(&rt, 0), at(&rt, 2), row_of(1, 7), true);
+    check_look(&rt, alloc, at(&rt, 1), at(&rt, 3), row_of(1, 7), true);
+    check_look(&rt, alloc, at(&rt, 2), Bound::End, row_of(3, 7), true);
+    check_look(&rt, alloc, at(&rt, 2), at(&rt, 3), None, true);
+    check_look(&rt, alloc, Bound::End, Bound::End, None, true);
+    check_look(&rt, alloc, at(&rt, 4), at(&rt, 1), None, true);
+}
+
+#[test]
+fn a_look_finds_no_other_rows(rt: HostRuntime) {
+    let alloc = rt.alloc();
+    check_look(&rt, alloc, at(&rt, 0), at(&rt, 2), None, false);
+    check_look(&rt, alloc, at(&rt, 0), at(&rt, 1), row_of(1, 7), false);
+    check_look(&rt, alloc, at(&rt, 2), at(&rt, 3), row_of(1, 7), false);
+    check_look(&rt, alloc, at(&rt, 0), at(&rt, 2), row_of(1, 8), false);
+    check_look(&rt, alloc, at(&rt, 0), at(&rt, 2), row_of(0, 7), false);
+    check_look(&rt, alloc, at(&rt, 0), Bound::End, row_of(1, 7), false);
+    check_look(&rt, alloc, at(&rt, 4), Bound::End, row_of(-1, 7), false);
 }
 
 /// A bound need not be the key of a tuple.

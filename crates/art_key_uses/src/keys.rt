@@ -96,50 +96,39 @@ fn columns_stand_one_after_another(rt: HostRuntime) {
     check_key(&rt, "u32,i16,text8", &tuple, &bytes);
 }
 
+fn check_fault(rt: &impl Abort, schema: &str, tuple: &Tuple, wanted: ValueFault) {
+    assert_eq!(rt; fault_of(rt, schema, tuple), wanted);
+}
+
 #[test]
 fn the_number_of_values_is_looked_at_first(rt: HostRuntime) {
-    assert_eq!(rt;
-        fault_of(&rt, "u64", &Tuple::new()),
-        ValueFault::WrongColumns
-    );
+    check_fault(&rt, "u64", &Tuple::new(), ValueFault::WrongColumns);
     let one = tuple_of(Value::Bool(true));
-    assert_eq!(rt; fault_of(&rt, "u64,u64", &one), ValueFault::WrongColumns);
+    check_fault(&rt, "u64,u64", &one, ValueFault::WrongColumns);
 }
 
 #[test]
 fn the_first_column_at_fault_decides(rt: HostRuntime) {
     let tuple = triple_of(Value::Int(1), Value::Int(256), Value::Bool(true));
-    assert_eq!(rt;
-        fault_of(&rt, "u8,u8,u8", &tuple),
-        ValueFault::OutOfRange(1)
-    );
-    assert_eq!(rt;
-        fault_of(&rt, "u8,u16,u8", &tuple),
-        ValueFault::WrongType(2)
-    );
-    assert_eq!(rt;
-        fault_of(&rt, "bool,u8,u8", &tuple),
-        ValueFault::WrongType(0)
-    );
+    check_fault(&rt, "u8,u8,u8", &tuple, ValueFault::OutOfRange(1));
+    check_fault(&rt, "u8,u16,u8", &tuple, ValueFault::WrongType(2));
+    check_fault(&rt, "bool,u8,u8", &tuple, ValueFault::WrongType(0));
 }
 
 #[test]
 fn values_that_stand_in_no_column(rt: HostRuntime) {
     for number in [-1, 1 << 64] {
         let tuple = tuple_of(Value::Int(number));
-        assert_eq!(rt; fault_of(&rt, "u64", &tuple), ValueFault::OutOfRange(0));
+        check_fault(&rt, "u64", &tuple, ValueFault::OutOfRange(0));
     }
     let low = tuple_of(Value::Int(-129));
-    assert_eq!(rt; fault_of(&rt, "i8", &low), ValueFault::OutOfRange(0));
-    assert_eq!(rt; fault_of(&rt, "text8", &low), ValueFault::WrongType(0));
+    check_fault(&rt, "i8", &low, ValueFault::OutOfRange(0));
+    check_fault(&rt, "text8", &low, ValueFault::WrongType(0));
     let nine = tuple_of(text_of(&rt, "aaaaaaaaa"));
-    assert_eq!(rt; fault_of(&rt, "text8", &nine), ValueFault::TextTooLong(0));
-    assert_eq!(rt; fault_of(&rt, "u8", &nine), ValueFault::WrongType(0));
+    check_fault(&rt, "text8", &nine, ValueFault::TextTooLong(0));
+    check_fault(&rt, "u8", &nine, ValueFault::WrongType(0));
     let four_bytes = tuple_of(text_of(&rt, "\u{1F600}"));
-    assert_eq!(rt;
-        fault_of(&rt, "text3", &four_bytes),
-        ValueFault::TextTooLong(0)
-    );
+    check_fault(&rt, "text3", &four_bytes, ValueFault::TextTooLong(0));
 }
 
 #[test]

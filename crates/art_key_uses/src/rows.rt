@@ -28,43 +28,54 @@ fn listed(rt: &impl Abort, numbers: &[i128], more: bool) -> Reply {
     Reply::Rows(rows, more)
 }
 
+fn check_insert(rt: &impl Abort, rows: &mut SortedRows, number: i128, value: u64, wanted: &Reply) {
+    let command = Command::Insert(tuple_of(number), value);
+    let reply = rows.apply(&command).expect(rt, "room for a row");
+    assert!(rt; reply == *wanted);
+}
+
+fn check_remove(rt: &impl Abort, rows: &mut SortedRows, number: i128, wanted: &Reply) {
+    let command = Command::Remove(tuple_of(number));
+    let reply = rows.apply(&command).expect(rt, "room for a row");
+    assert!(rt; reply == *wanted);
+}
+
+fn check_get(rt: &impl Abort, rows: &mut SortedRows, number: i128, wanted: &Reply) {
+    let command = Command::Get(tuple_of(number));
+    let reply = rows.apply(&command).expect(rt, "room for a row");
+    assert!(rt; reply == *wanted);
+}
+
 #[test]
-fn an_inserted_row_is_found(rt: HostRuntime) -> Result<(), Fail> {
+fn an_inserted_row_is_found(rt: HostRuntime) {
     let mut rows = SortedRows::new(rt.alloc());
-    let inserted = rows.apply(&Command::Insert(tuple_of(5), 9))?;
-    assert_eq!(rt; inserted, Reply::Inserted);
-    assert_eq!(rt; rows.apply(&Command::Get(tuple_of(5)))?, Reply::Found(9));
+    check_insert(&rt, &mut rows, 5, 9, &Reply::Inserted);
+    check_get(&rt, &mut rows, 5, &Reply::Found(9));
     assert_eq!(rt; rows.rows().len(), 1);
-    Ok(())
 }
 
 #[test]
-fn a_row_that_stands_keeps_its_value(rt: HostRuntime) -> Result<(), Fail> {
+fn a_row_that_stands_keeps_its_value(rt: HostRuntime) {
     let mut rows = SortedRows::new(rt.alloc());
-    rows.apply(&Command::Insert(tuple_of(5), 9))?;
-    let again = rows.apply(&Command::Insert(tuple_of(5), 10))?;
-    assert_eq!(rt; again, Reply::Present(9));
-    assert_eq!(rt; rows.apply(&Command::Get(tuple_of(5)))?, Reply::Found(9));
-    Ok(())
+    check_insert(&rt, &mut rows, 5, 9, &Reply::Inserted);
+    check_insert(&rt, &mut rows, 5, 10, &Reply::Present(9));
+    check_get(&rt, &mut rows, 5, &Reply::Found(9));
 }
 
 #[test]
-fn a_removed_row_is_absent(rt: HostRuntime) -> Result<(), Fail> {
+fn a_removed_row_is_absent(rt: HostRuntime) {
     let mut rows = SortedRows::new(rt.alloc());
-    rows.apply(&Command::Insert(tuple_of(5), 9))?;
-    let removed = rows.apply(&Command::Remove(tuple_of(5)))?;
-    assert_eq!(rt; removed, Reply::Removed(9));
-    let again = rows.apply(&Command::Remove(tuple_of(5)))?;
-    assert_eq!(rt; again, Reply::Absent);
-    assert_eq!(rt; rows.apply(&Command::Get(tuple_of(5)))?, Reply::Absent);
-    Ok(())
+    check_insert(&rt, &mut rows, 5, 9, &Reply::Inserted);
+    check_remove(&rt, &mut rows, 5, &Reply::Removed(9));
+    check_remove(&rt, &mut rows, 5, &Reply::Absent);
+    check_get(&rt, &mut rows, 5, &Reply::Absent);
 }
 
 #[test]
 fn a_scan_lists_the_first_rows_of_its_range(rt: HostRuntime) -> Result<(), Fail> {
     let mut rows = SortedRows::new(rt.alloc());
     for number in [3, 1, 2] {
-        rows.apply(&Command::Insert(tuple_of(number), 7))?;
+        check_insert(&rt, &mut rows, number, 7, &Reply::Inserted);
     }
     let two = scan(&rt, &mut rows, 0, 9, 2)?;
     assert_eq!(rt; two, listed(&rt, &[1, 2], true));

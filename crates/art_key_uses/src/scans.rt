@@ -43,68 +43,91 @@ fn is_scan_of(
     Ok(scan_ok(&maps, &lo, &hi, limit, rows_of(rt, listed).as_slice()))
 }
 
-#[test]
-fn a_row_that_always_stood_is_owed(rt: HostRuntime) -> Result<(), Fail> {
-    assert!(rt; !is_scan_of(&rt, rt.alloc(), &[&[(1, 1)]], 100, &[])?);
-    assert!(rt; is_scan_of(&rt, rt.alloc(), &[&[(1, 1)]], 100, &[(1, 1)])?);
-    assert!(rt; is_scan_of(&rt, rt.alloc(), &[&[], &[(1, 1)]], 100, &[])?);
-    Ok(())
+/// These rows are what a scan from 0 to 9 with this limit owes over the states, or are not.
+fn check_scan(
+    rt: &impl Abort,
+    alloc: Global,
+    states: &[&[(i128, u64)]],
+    limit: u64,
+    listed: &[(i128, u64)],
+    wanted: bool,
+) {
+    let found = is_scan_of(rt, alloc, states, limit, listed).expect(rt, "room for the states");
+    assert_eq!(rt; found, wanted);
 }
 
 #[test]
-fn a_listed_row_stood_in_one_of_the_states(rt: HostRuntime) -> Result<(), Fail> {
+fn a_row_that_always_stood_is_owed(rt: HostRuntime) {
+    let one: &[(i128, u64)] = &[(1, 1)];
+    check_scan(&rt, rt.alloc(), &[one], 100, &[], false);
+    check_scan(&rt, rt.alloc(), &[one], 100, one, true);
+    check_scan(&rt, rt.alloc(), &[&[], one], 100, &[], true);
+}
+
+#[test]
+fn a_listed_row_stood_in_one_of_the_states(rt: HostRuntime) {
     for (row, wanted) in [((1, 1), true), ((1, 2), false), ((2, 1), false)] {
-        assert_eq!(rt;
-            is_scan_of(&rt, rt.alloc(), &[&[], &[(1, 1)]], 100, &[row])?,
-            wanted
-        );
+        check_scan(&rt, rt.alloc(), &[&[], &[(1, 1)]], 100, &[row], wanted);
     }
-    Ok(())
 }
 
 #[test]
-fn a_row_whose_value_changed_is_owed_with_either(rt: HostRuntime) -> Result<(), Fail> {
+fn a_row_whose_value_changed_is_owed_with_either(rt: HostRuntime) {
     for (value, wanted) in [(1, true), (2, true), (3, false)] {
         let listed = [(1, value)];
-        assert_eq!(rt;
-            is_scan_of(&rt, rt.alloc(), &[&[(1, 1)], &[(1, 2)]], 100, &listed)?,
-            wanted
+        check_scan(
+            &rt,
+            rt.alloc(),
+            &[&[(1, 1)], &[(1, 2)]],
+            100,
+            &listed,
+            wanted,
         );
     }
-    assert!(rt; !is_scan_of(&rt, rt.alloc(), &[&[(1, 1)], &[(1, 2)]], 100, &[])?);
-    Ok(())
+    check_scan(&rt, rt.alloc(), &[&[(1, 1)], &[(1, 2)]], 100, &[], false);
 }
 
 #[test]
-fn rows_after_the_last_are_not_owed_at_the_limit(rt: HostRuntime) -> Result<(), Fail> {
+fn rows_after_the_last_are_not_owed_at_the_limit(rt: HostRuntime) {
     let three: &[(i128, u64)] = &[(1, 1), (2, 2), (3, 3)];
-    assert!(rt; is_scan_of(&rt, rt.alloc(), &[three], 0, &[])?);
-    assert!(rt; is_scan_of(&rt, rt.alloc(), &[three], 2, &[(1, 1), (2, 2)])?);
-    assert!(rt; !is_scan_of(&rt, rt.alloc(), &[three], 2, &[(1, 1), (3, 3)])?);
-    assert!(rt; !is_scan_of(&rt, rt.alloc(), &[three], 2, &[(1, 1)])?);
-    assert!(rt; !is_scan_of(&rt, rt.alloc(), &[three], 2, three)?);
-    assert!(rt; is_scan_of(&rt, rt.alloc(), &[three], 3, three)?);
-    Ok(())
+    let none: &[(i128, u64)] = &[];
+    for (limit, listed, wanted) in [
+        (0, none, true),
+        (2, &[(1, 1), (2, 2)], true),
+        (2, &[(1, 1), (3, 3)], false),
+        (2, &[(1, 1)], false),
+        (2, three, false),
+        (3, three, true),
+    ] {
+        check_scan(&rt, rt.alloc(), &[three], limit, listed, wanted);
+    }
 }
 
 #[test]
-fn rows_are_listed_once_and_in_order(rt: HostRuntime) -> Result<(), Fail> {
+fn rows_are_listed_once_and_in_order(rt: HostRuntime) {
     let two: &[(i128, u64)] = &[(1, 1), (2, 2)];
-    assert!(rt; is_scan_of(&rt, rt.alloc(), &[two], 100, two)?);
-    assert!(rt; !is_scan_of(&rt, rt.alloc(), &[two], 100, &[(2, 2), (1, 1)])?);
-    assert!(rt; !is_scan_of(&rt, rt.alloc(), &[two], 100, &[(1, 1), (1, 1), (2, 2)])?);
-    Ok(())
+    for (listed, wanted) in [
+        (two, true),
+        (&[(2, 2), (1, 1)], false),
+        (&[(1, 1), (1, 1), (2, 2)], false),
+    ] {
+        check_scan(&rt, rt.alloc(), &[two], 100, listed, wanted);
+    }
 }
 
 #[test]
-fn both_ends_of_the_range_belong_to_it(rt: HostRuntime) -> Result<(), Fail> {
+fn both_ends_of_the_range_belong_to_it(rt: HostRuntime) {
     let four: &[(i128, u64)] = &[(-1, 0), (0, 0), (9, 0), (10, 0)];
-    assert!(rt; is_scan_of(&rt, rt.alloc(), &[four], 100, &[(0, 0), (9, 0)])?);
-    assert!(rt; !is_scan_of(&rt, rt.alloc(), &[four], 100, &[(0, 0)])?);
-    assert!(rt; !is_scan_of(&rt, rt.alloc(), &[four], 100, &[(9, 0)])?);
-    assert!(rt; !is_scan_of(&rt, rt.alloc(), &[four], 100, &[(-1, 0), (0, 0), (9, 0)])?);
-    assert!(rt; !is_scan_of(&rt, rt.alloc(), &[four], 100, &[(0, 0), (9, 0), (10, 0)])?);
-    Ok(())
+    let both: &[(i128, u64)] = &[(0, 0), (9, 0)];
+    for (listed, wanted) in [
+        (both, true),
+        (&[(0, 0)], false),
+        (&[(9, 0)], false),
+        (&[(-1, 0), (0, 0), (9, 0)], false),
+        (&[(0, 0), (9, 0), (10, 0)], false),
+    ] {
+        check_scan(&rt, rt.alloc(), &[four], 100, listed, wanted);
+    }
 }
 
 #[test]

@@ -61,6 +61,10 @@ abbrev pub has_ended : LookStage → Bool
 has_ended (Ended r o) = true
 has_ended stage = false
 
+-- a check settles what it has seen
+abbrev pub IsSettling : LookStage → Type 0
+IsSettling stage = (x : Stamp) × (asks stage ≡ Some (Settle x))
+
 -- what it has seen, where it has come to that
 abbrev pub seen_at : List ℕ → KeyBound → Trail → LookStage → Option Seen
 seen_at lo hi t (Decided x r o) = Some (seen_of lo hi t.path.items t.key.items r o)

@@ -56,7 +56,7 @@ mod looks;
 mod reads;
 mod trails;
 
-pub use driver::{Looked, look_from, step};
+pub use driver::{Looked, look_from, look_on, step};
 pub use fronts::Front;
 pub use looks::{ChildSought, Look, LookStage, Reach, Seen};
 pub use trails::Trail;

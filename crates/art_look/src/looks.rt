@@ -89,7 +89,7 @@ impl Look {
     ghost use Rattle.art_find.specs.Descents.{IsReading};
     ghost use Rattle.art_find.specs.declared.asked.Answer.TheVariants as told;
     ghost use Rattle.art_find.specs.declared.asked.Asked.{Asked as AskedStep};
-    ghost use Rattle.art_look.specs.Looks.{Fits, Settles, asks, deed_at, has_ended, least_steps, most_steps, seen_at};
+    ghost use Rattle.art_look.specs.Looks.{Fits, IsSettling, Settles, asks, deed_at, has_ended, least_steps, most_steps, seen_at};
     ghost use Rattle.art_look.specs.declared.trails.Trail.{Trail as Trailed};
     ghost use Rattle.art_step.specs.declared.views.Sizes.{Sizes};
     ghost use Rattle.art_step.specs.declared.views.View.{View};
@@ -164,6 +164,7 @@ impl Look {
             Fits z lo.now hi self.old trail.old u v × (asks self.old.stage ≡ Some asked) ×
             Answers z (deed_at lo.now hi trail.old self.old.stage) asked answer v w }
         ensures on { result ≡ goes_on answer }
+        ensures going { has_ended self.new.stage ≡ true → IsSettling self.old.stage }
         ensures steps { result ≡ true → most_steps self.old.depth self.old.stage < most_steps self.new.depth self.new.stage }
         ensures anew { result ≡ false → most_steps self.new.depth self.new.stage ≡ 0 }
         ensures least { least_steps self.new.stage ≤ least_steps self.old.stage + 1 }
@@ -192,6 +193,7 @@ impl Look {
     /// A version word was clear, and gave this stamp.
     pub fn began(&mut self, stamp: Stamp)
         requires { WantsVersion (asks self.old.stage) }
+        ensures going { has_ended self.new.stage ≡ false }
         ensures steps { most_steps self.old.depth self.old.stage < most_steps self.new.depth self.new.stage }
         ensures least { least_steps self.new.stage ≤ least_steps self.old.stage + 1 }
         ensures fits { (z : Sizes) (lo : List ℕ) (hi : KeyBound) (t : Trailed) (u v w : View) (asked : AskedStep) →
@@ -208,6 +210,7 @@ impl Look {
     /// A version word was unchanged.
     pub fn checked(&mut self)
         requires { WantsCheck (asks self.old.stage) }
+        ensures going { has_ended self.new.stage ≡ true → IsSettling self.old.stage }
         ensures steps { most_steps self.old.depth self.old.stage < most_steps self.new.depth self.new.stage }
         ensures least { least_steps self.new.stage ≤ least_steps self.old.stage + 1 }
         ensures fits { (z : Sizes) (lo : List ℕ) (hi : KeyBound) (t : Trailed) (u v w : View) (asked : AskedStep) →

@@ -21,19 +21,20 @@ impl Look {
     ghost use Rattle.art_find.specs.declared.asked.Answer.TheVariants as told;
     ghost use Rattle.art_find.specs.declared.asked.Asked.{Asked as AskedStep};
     ghost use Rattle.art_look.specs.Fronts.{low_at};
-    ghost use Rattle.art_look.specs.Looks.{Fits, IsSought, asks, deed_at, least_steps, most_steps};
+    ghost use Rattle.art_look.specs.Looks.{Fits, IsSought, asks, deed_at, has_ended, least_steps, most_steps};
     ghost use Rattle.art_look.specs.Trails.{HasFirstValue, SeeksChild, SeeksKeys, SpellsKey, SpellsPath, SpellsPrefix, SpellsWords};
     ghost use Rattle.art_step.specs.Shows.{HasStamp, Shows};
     ghost use Rattle.art_step.specs.declared.views.Sizes.{Sizes};
     ghost use Rattle.art_step.specs.declared.views.View.{View};
     ghost use Rattle.art_cell.specs.Children.{link_of};
     ghost use Rattle.art_tree.specs.Tree.{Begins};
-    ghost use Rattle.std.specs.Prelude.{List, Some};
+    ghost use Rattle.std.specs.Prelude.{List, Some, false};
 
     /// The word that it asked for is this.
     pub fn read(&mut self, lo: &[u8], trail: &mut Trail, word: u64)
         requires wants { WantsWord (asks self.old.stage) }
         requires fits { (z : Sizes) × (hi : KeyBound) × (u : View) × (v : View) × Fits z lo.now hi self.old trail.old u v }
+        ensures going { has_ended self.new.stage ≡ false }
         ensures steps { most_steps self.old.depth self.old.stage < most_steps self.new.depth self.new.stage }
         ensures least { least_steps self.new.stage ≤ least_steps self.old.stage + 1 }
         ensures fits { (z : Sizes) (hi : KeyBound) (u v w : View) (asked : AskedStep) →

@@ -34,6 +34,7 @@ pub enum Answer {
 }
 
 /// Makes the step that the making of a change asks for; where the counter of a cell that is to be locked is at its end, none.
+#[inline(always)]
 pub fn make<S: Steps>(steps: &mut S, asked: Asked, change: &Change) -> Answer
     requires allowed { IsAllowed (S.sizes steps.old) change.now (S.view steps.old) asked }
     requires admitted { IsAdmitted (S.admits steps.old) change.now.deed }
@@ -64,6 +65,7 @@ pub fn make<S: Steps>(steps: &mut S, asked: Asked, change: &Change) -> Answer
 }
 
 /// Locks the stamp's cell.
+#[inline(always)]
 fn upgrade<S: Steps>(steps: &mut S, stamp: Stamp) -> Result<(), UpgradeFault>
     requires { MayUpgrade (S.sizes steps.old) (S.view steps.old) stamp }
     ensures only { S.only steps.old steps.new }
@@ -79,6 +81,7 @@ fn upgrade<S: Steps>(steps: &mut S, stamp: Stamp) -> Result<(), UpgradeFault>
 }
 
 /// Commits the change, by the release of this cell.
+#[inline(always)]
 fn commit<S: Steps>(steps: &mut S, cell: Cell, obsolete: bool, change: &Change)
     requires may { MayCommit (S.sizes steps.old) (S.view steps.old) change.now cell obsolete }
     requires admitted { IsAdmitted (S.admits steps.old) change.now.deed }

@@ -69,6 +69,7 @@ impl Making {
     }
 
     /// The next step, or none where it has ended.
+    #[inline(always)]
     pub fn next(&self, change: &Change) -> Option<Asked>
         ensures asks { result ≡ asks change.now self.now }
         ensures allowed { (z : Sizes) (u v : View) → Fits z change.now self.now u v → IfSome result (IsAllowed z change.now v) }
@@ -79,6 +80,7 @@ impl Making {
     }
 
     /// The step that it asked for was made, with this answer.
+    #[inline(always)]
     pub fn told(&mut self, change: &Change, answer: Answer)
         requires fits { (z : Sizes) × (u : View) × (v : View) × (w : View) × (asked : AskedStep) × Fits z change.now self.old u v ×
             (asks change.now self.old ≡ Some asked) × Answers change.now asked answer v w }
@@ -102,6 +104,7 @@ impl Making {
     }
 
     /// The next step, by the stage alone.
+    #[inline(always)]
     fn asked(&self, change: &Change) -> Option<Asked>
         ensures { result ≡ asks change.now self.now }
     {
@@ -135,6 +138,7 @@ impl Making {
     }
 
     /// Whether the change was made, or why not, once it has ended.
+    #[inline(always)]
     pub fn ended(&self) -> Option<Result<(), UpgradeFault>>
         ensures { result ≡ ended_at self.now }
     {
@@ -146,6 +150,7 @@ impl Making {
 }
 
 /// The upgrade of the target with this index was answered.
+#[inline(always)]
 fn upgraded(change: &Change, index: usize, answer: Answer) -> Making
     requires few { index < targets change.now }
     requires three { index < 3 }
@@ -165,6 +170,7 @@ fn upgraded(change: &Change, index: usize, answer: Answer) -> Making
 }
 
 /// So many targets are locked.
+#[inline(always)]
 fn locked(change: &Change, count: usize) -> Making
     requires few { count ≤ targets change.now }
     ensures steps { count ≤ most_steps result }
@@ -180,6 +186,7 @@ fn locked(change: &Change, count: usize) -> Making
 }
 
 /// The words of the new node before this place are written.
+#[inline(always)]
 fn filled(change: &Change, place: usize) -> Making
     requires some { 0 < place }
     requires few { place ≤ filled_end change.now }
@@ -194,6 +201,7 @@ fn filled(change: &Change, place: usize) -> Making
 }
 
 /// So many words of the targets are written, and all of the new node.
+#[inline(always)]
 fn written(change: &Change, count: usize) -> Making
     requires few { count ≤ length change.now.puts.items }
     ensures steps { 270 + count ≤ most_steps result }
@@ -208,6 +216,7 @@ fn written(change: &Change, count: usize) -> Making
 }
 
 /// The change is committed, and so many targets are released.
+#[inline(always)]
 fn released(change: &Change, count: usize) -> Making
     requires few { count ≤ targets change.now }
     ensures steps { 302 + count ≤ most_steps result }

@@ -40,6 +40,7 @@ impl Packing {
     }
 
     /// The next word, or none where all are written.
+    #[inline(always)]
     pub fn next(&self, key: &[u8], value: u64) -> Option<LeafWrite>
         requires few { length key.now ≤ 64 }
         ensures asks { result ≡ word_asked key.now value self.now.place }
@@ -57,6 +58,7 @@ impl Packing {
     }
 
     /// Whether all words are written.
+    #[inline(always)]
     pub fn is_over(&self) -> bool
         ensures { result ≡ (self.now.place == 10) }
     {
@@ -64,6 +66,7 @@ impl Packing {
     }
 
     /// The word was written.
+    #[inline(always)]
     pub fn told(&mut self)
         requires { self.old.place < 10 }
         ensures place { self.new.place ≡ self.old.place + 1 }
@@ -77,6 +80,7 @@ impl Packing {
 }
 
 /// Writes a word of a leaf in hand.
+#[inline(always)]
 pub fn write_leaf<S: Steps>(steps: &mut S, leaf: u32, put: LeafWrite)
     requires { IsLeafInHand (S.sizes steps.old) (S.view steps.old) leaf × (put.place < 10) }
     ensures only { S.only steps.old steps.new }

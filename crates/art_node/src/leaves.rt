@@ -37,6 +37,7 @@ fn words_of(key: &[u8], value: u64) -> Writes
 }
 
 /// The word at a place of the leaf with this key and value.
+#[inline(always)]
 pub fn leaf_word(key: &[u8], value: u64, place: usize) -> u64
     requires place { place < 10 }
     requires few { length key.now ≤ 64 }
@@ -54,6 +55,10 @@ pub(crate) fn key_word(key: &[u8], from: usize) -> u64
     requires { from ≤ 64 }
     ensures { result ≡ word_of_bytes key.now from }
 {
+    // most keys are short, and most words of a leaf have none of their bytes
+    if key.len() <= from {
+        return 0;
+    }
     let mut bytes = [0; 8];
     for at in 0..8 {
         bytes[at] = byte_at(key, from + at);

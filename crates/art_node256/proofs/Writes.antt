@@ -1,11 +1,13 @@
 -- What the words mean after the child word of a byte, and the header, were written.
-use Rattle.std.proofs.Common.{◌≡◌, ◌≢◌, ◌⊎◌, ℕ, ◌+◌, ◌-◌, ◌/◌, ◌%◌, ◌^◌, ◌<◌, ◌≤◌, List, length, set, get_or, cond, eqb, Option, Some, None, refl, sym, ap, subst, ◌∙◌, inl, inr, arith, eq-eqb, ne_eqb, get_or-set_same, get_or-set_other, length-set}
+use Rattle.std.proofs.Common.{◌≡◌, ◌≢◌, ◌⊎◌, ℕ, zero, suc, [], ◌∷◌, ◌+◌, ◌-◌, ◌/◌, ◌%◌, ◌^◌, ◌<◌, ◌≤◌, List, length, set, get_or, cond, eqb, Option, Some, None, refl, sym, ap, subst, ◌∙◌, inl, inr, arith, eq-eqb, ne_eqb, get_or-set_same, get_or-set_other, length-set}
 use Rattle.std.proofs.lemmas.Bool.{cases_eq}
 use Rattle.art_cell.specs.declared.layouts.Layout.TheVariants.{Node256}
 use Rattle.art_cell.specs.Words.{Words, nonzero, child_of}
 use Rattle.art_cell.specs.Bodies.{IsBody, Becomes}
-use Rattle.art_cell.specs.Reads.{changes, most_writes, with_child, without_child}
-use Rattle.art_cell.specs.Lemmas.Differing.{after_prefix, differing_most, differing_one, one_differs}
+use Rattle.art_cell.specs.Reads.{IsPlan, SameOutside, changes, most_writes, with_child, without_child, written}
+use Rattle.art_cell.specs.Lemmas.Differing.{after_prefix, differing_most, differing_one, exact_changes, one_differs}
+use Rattle.art_cell.specs.declared.writes.Write.{Write}
+use Rattle.art_node256.specs.Changes.{both_words, child_words}
 use Rattle.art_cell.specs.Lemmas.Headers.{KeepsRest, count_more, count_less, prefix_len_kept, header_below}
 use Rattle.art_cell.specs.Lemmas.Entries.{Changed, listed_room, listed_some, nonzero_some, becomes_with, becomes_other, becomes_without}
 
@@ -112,3 +114,91 @@ one_written w after byte c written = one_differs w after Node256 (10 + byte) (λ
     same : (p : ℕ) → p ≢ 10 + byte → (p ≡ 1) ⊎ (p ≢ 1) → w p ≡ after p
     same p apart (inl first) = ap w first ∙ sym written.head ∙ ap after (sym first)
     same p apart (inr later) = sym (written.others p apart later)
+
+-- ---- plans
+
+-- after the two writes
+pub both_written : (w : Words) (byte c header : ℕ) → IsWritten w (written w (both_words header byte c)) byte c header
+both_written w byte c header = record {
+  here = rw (ne_eqb 1 (10 + byte) (λ e. omega arith), eq-eqb (10 + byte) (10 + byte) refl) refl;
+  head = refl;
+  others = λ p apart other. rw (ne_eqb 1 p (λ e. other (sym e)), ne_eqb (10 + byte) p (λ e. apart (sym e))) refl;
+}
+
+-- they are the words that differ, and lie within the cell
+pub both_exact : (w : Words) (byte c header : ℕ) → byte < 256 → w 1 ≢ header → w (10 + byte) ≢ c → both_words header byte c ≡ changes Node256 w (written w (both_words header byte c))
+both_exact w byte c header low more other =
+    let after : Words = written w (both_words header byte c) in
+    let is = both_written w byte c header in
+    exact_changes w after Node256 (both_words header byte c) (
+      omega arith,
+      omega arith,
+      sym is.head,
+      (λ e. more (e ∙ is.head)),
+      (λ p first before. absurd (omega (arith, first, before))),
+      (
+        omega arith,
+        omega (arith, low),
+        sym is.here,
+        (λ e. other (e ∙ is.here)),
+        (λ p first before. sym (is.others p (λ e. omega (arith, e, before)) (λ e. omega (arith, e, first)))),
+        (λ p first before. sym (is.others p (λ e. omega (arith, e, first)) (λ e. omega (arith, e, first)))),
+      ),
+    )
+
+pub both_outside : (w : Words) (byte c header : ℕ) → byte < 256 → SameOutside Node256 w (written w (both_words header byte c))
+both_outside w byte c header low =
+    let is = both_written w byte c header in
+    (sym (is.others 0 (λ e. omega (arith, e)) (λ e. omega (arith, e))), λ p past. sym (is.others p (λ e. omega (arith, e, past, low)) (λ e. omega (arith, e, past))))
+
+-- a byte with no child has the word 0, and one with a child another
+pub free_word : (w : Words) (byte : ℕ) → child_of Node256 w byte ≡ None → w (10 + byte) ≡ 0
+free_word w byte free = by_word (w (10 + byte)) free
+  where
+    by_word : (n : ℕ) → nonzero n ≡ None → n ≡ 0
+    by_word zero is = refl
+    by_word (suc n) is = let no : None ≡ Some (suc n) = sym is ∙ nonzero_some (suc n) (omega arith) in cc
+
+pub some_word : (w : Words) (byte d : ℕ) → child_of Node256 w byte ≡ Some d → 0 < w (10 + byte)
+some_word w byte d there = by_word (w (10 + byte)) there
+  where
+    by_word : (n : ℕ) → nonzero n ≡ Some d → 0 < n
+    by_word zero is = cc
+    by_word (suc n) is = omega arith
+
+-- another child word alone, or the one that it had
+module _ (w : Words) (byte c : ℕ) (low : byte < 256) (some : 0 < c) (fits : c < 2 ^ 64) (body : IsBody Node256 w) (there : (d : ℕ) × (child_of Node256 w byte ≡ Some d)) where
+  same_child : w (10 + byte) ≡ c → IsPlan Node256 w [] (with_child (child_of Node256 w) byte c)
+  same_child same = record {
+    becomes = replaced w w byte c low some fits body there (record { here = same; head = refl; others = λ p apart other. refl });
+    exact = exact_changes w w Node256 [] (λ p first before. refl);
+    outside = (refl, λ p past. refl);
+  }
+
+  other_child : w (10 + byte) ≢ c → IsPlan Node256 w (record { place = 10 + byte; value = c } ∷ []) (with_child (child_of Node256 w) byte c)
+  other_child other =
+      let one : List Write = record { place = 10 + byte; value = c } ∷ [] in
+      let is : IsWritten w (written w one) byte c (w 1) = record {
+        here = rw (eq-eqb (10 + byte) (10 + byte) refl) refl;
+        head = rw (ne_eqb (10 + byte) 1 (λ e. omega (arith, e))) refl;
+        others = λ p apart second. rw (ne_eqb (10 + byte) p (λ e. apart (sym e))) refl;
+      } in
+      let same : (p : ℕ) → p ≢ 10 + byte → w p ≡ written w one p = λ p apart. rw (ne_eqb (10 + byte) p (λ e. apart (sym e))) refl in
+      record {
+        becomes = replaced w (written w one) byte c low some fits body there is;
+        exact = exact_changes w (written w one) Node256 one (
+          omega arith,
+          omega (arith, low),
+          sym is.here,
+          (λ e. other (e ∙ is.here)),
+          (λ p first before. same p (λ e. omega (arith, e, before))),
+          (λ p first before. same p (λ e. omega (arith, e, first))),
+        );
+        outside = (same 0 (λ e. omega (arith, e)), λ p past. same p (λ e. omega (arith, e, past, low)));
+      }
+
+  pub child_plan : IsPlan Node256 w (child_words (w (10 + byte)) byte c) (with_child (child_of Node256 w) byte c)
+  child_plan = elim (cases_eq (w (10 + byte)) c) [
+    | inl same ↦ rw (eq-eqb (w (10 + byte)) c same) (same_child same)
+    | inr other ↦ rw (ne_eqb (w (10 + byte)) c other) (other_child other)
+  ]

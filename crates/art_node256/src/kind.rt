@@ -1,7 +1,8 @@
 //! A node with a place for each byte.
 ghost use Rattle.std.specs.Prelude.{◌≡◌, ◌+◌};
+ghost use Rattle.art_node256.specs.Changes.{both_words, child_words};
 
-use art_cell::{Body, Entries, Entry, NextProbe, NodeKind, Probe, Reads};
+use art_cell::{Body, Entries, Entry, NextProbe, NodeKind, Probe, Reads, Write, Writes};
 
 /// The place of the header, whose low bits count the children.
 const HEADER: usize = 1;
@@ -70,5 +71,47 @@ impl NodeKind for Node256 {
             }
         }
         entries
+    }
+
+    fn plan_add(body: &Body, byte: u8, child: u64, writes: &mut Writes) -> bool {
+        plan_both(writes, body.words[HEADER] + 1, byte, child);
+        // a byte with no child is a place that is free
+        true
+    }
+
+    fn plan_set(body: &Body, byte: u8, child: u64, writes: &mut Writes) {
+        plan_child(writes, body.words[place_of(byte)], byte, child);
+    }
+
+    fn plan_drop(body: &Body, byte: u8, writes: &mut Writes) {
+        plan_both(writes, body.words[HEADER] - 1, byte, 0);
+    }
+}
+
+/// The words that a child which comes or goes changes: the header and the byte's own.
+fn plan_both(writes: &mut Writes, header: u64, byte: u8, child: u64)
+    ensures { writes.new.items ≡ both_words header byte child }
+{
+    writes.clear();
+    writes.push(Write {
+        place: HEADER,
+        value: header,
+    });
+    writes.push(Write {
+        place: place_of(byte),
+        value: child,
+    });
+}
+
+/// The word that another child changes: the byte's own, where it is another word.
+fn plan_child(writes: &mut Writes, had: u64, byte: u8, child: u64)
+    ensures { writes.new.items ≡ child_words had byte child }
+{
+    writes.clear();
+    if had != child {
+        writes.push(Write {
+            place: place_of(byte),
+            value: child,
+        });
     }
 }

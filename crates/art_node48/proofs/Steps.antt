@@ -276,7 +276,7 @@ stands w byte entry place body low there is at =
       used = (body.form.named byte place low names).0;
     }
 
-no_entry : (w : Words) (byte : ℕ) → IsIndexed w → byte < 256 → indexed_child w byte ≡ None → key_byte w byte ≡ 0
+pub no_entry : (w : Words) (byte : ℕ) → IsIndexed w → byte < 256 → indexed_child w byte ≡ None → key_byte w byte ≡ 0
 no_entry w byte are low none = by_entry (key_byte w byte) refl
   where
     by_entry : (n : ℕ) → key_byte w byte ≡ n → key_byte w byte ≡ 0

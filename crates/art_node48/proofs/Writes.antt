@@ -12,11 +12,11 @@ abbrev pub at : List ℕ → Words
 at words p = get_or words p 0
 
 -- the three words that are written, and all others
-record Three (w after : Words) (header index word place child : ℕ) : Type 0 where
-  first : after 1 ≡ header
-  second : after index ≡ word
-  third : after (42 + place) ≡ child
-  rest : (p : ℕ) → p ≢ 1 → p ≢ index → p ≢ 42 + place → after p ≡ w p
+pub record Three (w after : Words) (header index word place child : ℕ) : Type 0 where
+  pub first : after 1 ≡ header
+  pub second : after index ≡ word
+  pub third : after (42 + place) ≡ child
+  pub rest : (p : ℕ) → p ≢ 1 → p ≢ index → p ≢ 42 + place → after p ≡ w p
 
 three : (words : List ℕ) (header index word place child : ℕ) → length words ≡ 266 → 10 ≤ index → index < 42 → place < 48 → Three (at words) (at (set (set (set words index word) (42 + place) child) 1 header)) header index word place child
 three words header index word place child len low high within = record { first = first; second = second; third = third; rest = rest }
@@ -45,7 +45,7 @@ three words header index word place child len low high within = record { first =
     rest : (p : ℕ) → p ≢ 1 → p ≢ index → p ≢ 42 + place → get_or (set two 1 header) p 0 ≡ get_or words p 0
     rest p a b c = get_or-set_other two 1 p header 0 a ∙ get_or-set_other one (42 + place) p child 0 c ∙ get_or-set_other words index p word 0 b
 
-wrote_three : (w after : Words) (header byte entry place child : ℕ) → byte < 256 → entry ≤ 48 → place < 48 → Three w after header (10 + byte / 8) (with_byte (w (10 + byte / 8)) (byte % 8) entry) place child → Wrote w after header byte entry place child
+pub wrote_three : (w after : Words) (header byte entry place child : ℕ) → byte < 256 → entry ≤ 48 → place < 48 → Three w after header (10 + byte / 8) (with_byte (w (10 + byte / 8)) (byte % 8) entry) place child → Wrote w after header byte entry place child
 wrote_three w after header byte entry place child in_range named within wrote = record {
   wrote_header = wrote.first;
   wrote_entry = key_byte_is after byte ∙ ap (λ (x : ℕ). byte_of x (byte % 8)) wrote.second ∙ byte_of-with_byte_here word (byte % 8) entry (omega arith) (omega arith);

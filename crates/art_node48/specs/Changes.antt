@@ -1,5 +1,7 @@
 -- What one change of a child writes, and which place a new child takes.
-use Rattle.std.specs.Prelude.{◌≡◌, ◌≢◌, ℕ, ◌+◌, ◌/◌, ◌%◌, ◌^◌, ◌<◌, ◌≤◌, Option, Some, None}
+use Rattle.std.specs.Prelude.{◌≡◌, ◌≢◌, ℕ, ◌+◌, ◌/◌, ◌%◌, ◌^◌, ◌<◌, ◌≤◌, ◌==◌, List, [], ◌∷◌, Option, Some, None, if◌then◌else◌}
+use Rattle.art_cell.specs.Lemmas.Packed.{with_byte}
+use Rattle.art_cell.specs.declared.writes.Write.{Write}
 use Rattle.art_cell.specs.Words.{Words, key_byte}
 
 -- the header, the index entry of one byte and the child of one place are written, and nothing else
@@ -24,3 +26,15 @@ pub record IsLowestFree (header place : ℕ) : Type 0 where
 abbrev pub IsFreePlace : ℕ → Option ℕ → Type 0
 IsFreePlace header None = (p : ℕ) → p < 48 → header / 2 ^ (16 + p) % 2 ≡ 1
 IsFreePlace header (Some place) = IsLowestFree header place
+
+-- the words that a child which comes or goes changes, in ascending place: the header, the index word of the byte, the child of the place
+abbrev pub three_words : Words → ℕ → ℕ → ℕ → ℕ → ℕ → List Write
+three_words w header byte entry place child =
+    record { place = 1; value = header }
+    ∷ record { place = 10 + byte / 8; value = with_byte (w (10 + byte / 8)) (byte % 8) entry }
+    ∷ record { place = 42 + place; value = child }
+    ∷ []
+
+-- the word at a place, where it was another one
+abbrev pub child_words : ℕ → ℕ → ℕ → List Write
+child_words had place child = if had == child then [] else record { place = place; value = child } ∷ []

@@ -3,9 +3,9 @@ ghost use Rattle.std.specs.Prelude.{◌≡◌, ◌<◌, ◌≤◌, ◌%◌};
 ghost use Rattle.art_cell.specs.Words.{byte_of, key_byte, indexed_child};
 ghost use Rattle.art_cell.specs.Lemmas.Packed.{with_byte};
 ghost use Rattle.art_cell.specs.Reads.{word_of, IsBodyOf};
-ghost use Rattle.art_node48.specs.Changes.{Wrote, IsFreePlace};
+ghost use Rattle.art_node48.specs.Changes.{Wrote, IsFreePlace, child_words, three_words};
 
-use art_cell::{Body, Entries, Entry, Layout, NextProbe, NodeKind, Probe, Reads};
+use art_cell::{Body, Entries, Entry, Layout, NextProbe, NodeKind, Probe, Reads, Write, Writes};
 
 /// The place of the header.
 const HEADER: usize = 1;
@@ -85,6 +85,75 @@ impl NodeKind for Node48 {
             }
         }
         entries
+    }
+
+    fn plan_add(body: &Body, byte: u8, child: u64, writes: &mut Writes) -> bool {
+        let Some(place) = free_place(body.words[HEADER]) else {
+            return false;
+        };
+        let header = body.words[HEADER] + (1 << (USED + place)) + 1;
+        plan_three(body, header, byte, place + 1, place, child, writes);
+        true
+    }
+
+    fn plan_set(body: &Body, byte: u8, child: u64, writes: &mut Writes) {
+        let place = entry_of(body, byte) - 1;
+        plan_child(
+            writes,
+            body.words[CHILDREN + place],
+            CHILDREN + place,
+            child,
+        );
+    }
+
+    fn plan_drop(body: &Body, byte: u8, writes: &mut Writes) {
+        let place = entry_of(body, byte) - 1;
+        let header = body.words[HEADER] - (1 << (USED + place)) - 1;
+        plan_three(body, header, byte, 0, place, 0, writes);
+    }
+}
+
+/// The words that a child which comes or goes changes: the header, the index word of the byte, and the child of its place.
+fn plan_three(
+    body: &Body,
+    header: u64,
+    byte: u8,
+    entry: usize,
+    place: usize,
+    child: u64,
+    writes: &mut Writes,
+)
+    requires entry { entry ≤ 48 }
+    requires place { place < 48 }
+    ensures { writes.new.items ≡ three_words (word_of body.now) header byte entry place child }
+{
+    let index = usize::from(byte);
+    let at = INDEX + index / 8;
+    writes.clear();
+    writes.push(Write {
+        place: HEADER,
+        value: header,
+    });
+    writes.push(Write {
+        place: at,
+        value: with_entry(body.words[at], index, entry as u8),
+    });
+    writes.push(Write {
+        place: CHILDREN + place,
+        value: child,
+    });
+}
+
+/// The word at the place that another child changes, where it is another word.
+fn plan_child(writes: &mut Writes, had: u64, place: usize, child: u64)
+    ensures { writes.new.items ≡ child_words had place child }
+{
+    writes.clear();
+    if had != child {
+        writes.push(Write {
+            place,
+            value: child,
+        });
     }
 }
 

@@ -1,3 +1,4 @@
 pub mod FoundPlaces
 pub mod Keeping
+pub mod Looks
 pub mod Placing

@@ -39,6 +39,7 @@ impl Desk {
     }
 
     /// What was read of the cell where the finding stands.
+    #[inline(always)]
     pub fn node(&self) -> &Reads
         ensures { result.now ≡ node_of self.now }
     {
@@ -50,6 +51,7 @@ impl Desk {
     }
 
     /// What was read of the cell above it.
+    #[inline(always)]
     pub fn above(&self) -> &Reads
         ensures { result.now ≡ above_of self.now }
     {
@@ -61,6 +63,7 @@ impl Desk {
     }
 
     /// The word that a rereading of the cell where the finding stands asked for is this.
+    #[inline(always)]
     pub fn reread_node(&mut self, rereading: &mut Rereading, word: u64)
         requires { rereading.old.place < 266 }
         ensures steps { rereading.old.place < rereading.new.place }
@@ -79,6 +82,7 @@ impl Desk {
     }
 
     /// The word that a rereading of the cell above asked for is this.
+    #[inline(always)]
     pub fn reread_above(&mut self, rereading: &mut Rereading, word: u64)
         requires { rereading.old.place < 266 }
         ensures steps { rereading.old.place < rereading.new.place }
@@ -96,6 +100,7 @@ impl Desk {
     }
 
     /// A word of the cell where the finding stands was read.
+    #[inline(always)]
     pub(crate) fn note(&mut self, place: usize, word: u64)
         requires { place < 266 }
         ensures node { node_of self.new ≡ set (node_of self.old) place (Some word) }

@@ -63,6 +63,7 @@ impl Finding {
     }
 
     /// The next step, or none where it has ended.
+    #[inline(always)]
     pub fn next(&self) -> Option<Asked>
         ensures asks { result ≡ asks self.now.descent.stage }
         ensures allowed { (z : Sizes) (k : List ℕ) (what : Option ℕ → Deed) (desk : DeskOf) (u v : View) →
@@ -73,6 +74,7 @@ impl Finding {
     }
 
     /// Where the key stands or would stand, once that was read: a check of the stamp comes next.
+    #[inline(always)]
     pub fn stand(&self) -> Option<Stand>
         ensures at { result ≡ stand_at self.now }
         ensures stands { IfSome result (λ t. (z : Sizes) (k : List ℕ) (what : Option ℕ → Deed) (desk : DeskOf) (u v : View) →
@@ -88,6 +90,7 @@ impl Finding {
     }
 
     /// The step that it asked for was made, with this answer. Whether it goes on: else it begins anew.
+    #[inline(always)]
     pub fn told(&mut self, desk: &mut Desk, key: &[u8], answer: Answer) -> bool
         requires few { length key.now ≤ 64 }
         requires fits { (z : Sizes) × (what : Option ℕ → Deed) × (u : View) × (v : View) × (w : View) × (asked : AskedStep) ×

@@ -46,9 +46,11 @@
 #![tactic(auto)]
 
 mod desks;
+mod driver;
 mod findings;
 mod rereadings;
 
 pub use desks::Desk;
+pub use driver::look;
 pub use findings::{Above, Finding, Stand};
 pub use rereadings::Rereading;

@@ -43,6 +43,7 @@ impl Rereading {
     }
 
     /// The read of the first word that is not known, or none where all are.
+    #[inline(always)]
     pub fn next(&self, stamp: Stamp) -> Option<Asked>
         ensures asks { result ≡ reads_next stamp self.now }
         ensures allowed { (z : Sizes) (v : View) (reads : List (Option ℕ)) →
@@ -58,6 +59,7 @@ impl Rereading {
     }
 
     /// The word that it asked for is this.
+    #[inline(always)]
     pub fn told(&mut self, reads: &mut Reads, word: u64)
         requires { self.old.place < 266 }
         ensures steps { self.old.place < self.new.place }
@@ -72,6 +74,7 @@ impl Rereading {
 }
 
 /// How many words a cell has.
+#[inline(always)]
 fn words_of(cell: Cell) -> usize
     ensures { result ≡ size_of cell }
 {
@@ -83,6 +86,7 @@ fn words_of(cell: Cell) -> usize
 }
 
 /// The first place from this one on whose word is not known, or one past the last.
+#[inline(always)]
 fn unknown_from(reads: &Reads, from: usize) -> usize
     requires { from ≤ 266 }
     ensures from { from ≤ result }

@@ -57,6 +57,7 @@ pub struct Change {
 
 impl Change {
     /// The target with an index, if there is one.
+    #[inline(always)]
     pub fn target(&self, index: usize) -> Option<Target>
         ensures { result ≡ target_at self.now index }
     {
@@ -64,6 +65,7 @@ impl Change {
     }
 
     /// The word with an index, if there is one.
+    #[inline(always)]
     pub fn put(&self, index: usize) -> Option<Put>
         ensures { result ≡ put_at self.now index }
     {
@@ -71,6 +73,7 @@ impl Change {
     }
 
     /// The word at a place of the node that it makes.
+    #[inline(always)]
     pub fn word(&self, place: usize) -> u64
         ensures { result ≡ word_of self.now.body place }
     {
@@ -78,6 +81,7 @@ impl Change {
     }
 
     /// The node that it makes, if it makes one.
+    #[inline(always)]
     pub fn made(&self) -> Option<Node>
         ensures { result ≡ node_made self.now }
     {

@@ -9,7 +9,7 @@ use Rattle.art_cell.specs.declared.layouts.Layout.TheVariants.{Node4, Node16, No
 use Rattle.art_cell.specs.declared.layouts.Pool.{Pool}
 use Rattle.art_cell.specs.declared.layouts.Pool.TheVariants.{Leaves}
 use Rattle.art_epoch.specs.Taking as taking
-use Rattle.art_epoch.specs.Taking.{IsSeen, SearchFits}
+use Rattle.art_epoch.specs.Taking.{IsSeen, SearchFits, around}
 use Rattle.art_epoch.specs.declared.asked.Asked.{Asked as NumberAsked}
 use Rattle.art_epoch.specs.declared.asked.Asked.TheVariants.{Clear}
 use Rattle.art_epoch.specs.declared.taking.Search.{Search}
@@ -60,8 +60,9 @@ no_node s hand layout only none i k x there same =
 -- ---- a search, of a call that began with the view u and made no event yet
 
 module _ (m : Memory) (u v : View) (had : HasFound m u v) (timely : IsTimely u) (own : v.own ≡ u.own) where
-  seen_set : (b : View) (pool : Pool) (words i k : ℕ) → u.steps ≤ b.steps → HasNoneOf pool b.hand → IsSeen b v pool words i k → bit_of (m.free_word pool i) k ≡ 1
-  seen_set b pool words i k late none s =
+  seen_set : (b : View) (pool : Pool) (words first n k : ℕ) → u.steps ≤ b.steps → HasNoneOf pool b.hand → IsSeen b v pool words first n k → bit_of (m.free_word pool (around words first n)) k ≡ 1
+  seen_set b pool words first n k late none s =
+      let i = around words first n in
       let later = s.found.later in
       let last = found_since m u v pool i s.word s.at had timely (omega (arith, late, later)) s.found.found ∙ s.last in
       ⊎_elim
@@ -69,20 +70,20 @@ module _ (m : Memory) (u v : View) (had : HasFound m u v) (timely : IsTimely u) 
       (λ (has : (x : InHand) × Member x v.hand × (x.link ≡ number_at pool i k)). absurd (none i k has.0 (subst (Member has.0) s.hand has.1) has.2))
       (had.free own pool i k s.lowest.low (ap (λ (x : ℕ). bit_of x k) last ∙ s.lowest.is))
 
-  search_founded : (z : Sizes) (b : View) (pool : Pool) (words : ℕ) (a : NumberAsked) → u.steps ≤ b.steps → HasNoneOf pool b.hand → (s : Search) → SearchFits z b v pool words s
-      → taking.asks_at pool words s ≡ Some a → IsFrameFounded m a
-  search_founded z b pool words a late none (Looking i) fits is =
+  search_founded : (z : Sizes) (b : View) (pool : Pool) (words first : ℕ) (a : NumberAsked) → u.steps ≤ b.steps → HasNoneOf pool b.hand → (s : Search) → SearchFits z b v pool words first s
+      → taking.asks_at pool words first s ≡ Some a → IsFrameFounded m a
+  search_founded z b pool words first a late none (Looking i) fits is =
       let Founds : Option NumberAsked → Type 0 = λ o. o ≡ Some a → IsFrameFounded m a in
-      cond_both (nat_lt i words) (Some (Clear pool i None)) None Founds
-      (λ e is. subst (IsFrameFounded m) (same_Some (Clear pool i None) a is) tt)
+      cond_both (nat_lt i words) (Some (Clear pool (around words first i) None)) None Founds
+      (λ e is. subst (IsFrameFounded m) (same_Some (Clear pool (around words first i) None) a is) tt)
       (λ e is. absurd (cc))
       is
-  search_founded z b pool words a late none (Clearing i k) fits is = subst (IsFrameFounded m) (same_Some (Clear pool i (Some k)) a is) (seen_set b pool words i k late none fits)
-  search_founded z b pool words a late none (Took i k) fits is = absurd (cc)
+  search_founded z b pool words first a late none (Clearing i k) fits is = subst (IsFrameFounded m) (same_Some (Clear pool (around words first i) (Some k)) a is) (seen_set b pool words first i k late none fits)
+  search_founded z b pool words first a late none (Took i k) fits is = absurd (cc)
 
   taking_founded : (z : Sizes) (b : View) (t : Taking) (pool : Pool) (a : NumberAsked) → t.pool ≡ pool → u.steps ≤ b.steps → HasNoneOf pool b.hand → taking.Fits z b t v → taking.asks t ≡ Some a
       → IsFrameFounded m a
-  taking_founded z b t pool a same late none fits is = search_founded z b t.pool t.words a late (subst (λ (q : Pool). HasNoneOf q b.hand) (sym same) none) t.search fits.search is
+  taking_founded z b t pool a same late none fits is = search_founded z b t.pool t.words t.first a late (subst (λ (q : Pool). HasNoneOf q b.hand) (sym same) none) t.search fits.search is
 
   -- ---- a supply
 

@@ -1,7 +1,9 @@
 //! Worked rows on nodes and their prefixes, and what of them is left at the close.
 ghost use Rattle.art_table.specs.Tables.{IsPassOf};
 
-use crate::tables::{SIZES, alone, closed_alone, empties, fills, finds, puts, takes};
+use crate::tables::{
+    SIZES, alone, check_find, check_put, check_take, closed_alone, empties, fills, puts,
+};
 use art_closed::PoolCount;
 use art_table::{Closed, Config, Inserted};
 use std::alloc::Global;
@@ -79,14 +81,14 @@ fn nodes_shrink_at_thirty_six_twelve_three_and_one(rt: HostRuntime) -> Result<()
 fn a_prefix_is_split_and_a_node_merged(rt: HostRuntime) -> Result<(), Fail> {
     let (table, mut pass) = alone(&rt, rt.alloc(), "u16", SIZES);
     for (number, value) in [(257, 1), (258, 2), (515, 3)] {
-        assert_eq!(rt; puts(&table, &mut pass, number, value), Ok(Inserted::New));
+        check_put(&rt, &table, &mut pass, number, value, Ok(Inserted::New));
     }
     for (number, value) in [(257, 1), (258, 2), (515, 3)] {
-        assert_eq!(rt; finds(&table, &mut pass, number), Ok(Some(value)));
+        check_find(&rt, &table, &mut pass, number, Ok(Some(value)));
     }
-    assert_eq!(rt; takes(&table, &mut pass, 515), Ok(Some(3)));
-    assert_eq!(rt; finds(&table, &mut pass, 257), Ok(Some(1)));
-    assert_eq!(rt; finds(&table, &mut pass, 258), Ok(Some(2)));
+    check_take(&rt, &table, &mut pass, 515, Ok(Some(3)));
+    check_find(&rt, &table, &mut pass, 257, Ok(Some(1)));
+    check_find(&rt, &table, &mut pass, 258, Ok(Some(2)));
     let end = closed_alone(&rt, rt.alloc(), table, pass);
     assert_eq!(rt; nodes_of(&end), [1, 0, 0, 0]);
     assert_eq!(rt; end.rows.len(), 2);
@@ -103,14 +105,14 @@ fn a_node_shrinks_only_where_a_smaller_one_is_free(rt: HostRuntime) -> Result<()
     };
     let (table, mut pass) = alone(&rt, rt.alloc(), "u16", config);
     fills(&rt, &table, &mut pass, 1, 6);
-    assert_eq!(rt; puts(&table, &mut pass, 257, 6), Ok(Inserted::New));
+    check_put(&rt, &table, &mut pass, 257, 6, Ok(Inserted::New));
     let full = puts(&table, &mut pass, 258, 7);
     assert_eq!(rt; full, Err(art_table::Fault::Full(art_cell::Pool::N4)));
     for number in [5, 4, 3, 2] {
-        assert_eq!(rt; takes(&table, &mut pass, number), Ok(Some(number)));
+        check_take(&rt, &table, &mut pass, number, Ok(Some(number)));
     }
-    assert_eq!(rt; finds(&table, &mut pass, 1), Ok(Some(1)));
-    assert_eq!(rt; finds(&table, &mut pass, 257), Ok(Some(6)));
+    check_find(&rt, &table, &mut pass, 1, Ok(Some(1)));
+    check_find(&rt, &table, &mut pass, 257, Ok(Some(6)));
     let end = closed_alone(&rt, rt.alloc(), table, pass);
     assert_eq!(rt; nodes_of(&end), [1, 0, 0, 0]);
     Ok(())

@@ -1,6 +1,7 @@
 //! Worked rows of small pools, and of counters at their end.
 use crate::tables::{
-    SIZES, alone, closed_alone, fills, finds, last_of, opened, puts, row_of, takes,
+    SIZES, alone, check_find, check_put, check_take, closed_alone, fills, last_of, opened, puts,
+    row_of,
 };
 use art_cell::{Cell, Layout, Node, Pool};
 use art_table::{Config, Fault, Inserted};
@@ -14,11 +15,11 @@ fn a_third_row_finds_no_leaf_of_two(rt: HostRuntime) -> Result<(), Fail> {
     let (table, mut pass) = alone(&rt, rt.alloc(), "u8", config);
     fills(&rt, &table, &mut pass, 1, 3);
     let full = Err(Fault::Full(Pool::Leaves));
-    assert_eq!(rt; puts(&table, &mut pass, 3, 3), full);
-    assert_eq!(rt; puts(&table, &mut pass, 1, 9), Ok(Inserted::Present(1)));
-    assert_eq!(rt; finds(&table, &mut pass, 1), Ok(Some(1)));
-    assert_eq!(rt; finds(&table, &mut pass, 2), Ok(Some(2)));
-    assert_eq!(rt; finds(&table, &mut pass, 3), Ok(None));
+    check_put(&rt, &table, &mut pass, 3, 3, full);
+    check_put(&rt, &table, &mut pass, 1, 9, Ok(Inserted::Present(1)));
+    check_find(&rt, &table, &mut pass, 1, Ok(Some(1)));
+    check_find(&rt, &table, &mut pass, 2, Ok(Some(2)));
+    check_find(&rt, &table, &mut pass, 3, Ok(None));
     Ok(())
 }
 
@@ -33,8 +34,8 @@ fn two_passes_share_two_leaves(rt: HostRuntime) -> Result<(), Fail> {
     let mut zero = last_of(&rt, &table, &mut passes);
     fills(&rt, &table, &mut zero, 1, 3);
     let full = Err(Fault::Full(Pool::Leaves));
-    assert_eq!(rt; puts(&table, &mut one, 3, 3), full);
-    assert_eq!(rt; finds(&table, &mut one, 2), Ok(Some(2)));
+    check_put(&rt, &table, &mut one, 3, 3, full);
+    check_find(&rt, &table, &mut one, 2, Ok(Some(2)));
     Ok(())
 }
 
@@ -46,8 +47,8 @@ fn an_anchor_at_the_end_of_its_counter_is_not_locked(rt: HostRuntime) -> Result<
     };
     let (table, mut pass) = alone(&rt, rt.alloc(), "u8", config);
     let exhausted = Err(Fault::Exhausted(Cell::Anchor));
-    assert_eq!(rt; puts(&table, &mut pass, 1, 1), exhausted);
-    assert_eq!(rt; finds(&table, &mut pass, 1), Ok(None));
+    check_put(&rt, &table, &mut pass, 1, 1, exhausted);
+    check_find(&rt, &table, &mut pass, 1, Ok(None));
     Ok(())
 }
 
@@ -58,12 +59,12 @@ fn an_anchor_is_locked_once_before_its_counter_ends(rt: HostRuntime) -> Result<(
         ..SIZES
     };
     let (table, mut pass) = alone(&rt, rt.alloc(), "u8", config);
-    assert_eq!(rt; puts(&table, &mut pass, 1, 1), Ok(Inserted::New));
+    check_put(&rt, &table, &mut pass, 1, 1, Ok(Inserted::New));
     let exhausted = Fault::Exhausted(Cell::Anchor);
-    assert_eq!(rt; puts(&table, &mut pass, 2, 2), Err(exhausted));
-    assert_eq!(rt; puts(&table, &mut pass, 1, 5), Ok(Inserted::Present(1)));
-    assert_eq!(rt; takes(&table, &mut pass, 1), Err(exhausted));
-    assert_eq!(rt; finds(&table, &mut pass, 1), Ok(Some(1)));
+    check_put(&rt, &table, &mut pass, 2, 2, Err(exhausted));
+    check_put(&rt, &table, &mut pass, 1, 5, Ok(Inserted::Present(1)));
+    check_take(&rt, &table, &mut pass, 1, Err(exhausted));
+    check_find(&rt, &table, &mut pass, 1, Ok(Some(1)));
     Ok(())
 }
 
@@ -81,8 +82,8 @@ fn what_was_locked_above_a_refused_cell_is_released(rt: HostRuntime) -> Result<(
         number: 0,
     };
     let exhausted = Err(Fault::Exhausted(Cell::Node(root)));
-    assert_eq!(rt; puts(&table, &mut pass, 515, 1), exhausted);
-    assert_eq!(rt; finds(&table, &mut pass, 260), Ok(Some(260)));
+    check_put(&rt, &table, &mut pass, 515, 1, exhausted);
+    check_find(&rt, &table, &mut pass, 260, Ok(Some(260)));
     let end = closed_alone(&rt, rt.alloc(), table, pass);
     assert_eq!(rt; end.rows.len(), 4);
     assert_eq!(rt; end.rows.last(), Some(&row_of(260, 260)));
@@ -102,6 +103,6 @@ fn a_node_is_locked_below_an_anchor_at_its_end(rt: HostRuntime) -> Result<(), Fa
     assert!(rt; matches!(fourth, Err(Fault::Exhausted(Cell::Node(_)))));
     let other = puts(&table, &mut pass, 515, 1);
     assert_eq!(rt; other, Err(Fault::Exhausted(Cell::Anchor)));
-    assert_eq!(rt; finds(&table, &mut pass, 260), Ok(None));
+    check_find(&rt, &table, &mut pass, 260, Ok(None));
     Ok(())
 }

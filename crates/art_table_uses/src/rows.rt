@@ -3,11 +3,11 @@ ghost use Rattle.art_table.specs.Tables.{IsPassOf};
 ghost use Rattle.art_table_uses.specs.Clients.{AreOf};
 
 use crate::tables::{
-    SIZES, TURNS, alone, closed, closed_alone, finds, last_of, opened, puts, row_of, takes,
-    tuple_of, with_last,
+    SIZES, TURNS, alone, check_find, check_put, check_take, closed, closed_alone, last_of, opened,
+    row_of, tuple_of, with_last,
 };
 use art_key::{Bound, ValueFault, encode};
-use art_model::{Tuple, Value};
+use art_model::{Row, Tuple, Value};
 use art_table::{
     CloseFault, CloseRefusal, Config, Fault, Inserted, OpenFault, Pass, Seen, Table, close, get,
     insert, look, open,
@@ -18,18 +18,33 @@ use std::test::*;
 
 const TWO_PASSES: Config = Config { passes: 2, ..SIZES };
 
+/// A get of the tuple with so many turns is answered so.
+fn check_get(
+    rt: &impl Abort,
+    table: &Table,
+    pass: &mut Pass,
+    tuple: &Tuple,
+    turns: u32,
+    wanted: Result<Option<u64>, Fault>,
+)
+    requires { IsPassOf table.now pass.old }
+    ensures { IsPassOf table.now pass.new }
+{
+    assert_eq!(rt; get(table, pass, tuple, turns), wanted);
+}
+
 #[test]
 fn a_get_takes_three_steps_of_an_empty_table_and_seven_to_a_leaf(
     rt: HostRuntime,
 ) -> Result<(), Fail> {
     let (table, mut pass) = alone(&rt, rt.alloc(), "u64", SIZES);
     let five = tuple_of(5);
-    assert_eq!(rt; get(&table, &mut pass, &five, 0), Err(Fault::Busy));
-    assert_eq!(rt; get(&table, &mut pass, &five, 2), Err(Fault::Busy));
-    assert_eq!(rt; get(&table, &mut pass, &five, 3), Ok(None));
-    assert_eq!(rt; puts(&table, &mut pass, 5, 9), Ok(Inserted::New));
-    assert_eq!(rt; get(&table, &mut pass, &five, 6), Err(Fault::Busy));
-    assert_eq!(rt; get(&table, &mut pass, &five, 7), Ok(Some(9)));
+    check_get(&rt, &table, &mut pass, &five, 0, Err(Fault::Busy));
+    check_get(&rt, &table, &mut pass, &five, 2, Err(Fault::Busy));
+    check_get(&rt, &table, &mut pass, &five, 3, Ok(None));
+    check_put(&rt, &table, &mut pass, 5, 9, Ok(Inserted::New));
+    check_get(&rt, &table, &mut pass, &five, 6, Err(Fault::Busy));
+    check_get(&rt, &table, &mut pass, &five, 7, Ok(Some(9)));
     let end = closed_alone(&rt, rt.alloc(), table, pass);
     assert_eq!(rt; end.rows.first(), Some(&row_of(5, 9)));
     assert_eq!(rt; end.rows.len(), 1);
@@ -39,15 +54,19 @@ fn a_get_takes_three_steps_of_an_empty_table_and_seven_to_a_leaf(
 #[test]
 fn a_row_that_stands_keeps_its_value(rt: HostRuntime) -> Result<(), Fail> {
     let (table, mut pass) = alone(&rt, rt.alloc(), "u8", SIZES);
-    assert_eq!(rt; puts(&table, &mut pass, 5, u64::MAX), Ok(Inserted::New));
-    assert_eq!(rt;
-        puts(&table, &mut pass, 5, 10),
-        Ok(Inserted::Present(u64::MAX))
+    check_put(&rt, &table, &mut pass, 5, u64::MAX, Ok(Inserted::New));
+    check_put(
+        &rt,
+        &table,
+        &mut pass,
+        5,
+        10,
+        Ok(Inserted::Present(u64::MAX)),
     );
-    assert_eq!(rt; finds(&table, &mut pass, 5), Ok(Some(u64::MAX)));
-    assert_eq!(rt; takes(&table, &mut pass, 5), Ok(Some(u64::MAX)));
-    assert_eq!(rt; takes(&table, &mut pass, 5), Ok(None));
-    assert_eq!(rt; puts(&table, &mut pass, 5, 10), Ok(Inserted::New));
+    check_find(&rt, &table, &mut pass, 5, Ok(Some(u64::MAX)));
+    check_take(&rt, &table, &mut pass, 5, Ok(Some(u64::MAX)));
+    check_take(&rt, &table, &mut pass, 5, Ok(None));
+    check_put(&rt, &table, &mut pass, 5, 10, Ok(Inserted::New));
     Ok(())
 }
 
@@ -56,15 +75,15 @@ fn a_row_that_stands_keeps_its_value(rt: HostRuntime) -> Result<(), Fail> {
 fn what_is_wrong_with_a_tuple_comes_first(rt: HostRuntime) -> Result<(), Fail> {
     let (table, mut pass) = alone(&rt, rt.alloc(), "u8", SIZES);
     let wide = Fault::Value(ValueFault::OutOfRange(0));
-    assert_eq!(rt; get(&table, &mut pass, &tuple_of(256), 0), Err(wide));
+    check_get(&rt, &table, &mut pass, &tuple_of(256), 0, Err(wide));
     assert_eq!(rt; insert(&table, &mut pass, &tuple_of(256), 1, 0), Err(wide));
     let none = Fault::Value(ValueFault::WrongColumns);
-    assert_eq!(rt; get(&table, &mut pass, &Tuple::new(), 0), Err(none));
+    check_get(&rt, &table, &mut pass, &Tuple::new(), 0, Err(none));
     let mut truth = Tuple::new();
     truth.push(Value::Bool(true));
     let other = Fault::Value(ValueFault::WrongType(0));
-    assert_eq!(rt; get(&table, &mut pass, &truth, 0), Err(other));
-    assert_eq!(rt; get(&table, &mut pass, &tuple_of(255), 0), Err(Fault::Busy));
+    check_get(&rt, &table, &mut pass, &truth, 0, Err(other));
+    check_get(&rt, &table, &mut pass, &tuple_of(255), 0, Err(Fault::Busy));
     Ok(())
 }
 
@@ -108,29 +127,31 @@ fn sees(rt: &impl Abort, table: &Table, pass: &mut Pass, lo: u64, hi: u64) -> Re
     look(table, pass, &lo, &hi, TURNS)
 }
 
+/// A look from the one number on, before 10, sees the range from there to the key of `end`, with this row.
+fn check_look(
+    rt: &impl Abort,
+    table: &Table,
+    pass: &mut Pass,
+    from: u64,
+    end: u64,
+    row: Option<Row>,
+)
+    requires { IsPassOf table.now pass.old }
+    ensures { IsPassOf table.now pass.new }
+{
+    let (lo, hi) = (at(rt, table, from), at(rt, table, end));
+    let wanted = Seen { lo, hi, row };
+    assert_eq!(rt; sees(rt, table, pass, from, 10), Ok(wanted));
+}
+
 #[test]
 fn three_looks_tile_a_range(rt: HostRuntime) -> Result<(), Fail> {
     let (table, mut pass) = alone(&rt, rt.alloc(), "u8", SIZES);
-    assert_eq!(rt; puts(&table, &mut pass, 1, 1), Ok(Inserted::New));
-    assert_eq!(rt; puts(&table, &mut pass, 5, 5), Ok(Inserted::New));
-    let first = Seen {
-        lo: at(&rt, &table, 0),
-        hi: at(&rt, &table, 2),
-        row: Some(row_of(1, 1)),
-    };
-    assert_eq!(rt; sees(&rt, &table, &mut pass, 0, 10), Ok(first));
-    let second = Seen {
-        lo: at(&rt, &table, 2),
-        hi: at(&rt, &table, 6),
-        row: Some(row_of(5, 5)),
-    };
-    assert_eq!(rt; sees(&rt, &table, &mut pass, 2, 10), Ok(second));
-    let last = Seen {
-        lo: at(&rt, &table, 6),
-        hi: at(&rt, &table, 10),
-        row: None,
-    };
-    assert_eq!(rt; sees(&rt, &table, &mut pass, 6, 10), Ok(last));
+    check_put(&rt, &table, &mut pass, 1, 1, Ok(Inserted::New));
+    check_put(&rt, &table, &mut pass, 5, 5, Ok(Inserted::New));
+    check_look(&rt, &table, &mut pass, 0, 2, Some(row_of(1, 1)));
+    check_look(&rt, &table, &mut pass, 2, 6, Some(row_of(5, 5)));
+    check_look(&rt, &table, &mut pass, 6, 10, None);
     Ok(())
 }
 
@@ -162,7 +183,7 @@ fn a_close_wants_all_passes(rt: HostRuntime) -> Result<(), Fail> {
     let other = last_of(&rt, &table, &mut passes);
     let mut one = last_of(&rt, &table, &mut passes);
     assert_eq!(rt; (one.number(), other.number()), (0, 1));
-    assert_eq!(rt; puts(&table, &mut one, 5, 9), Ok(Inserted::New));
+    check_put(&rt, &table, &mut one, 5, 9, Ok(Inserted::New));
     let (table, passes) = refused(&rt, rt.alloc(), table, one, other);
     let end = closed(&rt, rt.alloc(), table, passes);
     assert_eq!(rt; end.rows.first(), Some(&row_of(5, 9)));

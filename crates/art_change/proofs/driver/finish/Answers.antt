@@ -14,8 +14,8 @@ some_there : {A : Type 0} (o : Option A) → is_some o ≡ true → (x : A) × (
 some_there (Some x) some = (x, refl)
 some_there None some = cc
 
-pub loop-steps-init : goal.loop-steps-init
-loop-steps-init g c = record {
+pub loop-write-init : goal.loop-write-init
+loop-write-init g c = record {
   only = g.met.S.Steps.only_same c.args.steps.now;
   sizes = refl;
   job = refl;
@@ -27,45 +27,81 @@ loop-steps-init g c = record {
   fits = λ u ps fits. fits;
 }
 
-pub step-requires-clause-admitted : goal.step-requires-clause-admitted
-step-requires-clause-admitted g c =
-    let l = c.loop-steps in
+pub hurry-requires-clause-admitted : goal.hurry-requires-clause-admitted
+hurry-requires-clause-admitted g c =
+    let l = c.loop-write in
     let i = l.invariant in
     let job = c.args.write.job in
     let here = subst (λ (k : ArrayVec ℕ). g.S.Steps.admits l.steps k.items) (sym i.key.key)
     ((g.met.S.Steps.only_admits c.args.steps.now l.steps (key_of job c.args.room.now).items i.only).1 c.requires.admitted) in
     subst (λ (j : JobOf). g.S.Steps.admits l.steps (key_of j l.room).items) (sym i.job) here
 
-pub step-requires-clause-fits : goal.step-requires-clause-fits
-step-requires-clause-fits g c =
-    let l = c.loop-steps in
+pub hurry-requires-clause-fits : goal.hurry-requires-clause-fits
+hurry-requires-clause-fits g c =
+    let l = c.loop-write in
     let q = c.requires.fits in
     let here = l.invariant.fits q.0 q.1 q.2 in
-    (q.0, q.1, subst (λ (z : Sizes). Fits z q.0 q.1 l.write l.room (places_of l.limbo) (g.S.Steps.view l.steps)) (sym l.invariant.sizes) here)
+    (q.0, q.1, places_of l.limbo, subst (λ (z : Sizes). Fits z q.0 q.1 l.write l.room (places_of l.limbo) (g.S.Steps.view l.steps)) (sym l.invariant.sizes) here)
 
-pub loop-steps-smaller : goal.loop-steps-smaller
-loop-steps-smaller g c = c.step.ensures.left
-
-pub loop-steps-preserved : goal.loop-steps-preserved
-loop-steps-preserved g c =
-    let l = c.loop-steps in
+pub step-requires-clause-admitted : goal.step-requires-clause-admitted
+step-requires-clause-admitted g c =
+    let l = c.loop-write in
     let i = l.invariant in
+    let e = c.hurry.ensures in
+    let job = c.args.write.job in
+    let same = subst (λ (j : JobOf). SameKey j l.room c.hurry.new.room) i.job e.key in
+    let here = subst (λ (k : ArrayVec ℕ). g.S.Steps.admits c.hurry.new.steps k.items) (sym (same.key ∙ i.key.key))
+    ((g.met.S.Steps.only_admits l.steps c.hurry.new.steps (key_of job c.args.room.now).items e.only).1
+    ((g.met.S.Steps.only_admits c.args.steps.now l.steps (key_of job c.args.room.now).items i.only).1 c.requires.admitted)) in
+    subst (λ (j : JobOf). g.S.Steps.admits c.hurry.new.steps (key_of j c.hurry.new.room).items) (sym (e.job ∙ i.job)) here
+
+pub step-requires-clause-fits : goal.step-requires-clause-fits
+step-requires-clause-fits g c =
+    let l = c.loop-write in
+    let q = c.requires.fits in
+    let e = c.hurry.ensures in
+    let here = subst (λ (z : Sizes). Fits z q.0 q.1 l.write l.room (places_of l.limbo) (g.S.Steps.view l.steps)) (sym l.invariant.sizes) (l.invariant.fits q.0 q.1 q.2) in (
+      q.0,
+      q.1,
+      subst (λ (z : Sizes). Fits z q.0 q.1 c.hurry.new.self c.hurry.new.room (places_of l.limbo) (g.S.Steps.view c.hurry.new.steps))
+          (sym (g.met.S.Steps.only_sizes l.steps c.hurry.new.steps e.only)) (e.fits q.0 q.1 (places_of l.limbo) here),
+    )
+
+pub loop-write-smaller : goal.loop-write-smaller
+loop-write-smaller g c =
+    let less = c.step.ensures.left in
+    let later = c.hurry.ensures.later in
+    let few = c.hurry.ensures.left (places_of c.loop-write.limbo) in
+    omega (arith, less, later, few)
+
+pub loop-write-preserved : goal.loop-write-preserved
+loop-write-preserved g c =
+    let l = c.loop-write in
+    let i = l.invariant in
+    let h = c.hurry.ensures in
     let e = c.step.ensures in
     let w = g.S.Steps.view c.step.new.steps in
+    let s = c.args.steps.now in
+    let only = g.met.S.Steps.only_then s l.steps c.hurry.new.steps i.only h.only in
+    let sizes = g.met.S.Steps.only_sizes l.steps c.hurry.new.steps h.only ∙ i.sizes in
     record {
-      only = g.met.S.Steps.only_then c.args.steps.now l.steps c.step.new.steps i.only e.only;
-      sizes = g.met.S.Steps.only_sizes l.steps c.step.new.steps e.only ∙ i.sizes;
-      job = e.job ∙ i.job;
-      turns = e.turns ∙ i.turns;
-      key = let same = subst (λ (j : JobOf). SameKey j l.room c.step.new.room) i.job e.key in record { key = same.key ∙ i.key.key; value = same.value ∙ i.key.value };
-      refuses = λ r. e.refuses (i.refuses r);
-      apart = λ keys a. e.apart (still_apart (g.S.Steps.admits c.args.steps.now) (g.S.Steps.admits l.steps) (λ k. (g.met.S.Steps.only_admits c.args.steps.now l.steps k i.only).0) keys) (i.apart keys a);
-      left = let one = e.one in let less = e.left in let before = i.left in omega (arith, one, less, before);
-      fits = λ u ps fits. subst (λ (z : Sizes). Fits z u ps c.step.new.write c.step.new.room (places_of c.step.new.limbo) w) i.sizes
-          (e.fits u ps (subst (λ (z : Sizes). Fits z u ps l.write l.room (places_of l.limbo) (g.S.Steps.view l.steps)) (sym i.sizes) (i.fits u ps fits)));
+      only = g.met.S.Steps.only_then s c.hurry.new.steps c.step.new.steps only e.only;
+      sizes = g.met.S.Steps.only_sizes c.hurry.new.steps c.step.new.steps e.only ∙ sizes;
+      job = e.job ∙ (h.job ∙ i.job);
+      turns = e.turns ∙ (h.turns ∙ i.turns);
+      key =
+          let one = subst (λ (j : JobOf). SameKey j l.room c.hurry.new.room) i.job h.key in
+          let two = subst (λ (j : JobOf). SameKey j c.hurry.new.room c.step.new.room) (h.job ∙ i.job) e.key in
+          record { key = two.key ∙ (one.key ∙ i.key.key); value = two.value ∙ (one.value ∙ i.key.value) };
+      refuses = λ r. e.refuses (h.refuses (i.refuses r));
+      apart = λ keys a. e.apart (still_apart (g.S.Steps.admits s) (g.S.Steps.admits c.hurry.new.steps) (λ k. (g.met.S.Steps.only_admits s c.hurry.new.steps k only).0) keys) (h.apart (i.apart keys a));
+      left = let one = e.one in let less = e.left in let before = i.left in let few = h.left (places_of l.limbo) in omega (arith, one, less, before, few);
+      fits = λ u ps fits. subst (λ (z : Sizes). Fits z u ps c.step.new.write c.step.new.room (places_of c.step.new.limbo) w) sizes
+          (e.fits u ps (subst (λ (z : Sizes). Fits z u ps c.hurry.new.self c.hurry.new.room (places_of l.limbo) (g.S.Steps.view c.hurry.new.steps)) (sym (g.met.S.Steps.only_sizes l.steps c.hurry.new.steps h.only))
+          (h.fits u ps (places_of l.limbo) (subst (λ (z : Sizes). Fits z u ps l.write l.room (places_of l.limbo) (g.S.Steps.view l.steps)) (sym i.sizes) (i.fits u ps fits)))));
     }
 
 pub returns-clause-ended : goal.returns-clause-ended
 returns-clause-ended g c =
-    let some = some_there c.ended.result (cc (c.is_none.ensures, c.loop-steps-test.false)) in
+    let some = some_there c.ended.result (cc (c.is_none.ensures, c.loop-write-test.false)) in
     (some.0, sym c.ended.ensures.at ∙ some.1)

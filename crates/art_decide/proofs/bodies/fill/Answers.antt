@@ -5,6 +5,8 @@ use Rattle.std.proofs.lemmas.List.{get_or-replicate, get_or_past, length-replica
 use Rattle.art_cell.specs.Reads.{word_of, word_read}
 use Rattle.art_cell.specs.Words.{size}
 use Rattle.art_cell.specs.declared.cells.Cell.{Cell}
+use Rattle.art_cell.specs.declared.layouts.Layout.{Layout}
+use Rattle.art_cell.specs.declared.layouts.Layout.TheVariants.{Node4, Node16, Node48, Node256}
 use Rattle.art_cell.specs.declared.cells.Cell.TheVariants as cell
 use Rattle.art_cell.specs.declared.cells.Node.{Node}
 use Rattle.art_decide.specs.Bodies.{AreWithin, HasWords}
@@ -13,16 +15,23 @@ use Rattle.art_place.proofs.Keeping.{cell_fits}
 use Rattle.art_decide.proofs.bodies.fill.Goals as goal
 use Rattle.art_decide.proofs.bodies.fill.Goals.{After-loop-place}
 
-blank_word : (i : ℕ) → get_or {A = ℕ} (replicate 266 0) i 0 ≡ 0
-blank_word i =
-    let none : ℕ = 0 in
-    elim (cases_lt i 266) [
-      | inl low ↦ get_or-replicate 266 i none none low
-      | inr high ↦ get_or_past (replicate 266 none) i none (omega (arith, high, length-replicate {A = ℕ} 266 none))
-    ]
+-- each layout has words after the version
+sized : (k : Layout) → 0 < size k
+sized Node4 = omega arith
+sized Node16 = omega arith
+sized Node48 = omega arith
+sized Node256 = omega arith
 
 pub loop-place-init : goal.loop-place-init
-loop-place-init c = (refl, refl, λ i low high. absurd (omega (arith, low, high)), refl, λ i high. blank_word i)
+loop-place-init c =
+    let words = c.clear_from.new.words in
+    let some = sized c.in-Node.node.layout in (
+      refl,
+      length-set words 0 0 ∙ c.clear_from.array_long,
+      λ i low high. absurd (omega (arith, low, high)),
+      get_or-set_same words 0 0 0 (omega (arith, c.clear_from.array_long)),
+      λ i high. get_or-set_other words 0 i 0 0 (λ e. omega (arith, e, high, some, c.size.ensures)) ∙ c.clear_from.ensures i (omega (arith, high, c.size.ensures)),
+    )
 
 pub loop-place-preserved : goal.loop-place-preserved
 loop-place-preserved c =
@@ -41,7 +50,7 @@ loop-place-preserved c =
         | inr other ↦ get_or-set_other words place i word 0 other ∙ was.2 i some (omega (arith, before, other))
       ],
       get_or-set_other words place 0 word 0 (λ e. let after = c.loop-place.auto.place in omega (arith, e, after)) ∙ was.3,
-      λ i after. get_or-set_other words place i word 0 (λ e. omega (arith, e, after)) ∙ was.4 i (omega (arith, after)),
+      λ i after. get_or-set_other words place i word 0 (λ e. omega (arith, e, after, c.loop-place-test.true, c.size-place-end.ensures)) ∙ was.4 i after,
     )
 
 -- all words that were read are within the cell
@@ -58,7 +67,7 @@ filled c =
         | inl first ↦ ap (word_of c.loop-place.body) first ∙ was.3 ∙ sym (ap (λ (j : ℕ). unwrap_or (word_read c.args.reads.now j) 0) first ∙ unknown_outside (cell.Node n) c.args.reads.now 0 within (λ low high. omega (arith, low)))
         | inr some ↦ elim (cases_lt i place) [
           | inl before ↦ was.2 i (omega (arith, some)) before
-          | inr after ↦ was.4 i after ∙ sym (unknown_outside (cell.Node n) c.args.reads.now i within (λ low high. omega (arith, high, after, end)))
+          | inr after ↦ was.4 i (omega (arith, after, end)) ∙ sym (unknown_outside (cell.Node n) c.args.reads.now i within (λ low high. omega (arith, high, after, end)))
         ]
       ];
     }

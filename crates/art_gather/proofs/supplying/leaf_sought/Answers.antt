@@ -21,7 +21,7 @@ returns-in-Some c z wants k value u v sizes want none sought =
 
 pub returns-in-None-spent : goal.returns-in-None-spent
 returns-in-None-spent c z wants k value u v sizes want none sought =
-    let ended = takes_none z sought.early v c.args.taking.pool c.number.result (sym c.spent.ensures ∙ c.in-None-spent.is) (c.number.ensures z sought.early v sought.seeks) in
+    let ended = takes_none z sought.early v c.args.taking.pool c.args.taking.first c.number.result (sym c.spent.ensures ∙ c.in-None-spent.is) (c.number.ensures z sought.early v sought.seeks) in
     record {
       sizes = sizes;
       only = sought_none z k value c.args.stock.now u c.args.taking leaves v sought ended;
@@ -33,7 +33,7 @@ returns-in-None-spent c z wants k value u v sizes want none sought =
 pub returns : goal.returns
 returns c z wants k value u v sizes want none sought =
     let d = c.in-Some-spent.link in
-    let took = takes_some z sought.early v c.args.taking.pool c.number.result d (sym c.spent.ensures ∙ c.in-Some-spent.is) (c.number.ensures z sought.early v sought.seeks) in
+    let took = takes_some z sought.early v c.args.taking.pool c.args.taking.first c.number.result d (sym c.spent.ensures ∙ c.in-Some-spent.is) (c.number.ensures z sought.early v sought.seeks) in
     let only = sought_leaf z k value c.args.stock.now u c.args.taking leaves v sought d refl took none in
     let new = with_leaf (number_of d) c.args.stock.now in
     let fits : Fits z wants k value (packed c.new.result) new u v = record {

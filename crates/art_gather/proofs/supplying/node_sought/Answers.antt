@@ -35,7 +35,7 @@ returns-in-Some-clause-fits c z wants k value u v sizes want none words sought =
 pub returns-in-None-spent-clause-fits : goal.returns-in-None-spent-clause-fits
 returns-in-None-spent-clause-fits c z wants k value u v sizes want none words sought =
     let pool = pool_of_layout c.args.layout in
-    let ended = takes_none z sought.early v c.args.taking.pool c.number.result (sym c.spent.ensures ∙ c.in-None-spent.is) (c.number.ensures z sought.early v sought.seeks) in
+    let ended = takes_none z sought.early v c.args.taking.pool c.args.taking.first c.number.result (sym c.spent.ensures ∙ c.in-None-spent.is) (c.number.ensures z sought.early v sought.seeks) in
     let fits : Fits z wants k value (Ended (Full pool)) c.args.stock.now u v = record {
       sizes = sizes;
       only = sought_none z k value c.args.stock.now u c.args.taking pool v sought ended;
@@ -50,7 +50,7 @@ returns-clause-fits c z wants k value u v sizes want none words sought =
     let s = c.args.stock.now in
     let layout = c.args.layout in
     let d = c.in-Some-spent.link in
-    let took = takes_some z sought.early v c.args.taking.pool c.number.result d (sym c.spent.ensures ∙ c.in-Some-spent.is) (c.number.ensures z sought.early v sought.seeks) in
+    let took = takes_some z sought.early v c.args.taking.pool c.args.taking.first c.number.result d (sym c.spent.ensures ∙ c.in-Some-spent.is) (c.number.ensures z sought.early v sought.seeks) in
     let new = with_node (taken_node layout d) s in
     let fits : Fits z wants k value (Ended Ready) new u v = record {
       sizes = sizes;

@@ -6,11 +6,11 @@ use Rattle.art_step.specs.Views.{pool_of_layout}
 use Rattle.art_step.specs.declared.views.Sizes.{Sizes}
 
 pub node_sought-requires : goal.node_sought-requires
-node_sought-requires c = (c.args.wants.now.sizes, c.requires.1, c.requires.1, c.new-taking.ensures.fits c.requires.1)
+node_sought-requires c = (c.args.wants.now.sizes, c.requires.1, c.requires.1, c.from_word-taking.ensures.fits c.requires.1)
 
 pub returns-in-None-clause-fits : goal.returns-in-None-clause-fits
 returns-in-None-clause-fits c z k value u v sizes only soon words =
     let layout = c.in-Some.layout in
-    let fits = subst (λ (y : Sizes). TakingFits y v c.new-taking.result v) sizes (c.new-taking.ensures.fits v) in
+    let fits = subst (λ (y : Sizes). TakingFits y v c.from_word-taking.result v) sizes (c.from_word-taking.ensures.fits v) in
     c.node_sought.ensures.fits z c.args.wants.now k value u v sizes c.in-Some.is (sym c.node.ensures ∙ c.in-None.is) words
-    (begins_sought z k value c.args.stock.now u v c.new-taking.result (pool_of_layout layout) only (soon_node z layout u v soon) fits (c.new-taking.ensures.pool ∙ c.pool_of_layout.ensures))
+    (begins_sought z k value c.args.stock.now u v c.from_word-taking.result (pool_of_layout layout) only (soon_node z layout u v soon) fits (c.from_word-taking.ensures.pool ∙ c.pool_of_layout-pool.ensures))

@@ -1,13 +1,14 @@
-use Rattle.std.proofs.Common.{◌≡◌, ◌∙◌, ◌-◌, ◌<◌, Some, ap, sym, subst}
+use Rattle.std.proofs.Common.{◌≡◌, ◌∙◌, ◌-◌, ◌<◌, Some, true, ap, sym, subst, arith}
 use Rattle.std.specs.Prelude.{Result, ⊤}
 use Rattle.std.proofs.lemmas.Option.{same_Some}
+use Rattle.art_attempt.proofs.Looks.{begun_none}
 use Rattle.art_attempt.proofs.Left.{anew_fault, ended_less, fault_ended, going_less, last_stays, step_or_last, still_made}
 use Rattle.art_attempt.proofs.Overlaps.{made_apart}
 use Rattle.art_attempt.proofs.Steps.{change_later}
 use Rattle.art_attempt.proofs.Tries.{later_then}
 use Rattle.art_attempt.proofs.inserting.Inserting.make_told.Goals as goal
 use Rattle.art_attempt.specs.Asking.{steps_of}
-use Rattle.art_attempt.specs.Inserting.{HasMade, StageFits, entered_at, entered_so, left_at, making_left}
+use Rattle.art_attempt.specs.Inserting.{HasMade, StageFits, entered_at, entered_so, free_at, is_begun, left_at, making_left}
 use Rattle.art_attempt.specs.declared.inserting.Entered.{Entered}
 use Rattle.art_attempt.specs.declared.inserting.Entered.TheVariants.{Anew, Overlaps}
 use Rattle.art_attempt.specs.declared.inserting.Inserting.{Inserting}
@@ -93,3 +94,12 @@ pub returns-in-Some-clause-not_overlaps : goal.returns-in-Some-clause-not_overla
 returns-in-Some-clause-not_overlaps c overlaps =
     let made = c.in-Some.made in
     made_apart made (same_Some {A = Entered} (entered_so made) Overlaps (sym (ap entered_at c.made.ensures.stage) ∙ overlaps))
+
+pub returns-in-None-clause-over : goal.returns-in-None-clause-over
+returns-in-None-clause-over c free none =
+    let begun : is_begun c.told.new.self ≡ true = subst (λ (s : StageOf). free_at s c.told.new.self ≡ true) c.requires.stage free in
+    let held = begun_none c.told.new.self (let more = c.told.ensures.steps in omega (arith, more)) in
+    cc
+
+pub returns-in-Some-clause-over : goal.returns-in-Some-clause-over
+returns-in-Some-clause-over c free none = let some = ap entered_at c.made.ensures.stage in cc

@@ -1,14 +1,17 @@
 use Rattle.std.proofs.Common.{◌∙◌, ℕ, ◌<◌, inl, ap, sym, subst}
+use Rattle.art_change.proofs.Frames.{given_key}
 use Rattle.art_change.proofs.Parts.{attempt_told, frame_told}
 use Rattle.art_change.proofs.writes.Write.told.Goals as goal
 use Rattle.art_attempt.specs.Asking.{Answers as AttemptAnswers}
-use Rattle.art_change.specs.Tries.{asks as attempt_asks}
+use Rattle.art_attempt.specs.declared.rooms.Room.{Room}
+use Rattle.art_change.specs.Tries.{SameKey, asks as attempt_asks}
 use Rattle.art_attempt.specs.declared.asked.Answer.{Answer as AttemptAnswer}
-use Rattle.art_change.specs.Writes.{OverlapsBy, RestartsBy, StageFits, asks_at, deed_at, left_at, steps_left}
+use Rattle.art_change.specs.Writes.{OverlapsBy, RestartsBy, StageFits, asks_at, deed_at, freed_by, left_at, steps_left}
 use Rattle.art_change.specs.declared.writes.Stage.{Stage as StageOf}
 use Rattle.art_epoch.specs.Asking.{Answers as FrameAnswers}
 use Rattle.art_epoch.specs.Limbo.{places_of}
 use Rattle.art_frame.specs.Closings.{asks as closing_asks}
+use Rattle.art_frame.specs.Openings.{asks as opening_asks}
 
 pub try_told-requires-clause-told : goal.try_told-requires-clause-told
 try_told-requires-clause-told c =
@@ -64,7 +67,7 @@ returns-in-Opening-clause-left c =
     let m = c.args.self.now in
     let r = c.args.room.now in
     let qs = places_of c.args.limbo.now in
-    subst (λ (s : StageOf). steps_left c.open_told.new.self c.args.room.now (places_of c.open_told.new.limbo) < left_at s m r qs) (sym c.in-Opening.is) c.open_told.ensures.left
+    subst (λ (s : StageOf). steps_left c.open_on.new.self c.open_on.new.room (places_of c.open_on.new.limbo) < left_at s m r qs) (sym c.in-Opening.is) c.open_on.ensures.left
 
 pub returns-in-Trying-clause-left : goal.returns-in-Trying-clause-left
 returns-in-Trying-clause-left c =
@@ -89,7 +92,7 @@ returns-in-Ended-clause-left c =
     absurd (cc)
 
 pub returns-in-Opening-clause-restarts : goal.returns-in-Opening-clause-restarts
-returns-in-Opening-clause-restarts c = inl c.open_told.ensures.restarts
+returns-in-Opening-clause-restarts c = inl c.open_on.ensures.restarts
 
 pub returns-in-Trying-clause-restarts : goal.returns-in-Trying-clause-restarts
 returns-in-Trying-clause-restarts c =
@@ -99,7 +102,7 @@ pub returns-in-Closing-clause-restarts : goal.returns-in-Closing-clause-restarts
 returns-in-Closing-clause-restarts c = inl c.close_told.ensures.restarts
 
 pub returns-in-Opening-clause-overlaps : goal.returns-in-Opening-clause-overlaps
-returns-in-Opening-clause-overlaps c is = inl (c.open_told.ensures.overlaps is)
+returns-in-Opening-clause-overlaps c is = inl (c.open_on.ensures.overlaps is)
 
 pub returns-in-Trying-clause-overlaps : goal.returns-in-Trying-clause-overlaps
 returns-in-Trying-clause-overlaps c =
@@ -110,3 +113,9 @@ returns-in-Closing-clause-overlaps c is = inl (sym c.close_told.ensures.outcome 
 
 pub returns-in-Ended-clause-overlaps : goal.returns-in-Ended-clause-overlaps
 returns-in-Ended-clause-overlaps c is = inl is
+
+pub returns-in-Opening-clause-key : goal.returns-in-Opening-clause-key
+returns-in-Opening-clause-key c =
+    let m = c.args.self.now in
+    let r = c.args.room.now in
+    subst (λ (s : Room). SameKey m.job r s) (sym c.open_on.ensures.hints) (given_key m.job (freed_by (opening_asks m.opening (places_of c.args.limbo.now))) r)

@@ -1,14 +1,15 @@
-use Rattle.std.proofs.Common.{◌≡◌, ◌∙◌, ◌-◌, ◌<◌, Some, ap, sym, subst}
+use Rattle.std.proofs.Common.{◌≡◌, ◌∙◌, ◌-◌, ◌<◌, Some, true, ap, sym, subst, arith}
 use Rattle.std.specs.Prelude.{Result, ⊤}
 use Rattle.std.proofs.lemmas.Option.{same_Some}
 use Rattle.art_attempt.proofs.Left.{fault_ended, going_less, last_stays, step_or_last, still_made}
+use Rattle.art_attempt.proofs.Looks.{begun_none}
 use Rattle.art_attempt.proofs.Steps.{change_later}
 use Rattle.art_attempt.proofs.Tries.{later_then}
 use Rattle.art_erase.proofs.Left.{anew_fault, ended_less}
 use Rattle.art_erase.proofs.erasing.Erasing.make_told.Goals as goal
 use Rattle.art_attempt.specs.Asking.{steps_of}
-use Rattle.art_attempt.specs.Inserting.{making_left}
-use Rattle.art_erase.specs.Erasing.{HasMade, StageFits, erased_at, erased_so, left_at}
+use Rattle.art_attempt.specs.Inserting.{is_begun, making_left}
+use Rattle.art_erase.specs.Erasing.{HasMade, StageFits, erased_at, erased_so, free_at, left_at}
 use Rattle.art_erase.specs.declared.erasing.Erased.{Erased}
 use Rattle.art_erase.specs.declared.erasing.Erased.TheVariants.{Anew}
 use Rattle.art_erase.specs.declared.erasing.Erasing.{Erasing}
@@ -90,3 +91,12 @@ returns-in-Some-clause-anew c anew =
     let at : erased_so value made ≡ Anew = same_Some {A = Erased} (erased_so value made) Anew (sym (ap erased_at c.made.ensures.stage) ∙ anew) in
     let why = anew_fault value made at in
     (why.0, ap fault_of c.made.ensures.making ∙ fault_ended c.told.new.self (Changed why.0) (sym c.ended.ensures ∙ (c.in-Some.is ∙ ap (λ (r : Result ⊤ UpgradeFault). Some r) why.1)))
+
+pub returns-in-None-clause-over : goal.returns-in-None-clause-over
+returns-in-None-clause-over c free none =
+    let begun : is_begun c.told.new.self ≡ true = subst (λ (s : StageOf). free_at s c.told.new.self ≡ true) c.requires.stage free in
+    let held = begun_none c.told.new.self (let more = c.told.ensures.steps in omega (arith, more)) in
+    cc
+
+pub returns-in-Some-clause-over : goal.returns-in-Some-clause-over
+returns-in-Some-clause-over c free none = let some = ap erased_at c.made.ensures.stage in cc

@@ -10,13 +10,13 @@ returns-then-not-wants-clause-fits c k value u has =
     c.node_wanted.ensures.fits z k value u u refl (begins_supplies z k value c.args.stock.now u has) (soon_first u (leaf_steps z) (leaf_looks z)) (λ want. let no = c.if-not-wants.true in cc)
 
 pub leaf_sought-requires : goal.leaf_sought-requires
-leaf_sought-requires c = let u = c.requires.2 in (c.args.wants.now.sizes, u, u, c.new.ensures.fits u)
+leaf_sought-requires c = let u = c.requires.2 in (c.args.wants.now.sizes, u, u, c.from_word-taking.ensures.fits u)
 
 pub returns-in-None-clause-fits : goal.returns-in-None-clause-fits
 returns-in-None-clause-fits c k value u has =
     let z = c.args.wants.now.sizes in
     c.leaf_sought.ensures z c.args.wants.now k value u u refl c.if-not-wants.false (sym c.leaf.ensures ∙ c.in-None.is)
-    (begins_sought z k value c.args.stock.now u u c.new.result leaves (begins_supplies z k value c.args.stock.now u has) (soon_first u 0 0) (c.new.ensures.fits u) c.new.ensures.pool)
+    (begins_sought z k value c.args.stock.now u u c.from_word-taking.result leaves (begins_supplies z k value c.args.stock.now u has) (soon_first u 0 0) (c.from_word-taking.ensures.fits u) c.from_word-taking.ensures.pool)
 
 pub returns-then-is_written-clause-fits : goal.returns-then-is_written-clause-fits
 returns-then-is_written-clause-fits c k value u has =
@@ -44,8 +44,8 @@ returns-clause-fits c k value u has =
           leaf = c.in-Some.field-0;
           is = is;
           blank = sym c.is_written.ensures ∙ c.if-is_written.false;
-          packs = c.new-2.ensures.fits z c.in-Some.field-0 k value u (has.leaf c.in-Some.field-0 is).is;
-          more = let first = c.new-2.ensures.place in omega arith;
+          packs = c.new.ensures.fits z c.in-Some.field-0 k value u (has.leaf c.in-Some.field-0 is).is;
+          more = let first = c.new.ensures.place in omega arith;
         },
       );
     }

@@ -1,0 +1,36 @@
+-- What an attempt that fits knows at the stage where it stands; what stays of a room stays on.
+use Rattle.std.proofs.Common.{◌≡◌, ◌∙◌, subst}
+use Rattle.art_attempt.specs.declared.rooms.Room.{Room}
+use Rattle.art_cell.specs.declared.layouts.Layout.{Layout}
+use Rattle.art_erase.specs.Erasing.{Fits, HasLower, HasMade, HasSupplies, HasVouched, IsFinding, IsKept, StageFits}
+use Rattle.art_erase.specs.declared.erasing.Erasing.{Erasing}
+use Rattle.art_erase.specs.declared.erasing.Stage.{Stage}
+use Rattle.art_erase.specs.declared.erasing.Stage.TheVariants as stage
+use Rattle.art_place.specs.declared.rereadings.Rereading.{Rereading}
+use Rattle.art_step.specs.declared.views.Sizes.{Sizes}
+use Rattle.art_step.specs.declared.views.View.{View}
+
+pub kept_on : (r s t : Room) → IsKept r s → IsKept s t → IsKept r t
+kept_on r s t a b = record { key = b.key ∙ a.key; row = b.row ∙ a.row; sizes = b.sizes ∙ a.sizes }
+
+module _ (z : Sizes) (u : View) (m : Erasing) (r : Room) (v : View) where
+  pub at_stage : (s : Stage) → m.stage ≡ s → Fits z u m r v → StageFits z u s m r v
+  at_stage s is fits = subst (λ (s : Stage). StageFits z u s m r v) is fits.stage
+
+  pub is_finding : m.stage ≡ stage.Finding → Fits z u m r v → IsFinding z u m r v
+  is_finding is fits = at_stage stage.Finding is fits
+
+  pub has_supplies : (layout : Layout) → m.stage ≡ stage.Supplying layout → Fits z u m r v → HasSupplies z u layout m r v
+  has_supplies layout is fits = (at_stage (stage.Supplying layout) is fits).0
+
+  pub reads_on : (q : Rereading) → m.stage ≡ stage.Reading q → Fits z u m r v → StageFits z u (stage.Reading q) m r v
+  reads_on q is fits = at_stage (stage.Reading q) is fits
+
+  pub has_vouched : m.stage ≡ stage.Vouching → Fits z u m r v → HasVouched z u m r v
+  has_vouched is fits = (at_stage stage.Vouching is fits).0
+
+  pub has_lower : m.stage ≡ stage.Lowering → Fits z u m r v → HasLower z u m r v
+  has_lower is fits = (at_stage stage.Lowering is fits).0
+
+  pub has_made : m.stage ≡ stage.Making → Fits z u m r v → HasMade z u m r v
+  has_made is fits = (at_stage stage.Making is fits).0

@@ -1,0 +1,67 @@
+-- The steps are those of the vouching.
+use Rattle.std.proofs.Common.{◌∙◌, sym, subst, arith}
+use Rattle.std.specs.Prelude.{⊤}
+use Rattle.art_erase.proofs.Stages.{has_vouched, kept_on}
+use Rattle.art_erase.specs.Erasing.{Fits, absent, goes}
+use Rattle.art_find.proofs.Counting.{answers_count}
+use Rattle.art_find.specs.Asking.{Answers, IsAllowed}
+use Rattle.art_step.specs.declared.views.Sizes.{Sizes}
+use Rattle.art_step.specs.declared.views.View.{View}
+use Rattle.art_erase.proofs.erasing.Erasing.vouch_all.Goals as goal
+
+pub look-requires : goal.look-requires
+look-requires g c =
+    let z = g.S.Steps.sizes c.args.steps.now in
+    let v = g.S.Steps.view c.loop-left.steps in
+    let i = c.loop-left.invariant in
+    let m = c.loop-left.self in
+    let r = c.loop-left.room in
+    let h = has_vouched z i.here.0 m r v c.in-Vouching.is i.here.1 in
+    record {
+      allowed = subst (λ (y : Sizes). IsAllowed y (λ s. ⊤) v c.in-Some.asked) (sym i.sizes)
+          (c.in-Some.ensures.allowed z r.gone.key.items (goes m.way) r.desk h.early v h.fits);
+    }
+
+pub vouch_told-requires-clause-told : goal.vouch_told-requires-clause-told
+vouch_told-requires-clause-told g c =
+    let z = g.S.Steps.sizes c.args.steps.now in
+    let v = g.S.Steps.view c.loop-left.steps in
+    let w = g.S.Steps.view c.look.new.steps in
+    let i = c.loop-left.invariant in
+    let m = c.loop-left.self in
+    let r = c.loop-left.room in
+    let d = absent r.gone in
+    let row = subst (λ (y : Sizes). Answers y d c.in-Some.asked c.in-Some-look.answer v w) i.sizes (c.in-Some-look.ensures.row d) in
+    (z, i.here.0, v, w, c.in-Some.asked, i.here.1.room, has_vouched z i.here.0 m r v c.in-Vouching.is i.here.1, sym c.next.ensures.asks ∙ c.in-Some.is, row)
+
+pub loop-left-preserved : goal.loop-left-preserved
+loop-left-preserved g c =
+    let s = c.args.steps.now in
+    let t = c.loop-left.steps in
+    let z = g.S.Steps.sizes s in
+    let v = g.S.Steps.view t in
+    let w = g.S.Steps.view c.look.new.steps in
+    let i = c.loop-left.invariant in
+    let m = c.loop-left.self in
+    let r = c.loop-left.room in
+    let d = absent r.gone in
+    let a = c.in-Some.asked in
+    let row : Answers z d a c.in-Some-look.answer v w = subst (λ (y : Sizes). Answers y d a c.in-Some-look.answer v w) i.sizes (c.in-Some-look.ensures.row d) in
+    let is = sym c.next.ensures.asks ∙ c.in-Some.is in
+    let one = (answers_count z d a c.in-Some-look.answer v w row).steps in
+    let on : (u : View) → Fits z u m r v → Fits z u c.vouch_told.new.self c.vouch_told.new.room w = λ u fits.
+    c.vouch_told.ensures.fits z u v w a fits.room (has_vouched z u m r v c.in-Vouching.is fits) is row in
+    let made = i.made in
+    let less = i.less in
+    let more = c.loop-left-test.true in
+    record {
+      only = g.met.S.Steps.only_then s t c.look.new.steps i.only c.look.ensures.only;
+      sizes = g.met.S.Steps.only_sizes t c.look.new.steps c.look.ensures.only ∙ i.sizes;
+      kept = kept_on c.args.room.now r c.vouch_told.new.room i.kept c.vouch_told.ensures.kept;
+      free = c.vouch_told.ensures.free;
+      some = omega (arith, more);
+      less = omega (arith, less);
+      made = omega (arith, made, one, more);
+      here = (i.here.0, on i.here.0 i.here.1);
+      fits = λ u fits. on u (i.fits u fits);
+    }
