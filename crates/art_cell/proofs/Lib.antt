@@ -1,2 +1,3 @@
 pub mod ChangedWords
 pub mod KnownLemmas
+pub mod Parts

@@ -1,5 +1,5 @@
 -- What a pass has read of a cell, what it is told, and what it writes.
-use Rattle.std.specs.Prelude.{◌≡◌, ℕ, ◌-◌, ◌<◌, ◌≤◌, List, [], ◌∷◌, get_or, filter_map, ◌==◌, if◌then◌else◌, Option, Some, None, ⊤}
+use Rattle.std.specs.Prelude.{◌≡◌, ℕ, ◌+◌, ◌-◌, ◌<◌, ◌≤◌, List, [], ◌∷◌, length, get_or, filter_map, ◌==◌, if◌then◌else◌, Option, Some, None, ⊤}
 use Rattle.std.specs.List.{range_with_len}
 use Rattle.art_cell.specs.declared.layouts.Layout.{Layout}
 use Rattle.art_cell.specs.declared.bodies.Body.{Body}
@@ -17,6 +17,13 @@ use Rattle.art_cell.specs.Bodies.{IsBody, Becomes}
 -- the word that was read at a place, if it was
 abbrev pub word_read : List (Option ℕ) → ℕ → Option ℕ
 word_read reads place = get_or reads place None
+
+-- the words at the places from one on are these, and all others are as they were
+pub record AreNoted (from : ℕ) (words : List ℕ) (old new : List (Option ℕ)) : Type 0 where
+  pub room : length new ≡ length old
+  pub here : (i : ℕ) → i < length words → word_read new (from + i) ≡ Some (get_or words i 0)
+  pub below : (place : ℕ) → place < from → word_read new place ≡ word_read old place
+  pub above : (place : ℕ) → from + length words ≤ place → word_read new place ≡ word_read old place
 
 -- each word that was read is the word of these
 abbrev pub Agrees : List (Option ℕ) → Words → Type 0

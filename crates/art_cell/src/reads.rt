@@ -1,6 +1,7 @@
 //! What was read of one cell.
-ghost use Rattle.std.specs.Prelude.{◌≡◌, ◌<◌, ℕ, Some, None, replicate, set};
-ghost use Rattle.art_cell.specs.Reads.{word_read};
+ghost use Rattle.std.specs.Prelude.{◌≡◌, ◌≢◌, ◌+◌, ◌-◌, ◌%◌, ◌*◌, ◌^◌, ◌<◌, ◌≤◌, ℕ, Some, None, get_or, length, min, replicate, set, unwrap_or};
+ghost use Rattle.std.specs.Int.{bit_at};
+ghost use Rattle.art_cell.specs.Reads.{AreNoted, word_read};
 
 use crate::bodies::WORDS;
 use std::marker::Model;
@@ -64,5 +65,98 @@ impl Reads {
     {
         self.words[place] = word;
         self.known[place / 64] |= 1 << (place % 64);
+    }
+
+    /// How many words from this place on were not read, one after another, as far as one word of bits tells.
+    #[inline(always)]
+    pub fn unread_from(&self, place: usize) -> usize
+        requires { place < 266 }
+        ensures within { place % 64 + result ≤ 64 }
+        ensures unread { (i : ℕ) → i < result → word_read self.now (place + i) ≡ None }
+        ensures some { word_read self.now place ≡ None → 0 < result }
+    {
+        zeros_from(self.known[place / 64], place % 64)
+    }
+
+    /// Notes the words that were read at this place and behind it, one after another. Their bits stand in one word.
+    #[inline(always)]
+    pub fn note_run(&mut self, place: usize, words: &[u64])
+        requires within { place % 64 + length words.now ≤ 64 }
+        requires few { place + length words.now ≤ 266 }
+        requires some { place < 266 }
+        ensures { AreNoted place words.now self.old self.new }
+    {
+        let first = place % 64;
+        let all = &mut self.words[..];
+        all[place..place + words.len()].copy_from_slice(words);
+        self.known[place / 64] |= mask(first, first + words.len());
+    }
+
+    /// Copies the words that were read to their places, and 0 to all other places.
+    pub fn copy_to(&self, words: &mut [u64; WORDS])
+        ensures { (place : ℕ) → place < 266 → get_or words.new place 0 ≡ unwrap_or (word_read self.now place) 0 }
+    {
+        for group in 0..BIT_WORDS {
+            self.copy_group(words, group);
+        }
+    }
+
+    /// Copies so to the places of one word of bits.
+    fn copy_group(&self, words: &mut [u64; WORDS], group: usize)
+        requires { group < 5 }
+        ensures below { (place : ℕ) → place < 64 * group → get_or words.new place 0 ≡ get_or words.old place 0 }
+        ensures here { (place : ℕ) → 64 * group ≤ place → place < min 266 (64 * group + 64) →
+            get_or words.new place 0 ≡ unwrap_or (word_read self.now place) 0 }
+    {
+        let from = 64 * group;
+        // the version word of a cell, which is the first one, is never read
+        if self.known[group] | 1 == u64::MAX {
+            let end = WORDS.min(from + 64);
+            let all = &mut words[..];
+            all[from..end].copy_from_slice(&self.words[from..end]);
+            words[from] = self.get(from).unwrap_or(0);
+        } else {
+            self.copy_each(words, from);
+        }
+    }
+
+    /// Copies so to 64 places, one after another.
+    fn copy_each(&self, words: &mut [u64; WORDS], from: usize)
+        requires { from < 266 }
+        ensures below { (place : ℕ) → place < from → get_or words.new place 0 ≡ get_or words.old place 0 }
+        ensures here { (place : ℕ) → from ≤ place → place < min 266 (from + 64) →
+            get_or words.new place 0 ≡ unwrap_or (word_read self.now place) 0 }
+    {
+        for place in from..WORDS.min(from + 64) {
+            words[place] = self.get(place).unwrap_or(0);
+        }
+    }
+}
+
+/// How many bits from this one on are 0, one after another.
+#[inline(always)]
+fn zeros_from(bits: u64, first: usize) -> usize
+    requires { first < 64 }
+    ensures within { first + result ≤ 64 }
+    ensures zero { (i : ℕ) → i < result → bit_at bits (first + i) ≡ 0 }
+    ensures some { bit_at bits first ≡ 0 → 0 < result }
+{
+    let zeros = (bits >> first).trailing_zeros();
+    (zeros as usize).min(64 - first)
+}
+
+/// The bits from one on, before another.
+#[inline(always)]
+fn mask(low: usize, high: usize) -> u64
+    requires order { low ≤ high }
+    requires low { low < 64 }
+    requires high { high ≤ 64 }
+    ensures { result ≡ 2 ^ high - 2 ^ low }
+{
+    let below = 1 << low;
+    if high < 64 {
+        (1 << high) - below
+    } else {
+        u64::MAX << low
     }
 }
