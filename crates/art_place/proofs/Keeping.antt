@@ -11,6 +11,7 @@ use Rattle.art_cell.specs.declared.layouts.Layout.{Layout}
 use Rattle.art_cell.specs.declared.layouts.Layout.TheVariants.{Node4, Node16, Node48, Node256}
 use Rattle.art_cell.specs.Reads.{word_read}
 use Rattle.art_cell.specs.Words.{size}
+pub use Rattle.art_place.specs.Kept.{Grows}
 use Rattle.art_place.specs.Kept.{HasPath, IsKept, StaysRead, WasReadAt}
 use Rattle.art_place.specs.Rereadings.{AreKnown}
 use Rattle.art_step.specs.Knowledge.{CellAt}
@@ -32,11 +33,6 @@ use Rattle.art_step.proofs.SetsView.{member_back, member_front}
 use Rattle.art_step.proofs.Shows.{begun_clear}
 
 -- ---- stamps and notes stay
-
--- the second view has the stamps and the notes of the first
-pub record Grows (v w : View) : Type 0 where
-  pub stamps : (x : Stamp) → Member x v.stamps → Member x w.stamps
-  pub notes : (y : Note) → Member y v.notes → Member y w.notes
 
 pub read_grows : (v w : View) (x : Stamp) (y : Fact) → w ≡ read.view_after v x y → Grows v w
 read_grows v w x y is = record {

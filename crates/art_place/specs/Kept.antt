@@ -3,9 +3,15 @@ use Rattle.std.specs.Prelude.{◌≡◌, ◌<◌, ℕ, List, Option, Some, lengt
 use Rattle.art_cell.specs.Reads.{word_read}
 use Rattle.art_step.specs.Views.{IsChildPlace, IsChildWord, Member, note_of, size_of}
 use Rattle.art_step.specs.declared.views.Fact.TheVariants.{Starts, Word}
+use Rattle.art_step.specs.declared.views.Note.{Note}
 use Rattle.art_step.specs.declared.views.Sizes.{Sizes}
 use Rattle.art_step.specs.declared.views.Stamp.{Stamp}
 use Rattle.art_step.specs.declared.views.View.{View}
+
+-- the second view has the stamps and the notes of the first
+pub record Grows (v w : View) : Type 0 where
+  pub stamps : (x : Stamp) → Member x v.stamps → Member x w.stamps
+  pub notes : (y : Note) → Member y v.notes → Member y w.notes
 
 -- the word at the place of the stamp's cell was read; a child word names what there is
 pub record WasReadAt (z : Sizes) (v : View) (x : Stamp) (place word : ℕ) : Type 0 where

@@ -2,3 +2,4 @@ pub mod Desks
 pub mod Findings
 pub mod Kept
 pub mod Rereadings
+pub mod Runs

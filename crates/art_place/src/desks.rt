@@ -1,9 +1,10 @@
 //! The words that a finding keeps.
-ghost use Rattle.std.specs.Prelude.{◌≡◌, ◌<◌, ◌≤◌, ℕ, None, Some, replicate, set};
+ghost use Rattle.std.specs.Prelude.{◌≡◌, ◌<◌, ◌≤◌, ◌-◌, ℕ, None, Some, replicate, set};
 ghost use Rattle.art_place.specs.Desks.{above_of, node_of};
 
 use crate::Rereading;
 use art_cell::Reads;
+use art_step::{Stamp, Steps};
 
 /// All words that were read of the cell where a finding stands, and of the one above it.
 ///
@@ -20,10 +21,11 @@ impl Desk {
     ghost use Rattle.art_cell.specs.Reads.{word_read};
     ghost use Rattle.art_place.specs.Kept.{StaysRead};
     ghost use Rattle.art_place.specs.Rereadings.{RereadingFits};
+    ghost use Rattle.art_place.specs.Runs.{HasReadOn};
     ghost use Rattle.art_step.specs.Steps.Read.{Outcome as ReadOutcome};
     ghost use Rattle.art_step.specs.Views.{size_of};
     ghost use Rattle.art_step.specs.declared.views.Sizes.{Sizes};
-    ghost use Rattle.art_step.specs.declared.views.Stamp.{Stamp};
+    ghost use Rattle.art_step.specs.declared.views.Stamp.{Stamp as StampOf};
     ghost use Rattle.art_step.specs.declared.views.View.{View};
 
     /// Nothing is read.
@@ -70,7 +72,7 @@ impl Desk {
         ensures few { rereading.new.place ≤ 266 }
         ensures above { above_of self.new ≡ above_of self.old }
         ensures stays { word_read (node_of self.old) rereading.old.place ≡ None → StaysRead (node_of self.old) (node_of self.new) }
-        ensures fits { (z : Sizes) (v w : View) (x : Stamp) → RereadingFits z v x rereading.old (node_of self.old) →
+        ensures fits { (z : Sizes) (v w : View) (x : StampOf) → RereadingFits z v x rereading.old (node_of self.old) →
             rereading.old.place < size_of x.cell → ReadOutcome z v w x rereading.old.place word →
             RereadingFits z w x rereading.new (node_of self.new) }
     {
@@ -88,7 +90,7 @@ impl Desk {
         ensures steps { rereading.old.place < rereading.new.place }
         ensures few { rereading.new.place ≤ 266 }
         ensures node { node_of self.new ≡ node_of self.old }
-        ensures fits { (z : Sizes) (v w : View) (x : Stamp) → RereadingFits z v x rereading.old (above_of self.old) →
+        ensures fits { (z : Sizes) (v w : View) (x : StampOf) → RereadingFits z v x rereading.old (above_of self.old) →
             rereading.old.place < size_of x.cell → ReadOutcome z v w x rereading.old.place word →
             RereadingFits z w x rereading.new (above_of self.new) }
     {
@@ -96,6 +98,54 @@ impl Desk {
             rereading.told(&mut self.first, word);
         } else {
             rereading.told(&mut self.second, word);
+        }
+    }
+
+    /// Reads the words that are missing of the cell where the finding stands, as long as more than one turn is left.
+    pub fn read_on_node<S: Steps>(
+        &mut self,
+        steps: &mut S,
+        stamp: Stamp,
+        rereading: &mut Rereading,
+        left: &mut u32,
+    )
+        requires some { 0 < left.old }
+        requires fits { RereadingFits (S.sizes steps.old) (S.view steps.old) stamp rereading.old (node_of self.old) }
+        ensures only { S.only steps.old steps.new }
+        ensures some { 0 < left.new }
+        ensures less { left.new ≤ left.old }
+        ensures above { above_of self.new ≡ above_of self.old }
+        ensures read { HasReadOn (S.sizes steps.old) stamp (left.old - left.new) (S.view steps.old) rereading.old (node_of self.old)
+            (S.view steps.new) rereading.new (node_of self.new) }
+    {
+        if self.turned {
+            rereading.read_on(steps, stamp, &mut self.second, left);
+        } else {
+            rereading.read_on(steps, stamp, &mut self.first, left);
+        }
+    }
+
+    /// Reads the words that are missing of the cell above, as long as more than one turn is left.
+    pub fn read_on_above<S: Steps>(
+        &mut self,
+        steps: &mut S,
+        stamp: Stamp,
+        rereading: &mut Rereading,
+        left: &mut u32,
+    )
+        requires some { 0 < left.old }
+        requires fits { RereadingFits (S.sizes steps.old) (S.view steps.old) stamp rereading.old (above_of self.old) }
+        ensures only { S.only steps.old steps.new }
+        ensures some { 0 < left.new }
+        ensures less { left.new ≤ left.old }
+        ensures node { node_of self.new ≡ node_of self.old }
+        ensures read { HasReadOn (S.sizes steps.old) stamp (left.old - left.new) (S.view steps.old) rereading.old (above_of self.old)
+            (S.view steps.new) rereading.new (above_of self.new) }
+    {
+        if self.turned {
+            rereading.read_on(steps, stamp, &mut self.first, left);
+        } else {
+            rereading.read_on(steps, stamp, &mut self.second, left);
         }
     }
 

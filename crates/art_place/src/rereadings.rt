@@ -1,12 +1,13 @@
 //! The words of a cell that were not read yet.
-ghost use Rattle.std.specs.Prelude.{◌≡◌, ◌≤◌, ◌<◌, ℕ, List, Option, None};
+ghost use Rattle.std.specs.Prelude.{◌≡◌, ◌≤◌, ◌<◌, ◌-◌, ℕ, List, Option, None, length};
 ghost use Rattle.art_cell.specs.Reads.{word_read};
 ghost use Rattle.art_place.specs.Rereadings.{AreKnown};
+ghost use Rattle.art_place.specs.Runs.{HasReadOnly, MayReadRun, WereRead};
 ghost use Rattle.art_step.specs.Views.{size_of};
 
 use art_cell::{Cell, Reads};
 use art_find::Asked;
-use art_step::Stamp;
+use art_step::{Stamp, Steps};
 
 /// How many words a cell has at most.
 const WORDS: usize = 266;
@@ -22,6 +23,7 @@ impl Rereading {
     ghost use Rattle.art_find.specs.Asking.{IsAllowed};
     ghost use Rattle.art_place.specs.Kept.{IsKept, StaysRead};
     ghost use Rattle.art_place.specs.Rereadings.{RereadingFits, reads_next};
+    ghost use Rattle.art_place.specs.Runs.{HasReadOn};
     ghost use Rattle.art_step.specs.Steps.Read.{Outcome as ReadOutcome};
     ghost use Rattle.art_step.specs.Views.{IsNotHeld};
     ghost use Rattle.art_step.specs.Shows.{HasStamp};
@@ -70,6 +72,51 @@ impl Rereading {
     {
         reads.note(self.place, word);
         self.place = unknown_from(reads, self.place + 1);
+    }
+
+    /// Reads the words that are not known, as long as more than one turn is left. A turn is a read.
+    #[inline(always)]
+    pub fn read_on<S: Steps>(
+        &mut self,
+        steps: &mut S,
+        stamp: Stamp,
+        reads: &mut Reads,
+        left: &mut u32,
+    )
+        requires some { 0 < left.old }
+        requires fits { RereadingFits (S.sizes steps.old) (S.view steps.old) stamp self.old reads.old }
+        ensures only { S.only steps.old steps.new }
+        ensures some { 0 < left.new }
+        ensures less { left.new ≤ left.old }
+        ensures read { HasReadOn (S.sizes steps.old) stamp (left.old - left.new) (S.view steps.old) self.old reads.old
+            (S.view steps.new) self.new reads.new }
+    {
+        let end = words_of(stamp.cell);
+        let mut words = [0; 64];
+        while *left > 1 && self.place < end {
+            let unread = reads.unread_from(self.place).min(end - self.place);
+            let many = unread.min(*left as usize - 1);
+            // read into a row of its own, so that a read stores one word and no bit
+            let run = &mut words[..many];
+            read_run(steps, stamp, self.place, run);
+            reads.note_run(self.place, run);
+            *left -= many as u32;
+            self.place = unknown_from(reads, self.place + many);
+        }
+    }
+}
+
+/// Reads words of the stamped cell from this place on, as many as the row has.
+#[inline(always)]
+fn read_run<S: Steps>(steps: &mut S, stamp: Stamp, place: usize, words: &mut [u64])
+    requires { MayReadRun (S.sizes steps.old) (S.view steps.old) stamp place (length words.old) }
+    ensures only { S.only steps.old steps.new }
+    ensures long { length words.new ≡ length words.old }
+    ensures after { HasReadOnly (S.view steps.old) (S.view steps.new) (length words.old) }
+    ensures read { WereRead (S.sizes steps.old) (S.view steps.new) stamp place words.new }
+{
+    for index in 0..words.len() {
+        words[index] = steps.read(stamp, place + index);
     }
 }
 
