@@ -109,28 +109,48 @@ impl Reads {
             get_or words.new place 0 ≡ unwrap_or (word_read self.now place) 0 }
     {
         let from = 64 * group;
+        let end = WORDS.min(from + 64);
         // the version word of a cell, which is the first one, is never read
         if self.known[group] | 1 == u64::MAX {
-            let end = WORDS.min(from + 64);
             let all = &mut words[..];
             all[from..end].copy_from_slice(&self.words[from..end]);
             words[from] = self.get(from).unwrap_or(0);
         } else {
-            self.copy_each(words, from);
+            let last = end.min(from + bit_length(self.known[group]));
+            self.copy_each(words, from, last);
+            clear(words, last, end);
         }
     }
 
-    /// Copies so to 64 places, one after another.
-    fn copy_each(&self, words: &mut [u64; WORDS], from: usize)
-        requires { from < 266 }
+    /// Copies so to the places from one on, before another.
+    fn copy_each(&self, words: &mut [u64; WORDS], from: usize, to: usize)
+        requires { to ≤ 266 }
         ensures below { (place : ℕ) → place < from → get_or words.new place 0 ≡ get_or words.old place 0 }
-        ensures here { (place : ℕ) → from ≤ place → place < min 266 (from + 64) →
-            get_or words.new place 0 ≡ unwrap_or (word_read self.now place) 0 }
+        ensures here { (place : ℕ) → from ≤ place → place < to → get_or words.new place 0 ≡ unwrap_or (word_read self.now place) 0 }
     {
-        for place in from..WORDS.min(from + 64) {
+        for place in from..to {
             words[place] = self.get(place).unwrap_or(0);
         }
     }
+}
+
+/// Each word from one on, before another, becomes 0.
+fn clear(words: &mut [u64; WORDS], from: usize, to: usize)
+    requires { to ≤ 266 }
+    ensures below { (place : ℕ) → place < from → get_or words.new place 0 ≡ get_or words.old place 0 }
+    ensures here { (place : ℕ) → from ≤ place → place < to → get_or words.new place 0 ≡ 0 }
+{
+    for place in from..to {
+        words[place] = 0;
+    }
+}
+
+/// How many bits there are up to the highest that is 1.
+fn bit_length(bits: u64) -> usize
+    ensures within { result ≤ 64 }
+    ensures zero { (i : ℕ) → result ≤ i → bit_at bits i ≡ 0 }
+{
+    64 - bits.leading_zeros() as usize
 }
 
 /// How many bits from this one on are 0, one after another.

@@ -1,5 +1,5 @@
 //! The words of the cells that a change writes.
-ghost use Rattle.std.specs.Prelude.{◌≡◌, ℕ, ◌<◌, ◌≤◌, ◌-◌, get_or, length, slice_index};
+ghost use Rattle.std.specs.Prelude.{◌≡◌, ℕ, ◌<◌, ◌≤◌, ◌-◌, length, slice_index};
 ghost use Rattle.art_cell.specs.declared.cells.Cell.TheVariants as cells;
 ghost use Rattle.art_cell.specs.declared.cells.Node.{Node as NodeOf};
 ghost use Rattle.art_decide.specs.Bodies.{AreWithin, IsFilled, blank, site_in};
@@ -44,20 +44,7 @@ pub fn fill(body: &mut Body, cell: Cell, reads: &Reads)
         return;
     };
     body.layout = node.layout;
-    clear_from(&mut body.words, node.layout.size());
-    body.words[0] = 0;
-    for place in 1..node.layout.size() {
-        body.words[place] = reads.get(place).unwrap_or(0);
-    }
-}
-
-/// From this place on each word becomes 0.
-fn clear_from(words: &mut [u64; 266], from: usize)
-    ensures { (i : ℕ) → from ≤ i → get_or words.new i 0 ≡ 0 }
-{
-    for place in from..266 {
-        words[place] = 0;
-    }
+    reads.copy_to(&mut body.words);
 }
 
 /// Where the child word stands in the stamp's cell to which the first bytes of the key lead, so many. The body has the words of the

@@ -20,22 +20,23 @@ use Rattle.art_gather.specs.declared.vouching.Vouched.TheVariants.{Unchanged}
 use Rattle.art_gather.specs.declared.vouching.Vouching.{Vouching}
 use Rattle.art_gather.specs.declared.vouching.Vouching.TheVariants.{CheckHere, Ended}
 use Rattle.art_place.proofs.FoundPlaces.{placed_above, placed_node, standing_grows, standing_stays}
-use Rattle.art_place.proofs.Keeping.{Grows, cell_fits, passed_grows, read_grows}
+use Rattle.art_place.proofs.Keeping.{cell_fits, passed_grows}
+use Rattle.art_place.proofs.Runs.{one_read}
 use Rattle.art_place.specs.Desks.{above_of, node_of}
 use Rattle.art_place.specs.Findings.{IsUnder}
 use Rattle.art_place.specs.Kept.{IsKept}
 use Rattle.art_place.specs.Rereadings.{RereadingFits, reads_next}
+use Rattle.art_place.specs.Runs.{HasReadOnly}
 use Rattle.art_place.specs.declared.desks.Desk.{Desk}
 use Rattle.art_place.specs.declared.findings.Above.{Above}
 use Rattle.art_place.specs.declared.findings.Stand.{Stand}
 use Rattle.art_place.specs.declared.rereadings.Rereading.{Rereading}
-use Rattle.art_step.proofs.Shows.{failed_rest, passed_rest, read_rest}
+use Rattle.art_step.proofs.Shows.{failed_rest, passed_rest}
 use Rattle.art_step.specs.Shows.{HasStamp}
 use Rattle.art_step.specs.Steps.Check as check
 use Rattle.art_step.specs.Steps.Read as read
 use Rattle.art_step.specs.Views.{IsNotHeld, size_of}
 use Rattle.art_step.specs.declared.deeds.Deed.{Deed}
-use Rattle.art_step.specs.declared.views.Fact.TheVariants.{Word as word_fact}
 use Rattle.art_step.specs.declared.views.Sizes.{Sizes}
 use Rattle.art_step.specs.declared.views.Stamp.{Stamp}
 use Rattle.art_step.specs.declared.views.View.{View}
@@ -70,6 +71,13 @@ under_over z k o reads v (cell.Node n) a under is =
 -- fewer are left
 pub left_less : (u v : View) (left less most : ℕ) → less ≤ left → HasLeft u v left most → HasLeft u v less most
 left_less u v left less most fewer has = let a = has.steps in record { failures = has.failures; steps = omega (arith, fewer, a) }
+
+-- so many were made, and none can fail
+pub left_after : (u v w : View) (n left less most : ℕ) → HasReadOnly v w n → less + n ≤ left → HasLeft u v left most → HasLeft u w less most
+left_after u v w n left less most only fewer has =
+    let a = has.steps in
+    let step = only.steps in
+    record { failures = only.failures ∙ has.failures; steps = omega (arith, step, fewer, a) }
 
 -- one was made, and did not fail
 left_on : (u v w : View) (left less most : ℕ) → w.failures ≡ v.failures → w.steps ≡ v.steps + 1 → less < left → HasLeft u v left most → HasLeft u w less most
@@ -158,28 +166,34 @@ pub read_told : (z : Sizes) (d : Deed) (x : Stamp) (r : Rereading) (asked : Aske
 read_told z d x r asked answer v w more is row =
     word_told z d x r.place answer v w (subst (λ (a : Asked). Answers z d a answer v w) (sym (asks_word x r asked more is)) row)
 
-module _ (z : Sizes) (k : List ℕ) (t : Stand) (desk desk' : Desk) (u v w : View) (x : Stamp) (i word : ℕ) (row : read.Outcome z v w x i word) (p : IsVouching z k t desk u v) where
-  grows : Grows v w
-  grows = read_grows v w x (word_fact i word) row.is
+module _ (z : Sizes) (k : List ℕ) (t : Stand) (desk desk' : Desk) (u v w : View) (n : ℕ) (only : HasReadOnly v w n) (p : IsVouching z k t desk u v) where
+  later_reads : u.steps ≤ w.steps
+  later_reads = let steps = only.steps in let before = p.later in omega (arith, steps, before)
 
-  later_read : u.steps ≤ w.steps
-  later_read = let step = ap (λ (y : View). y.steps) row.is in let before = p.later in omega (arith, step, before)
-
-  pub here_on : above_of desk' ≡ above_of desk → IsKept z w t.stamp (node_of desk') → IsVouching z k t desk' u w
-  here_on same kept = record {
-    reads = reads_on u v w (read_rest v w x (word_fact i word) row.is) p.reads;
-    later = later_read;
-    standing = standing_stays z k t desk desk' v w grows (placed_node z k v w t.above desk desk' t.stamp grows same kept p.standing.place) p.standing;
+  -- words of the cell where the key stands were read
+  pub here_after : above_of desk' ≡ above_of desk → IsKept z w t.stamp (node_of desk') → IsVouching z k t desk' u w
+  here_after same kept = record {
+    reads = reads_on u v w only.rest p.reads;
+    later = later_reads;
+    standing = standing_stays z k t desk desk' v w only.grows (placed_node z k v w t.above desk desk' t.stamp only.grows same kept p.standing.place) p.standing;
   }
 
-  pub above_on : (a : Above) → t.above ≡ Some a → node_of desk' ≡ node_of desk → IsKept z w a.stamp (above_of desk') → IsVouching z k t desk' u w
-  above_on a at same kept =
+  -- or of the cell above
+  pub above_after : (a : Above) → t.above ≡ Some a → node_of desk' ≡ node_of desk → IsKept z w a.stamp (above_of desk') → IsVouching z k t desk' u w
+  above_after a at same kept =
       let over = under_over z k t.above (above_of desk) v t.stamp.cell a p.standing.place.under at in
       record {
-        reads = reads_on u v w (read_rest v w x (word_fact i word) row.is) p.reads;
-        later = later_read;
-        standing = standing_stays z k t desk desk' v w grows (placed_above z k v w t.above desk desk' t.stamp grows a over.node at over.is same kept p.standing.place) p.standing;
+        reads = reads_on u v w only.rest p.reads;
+        later = later_reads;
+        standing = standing_stays z k t desk desk' v w only.grows (placed_above z k v w t.above desk desk' t.stamp only.grows a over.node at over.is same kept p.standing.place) p.standing;
       }
+
+module _ (z : Sizes) (k : List ℕ) (t : Stand) (desk desk' : Desk) (u v w : View) (x : Stamp) (i word : ℕ) (row : read.Outcome z v w x i word) (p : IsVouching z k t desk u v) where
+  pub here_on : above_of desk' ≡ above_of desk → IsKept z w t.stamp (node_of desk') → IsVouching z k t desk' u w
+  here_on = here_after z k t desk desk' u v w 1 (one_read z v w x i word row) p
+
+  pub above_on : (a : Above) → t.above ≡ Some a → node_of desk' ≡ node_of desk → IsKept z w a.stamp (above_of desk') → IsVouching z k t desk' u w
+  above_on = above_after z k t desk desk' u v w 1 (one_read z v w x i word row) p
 
 -- ---- a check was made
 

@@ -127,19 +127,6 @@ pub record IsReadingHere (z : Sizes) (t : Stand) (desk : Desk) (v : View) (r : R
   pub fits : RereadingFits z v t.stamp r (node_of desk)
   pub more : r.place < size_of t.stamp.cell
 
--- words of the cell where the key stands are read, one after another
-pub record ReadsHere (z : Sizes) (k : List ℕ) (t : Stand) (desk : Desk) (u v : View) (r : Rereading) : Type 0 where
-  pub vouching : IsVouching z k t desk u v
-  pub left : HasLeft u v (266 - r.place + 2) 532
-  pub fits : RereadingFits z v t.stamp r (node_of desk)
-
--- words of the cell above are read, one after another
-pub record ReadsAbove (z : Sizes) (k : List ℕ) (both : Bool) (t : Stand) (a : CellAbove) (desk : Desk) (u v : View) (r : Rereading) : Type 0 where
-  pub vouching : IsVouching z k t desk u v
-  pub left : HasLeft u v (266 - r.place + 267) 532
-  pub is : written_above both t ≡ Some a
-  pub fits : RereadingFits z v a.stamp r (above_of desk)
-
 -- at each stage
 abbrev pub StageFits : Sizes → List ℕ → Bool → Stand → Vouching → Desk → View → View → Type 0
 StageFits z k both t (Above r) desk u v = IsVouching z k t desk u v × IsReadingAbove z both t desk v r

@@ -2,19 +2,18 @@
 ghost use Rattle.std.specs.Prelude.{◌≡◌, ℕ, ◌+◌, ◌-◌, ◌<◌, ◌≤◌, List, Bool, Some, None};
 ghost use Rattle.art_find.specs.Asking.{Answers};
 ghost use Rattle.art_find.specs.declared.asked.Asked.{Asked as AskedStep};
-ghost use Rattle.art_gather.specs.Vouching.{Fits, HasLeft, IsVouching, KnowsAbove, KnowsHere, ReadsAbove, ReadsHere, after_check, asks, ended_at, passed, steps_left, word_in, written_above};
+ghost use Rattle.art_gather.specs.Vouching.{Fits, HasLeft, IsVouching, KnowsAbove, KnowsHere, after_check, asks, ended_at, passed, steps_left, word_in, written_above};
 ghost use Rattle.art_gather.specs.declared.vouching.Vouching.TheVariants.{Above as above_read, Here as here_read};
 ghost use Rattle.art_place.specs.Desks.{above_of, node_of};
 ghost use Rattle.art_place.specs.Kept.{StaysRead};
 ghost use Rattle.art_place.specs.Rereadings.{RereadingFits};
 ghost use Rattle.art_place.specs.declared.desks.Desk.{Desk as DeskOf};
 ghost use Rattle.art_step.specs.declared.deeds.Deed.{Deed};
-ghost use Rattle.art_place.specs.declared.findings.Stand.{Stand as StandOf};
 ghost use Rattle.art_step.specs.declared.views.Sizes.{Sizes};
 ghost use Rattle.art_step.specs.declared.views.View.{View};
 
 use art_find::{Answer, Asked};
-use art_place::{Above, Desk, Rereading, Stand, look};
+use art_place::{Above, Desk, Rereading, Stand};
 use art_step::Steps;
 
 /// How a vouching ended.
@@ -242,40 +241,6 @@ fn word_in(answer: Answer) -> u64
     }
 }
 
-/// Reads the words that are missing of the cell where the key stands, as long as more than one turn is left.
-fn read_missing<S: Steps>(
-    steps: &mut S,
-    stand: &Stand,
-    desk: &mut Desk,
-    rereading: &mut Rereading,
-    left: &mut u32,
-)
-    requires some { 0 < left.old }
-    requires reads { (k : List ℕ) × (u : View) × ReadsHere (S.sizes steps.old) k stand.now desk.old u (S.view steps.old) rereading.old }
-    ensures only { S.only steps.old steps.new }
-    ensures some { 0 < left.new }
-    ensures less { left.new ≤ left.old }
-    ensures made { (S.view steps.new).steps + left.new ≡ (S.view steps.old).steps + left.old }
-    ensures above { above_of desk.new ≡ above_of desk.old }
-    ensures stays { StaysRead (node_of desk.old) (node_of desk.new) }
-    ensures node { KnowsHere stand.now desk.old → node_of desk.new ≡ node_of desk.old }
-    ensures reads { (k : List ℕ) (u : View) → ReadsHere (S.sizes steps.old) k stand.now desk.old u (S.view steps.old) rereading.old →
-        ReadsHere (S.sizes steps.old) k stand.now desk.new u (S.view steps.new) rereading.new }
-{
-    // a value of its own, which no write to the desk can change: so its size is found once
-    let stamp = stand.stamp;
-    while *left > 1 {
-        let Some(asked) = rereading.next(stamp) else {
-            return;
-        };
-        let Some(answer) = look(steps, asked) else {
-            return;
-        };
-        *left -= 1;
-        desk.reread_node(rereading, word_in(answer));
-    }
-}
-
 /// Makes the reads of a vouching that reads the cell where the key stands, one after another, as long as more than one turn is left.
 fn read_here<S: Steps>(
     steps: &mut S,
@@ -301,41 +266,8 @@ fn read_here<S: Steps>(
         return;
     };
     let mut rereading = rereading;
-    read_missing(steps, stand, desk, &mut rereading, left);
+    desk.read_on_node(steps, stand.stamp, &mut rereading, left);
     *vouching = here_read_on(stand, both, rereading);
-}
-
-/// Reads the words that are missing of the cell above, as long as more than one turn is left.
-fn read_missing_above<S: Steps>(
-    steps: &mut S,
-    above: Above,
-    desk: &mut Desk,
-    rereading: &mut Rereading,
-    left: &mut u32,
-)
-    requires some { 0 < left.old }
-    requires reads { (k : List ℕ) × (both : Bool) × (t : StandOf) × (u : View) ×
-        ReadsAbove (S.sizes steps.old) k both t above desk.old u (S.view steps.old) rereading.old }
-    ensures only { S.only steps.old steps.new }
-    ensures some { 0 < left.new }
-    ensures less { left.new ≤ left.old }
-    ensures made { (S.view steps.new).steps + left.new ≡ (S.view steps.old).steps + left.old }
-    ensures node { node_of desk.new ≡ node_of desk.old }
-    ensures reads { (k : List ℕ) (both : Bool) (t : StandOf) (u : View) →
-        ReadsAbove (S.sizes steps.old) k both t above desk.old u (S.view steps.old) rereading.old →
-        ReadsAbove (S.sizes steps.old) k both t above desk.new u (S.view steps.new) rereading.new }
-{
-    let stamp = above.stamp;
-    while *left > 1 {
-        let Some(asked) = rereading.next(stamp) else {
-            return;
-        };
-        let Some(answer) = look(steps, asked) else {
-            return;
-        };
-        *left -= 1;
-        desk.reread_above(rereading, word_in(answer));
-    }
 }
 
 /// Makes the reads of a vouching that reads the cell above, one after another, as long as more than one turn is left.
@@ -365,7 +297,7 @@ fn read_above<S: Steps>(
         unreachable!();
     };
     let mut rereading = rereading;
-    read_missing_above(steps, above, desk, &mut rereading, left);
+    desk.read_on_above(steps, above.stamp, &mut rereading, left);
     *vouching = above_read_on(stand, both, desk, above, rereading);
 }
 

@@ -25,7 +25,6 @@ use Rattle.art_step.specs.Views.{IsClear, Member, note_of, size_of}
 use Rattle.art_step.specs.declared.deeds.Deed.{Deed}
 use Rattle.art_step.specs.declared.views.Fact.{Fact}
 use Rattle.art_step.specs.declared.views.Fact.TheVariants.{Starts, Word}
-use Rattle.art_step.specs.declared.views.Note.{Note}
 use Rattle.art_step.specs.declared.views.Sizes.{Sizes}
 use Rattle.art_step.specs.declared.views.Stamp.{Stamp}
 use Rattle.art_step.specs.declared.views.View.{View}

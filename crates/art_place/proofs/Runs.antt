@@ -9,12 +9,11 @@ use Rattle.art_place.specs.Rereadings.{AreKnown, RereadingFits}
 use Rattle.art_place.specs.Runs.{HasReadOn, HasReadOnly, WereRead}
 use Rattle.art_place.specs.declared.rereadings.Rereading.{Rereading}
 use Rattle.art_step.proofs.Shows.{read_rest}
-use Rattle.art_step.specs.Shows.{OnlyReads, Rest, rest_of}
+use Rattle.art_step.specs.Shows.{OnlyReads, Rest}
 use Rattle.art_step.specs.Steps.Read as read
 use Rattle.art_step.specs.Views.{IsNotHeld, Member, note_of, size_of}
 use Rattle.art_step.specs.declared.views.Fact.TheVariants.{Word}
 use Rattle.art_step.specs.declared.views.Holding.{Holding}
-use Rattle.art_step.specs.declared.views.Note.{Note}
 use Rattle.art_step.specs.declared.views.Sizes.{Sizes}
 use Rattle.art_step.specs.declared.views.Stamp.{Stamp}
 use Rattle.art_step.specs.declared.views.View.{View}

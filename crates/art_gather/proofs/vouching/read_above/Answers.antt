@@ -1,47 +1,49 @@
 -- The reads are those of the rereading.
-use Rattle.std.proofs.Common.{◌≡◌, ◌∙◌, Bool, List, Option, Some, None, ℕ, sym, subst, ap}
+use Rattle.std.proofs.Common.{◌≡◌, ◌+◌, ◌-◌, ◌∙◌, Some, sym, subst, ap, arith}
 use Rattle.std.proofs.lemmas.Option.{same_Some}
-use Rattle.art_gather.proofs.Vouches.{is_above}
-use Rattle.art_gather.specs.Vouching.{Fits, ReadsAbove, written_above}
+use Rattle.art_gather.proofs.Vouches.{above_after, is_above, left_after}
+use Rattle.art_gather.specs.Vouching.{Fits}
 use Rattle.art_gather.specs.declared.vouching.Vouching.{Vouching}
 use Rattle.art_gather.specs.declared.vouching.Vouching.TheVariants.{Above as above_read}
+use Rattle.art_place.proofs.Keeping.{cell_fits}
 use Rattle.art_place.specs.Desks.{above_of}
 use Rattle.art_place.specs.Rereadings.{RereadingFits}
-use Rattle.art_place.specs.declared.desks.Desk.{Desk}
 use Rattle.art_place.specs.declared.findings.Above.{Above}
-use Rattle.art_place.specs.declared.findings.Stand.{Stand}
-use Rattle.art_place.specs.declared.rereadings.Rereading.{Rereading}
-use Rattle.art_step.specs.declared.views.Sizes.{Sizes}
-use Rattle.art_step.specs.declared.views.View.{View}
 use Rattle.art_gather.proofs.vouching.read_above.Goals as goal
 
--- the cell that is read is the one above
-begun : (z : Sizes) (k : List ℕ) (both : Bool) (t : Stand) (a : Above) (m : Vouching) (r : Rereading) (desk : Desk) (u v : View) → m ≡ above_read r → t.above ≡ Some a → Fits z k both t m desk u v → ReadsAbove z k both t a desk u v r
-begun z k both t a m r desk u v is at fits =
-    let f : Fits z k both t (above_read r) desk u v = subst (λ (n : Vouching). Fits z k both t n desk u v) is fits in
-    let over = f.stage.1 in
-    let one : over.above ≡ a = same_Some {A = Above} over.above a (sym (is_above both t over.above over.is) ∙ at) in
-    record {
-      vouching = f.stage.0;
-      left = record { failures = f.failures; steps = f.steps };
-      is = over.is ∙ ap (λ (b : Above). Some b) one;
-      fits = subst (λ (b : Above). RereadingFits z v b.stamp r (above_of desk)) one over.fits;
-    }
-
-pub read_missing_above-requires-clause-reads : goal.read_missing_above-requires-clause-reads
-read_missing_above-requires-clause-reads g c =
+pub read_on_above-requires-clause-fits : goal.read_on_above-requires-clause-fits
+read_on_above-requires-clause-fits g c =
     let z = g.S.Steps.sizes c.args.steps.now in
     let v = g.S.Steps.view c.args.steps.now in
     let t = c.args.stand.now in
+    let a = c.in-Some.above in
     let q = c.requires.fits in
-    (q.0, c.args.both, t, q.1, begun z q.0 c.args.both t c.in-Some.above c.args.vouching.now c.in-Above.rereading c.args.desk.now q.1 v c.in-Above.is c.in-Some.is q.2)
+    let f : Fits z q.0 c.args.both t (above_read c.in-Above.rereading) c.args.desk.now q.1 v = subst (λ (m : Vouching). Fits z q.0 c.args.both t m c.args.desk.now q.1 v) c.in-Above.is q.2 in
+    let over = f.stage.1 in
+    let one : over.above ≡ a = same_Some {A = Above} over.above a (sym (is_above c.args.both t over.above over.is) ∙ c.in-Some.is) in
+    subst (λ (b : Above). RereadingFits z v b.stamp c.in-Above.rereading (above_of c.args.desk.now)) one over.fits
 
 pub returns-clause-fits : goal.returns-clause-fits
 returns-clause-fits g c k u fits =
     let z = g.S.Steps.sizes c.args.steps.now in
     let v = g.S.Steps.view c.args.steps.now in
-    let w = g.S.Steps.view c.read_missing_above.new.steps in
+    let w = g.S.Steps.view c.read_on_above.new.steps in
     let t = c.args.stand.now in
     let a = c.in-Some.above in
-    let done = c.read_missing_above.ensures.reads k c.args.both t u (begun z k c.args.both t a c.args.vouching.now c.in-Above.rereading c.args.desk.now u v c.in-Above.is c.in-Some.is fits) in
-    c.above_read_on.ensures.fits z k u w done.vouching done.left done.is done.fits
+    let desk = c.args.desk.now in
+    let desk' = c.read_on_above.new.self in
+    let r = c.in-Above.rereading in
+    let r' = c.read_on_above.new.rereading in
+    let made = c.args.left.now - c.read_on_above.new.left in
+    let f : Fits z k c.args.both t (above_read r) desk u v = subst (λ (m : Vouching). Fits z k c.args.both t m desk u v) c.in-Above.is fits in
+    let over = f.stage.1 in
+    let one : over.above ≡ a = same_Some {A = Above} over.above a (sym (is_above c.args.both t over.above over.is) ∙ c.in-Some.is) in
+    let done = c.read_on_above.ensures.read in
+    let more = over.more in
+    let fit = cell_fits over.above.stamp.cell in
+    let few = done.few (omega (arith, more, fit)) in
+    let further = done.further in
+    c.above_read_on.ensures.fits z k u w
+    (above_after z k t desk desk' u v w made done.only f.stage.0 a c.in-Some.is c.read_on_above.ensures.node done.fits.kept)
+    (left_after u v w made (266 - r.place + 267) (266 - r'.place + 267) 532 done.only (omega (arith, further, few)) (record { failures = f.failures; steps = f.steps }))
+    (over.is ∙ ap (λ (b : Above). Some b) one) done.fits

@@ -1,7 +1,7 @@
-use Rattle.std.proofs.Common.{◌≡◌, ◌+◌, ◌<◌, ◌∙◌, ℕ, List, get_or, inl, inr, length, set, refl, sym, ap, subst, arith, get_or-set_other, get_or-set_same}
+use Rattle.std.proofs.Common.{◌+◌, ◌∙◌, ℕ, get_or, inl, inr, set, sym, subst, arith, get_or-set_other, get_or-set_same}
 use Rattle.std.proofs.lemmas.Bool.{cases_eq}
 use Rattle.std.proofs.lemmas.List.{length-set}
-use Rattle.art_place.proofs.Runs.{none_made, one_read, read_stays, reads_then, still_free, was_read}
+use Rattle.art_place.proofs.Runs.{one_read, read_stays, reads_then, still_free, was_read}
 use Rattle.art_place.specs.Kept.{WasReadAt}
 use Rattle.art_step.specs.Steps.Read as read
 use Rattle.art_step.specs.declared.views.Sizes.{Sizes}

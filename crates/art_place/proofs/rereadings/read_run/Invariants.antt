@@ -1,5 +1,5 @@
 -- So far words are read.
-use Rattle.std.proofs.Common.{◌≡◌, ◌+◌, ◌<◌, ◌≤◌, ℕ, get_or, length}
+use Rattle.std.proofs.Common.{◌≡◌, ◌+◌, ◌<◌, ℕ, get_or, length}
 use Rattle.art_place.specs.Kept.{WasReadAt}
 use Rattle.art_place.specs.Runs.{HasReadOnly}
 use Rattle.art_place.proofs.rereadings.read_run.Given as goal

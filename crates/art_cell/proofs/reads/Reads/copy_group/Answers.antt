@@ -1,9 +1,11 @@
-use Rattle.std.proofs.Common.{◌+◌, ◌-◌, ◌*◌, ◌≤◌, ℕ, Option, inl, inr, length, get_or, set, bit_or, arith, ap, sym, ◌∙◌, get_or-set_other, get_or-set_same}
+use Rattle.std.proofs.Common.{◌≡◌, ◌+◌, ◌-◌, ◌*◌, ◌/◌, ◌%◌, ◌≤◌, ℕ, Option, inl, inr, length, get_or, set, bit_or, arith, ap, sym, ◌∙◌, get_or-set_other, get_or-set_same}
 use Rattle.std.specs.Prelude.{unwrap_or}
-use Rattle.std.proofs.lemmas.Bool.{cases_eq}
+use Rattle.std.proofs.lemmas.Bool.{cases_eq, cases_lt}
 use borrow.Rule.Slice.PartMut.{put_mid}
 use Rattle.art_cell.specs.Reads.{word_read}
-use Rattle.art_cell.proofs.KnownLemmas.{known_of_full}
+use Rattle.std.specs.Int.{bit_at}
+use Rattle.art_cell.specs.KnownWords.{known_bit}
+use Rattle.art_cell.proofs.KnownLemmas.{known_of_full, read_unknown}
 use Rattle.art_cell.proofs.Parts.{long_part, same_part}
 use Rattle.art_cell.proofs.reads.Reads.copy_group.Goals as goal
 
@@ -31,4 +33,18 @@ returns-then-self-group-clause-here c p low high =
           ∙ known_of_full s.words s.known c.args.self.now p c.self.view_is
           (ap (λ (g : ℕ). bit_or (get_or s.known g 0) 1) (omega (arith, low, high)) ∙ c.if-self-group.true)
           (λ e. omega (arith, e, other, low, high)) (omega (arith, high))
+    ]
+
+pub returns-else-self-group-clause-here : goal.returns-else-self-group-clause-here
+returns-else-self-group-clause-here c p low high =
+    let s = c.self.inside in
+    let last = c.min-last.ensures in
+    let end = c.min-end.ensures in
+    elim (cases_lt p c.min-last.result) [
+      | inl before ↦ c.clear.ensures.below p before ∙ c.copy_each.ensures.here p low before
+      | inr after ↦
+          let group : p / 64 ≡ c.args.group = omega (arith, low, high) in
+          let none : known_bit s.known p ≡ 0 = ap (λ (g : ℕ). bit_at (get_or s.known g 0) (p % 64)) group ∙ c.bit_length.ensures.zero (p % 64) (omega (arith, low, high, after, last, end)) in
+          c.clear.ensures.here p after (omega (arith, high, end))
+          ∙ ap (λ (o : Option ℕ). unwrap_or o 0) (read_unknown s.words s.known c.args.self.now p c.self.view_is (omega (arith, high)) (λ one. omega (arith, none, one)))
     ]

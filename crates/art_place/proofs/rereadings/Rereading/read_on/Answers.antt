@@ -1,8 +1,8 @@
-use Rattle.std.proofs.Common.{◌≡◌, ◌+◌, ◌-◌, ◌<◌, ◌≤◌, ◌∙◌, ℕ, List, Option, None, length, rules, refl, sym, ap, subst, arith}
+use Rattle.std.proofs.Common.{◌≡◌, ◌+◌, ◌-◌, ◌<◌, ◌∙◌, ℕ, None, length, rules, refl, sym, subst, arith}
 use Rattle.std.proofs.lemmas.List.{places}
 use Rattle.art_cell.specs.Reads.{AreNoted, word_read}
 use Rattle.art_place.proofs.Keeping.{cell_fits}
-use Rattle.art_place.proofs.Runs.{fits_on, none_read_on, read_on_then, stays_noted}
+use Rattle.art_place.proofs.Runs.{fits_on, read_on_then, stays_noted}
 use Rattle.art_place.specs.Rereadings.{AreKnown}
 use Rattle.art_place.specs.Runs.{HasReadOn, HasReadOnly, WereRead}
 use Rattle.art_step.specs.declared.views.Sizes.{Sizes}

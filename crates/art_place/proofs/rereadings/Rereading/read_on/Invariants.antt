@@ -1,5 +1,5 @@
 -- So far words are read.
-use Rattle.std.proofs.Common.{◌≡◌, ◌-◌, ◌<◌, ◌≤◌, ℕ}
+use Rattle.std.proofs.Common.{◌≡◌, ◌-◌, ◌<◌, ◌≤◌}
 use Rattle.art_place.specs.Runs.{HasReadOn}
 use Rattle.art_place.proofs.rereadings.Rereading.read_on.Given as goal
 
