@@ -1,13 +1,14 @@
 -- Where a get stands that may make so many steps.
 use Rattle.std.specs.Prelude.{◌≡◌, ℕ, ◌+◌, ◌≤◌, List, length, Option, Some, None}
 use Rattle.art_cell.specs.declared.cells.Node.{Node}
-use Rattle.art_find.specs.Descents.{ended_at, stage_below}
+use Rattle.art_find.specs.Descents.{ended_at, stage_below, staged}
 use Rattle.art_find.specs.Driven.{GetFits}
 use Rattle.art_find.specs.declared.descents.Descent.{Descent}
 use Rattle.art_find.specs.declared.descents.Stage.{Stage}
 use Rattle.art_find.specs.declared.descents.Stage.TheVariants as stage
 use Rattle.art_find.specs.declared.straight.Below.{Below}
 use Rattle.art_find.specs.declared.straight.Child.{Child}
+use Rattle.art_find.specs.declared.straight.NodeSearch.{NodeSearch}
 use Rattle.art_find.specs.declared.straight.Tally.{Tally}
 use Rattle.art_step.specs.declared.views.Sizes.{Sizes}
 use Rattle.art_step.specs.declared.views.View.{View}
@@ -47,3 +48,7 @@ at_node b n = at_stage b.depth (stage.Below b.above n)
 abbrev pub come_to : {A : Type 0} → (A → Descent) → Option A → Descent → Descent
 come_to f (Some a) m = f a
 come_to f None m = m
+
+-- a node is searched
+abbrev pub at_search : NodeSearch → Descent
+at_search f = at_stage f.depth (staged f.sought f.seen)

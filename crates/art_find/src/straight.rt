@@ -1,13 +1,14 @@
-//! The straight way of a get, from the anchor down through nodes without a prefix to a leaf.
+//! The straight way of a get, from the anchor down to a leaf.
 //!
 //! It makes the steps of a descent in their order, and keeps in hand only what the next one needs: the stage at which a
-//! descent would stand is named in the contracts alone. Whatever stops it (a version word that is locked or changed, a prefix,
-//! an end of the key, a child that is none) is left to the descent, and so is the check that decides. Where a child word names
-//! none, it does not say where the key would stand (`Verdict::Absent`): the node's header is no longer in hand.
+//! descent would stand is named in the contracts alone. Whatever stops it (a version word that is locked or changed, an end of
+//! the key, a child that is none) is left to the descent, and so is the check that decides. A prefix is compared by the descent
+//! itself, and the straight way goes on behind it. Where a child word names none, it does not say where the key would stand
+//! (`Verdict::Absent`): the node's header is no longer in hand.
 ghost use Rattle.std.specs.Prelude.{◌≡◌, ℕ, List, Option, ◌+◌, ◌*◌, ◌<◌, ◌≤◌, None, IfSome, length};
 ghost use Rattle.art_find.specs.Descents.{staged};
 ghost use Rattle.art_find.specs.Compares.{at_first};
-ghost use Rattle.art_find.specs.Straight.{GoesOn, IsGoing, at_below, at_child, at_node, at_stage, come_to};
+ghost use Rattle.art_find.specs.Straight.{GoesOn, IsGoing, at_below, at_child, at_node, at_search, at_stage, come_to};
 ghost use Rattle.art_find.specs.declared.descents.Stage.TheVariants as stages;
 
 use crate::compares::{Beside, beside_word};
@@ -39,6 +40,14 @@ pub(crate) struct Below {
     pub depth: usize,
     pub above: Stamp,
     pub link: Link,
+}
+
+/// Where a node is searched for the child of the key's byte at this depth.
+#[derive(Clone, Copy)]
+pub(crate) struct NodeSearch {
+    pub depth: usize,
+    pub seen: NodeSeen,
+    pub sought: Sought,
 }
 
 /// So many steps must be left where a node is entered, or a leaf.
@@ -157,9 +166,9 @@ fn enter_node<S: Steps>(
 {
     let stamp = stamp_node(steps, tally, descent, below, node)?;
     check_above(steps, tally, descent, below, node, stamp)?;
-    let (seen, sought) = search(steps, tally, descent, key, below.depth, node, stamp)?;
-    let place = search_on(steps, tally, descent, key, below.depth, seen, sought)?;
-    let child = child_at(steps, tally, descent, key, below.depth, seen, place)?;
+    let found = search(steps, tally, descent, key, below.depth, node, stamp)?;
+    let place = search_on(steps, tally, descent, key, found)?;
+    let child = child_at(steps, tally, descent, key, found.depth, found.seen, place)?;
     pass(steps, tally, descent, child)
 }
 
@@ -290,7 +299,7 @@ fn check_above<S: Steps>(
     }
 }
 
-/// Reads the header of a node without a prefix: where to look for the child of the key's next byte.
+/// Reads the header of a node, and its prefix: where to look for the child of the key's next byte.
 #[inline(always)]
 fn search<S: Steps>(
     steps: &mut S,
@@ -300,14 +309,15 @@ fn search<S: Steps>(
     depth: usize,
     node: Node,
     stamp: Stamp,
-) -> Option<(NodeSeen, Sought)>
-    requires left { 0 < tally.old.left }
+) -> Option<NodeSearch>
+    requires left { 4 < tally.old.left }
     requires goes { IsGoing key.now (S.sizes steps.old) (S.view steps.old) (at_stage depth (stages.Header stamp node)) tally.old }
     ensures only { S.only steps.old steps.new }
-    ensures left { tally.new.left + 1 ≡ tally.old.left }
-    ensures deep { IfSome result (λ r. depth < length key.now) }
+    ensures left { 3 < tally.new.left }
+    ensures less { tally.new.left < tally.old.left }
+    ensures deep { IfSome result (λ r. r.depth < length key.now) }
     ensures goes { GoesOn key.now (S.sizes steps.old) (S.view steps.old) (at_stage depth (stages.Header stamp node)) tally.old
-        (S.sizes steps.new) (S.view steps.new) (come_to (λ r. at_stage depth (staged r.1 r.0)) result descent.new) tally.new }
+        (S.sizes steps.new) (S.view steps.new) (come_to at_search result descent.new) tally.new }
 {
     tally.left -= 1;
     let header = steps.read(stamp, 1);
@@ -317,14 +327,67 @@ fn search<S: Steps>(
             stage: Stage::Header(stamp, node),
         };
         descent.read(key, header);
-        return None;
+        return pass_prefix(steps, tally, descent, key);
     }
     let seen = NodeSeen {
         stamp,
         node,
         header,
     };
-    Some((seen, first_word(node.layout, key[depth], header)))
+    Some(NodeSearch {
+        depth,
+        seen,
+        sought: first_word(node.layout, key[depth], header),
+    })
+}
+
+/// Compares what is left of a prefix with the key: where to look for the child of the byte behind it, if the key goes on so.
+fn pass_prefix<S: Steps>(
+    steps: &mut S,
+    tally: &mut Tally,
+    descent: &mut Descent,
+    key: &[u8],
+) -> Option<NodeSearch>
+    requires left { 3 < tally.old.left }
+    requires goes { IsGoing key.now (S.sizes steps.old) (S.view steps.old) descent.old tally.old }
+    ensures only { S.only steps.old steps.new }
+    ensures left { 3 < tally.new.left }
+    ensures less { tally.new.left ≤ tally.old.left }
+    ensures deep { IfSome result (λ r. r.depth < length key.now) }
+    ensures goes { GoesOn key.now (S.sizes steps.old) (S.view steps.old) descent.old tally.old
+        (S.sizes steps.new) (S.view steps.new) (come_to at_search result descent.new) tally.new }
+{
+    loop {
+        let Stage::Prefix(seen, number, _) = descent.stage else {
+            return search_at(descent);
+        };
+        if tally.left < 5 {
+            return None;
+        }
+        tally.left -= 1;
+        let word = steps.read(seen.stamp, 2 + usize::from(number));
+        descent.read(key, word);
+    }
+}
+
+/// Where the descent searches a node, if it does.
+#[inline(always)]
+fn search_at(descent: &Descent) -> Option<NodeSearch>
+    ensures { IfSome result (λ r. at_search r ≡ descent.now) }
+{
+    match descent.stage {
+        Stage::Keys(seen, number) => Some(NodeSearch {
+            depth: descent.depth,
+            seen,
+            sought: Sought::Keys(number),
+        }),
+        Stage::Slot(seen, place) => Some(NodeSearch {
+            depth: descent.depth,
+            seen,
+            sought: Sought::Child(place),
+        }),
+        _ => None,
+    }
 }
 
 /// Reads one word after another, until it is known where the child word stands.
@@ -334,21 +397,20 @@ fn search_on<S: Steps>(
     tally: &mut Tally,
     descent: &mut Descent,
     key: &[u8],
-    depth: usize,
-    seen: NodeSeen,
-    sought: Sought,
+    found: NodeSearch,
 ) -> Option<usize>
     requires left { 3 < tally.old.left }
-    requires deep { depth < length key.now }
-    requires goes { IsGoing key.now (S.sizes steps.old) (S.view steps.old) (at_stage depth (staged sought seen)) tally.old }
+    requires deep { found.depth < length key.now }
+    requires goes { IsGoing key.now (S.sizes steps.old) (S.view steps.old) (at_search found) tally.old }
     ensures only { S.only steps.old steps.new }
     ensures left { 3 < tally.new.left }
     ensures less { tally.new.left ≤ tally.old.left }
-    ensures goes { GoesOn key.now (S.sizes steps.old) (S.view steps.old) (at_stage depth (staged sought seen)) tally.old
+    ensures goes { GoesOn key.now (S.sizes steps.old) (S.view steps.old) (at_search found) tally.old
         (S.sizes steps.new) (S.view steps.new)
-        (come_to (λ place. at_stage depth (stages.Slot seen place)) result descent.new) tally.new }
+        (come_to (λ place. at_stage found.depth (stages.Slot found.seen place)) result descent.new) tally.new }
 {
-    let mut sought = sought;
+    let NodeSearch { depth, seen, .. } = found;
+    let mut sought = found.sought;
     loop {
         let number = match sought {
             Sought::Keys(number) => number,

@@ -24,6 +24,21 @@ read-requires-clause-fits g c =
     let b = c.requires.goes in
     (g.S.Steps.sizes c.args.steps.now, get_done c.args.key.now, b.1, g.S.Steps.view c.args.steps.now, b.2.get.fits)
 
+pub pass_prefix-requires-clause-goes : goal.pass_prefix-requires-clause-goes
+pass_prefix-requires-clause-goes g c =
+    let z = g.S.Steps.sizes c.args.steps.now in
+    let w = g.S.Steps.view c.read-header.new.self in
+    let b = c.requires.goes in
+    let m = at_stage c.args.depth (Header c.args.stamp c.args.node) in
+    let row = c.read-header.ensures.row in (
+      b.0,
+      b.1,
+      went_on z (g.S.Steps.sizes c.read-header.new.self) (g.met.S.Steps.only_sizes c.args.steps.now c.read-header.new.self c.read-header.ensures.only) c.args.key.now b.0 b.1
+          (g.S.Steps.view c.args.steps.now) w m c.read.new.self c.args.tally.now _ (Read c.args.stamp 1) (word_told c.read-header.result) b.2 refl row (omega (arith, c.requires.left)) refl refl
+          c.read.ensures.steps c.read.ensures.going
+          (c.read.ensures.fits z (get_done c.args.key.now) b.1 (g.S.Steps.view c.args.steps.now) w (Read c.args.stamp 1) b.2.get.fits refl row),
+    )
+
 pub returns-then-read_header-gt0-clause-goes : goal.returns-then-read_header-gt0-clause-goes
 returns-then-read_header-gt0-clause-goes g c = λ turns u before.
     let z = g.S.Steps.sizes c.args.steps.now in
@@ -34,10 +49,11 @@ returns-then-read_header-gt0-clause-goes g c = λ turns u before.
     let n = c.args.node in
     let y = c.args.stamp in
     let m = c.read.new.self in
-    went_on z (g.S.Steps.sizes c.read-header.new.self) (g.met.S.Steps.only_sizes c.args.steps.now c.read-header.new.self c.read-header.ensures.only) k turns u v w
+    c.pass_prefix.ensures.goes turns u
+    (went_on z (g.S.Steps.sizes c.read-header.new.self) (g.met.S.Steps.only_sizes c.args.steps.now c.read-header.new.self c.read-header.ensures.only) k turns u v w
     (at_stage depth (Header y n)) m c.args.tally.now _ (Read y 1) (word_told c.read-header.result) before refl c.read-header.ensures.row (omega (arith, c.requires.left)) refl refl
     c.read.ensures.steps c.read.ensures.going
-    (c.read.ensures.fits z (get_done k) u v w (Read y 1) before.get.fits refl c.read-header.ensures.row)
+    (c.read.ensures.fits z (get_done k) u v w (Read y 1) before.get.fits refl c.read-header.ensures.row))
 
 pub returns-clause-goes : goal.returns-clause-goes
 returns-clause-goes g c = λ turns u before.

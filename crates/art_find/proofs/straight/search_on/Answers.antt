@@ -18,17 +18,17 @@ use Rattle.art_find.proofs.straight.search_on.Goals as goal
 pub returns-then-tally-lt5-clause-goes : goal.returns-then-tally-lt5-clause-goes
 returns-then-tally-lt5-clause-goes g c = λ turns u before.
     let l = c.loop-sought in
-    subst (λ (r : Sought). GetGoes (g.S.Steps.sizes l.steps) c.args.key.now turns u (g.S.Steps.view l.steps) (at_stage c.args.depth (staged r c.args.seen)) l.tally) c.in-Keys.is (l.invariant.goes turns u before)
+    subst (λ (r : Sought). GetGoes (g.S.Steps.sizes l.steps) c.args.key.now turns u (g.S.Steps.view l.steps) (at_stage c.args.found.depth (staged r c.args.found.seen)) l.tally) c.in-Keys.is (l.invariant.goes turns u before)
 
 pub returns-in-Child-clause-goes : goal.returns-in-Child-clause-goes
 returns-in-Child-clause-goes g c = λ turns u before.
     let l = c.loop-sought in
-    subst (λ (r : Sought). GetGoes (g.S.Steps.sizes l.steps) c.args.key.now turns u (g.S.Steps.view l.steps) (at_stage c.args.depth (staged r c.args.seen)) l.tally) c.in-Child.is (l.invariant.goes turns u before)
+    subst (λ (r : Sought). GetGoes (g.S.Steps.sizes l.steps) c.args.key.now turns u (g.S.Steps.view l.steps) (at_stage c.args.found.depth (staged r c.args.found.seen)) l.tally) c.in-Child.is (l.invariant.goes turns u before)
 
 pub returns-in-Nothing-clause-goes : goal.returns-in-Nothing-clause-goes
 returns-in-Nothing-clause-goes g c = λ turns u before.
     let l = c.loop-sought in
-    subst (λ (r : Sought). GetGoes (g.S.Steps.sizes l.steps) c.args.key.now turns u (g.S.Steps.view l.steps) (at_stage c.args.depth (staged r c.args.seen)) l.tally) c.in-Nothing.is (l.invariant.goes turns u before)
+    subst (λ (r : Sought). GetGoes (g.S.Steps.sizes l.steps) c.args.key.now turns u (g.S.Steps.view l.steps) (at_stage c.args.found.depth (staged r c.args.found.seen)) l.tally) c.in-Nothing.is (l.invariant.goes turns u before)
 
 pub loop-sought-preserved : goal.loop-sought-preserved
 loop-sought-preserved g c =
@@ -37,27 +37,27 @@ loop-sought-preserved g c =
     let v = g.S.Steps.view l.steps in
     let w = g.S.Steps.view c.read-word.new.self in
     let k = c.args.key.now in
-    let seen = c.args.seen in
+    let seen = c.args.found.seen in
     let y = seen.stamp in
     let number = c.in-Keys.number in
     let word = c.read-word.result in
     let row = subst (λ (i : ℕ). read.Outcome z v w y (10 + i) word) c.from.ensures c.read-word.ensures.row in
-    let small : get_or k c.args.depth 0 < 256 = omega (arith, c.type_inv.key c.args.depth) in
-    let next : (turns : ℕ) (u : View) → GetGoes z k turns u v (at_stage c.args.depth (Keys seen number)) l.tally
-    → GetGoes (g.S.Steps.sizes c.read-word.new.self) k turns u w (at_stage c.args.depth (staged c.next_word-sought.result seen)) _ = λ turns u before.
+    let small : get_or k c.args.found.depth 0 < 256 = omega (arith, c.type_inv.key c.args.found.depth) in
+    let next : (turns : ℕ) (u : View) → GetGoes z k turns u v (at_stage c.args.found.depth (Keys seen number)) l.tally
+    → GetGoes (g.S.Steps.sizes c.read-word.new.self) k turns u w (at_stage c.args.found.depth (staged c.next_word-sought.result seen)) _ = λ turns u before.
     let fits = before.get.fits in
     went_on z (g.S.Steps.sizes c.read-word.new.self) (g.met.S.Steps.only_sizes l.steps c.read-word.new.self c.read-word.ensures.only) k turns u v w
-    (at_stage c.args.depth (Keys seen number)) (at_stage c.args.depth (staged c.next_word-sought.result seen)) l.tally (record { left = l.tally.left - 1; restarts = l.tally.restarts })
+    (at_stage c.args.found.depth (Keys seen number)) (at_stage c.args.found.depth (staged c.next_word-sought.result seen)) l.tally (record { left = l.tally.left - 1; restarts = l.tally.restarts })
     (Read y (10 + number)) (word_told word) before refl row (omega (arith, l.invariant.left)) refl refl
-    (staged_later c.args.depth number c.next_word-sought.result seen fits.1.few c.next_word-sought.ensures.later) (staged_going c.next_word-sought.result seen)
-    (staged_fits z k (get_done k) c.args.depth u w seen (node_on z u v w y (10 + number) word seen.node fits.0 row) (IsNextWord seen.node.layout (get_or k c.args.depth 0) seen.header number word) c.next_word-sought.result c.requires.deep small
+    (staged_later c.args.found.depth number c.next_word-sought.result seen fits.1.few c.next_word-sought.ensures.later) (staged_going c.next_word-sought.result seen)
+    (staged_fits z k (get_done k) c.args.found.depth u w seen (node_on z u v w y (10 + number) word seen.node fits.0 row) (IsNextWord seen.node.layout (get_or k c.args.found.depth 0) seen.header number word) c.next_word-sought.result c.requires.deep small
     c.next_word-sought.ensures.tells
     (λ s shape holds. (node_still z u v w y (10 + number) word _ row fits.1.shows s shape holds).past)
     (λ s shape holds.
     let at = node_still z u v w y (10 + number) word _ row fits.1.shows s shape holds in
     record { is_header = at.past.is_header; is_word = node_word z u v w y (10 + number) word (cell.Node seen.node) fits.0.cell row s shape holds; known = at.known })) in
-    let here : (turns : ℕ) (u : View) → GetGoes z k turns u v (at_stage c.args.depth (staged l.sought seen)) l.tally → GetGoes z k turns u v (at_stage c.args.depth (Keys seen number)) l.tally =
-    λ turns u before. subst (λ (r : Sought). GetGoes z k turns u v (at_stage c.args.depth (staged r seen)) l.tally) c.in-Keys.is before in
+    let here : (turns : ℕ) (u : View) → GetGoes z k turns u v (at_stage c.args.found.depth (staged l.sought seen)) l.tally → GetGoes z k turns u v (at_stage c.args.found.depth (Keys seen number)) l.tally =
+    λ turns u before. subst (λ (r : Sought). GetGoes z k turns u v (at_stage c.args.found.depth (staged r seen)) l.tally) c.in-Keys.is before in
     let b = l.invariant.going in
     record {
       only = g.met.S.Steps.only_then c.args.steps.now l.steps c.read-word.new.self l.invariant.only c.read-word.ensures.only;
