@@ -12,8 +12,9 @@
 //! | `renews` | a removal of a row that is drawn, or an insert of it again, in turn |
 //! | `scans` | a scan of up to a hundred rows, from the first of group n on |
 //!
-//! It prints how many calls had the answer that they should, and on the standard error how long they took. docs/PERFORMANCE.md says
-//! how instructions are counted with it.
+//! It prints how many calls had the answer that they should, and how many were refused, by why; and on the standard error how long
+//! they took. A row that is refused while the rows come in, since the limbo of its pass is crowded, is tried again. docs/PERFORMANCE.md
+//! says how instructions are counted with it.
 #![tactic(auto)]
 
 ghost use Rattle.std.specs.Prelude.{IfOk};
@@ -23,8 +24,8 @@ ghost use Rattle.art_bench.specs.Clients.{AreOf};
 use arrayvec::ArrayVec;
 use art_key::Schema;
 use art_model::{Row, Tuple, Value};
-use art_scan::scan;
-use art_table::{Config, Inserted, Pass, Table, get, insert, open, remove};
+use art_scan::{ScanFault, scan};
+use art_table::{Config, Fault, Inserted, Pass, Table, get, insert, open, remove};
 use std::alloc::AllocError;
 use std::process::ExitCode;
 use std::sync::atomic::{AtomicU64, Ordering};
@@ -34,6 +35,9 @@ use std::{env, io, thread};
 
 /// The most turns of a call.
 const TURNS: u32 = 1_000_000;
+
+/// How often a row that finds the limbo crowded is tried again while the rows come in.
+const TRIES: u32 = 100_000;
 
 /// Which calls are made.
 #[derive(Clone, Copy)]
@@ -112,39 +116,136 @@ fn tuple_of(key: u64) -> Tuple {
     tuple
 }
 
+/// How many calls ended how.
+#[derive(Clone, Copy)]
+struct Counts {
+    /// With the answer that they should have.
+    right: u64,
+    /// With another.
+    other: u64,
+    busy: u64,
+    full: u64,
+    crowded: u64,
+    exhausted: u64,
+}
+
+impl Counts {
+    fn new() -> Counts {
+        Counts {
+            right: 0,
+            other: 0,
+            busy: 0,
+            full: 0,
+            crowded: 0,
+            exhausted: 0,
+        }
+    }
+
+    /// One more call ended, with the answer that it should have or with another, or refused.
+    fn add(&mut self, outcome: Result<bool, Fault>) {
+        let count = match outcome {
+            Ok(true) => &mut self.right,
+            Ok(false) | Err(Fault::Value(_)) => &mut self.other,
+            Err(Fault::Busy) => &mut self.busy,
+            Err(Fault::Full(_)) => &mut self.full,
+            Err(Fault::Crowded(_)) => &mut self.crowded,
+            Err(Fault::Exhausted(_)) => &mut self.exhausted,
+        };
+        *count = count.wrapping_add(1);
+    }
+}
+
+/// What the passes counted, added up.
+#[derive(Drop)]
+struct Totals {
+    right: AtomicU64,
+    other: AtomicU64,
+    busy: AtomicU64,
+    full: AtomicU64,
+    crowded: AtomicU64,
+    exhausted: AtomicU64,
+}
+
+impl Totals {
+    fn new() -> Totals {
+        Totals {
+            right: AtomicU64::new(0),
+            other: AtomicU64::new(0),
+            busy: AtomicU64::new(0),
+            full: AtomicU64::new(0),
+            crowded: AtomicU64::new(0),
+            exhausted: AtomicU64::new(0),
+        }
+    }
+
+    fn add(&self, counts: Counts) {
+        self.right.fetch_add(counts.right, Ordering::SeqCst);
+        self.other.fetch_add(counts.other, Ordering::SeqCst);
+        self.busy.fetch_add(counts.busy, Ordering::SeqCst);
+        self.full.fetch_add(counts.full, Ordering::SeqCst);
+        self.crowded.fetch_add(counts.crowded, Ordering::SeqCst);
+        self.exhausted.fetch_add(counts.exhausted, Ordering::SeqCst);
+    }
+
+    /// What they counted; from now on they count from 0.
+    fn taken(&self) -> Counts {
+        Counts {
+            right: self.right.swap(0, Ordering::SeqCst),
+            other: self.other.swap(0, Ordering::SeqCst),
+            busy: self.busy.swap(0, Ordering::SeqCst),
+            full: self.full.swap(0, Ordering::SeqCst),
+            crowded: self.crowded.swap(0, Ordering::SeqCst),
+            exhausted: self.exhausted.swap(0, Ordering::SeqCst),
+        }
+    }
+}
+
 /// The rows of the pass come in: of each group those whose turn is the pass's.
-fn filled(table: &Table, pass: &mut Pass, plan: Plan) -> u64
+fn filled(table: &Table, pass: &mut Pass, plan: Plan) -> Counts
     requires { IsPassOf table.now pass.old }
     ensures { IsPassOf table.now pass.new }
 {
-    let mut count = 0u64;
+    let mut counts = Counts::new();
     let own = u64::from(pass.number());
     for number in 0..plan.groups.saturating_mul(plan.children) {
         let group = modulo(number, plan.groups);
         if modulo(group, plan.threads) == own {
             let key = key_of(group, number.checked_div(plan.groups).unwrap_or(0));
-            count = count.wrapping_add(u64::from(inserted(table, pass, key)));
+            counts.add(entered(table, pass, key));
         }
     }
-    count
+    counts
 }
 
-/// The calls of the pass are made; the answer is how many had the answer that they should.
-fn made(table: &Table, pass: &mut Pass, plan: Plan) -> u64
+/// The row comes in. Where the limbo of the pass is crowded it is tried again: the pass that crowds it goes on meanwhile.
+fn entered(table: &Table, pass: &mut Pass, key: u64) -> Result<bool, Fault>
     requires { IsPassOf table.now pass.old }
     ensures { IsPassOf table.now pass.new }
 {
-    let mut count = 0u64;
+    for _ in 0..TRIES {
+        match inserted(table, pass, key) {
+            Err(Fault::Crowded(_)) => {}
+            outcome => return outcome,
+        }
+    }
+    inserted(table, pass, key)
+}
+
+/// The calls of the pass are made.
+fn made(table: &Table, pass: &mut Pass, plan: Plan) -> Counts
+    requires { IsPassOf table.now pass.old }
+    ensures { IsPassOf table.now pass.new }
+{
+    let mut counts = Counts::new();
     let own = u64::from(pass.number());
     // kept from call to call, as whoever scans would keep it
     let mut rows = ArrayVec::new();
     for number in 0..plan.calls {
         if modulo(number, plan.threads) == own {
-            let is_right = called(table, pass, plan, number, &mut rows);
-            count = count.wrapping_add(u64::from(is_right));
+            counts.add(called(table, pass, plan, number, &mut rows));
         }
     }
-    count
+    counts
 }
 
 /// Makes the call with this number; whether it had the answer that it should.
@@ -154,14 +255,14 @@ fn called(
     plan: Plan,
     number: u64,
     rows: &mut ArrayVec<Row, 100>,
-) -> bool
+) -> Result<bool, Fault>
     requires { IsPassOf table.now pass.old }
     ensures { IsPassOf table.now pass.new }
 {
     match plan.case {
         Case::Gets => {
             let key = plan.drawn(number);
-            get(table, pass, &tuple_of(key), TURNS) == Ok(Some(key))
+            Ok(get(table, pass, &tuple_of(key), TURNS)? == Some(key))
         }
         Case::Adds => inserted(table, pass, key_of(number, plan.children)),
         Case::Removes => removed(table, pass, key_of(number, plan.children.wrapping_sub(1))),
@@ -177,28 +278,36 @@ fn called(
     }
 }
 
-fn inserted(table: &Table, pass: &mut Pass, key: u64) -> bool
+fn inserted(table: &Table, pass: &mut Pass, key: u64) -> Result<bool, Fault>
     requires { IsPassOf table.now pass.old }
     ensures { IsPassOf table.now pass.new }
 {
-    insert(table, pass, &tuple_of(key), key, TURNS) == Ok(Inserted::New)
+    Ok(insert(table, pass, &tuple_of(key), key, TURNS)? == Inserted::New)
 }
 
-fn removed(table: &Table, pass: &mut Pass, key: u64) -> bool
+fn removed(table: &Table, pass: &mut Pass, key: u64) -> Result<bool, Fault>
     requires { IsPassOf table.now pass.old }
     ensures { IsPassOf table.now pass.new }
 {
-    remove(table, pass, &tuple_of(key), TURNS) == Ok(Some(key))
+    Ok(remove(table, pass, &tuple_of(key), TURNS)? == Some(key))
 }
 
-fn listed(table: &Table, pass: &mut Pass, group: u64, rows: &mut ArrayVec<Row, 100>) -> bool
+fn listed(
+    table: &Table,
+    pass: &mut Pass,
+    group: u64,
+    rows: &mut ArrayVec<Row, 100>,
+) -> Result<bool, Fault>
     requires { IsPassOf table.now pass.old }
     ensures { IsPassOf table.now pass.new }
 {
     let first = tuple_of(key_of(group, 0));
     let last = tuple_of(u64::MAX);
-    let result = scan(table, pass, &first, &last, 100, TURNS, rows);
-    result.is_ok() && !rows.is_empty()
+    match scan(table, pass, &first, &last, 100, TURNS, rows) {
+        Ok(_) => Ok(!rows.is_empty()),
+        Err(ScanFault::Busy) => Err(Fault::Busy),
+        Err(_) => Ok(false),
+    }
 }
 
 /// Each pass works in a thread of its own; what they count is added up.
@@ -208,7 +317,7 @@ fn work<R: Threads + Sync>(
     passes: Vec<Pass>,
     plan: Plan,
     fills: bool,
-    total: &AtomicU64,
+    totals: &Totals,
 ) -> Result<Vec<Pass>, AllocError>
     requires { AreOf table.now passes.items }
     ensures { IfOk result (λ all. AreOf table.now all.items) }
@@ -219,20 +328,20 @@ fn work<R: Threads + Sync>(
         &|pass: Pass| -> Pass
             requires { IsPassOf table.now pass }
             ensures { IsPassOf table.entry.now result }
-        { worked(table, pass, plan, fills, total) },
+        { worked(table, pass, plan, fills, totals) },
     )
 }
 
-fn worked(table: &Table, mut pass: Pass, plan: Plan, fills: bool, total: &AtomicU64) -> Pass
+fn worked(table: &Table, mut pass: Pass, plan: Plan, fills: bool, totals: &Totals) -> Pass
     requires { IsPassOf table.now pass }
     ensures { IsPassOf table.now result }
 {
-    let count = if fills {
+    let counts = if fills {
         filled(table, &mut pass, plan)
     } else {
         made(table, &mut pass, plan)
     };
-    total.fetch_add(count, Ordering::SeqCst);
+    totals.add(counts);
     pass
 }
 
@@ -262,19 +371,28 @@ fn main(rt: HostRuntime) -> io::Result<ExitCode> {
     let Ok((table, passes)) = open(alloc, schema, config_of(plan)) else {
         return Ok(ExitCode::from(4));
     };
-    let total = AtomicU64::new(0);
+    let totals = Totals::new();
     let start = Instant::now(&rt)?;
-    let passes = work(&rt, &table, passes, plan, true, &total)?;
+    let passes = work(&rt, &table, passes, plan, true, &totals)?;
     let filling = start.elapsed(&rt)?.as_micros();
-    let rows = total.swap(0, Ordering::SeqCst);
+    let rows = totals.taken().right;
     let start = Instant::now(&rt)?;
-    let _passes = work(&rt, &table, passes, plan, false, &total)?;
+    let _passes = work(&rt, &table, passes, plan, false, &totals)?;
     let calling = start.elapsed(&rt)?.as_micros();
     eprintln!(rt; "rows {filling} us, calls {calling} us")?;
-    println!(rt;
-        "{rows} rows, {} of {} calls",
-        total.load(Ordering::SeqCst),
-        plan.calls
-    )?;
+    let Counts {
+        right,
+        other,
+        busy,
+        full,
+        crowded,
+        exhausted,
+    } = totals.taken();
+    println!(rt; "{rows} rows, {right} of {} calls", plan.calls)?;
+    if right < plan.calls {
+        println!(rt;
+            "{other} with another answer; refused: {busy} busy, {full} full, {crowded} crowded, {exhausted} exhausted"
+        )?;
+    }
     Ok(ExitCode::from(0))
 }
