@@ -52,12 +52,12 @@ there c i low =
 filled_some : (c : Change) (n : Node) → node_made c ≡ Some n → 0 < filled_end c
 filled_some c n made = subst (λ (o : Option Node). 0 < filled_at c o) (sym made) (some_words n.layout)
 
-some_filled : (c : Change) (o : Option Node) → 0 < filled_at c o → (n : Node) × (o ≡ Some n)
+pub some_filled : (c : Change) (o : Option Node) → 0 < filled_at c o → (n : Node) × (o ≡ Some n)
 some_filled c None low = absurd (omega arith)
 some_filled c (Some n) low = (n, refl)
 
 -- the word that it puts has a target
-put_target : (z : Sizes) (u : View) (c : Change) → IsPlanned z u c → (j : ℕ) (p : Put) → put_at c j ≡ Some p → (x : Target) × (target_at c p.target ≡ Some x)
+pub put_target : (z : Sizes) (u : View) (c : Change) → IsPlanned z u c → (j : ℕ) (p : Put) → put_at c j ≡ Some p → (x : Target) × (target_at c p.target ≡ Some x)
 put_target z u c planned j p at = let may = planned.puts j p at in (may.target, may.is)
 
 -- ---- it goes on
@@ -143,7 +143,7 @@ few_words Node16 = omega arith
 few_words Node48 = omega arith
 few_words Node256 = omega arith
 
-few_filled : (c : Change) (o : Option Node) → filled_at c o ≤ 266
+pub few_filled : (c : Change) (o : Option Node) → filled_at c o ≤ 266
 few_filled c None = omega arith
 few_filled c (Some n) = few_words n.layout
 

@@ -1,5 +1,5 @@
 -- What the making of a change knows between two of its steps.
-use Rattle.std.specs.Prelude.{◌≡◌, ◌≢◌, ℕ, ◌+◌, ◌*◌, ◌<◌, ◌≤◌, ◌++◌, List, [], length, take, true, false, Option, Some, None, Result, Ok, Err, ⊤}
+use Rattle.std.specs.Prelude.{◌≡◌, ◌≢◌, ℕ, ◌+◌, ◌-◌, ◌*◌, ◌<◌, ◌≤◌, ◌++◌, List, [], length, take, true, false, Option, Some, None, Result, Ok, Err, ⊤}
 use Rattle.std.specs.Option.{option_map, option_and_then}
 use Rattle.std.specs.List.{cons_option}
 use Rattle.art_cell.specs.Reads.{word_of}
@@ -72,6 +72,20 @@ most_steps (Releasing i) = 302 + i
 most_steps ReleasingNode = 305
 most_steps (GivingUp locked released e) = 4 + released
 most_steps (Ended r) = 306
+
+-- ---- how many words it has still to write
+
+-- of the new node and of the targets, once all cells are held
+abbrev pub words_left : Change → Making → ℕ
+words_left c (Filling place) = filled_end c - place + length c.puts.items
+words_left c (Writing j) = length c.puts.items - j
+words_left c stage = 0
+
+-- from one stage to another all of them are written, so many, and the commit is next; where there is none, nothing is done
+pub record WritesAll (c : Change) (m m' : Making) (n : ℕ) : Type 0 where
+  pub count : n ≡ words_left c m
+  pub some : 0 < n → m' ≡ Committing
+  pub none : n ≡ 0 → m' ≡ m
 
 -- ---- what it knows, of a pass that had the view u when the change was planned
 

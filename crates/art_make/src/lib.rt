@@ -57,6 +57,7 @@ mod asked;
 mod driver;
 mod making;
 mod packing;
+mod words;
 
 pub use asked::{Answer, Asked, make};
 pub use driver::make_change;

@@ -1,0 +1,18 @@
+-- So far the new node is filled.
+use Rattle.std.proofs.Common.{◌≡◌, ◌+◌, []}
+use Rattle.art_make.specs.Making.{Fits, IsLocking}
+use Rattle.art_make.specs.declared.making.Making.TheVariants.{Filling}
+use Rattle.art_plan.specs.Changes.{targets}
+use Rattle.art_step.specs.declared.views.Sizes.{Sizes}
+use Rattle.art_step.specs.declared.views.View.{View}
+use Rattle.art_make.proofs.words.fill.Given as goal
+
+abbrev pub invariant-loop-index : goal.invariant-loop-index
+invariant-loop-index g l = record {
+  only : g.S.Steps.only l.fn.steps l.steps;
+  sizes : g.S.Steps.sizes l.steps ≡ g.S.Steps.sizes l.fn.steps;
+  held : l.held ≡ l.initial.held;
+  made : (g.S.Steps.view l.steps).steps + l.fn.place ≡ (g.S.Steps.view l.fn.steps).steps + l.index;
+  filled : (z : Sizes) (u : View) → Fits z l.fn.change (Filling l.fn.place) u (g.S.Steps.view l.fn.steps) →
+      IsLocking u l.fn.change (targets l.fn.change) [] l.index (g.S.Steps.view l.steps);
+}

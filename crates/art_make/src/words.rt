@@ -1,0 +1,91 @@
+//! The words of a change: once its cells are held, all that are left are written in loops of their own.
+ghost use Rattle.std.specs.Prelude.{◌≡◌, ℕ, ◌+◌, ◌≤◌, [], take, length};
+ghost use Rattle.art_make.specs.Making.{Fits, IsLocking};
+ghost use Rattle.art_make.specs.declared.making.Making.TheVariants.{Filling as filling};
+ghost use Rattle.art_plan.specs.Changes.{IsPlanned, filled_end, targets};
+ghost use Rattle.art_step.specs.declared.views.Sizes.{Sizes};
+ghost use Rattle.art_step.specs.declared.views.View.{View};
+
+use crate::Making;
+use art_cell::Cell;
+use art_plan::Change;
+use art_step::{Held, Steps};
+
+impl Making {
+    ghost use Rattle.art_make.specs.Making.{WritesAll};
+
+    /// Writes all words that are left, where it stands among them, and says how many those were; elsewhere none.
+    #[inline(always)]
+    pub fn write_on<S: Steps>(&mut self, steps: &mut S, change: &Change) -> u32
+        requires fits { (u : View) × Fits (S.sizes steps.old) change.now self.old u (S.view steps.old) }
+        ensures only { S.only steps.old steps.new }
+        ensures written { WritesAll change.now self.old self.new result }
+        ensures made { (S.view steps.new).steps ≡ (S.view steps.old).steps + result }
+        ensures fits { (z : Sizes) (u : View) → Fits z change.now self.old u (S.view steps.old) →
+            Fits z change.now self.new u (S.view steps.new) }
+    {
+        match *self {
+            Making::Filling(place) => {
+                let filled = fill(steps, change, place);
+                let put = put_from(steps, change, 0);
+                *self = Making::Committing;
+                filled + put
+            }
+            Making::Writing(index) => {
+                let put = put_from(steps, change, index);
+                *self = Making::Committing;
+                put
+            }
+            _ => 0,
+        }
+    }
+}
+
+/// Writes the words of the new node from a place on, and says how many.
+fn fill<S: Steps>(steps: &mut S, change: &Change, place: usize) -> u32
+    requires fits { (u : View) × Fits (S.sizes steps.old) change.now (filling place) u (S.view steps.old) }
+    ensures only { S.only steps.old steps.new }
+    ensures count { result + place ≡ filled_end change.now }
+    ensures made { (S.view steps.new).steps ≡ (S.view steps.old).steps + result }
+    ensures filled { (z : Sizes) (u : View) → Fits z change.now (filling place) u (S.view steps.old) →
+        IsLocking u change.now (targets change.now) [] (filled_end change.now) (S.view steps.new) }
+{
+    let Some(node) = change.made() else {
+        unreachable!();
+    };
+    let size = node.layout.size();
+    let mut held = Held::of(Cell::Node(node));
+    for index in place..size {
+        steps.write(&mut held, index, change.word(index));
+    }
+    held.spend();
+    (size - place) as u32
+}
+
+/// Puts the words of the targets from an index on, and says how many.
+fn put_from<S: Steps>(steps: &mut S, change: &Change, from: usize) -> u32
+    requires planned { (u : View) × IsPlanned (S.sizes steps.old) u change.now × IsLocking u change.now (targets change.now)
+        (take from change.now.puts.items) (filled_end change.now) (S.view steps.old) }
+    requires few { length change.now.puts.items ≤ 32 }
+    requires within { from ≤ length change.now.puts.items }
+    ensures only { S.only steps.old steps.new }
+    ensures count { result + from ≡ length change.now.puts.items }
+    ensures made { (S.view steps.new).steps ≡ (S.view steps.old).steps + result }
+    ensures put { (z : Sizes) (u : View) → IsPlanned z u change.now → IsLocking u change.now (targets change.now)
+        (take from change.now.puts.items) (filled_end change.now) (S.view steps.old) →
+        IsLocking u change.now (targets change.now) change.now.puts.items (filled_end change.now) (S.view steps.new) }
+{
+    let count = change.puts.len();
+    for index in from..count {
+        let Some(put) = change.put(index) else {
+            unreachable!();
+        };
+        let Some(target) = change.target(put.target) else {
+            unreachable!();
+        };
+        let mut held = Held::of(target.stamp.cell);
+        steps.write(&mut held, put.place, put.value);
+        held.spend();
+    }
+    (count - from) as u32
+}
