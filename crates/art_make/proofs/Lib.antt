@@ -4,3 +4,4 @@ pub mod Holding
 pub mod Locking
 pub mod PackedLeaves
 pub mod Told
+pub mod Written

@@ -1,5 +1,5 @@
 -- What the making of a change knows between two of its steps.
-use Rattle.std.specs.Prelude.{◌≡◌, ◌≢◌, ℕ, ◌+◌, ◌-◌, ◌*◌, ◌<◌, ◌≤◌, ◌++◌, List, [], length, take, true, false, Option, Some, None, Result, Ok, Err, ⊤}
+use Rattle.std.specs.Prelude.{◌≡◌, ◌≢◌, ℕ, Bool, ◌+◌, ◌-◌, ◌*◌, ◌<◌, ◌≤◌, ◌++◌, List, [], length, take, true, false, Option, Some, None, Result, Ok, Err, ⊤}
 use Rattle.std.specs.Option.{option_map, option_and_then}
 use Rattle.std.specs.List.{cons_option}
 use Rattle.art_cell.specs.Reads.{word_of}
@@ -75,7 +75,13 @@ most_steps (Ended r) = 306
 
 -- ---- how many words it has still to write
 
--- of the new node and of the targets, once all cells are held
+-- all cells are held, and words are to be written
+abbrev pub is_writing : Making → Bool
+is_writing (Filling place) = true
+is_writing (Writing j) = true
+is_writing stage = false
+
+-- so many, of the new node and of the targets
 abbrev pub words_left : Change → Making → ℕ
 words_left c (Filling place) = filled_end c - place + length c.puts.items
 words_left c (Writing j) = length c.puts.items - j
@@ -86,6 +92,10 @@ pub record WritesAll (c : Change) (m m' : Making) (n : ℕ) : Type 0 where
   pub count : n ≡ words_left c m
   pub some : 0 < n → m' ≡ Committing
   pub none : n ≡ 0 → m' ≡ m
+
+-- so many words were written, and but for the steps and for what is held the pass is as it was
+abbrev pub OnlyWrites : View → View → ℕ → Type 0
+OnlyWrites v w n = w ≡ record v { steps = v.steps + n; held = w.held }
 
 -- ---- what it knows, of a pass that had the view u when the change was planned
 

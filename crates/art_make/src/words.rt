@@ -1,6 +1,6 @@
 //! The words of a change: once its cells are held, all that are left are written in loops of their own.
 ghost use Rattle.std.specs.Prelude.{◌≡◌, ℕ, ◌+◌, ◌≤◌, [], take, length};
-ghost use Rattle.art_make.specs.Making.{Fits, IsLocking};
+ghost use Rattle.art_make.specs.Making.{Fits, IsLocking, OnlyWrites};
 ghost use Rattle.art_make.specs.declared.making.Making.TheVariants.{Filling as filling};
 ghost use Rattle.art_plan.specs.Changes.{IsPlanned, filled_end, targets};
 ghost use Rattle.art_step.specs.declared.views.Sizes.{Sizes};
@@ -12,7 +12,15 @@ use art_plan::Change;
 use art_step::{Held, Steps};
 
 impl Making {
-    ghost use Rattle.art_make.specs.Making.{WritesAll};
+    ghost use Rattle.art_make.specs.Making.{WritesAll, is_writing};
+
+    /// Whether words are to be written.
+    #[inline(always)]
+    pub fn is_writing(&self) -> bool
+        ensures { result ≡ is_writing self.now }
+    {
+        matches!(self, Making::Filling(_) | Making::Writing(_))
+    }
 
     /// Writes all words that are left, where it stands among them, and says how many those were; elsewhere none.
     #[inline(always)]
@@ -20,7 +28,7 @@ impl Making {
         requires fits { (u : View) × Fits (S.sizes steps.old) change.now self.old u (S.view steps.old) }
         ensures only { S.only steps.old steps.new }
         ensures written { WritesAll change.now self.old self.new result }
-        ensures made { (S.view steps.new).steps ≡ (S.view steps.old).steps + result }
+        ensures made { OnlyWrites (S.view steps.old) (S.view steps.new) result }
         ensures fits { (z : Sizes) (u : View) → Fits z change.now self.old u (S.view steps.old) →
             Fits z change.now self.new u (S.view steps.new) }
     {
@@ -46,7 +54,7 @@ fn fill<S: Steps>(steps: &mut S, change: &Change, place: usize) -> u32
     requires fits { (u : View) × Fits (S.sizes steps.old) change.now (filling place) u (S.view steps.old) }
     ensures only { S.only steps.old steps.new }
     ensures count { result + place ≡ filled_end change.now }
-    ensures made { (S.view steps.new).steps ≡ (S.view steps.old).steps + result }
+    ensures made { OnlyWrites (S.view steps.old) (S.view steps.new) result }
     ensures filled { (z : Sizes) (u : View) → Fits z change.now (filling place) u (S.view steps.old) →
         IsLocking u change.now (targets change.now) [] (filled_end change.now) (S.view steps.new) }
 {
@@ -70,7 +78,7 @@ fn put_from<S: Steps>(steps: &mut S, change: &Change, from: usize) -> u32
     requires within { from ≤ length change.now.puts.items }
     ensures only { S.only steps.old steps.new }
     ensures count { result + from ≡ length change.now.puts.items }
-    ensures made { (S.view steps.new).steps ≡ (S.view steps.old).steps + result }
+    ensures made { OnlyWrites (S.view steps.old) (S.view steps.new) result }
     ensures put { (z : Sizes) (u : View) → IsPlanned z u change.now → IsLocking u change.now (targets change.now)
         (take from change.now.puts.items) (filled_end change.now) (S.view steps.old) →
         IsLocking u change.now (targets change.now) change.now.puts.items (filled_end change.now) (S.view steps.new) }

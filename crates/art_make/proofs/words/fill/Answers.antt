@@ -1,5 +1,5 @@
 -- Each word may be written, and then one more is.
-use Rattle.std.proofs.Common.{◌≡◌, ℕ, ◌+◌, ◌<◌, [], sym, ap, ◌∙◌, subst, arith}
+use Rattle.std.proofs.Common.{◌≡◌, ℕ, ◌+◌, ◌-◌, ◌<◌, [], sym, ap, ◌∙◌, subst, arith}
 use Rattle.std.specs.Prelude.{Some}
 use Rattle.art_cell.specs.Reads.{word_of}
 use Rattle.art_cell.specs.Words.{size}
@@ -8,6 +8,7 @@ use Rattle.art_cell.specs.declared.cells.Cell.TheVariants as cell
 use Rattle.art_cell.specs.declared.cells.Node.{Node}
 use Rattle.art_make.proofs.Allowed.{may_fill}
 use Rattle.art_make.proofs.Locking.{fill_on}
+use Rattle.art_make.proofs.Written.{more_writes, one_write}
 use Rattle.art_make.specs.Asking.{MayWrite}
 use Rattle.art_make.specs.Making.{IsLocking}
 use Rattle.art_plan.specs.Changes.{filled_at, filled_end, node_made, targets}
@@ -63,13 +64,12 @@ loop-index-preserved g c =
     let row : (h : Holding) → IsHolding v (cell.Node n) h → write.Outcome v w h at (word_of ch.body at) = λ h k.
     subst (λ (x : ℕ). write.Outcome v w h at x) c.word.ensures (c.write.ensures.row h (subst (λ (d : Cell). IsHolding v d h) (sym held) k)) in
     let m = may_fill (g.S.Steps.sizes s) q.0 ch q.1.planned at n v made some low (i.filled (g.S.Steps.sizes s) q.0 q.1) in
-    let one = ap (λ (x : _). x.steps) (row m.holding (m.may.held, m.cell)).is in
-    let before = i.made in
+    let one = one_write v w m.holding at (word_of ch.body at) (row m.holding (m.may.held, m.cell)) in
     record {
       only = g.met.S.Steps.only_then s t c.write.new.self i.only c.write.ensures.only;
       sizes = g.met.S.Steps.only_sizes t c.write.new.self c.write.ensures.only ∙ i.sizes;
       held = c.write.ensures.same ∙ i.held;
-      made = omega (arith, one, before);
+      made = more_writes (g.S.Steps.view s) v w (at - c.args.place) 1 (at + 1 - c.args.place) i.made one (omega (arith, above));
       filled = λ z u fits. fill_on z u ch fits.planned at n v w made some low (i.filled z u fits) row;
     }
 

@@ -1,11 +1,12 @@
 -- Each word may be put, and then one more is.
-use Rattle.std.proofs.Common.{◌≡◌, ℕ, ◌+◌, ◌≤◌, List, take, length, sym, ap, ◌∙◌, subst, arith}
+use Rattle.std.proofs.Common.{◌≡◌, ℕ, ◌+◌, ◌-◌, ◌≤◌, List, take, length, sym, ap, ◌∙◌, subst, arith}
 use Rattle.std.proofs.lemmas.List.{take_all}
 use Rattle.std.specs.Prelude.{Some}
 use Rattle.art_cell.specs.declared.cells.Cell.{Cell}
 use Rattle.art_make.proofs.Allowed.{may_write}
 use Rattle.art_make.proofs.Locking.{write_on}
 use Rattle.art_make.proofs.Told.{put_target}
+use Rattle.art_make.proofs.Written.{more_writes, one_write}
 use Rattle.art_make.specs.Making.{IsLocking}
 use Rattle.art_plan.specs.Changes.{filled_end, put_at, target_at, targets}
 use Rattle.art_plan.specs.declared.changes.Put.{Put}
@@ -61,12 +62,12 @@ loop-index-preserved g c =
     let row : (h : Holding) → IsHolding v x.stamp.cell h → write.Outcome v w h p.place p.value = λ h k.
     c.write.ensures.row h (subst (λ (d : Cell). IsHolding v d h) (sym c.of-held.ensures) k) in
     let m = may_write z q.0 ch q.1 j (filled_end ch) p x v at is (i.put z q.0 q.1 q.2) in
-    let one = ap (λ (y : _). y.steps) (row m.holding (m.may.held, m.cell)).is in
-    let before = i.made in
+    let one = one_write v w m.holding p.place p.value (row m.holding (m.may.held, m.cell)) in
+    let above = c.loop-index.auto.index in
     record {
       only = g.met.S.Steps.only_then s t c.write.new.self i.only c.write.ensures.only;
       sizes = g.met.S.Steps.only_sizes t c.write.new.self c.write.ensures.only ∙ i.sizes;
-      made = omega (arith, one, before);
+      made = more_writes (g.S.Steps.view s) v w (j - c.args.from) 1 (j + 1 - c.args.from) i.made one (omega (arith, above));
       put = λ y u planned was. write_on y u ch planned j (filled_end ch) p x v w at is (i.put y u planned was) row;
     }
 

@@ -2,6 +2,7 @@
 use Rattle.std.proofs.Common.{◌≡◌, ℕ, ◌+◌, ◌-◌, ◌≤◌, ◌<◌, length, refl, sym, ap, ◌∙◌, subst, arith}
 use Rattle.std.proofs.lemmas.Option.{slice_get_within}
 use Rattle.art_make.proofs.Told.{few_filled}
+use Rattle.art_make.proofs.Written.{writes_steps}
 use Rattle.art_make.specs.Making.{Fits, words_left}
 use Rattle.art_make.specs.declared.making.Making.{Making}
 use Rattle.art_make.specs.declared.making.Making.TheVariants.{Filling, Writing}
@@ -35,6 +36,7 @@ returns-in-Filling-clause-fits g c z u fits =
     let v = g.S.Steps.view c.args.steps.now in
     let ch = c.args.change.now in
     let now : Fits z ch (Filling c.in-Filling.place) u v = subst (λ (m : Making). Fits z ch m u v) c.in-Filling.is fits in
+    let mid = g.S.Steps.view c.fill-filled.new.steps in
     let filled = c.fill-filled.ensures in
     let put = c.put_from-put.ensures in
     record {
@@ -47,8 +49,8 @@ returns-in-Filling-clause-fits g c z u fits =
           let before = now.steps in
           let count = filled.count in
           let more = put.count in
-          let made = filled.made in
-          let then = put.made in
+          let made = writes_steps v mid c.fill-filled.result filled.made in
+          let then = writes_steps mid (g.S.Steps.view c.put_from-put.new.steps) c.put_from-put.result put.made in
           omega (arith, few, words, before, count, more, made, then);
     }
 
@@ -81,6 +83,6 @@ returns-in-Writing-clause-fits g c z u fits =
           let words = now.small.puts in
           let before = now.steps in
           let more = put.count in
-          let made = put.made in
+          let made = writes_steps v (g.S.Steps.view c.put_from-put-in-Writing.new.steps) c.put_from-put-in-Writing.result put.made in
           omega (arith, words, before, more, made);
     }
