@@ -34,6 +34,8 @@
 //!
 //! `Making` is the machine that makes them: a value of scalars with `next` and `told`, as that of `art_find`. The change stands
 //! beside it and stays as it is. `make` makes the step that it asks for, and `make_change` runs it to its end.
+//! Where words are next (`is_writing`), `write_on` writes all that are left. The words of a new node, of which there may be 265,
+//! are written in a loop of their own.
 //!
 //! # Where it fails
 //!

@@ -1,4 +1,5 @@
-//! The words of a change: once its cells are held, all that are left are written in loops of their own.
+//! The words of a change: once its cells are held, those of a new node are written in a loop of their own, and so are those
+//! that are put into the targets.
 ghost use Rattle.std.specs.Prelude.{◌≡◌, ℕ, ◌+◌, ◌≤◌, [], take, length};
 ghost use Rattle.art_make.specs.Making.{Fits, IsLocking, OnlyWrites};
 ghost use Rattle.art_make.specs.declared.making.Making.TheVariants.{Filling as filling};
@@ -23,7 +24,6 @@ impl Making {
     }
 
     /// Writes all words that are left, where it stands among them, and says how many those were; elsewhere none.
-    #[inline(always)]
     pub fn write_on<S: Steps>(&mut self, steps: &mut S, change: &Change) -> u32
         requires fits { (u : View) × Fits (S.sizes steps.old) change.now self.old u (S.view steps.old) }
         ensures only { S.only steps.old steps.new }
@@ -74,7 +74,6 @@ fn fill<S: Steps>(steps: &mut S, change: &Change, place: usize) -> u32
 fn put_from<S: Steps>(steps: &mut S, change: &Change, from: usize) -> u32
     requires planned { (u : View) × IsPlanned (S.sizes steps.old) u change.now × IsLocking u change.now (targets change.now)
         (take from change.now.puts.items) (filled_end change.now) (S.view steps.old) }
-    requires few { length change.now.puts.items ≤ 32 }
     requires within { from ≤ length change.now.puts.items }
     ensures only { S.only steps.old steps.new }
     ensures count { result + from ≡ length change.now.puts.items }

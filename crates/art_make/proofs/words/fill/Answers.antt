@@ -5,11 +5,9 @@ use Rattle.art_cell.specs.Reads.{word_of}
 use Rattle.art_cell.specs.Words.{size}
 use Rattle.art_cell.specs.declared.cells.Cell.{Cell}
 use Rattle.art_cell.specs.declared.cells.Cell.TheVariants as cell
-use Rattle.art_cell.specs.declared.cells.Node.{Node}
 use Rattle.art_make.proofs.Allowed.{may_fill}
 use Rattle.art_make.proofs.Locking.{fill_on}
 use Rattle.art_make.proofs.Written.{more_writes, one_write}
-use Rattle.art_make.specs.Asking.{MayWrite}
 use Rattle.art_make.specs.Making.{IsLocking}
 use Rattle.art_plan.specs.Changes.{filled_at, filled_end, node_made, targets}
 use Rattle.art_step.specs.Steps.Write as write
