@@ -8,3 +8,4 @@ pub mod Overlaps
 pub mod Spent
 pub mod Steps
 pub mod Tries
+pub mod Written

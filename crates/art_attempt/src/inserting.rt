@@ -413,6 +413,11 @@ impl Inserting {
                 Stage::Making => {}
                 _ => return,
             }
+            if self.making.is_writing() {
+                let written = self.making.write_on(steps, &room.change);
+                *left = left.saturating_sub(written);
+                continue;
+            }
             let Some(asked) = self.making.next(&room.change) else {
                 return;
             };

@@ -1,5 +1,5 @@
 -- The steps are those of the finding.
-use Rattle.std.proofs.Common.{◌≡◌, ◌∙◌, ℕ, Some, None, ap, refl, sym, subst, arith}
+use Rattle.std.proofs.Common.{◌≡◌, ◌∙◌, Some, None, ap, sym, subst, arith}
 use Rattle.std.specs.Prelude.{⊤}
 use Rattle.art_place.proofs.Looks.{looked}
 use Rattle.art_attempt.specs.Inserting.{Fits, IsFinding, StageFits, asks_place, deed_at, finding_asks}

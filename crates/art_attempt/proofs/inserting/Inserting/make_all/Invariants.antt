@@ -1,5 +1,5 @@
 -- So far the change is made.
-use Rattle.std.proofs.Common.{◌≡◌, ◌≢◌, ◌+◌, ◌-◌, ◌<◌, ◌≤◌, ℕ, true, Some, None}
+use Rattle.std.proofs.Common.{◌≡◌, ◌≢◌, ◌+◌, ◌<◌, ◌≤◌, true, Some, None}
 use Rattle.art_attempt.specs.Inserting.{Fits, ended_at, is_free, steps_left}
 use Rattle.art_attempt.specs.Rooms.{SameRow}
 use Rattle.art_attempt.specs.declared.inserting.Entered.TheVariants.{Overlaps}

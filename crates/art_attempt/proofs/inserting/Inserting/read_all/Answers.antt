@@ -1,5 +1,5 @@
 -- The reads are those of the vouching.
-use Rattle.std.proofs.Common.{◌≡◌, ◌∙◌, ◌+◌, ◌≤◌, ℕ, refl, sym, subst, arith}
+use Rattle.std.proofs.Common.{◌≡◌, sym, subst, arith}
 use Rattle.art_attempt.proofs.Looks.{no_fewer}
 use Rattle.art_attempt.specs.Inserting.{Fits, HasVouched, StageFits}
 use Rattle.art_attempt.specs.Trying.{IsLater}

@@ -1,5 +1,5 @@
 -- The steps are those of the supplying.
-use Rattle.std.proofs.Common.{◌≡◌, ◌∙◌, ◌≤◌, ℕ, List, length, refl, sym, ap, subst, arith}
+use Rattle.std.proofs.Common.{◌≡◌, ◌∙◌, ℕ, List, sym, subst, arith}
 use Rattle.art_attempt.proofs.Counts.{supply_few, supply_one}
 use Rattle.art_attempt.specs.Inserting.{Fits, HasSupplies, StageFits}
 use Rattle.art_attempt.specs.Rooms.{wants_of}

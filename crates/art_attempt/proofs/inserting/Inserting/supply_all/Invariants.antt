@@ -1,5 +1,5 @@
 -- So far numbers come in.
-use Rattle.std.proofs.Common.{◌≡◌, ◌≢◌, ◌+◌, ◌<◌, ◌≤◌, ℕ, true, Some}
+use Rattle.std.proofs.Common.{◌≡◌, ◌≢◌, ◌+◌, ◌<◌, ◌≤◌, true, Some}
 use Rattle.art_attempt.specs.Inserting.{Fits, ended_at, is_free}
 use Rattle.art_attempt.specs.Rooms.{SameRow}
 use Rattle.art_attempt.specs.declared.inserting.Entered.TheVariants.{Overlaps}

@@ -1,5 +1,5 @@
 -- The steps are those of the vouching.
-use Rattle.std.proofs.Common.{◌≡◌, ◌∙◌, ℕ, refl, sym, subst, arith}
+use Rattle.std.proofs.Common.{◌≡◌, ◌∙◌, sym, subst, arith}
 use Rattle.std.specs.Prelude.{⊤}
 use Rattle.art_attempt.specs.Inserting.{Fits, HasVouched, StageFits, deed_at}
 use Rattle.art_attempt.specs.Rooms.{both_of}
