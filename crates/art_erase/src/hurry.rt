@@ -209,6 +209,11 @@ impl Erasing {
                 Stage::Making => {}
                 _ => return,
             }
+            if self.making.is_writing() {
+                let written = self.making.write_on(steps, &room.change);
+                *left = left.saturating_sub(written);
+                continue;
+            }
             let Some(asked) = self.making.next(&room.change) else {
                 return;
             };

@@ -1,13 +1,16 @@
 -- The steps are those of the making.
-use Rattle.std.proofs.Common.{◌≡◌, ◌∙◌, ◌-◌, ◌<◌, ℕ, List, sym, ap, subst, true, arith}
+use Rattle.std.proofs.Common.{◌≡◌, ◌∙◌, ◌+◌, ◌-◌, ◌<◌, ◌≤◌, ℕ, List, sym, ap, subst, true, arith}
 use Rattle.art_attempt.specs.Inserting.{is_begun, making_left}
 use Rattle.art_erase.proofs.Stages.{has_made, kept_on}
-use Rattle.art_erase.specs.Erasing.{Fits, erased_at, free_at, left_at, steps_left}
+use Rattle.art_erase.specs.Erasing.{Fits, StageFits, erased_at, free_at, left_at, steps_left}
 use Rattle.art_erase.specs.declared.erasing.Erasing.{Erasing}
 use Rattle.art_erase.specs.declared.erasing.Stage.{Stage}
 use Rattle.art_erase.specs.declared.erasing.Stage.TheVariants.{Making}
 use Rattle.art_attempt.proofs.Counts.{change_counts}
+use Rattle.art_attempt.proofs.Written.{some_written, then_commits, writes_later, written_less}
 use Rattle.art_make.proofs.Told.{allowed, counts}
+use Rattle.art_make.proofs.Written.{writes_steps}
+use Rattle.art_make.specs.Making.{ended_at as made_at}
 use Rattle.art_make.specs.Asking.{IsAllowed}
 use Rattle.art_step.specs.Deeds.{IsAdmitted}
 use Rattle.art_step.specs.declared.deeds.Deed.{Deed}
@@ -73,7 +76,7 @@ loop-self-preserved g c =
     let begun : is_begun m.making ≡ true → 0 < left = λ b. i.turn (subst (λ (q : Stage). free_at q m.making ≡ true) (sym c.in-Making.is) b) (ap erased_at c.in-Making.is) in
     let less = c.make_told.ensures.left left begun in
     let here = making_here m left c.in-Making.is in
-    let taken = c.saturating_sub.ensures in
+    let taken = c.saturating_sub-in-loop-self.ensures in
     let count = c.steps_of.ensures in
     let less-now : steps_left _ c.make_told.new.self < making_left left m.making = subst (λ (n : ℕ). steps_left n c.make_told.new.self < making_left left m.making) (sym (taken ∙ ap (λ (n : ℕ). left - n) count)) less in
     let later = i.later in
@@ -89,4 +92,84 @@ loop-self-preserved g c =
       most = omega (arith, less-now, few, most, here);
       here = (i.here.0, on i.here.0 i.here.1);
       fits = λ u fits. on u (i.fits u fits);
+    }
+
+-- ---- the words that are left are written
+
+pub loop-self-smaller-then-is_writing : goal.loop-self-smaller-then-is_writing
+loop-self-smaller-then-is_writing g c =
+    let i = c.loop-self.invariant in
+    let m = c.loop-self.self in
+    let r = c.loop-self.room in
+    let left = c.loop-self.left in
+    let z = g.S.Steps.sizes c.args.steps.now in
+    let v = g.S.Steps.view c.loop-self.steps in
+    let n = c.write_on-written.result in
+    let m' = c.write_on-written.new.self in
+    let on = sym c.is_writing.ensures ∙ c.if-is_writing.true in
+    let h = has_made z i.here.0 m r v c.in-Making.is i.here.1 in
+    let some = some_written z h.early v r.change m.making m' n h.fits on c.write_on-written.ensures.written in
+    let less = written_less z h.early v r.change m.making m' n h.fits on c.write_on-written.ensures.written left in
+    let was = making_here m left c.in-Making.is in
+    let now = making_here (record m { making = m' }) c.saturating_sub.result c.in-Making.is ∙ ap (λ (x : ℕ). making_left x m') c.saturating_sub.ensures in
+    let fewer : steps_left c.saturating_sub.result (record m { making = m' }) < steps_left left m = omega (arith, some, less, was, now) in
+    fewer
+
+pub loop-self-preserved-then-is_writing : goal.loop-self-preserved-then-is_writing
+loop-self-preserved-then-is_writing g c =
+    let s = c.args.steps.now in
+    let t = c.loop-self.steps in
+    let t' = c.write_on-written.new.steps in
+    let z = g.S.Steps.sizes s in
+    let v = g.S.Steps.view t in
+    let w = g.S.Steps.view t' in
+    let i = c.loop-self.invariant in
+    let m = c.loop-self.self in
+    let r = c.loop-self.room in
+    let left = c.loop-self.left in
+    let n = c.write_on-written.result in
+    let m' = c.write_on-written.new.self in
+    let next : Erasing = record m { making = m' } in
+    let k = c.write_on-written.ensures in
+    let on = sym c.is_writing.ensures ∙ c.if-is_writing.true in
+    let h = has_made z i.here.0 m r v c.in-Making.is i.here.1 in
+    let commits = then_commits z h.early v r.change m.making m' n h.fits on k.written in
+    let less = written_less z h.early v r.change m.making m' n h.fits on k.written left in
+    let steps = writes_steps v w n k.made in
+    let taken = c.saturating_sub.ensures in
+    let was = making_here m left c.in-Making.is in
+    let now = making_here next c.saturating_sub.result c.in-Making.is ∙ ap (λ (x : ℕ). making_left x m') taken in
+    let later = i.later in
+    let counted = i.counted in
+    let most = i.most in
+    let fewer : w.steps + steps_left c.saturating_sub.result next ≤ (g.S.Steps.view s).steps + steps_left c.args.left.now c.args.self.now = omega (arith, less, steps, was, now, most) in
+    let fit : (u : View) → Fits z u m r v → Fits z u next r w = λ u fits.
+    let h = has_made z u m r v c.in-Making.is fits in
+    record {
+      room = record { sizes = fits.room.sizes; key = fits.room.key };
+      stage = subst (λ (q : Stage). StageFits z u q next r w) (sym c.in-Making.is) (
+        record {
+          early = h.early;
+          base = h.base;
+          later = writes_later h.early v w n h.later k.made;
+          spent = h.spent;
+          locks = record { only = h.locks.only; each = h.locks.each };
+          has = h.has;
+          leaf = h.leaf;
+          deed = h.deed;
+          fits = k.fits z h.early h.fits;
+        },
+        ap made_at commits,
+      );
+    } in
+    record {
+      only = g.met.S.Steps.only_then s t t' i.only k.only;
+      sizes = g.met.S.Steps.only_sizes t t' k.only ∙ i.sizes;
+      kept = record { key = i.kept.key; row = i.kept.row; sizes = i.kept.sizes };
+      turn = λ free none. let begun : is_begun m' ≡ true = subst (λ (q : Stage). free_at q m' ≡ true) c.in-Making.is free in let not = ap is_begun commits in absurd (cc);
+      later = omega (arith, later, steps);
+      counted = omega (arith, counted, steps, taken);
+      most = fewer;
+      here = (i.here.0, fit i.here.0 i.here.1);
+      fits = λ u fits. fit u (i.fits u fits);
     }
