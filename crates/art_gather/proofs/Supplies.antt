@@ -223,6 +223,11 @@ module _ (z : Sizes) (k : List ℕ) (value : ℕ) (s : Stock) (v w : View) (l : 
 packed_none : (z : Sizes) (w : View) (l : ℕ) (k : List ℕ) (value place : ℕ) → IsPacked z w l k value place → IsPacked z w l k value 0
 packed_none z w l k value place p = record { is = p.is; words = λ i low. absurd (omega arith) }
 
+-- its next word is asked for
+pub asks_word : (k : List ℕ) (value : ℕ) (s : Stock) (p : Packing) (l : ℕ) (x : LeafWrite) → s.leaf ≡ Some l → word_asked k value p.place ≡ Some x
+    → option_and_then (leaf_asked k value p) s.leaf ≡ Some (leaf_written l x)
+asks_word k value s p l x at is = ap (option_and_then (leaf_asked k value p)) at ∙ ap (option_map (leaf_write l)) is
+
 -- a word of it was written
 module _ (z : Sizes) (wants : Wants) (k : List ℕ) (value : ℕ) (s : Stock) (u : View) (p : Packing) (v w : View) (f : Fits z wants k value (stage.Packing p) s u v) where
   abbrev packing : IsPacking z k value s u p v
@@ -234,9 +239,11 @@ module _ (z : Sizes) (wants : Wants) (k : List ℕ) (value : ℕ) (s : Stock) (u
   pub asks_next : word_asked k value p.place ≡ Some next_word
   asks_next = rw (lt-ltb p.place 10 packing.more) refl
 
+  pub next_place : (x : LeafWrite) → word_asked k value p.place ≡ Some x → p.place ≡ x.place
+  next_place x is = ap (λ (y : LeafWrite). y.place) (same_Some {A = LeafWrite} next_word x (sym asks_next ∙ is))
+
   asked_word : (asked : Asked) → option_and_then (leaf_asked k value p) s.leaf ≡ Some asked → leaf_written packing.leaf next_word ≡ asked
-  asked_word asked is = same_Some {A = Asked} (leaf_written packing.leaf next_word) asked
-      (sym (ap (option_and_then (leaf_asked k value p)) packing.is ∙ ap (option_map (leaf_write packing.leaf)) asks_next) ∙ is)
+  asked_word asked is = same_Some {A = Asked} (leaf_written packing.leaf next_word) asked (sym (asks_word k value s p packing.leaf next_word packing.is asks_next) ∙ is)
 
   module _ (asked : Asked) (word : ℕ) (is : option_and_then (leaf_asked k value p) s.leaf ≡ Some asked) (row : Answers z asked word v w) where
     pub wrote_word : (y : InHand) → IsInHand v (leaf packing.leaf) y → write.LeafOutcome v w y p.place (leaf_word k value p.place)
@@ -244,6 +251,9 @@ module _ (z : Sizes) (wants : Wants) (k : List ℕ) (value : ℕ) (s : Stock) (u
 
     wrote : write.LeafOutcome v w packing.packs.packed.is.hand p.place (leaf_word k value p.place)
     wrote = wrote_word packing.packs.packed.is.hand packing.packs.packed.is.has
+
+    pub one_written : w.steps ≡ v.steps + 1
+    one_written = ap (λ (t : View). t.steps) wrote.is
 
     only_written : OnlyTakes u w
     only_written = takes_then u v w f.only.only (subst (OnlyTakes v) (sym wrote.is) refl)
@@ -280,6 +290,28 @@ module _ (z : Sizes) (wants : Wants) (k : List ℕ) (value : ℕ) (s : Stock) (u
         failures = failures_written;
         has = subst (λ (b : Bool). HasStock z k value w (record s { written = b })) (sym packing.blank)
             (stock_packed z k value s packing.early w packing.leaf packing.is packing.base.has packs.only false (packed_none z w packing.leaf k value p'.place packs.packed));
+      }
+
+      -- so the machine goes on
+      pub packed_next : p'.place ≢ 10 → Fits z wants k value (stage.Packing p') s u w
+      packed_next other = record {
+        sizes = f.sizes;
+        only = packed_on;
+        few = packed_few.steps;
+        counted = packed_few.counted;
+        stage = (
+          f.stage.0,
+          record {
+            early = packing.early;
+            base = packing.base;
+            soon = packing.soon;
+            leaf = packing.leaf;
+            is = packing.is;
+            blank = packing.blank;
+            packs = packs;
+            more = let low = packs.low in omega (arith, low, other);
+          },
+        );
       }
 
       -- all are

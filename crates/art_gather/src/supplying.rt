@@ -1,5 +1,5 @@
 //! Numbers come into the hand, and the leaf gets its words.
-ghost use Rattle.std.specs.Prelude.{◌≡◌, ℕ, ◌+◌, ◌≤◌, List, length, Some, None, true};
+ghost use Rattle.std.specs.Prelude.{◌≡◌, ℕ, ◌+◌, ◌<◌, ◌≤◌, List, length, Some, None, true};
 ghost use Rattle.art_cell.specs.Children.{number_of};
 ghost use Rattle.art_cell.specs.declared.layouts.Pool.TheVariants.{Leaves as leaves};
 ghost use Rattle.art_epoch.specs.Taking.{Fits as TakingFits};
@@ -18,8 +18,11 @@ use crate::Asked;
 use art_cell::{Layout, Link, Node, Pool};
 use art_epoch::Taking;
 use art_frame::Stock;
-use art_make::Packing;
-use art_step::{Sizes, pool_of_layout, spent};
+use art_make::{Packing, write_leaf};
+use art_step::{EpochSteps, Sizes, pool_of_layout, spent};
+
+/// The place of the last word of a leaf.
+const LAST_WORD: usize = 9;
 
 /// What a change wants to have in hand.
 #[derive(Clone, Copy)]
@@ -111,6 +114,47 @@ impl Supplying {
             Supplying::Node(taking) => node_told(wants, stock, taking, word),
             Supplying::Ended(supplied) => Supplying::Ended(supplied),
         };
+    }
+
+    /// Writes words of the leaf, as long as more than one is to be written and more than one turn is left.
+    #[inline(always)]
+    pub fn pack_on<S: EpochSteps>(
+        &mut self,
+        steps: &mut S,
+        key: &[u8],
+        value: u64,
+        stock: &Stock,
+        left: &mut u32,
+    )
+        requires few { length key.now ≤ 64 }
+        requires some { 0 < left.old }
+        requires fits { (wants : WantsOf) × (u : View) ×
+            Fits (S.sizes steps.old) wants key.now value self.old stock.now u (S.view steps.old) }
+        ensures only { S.only steps.old steps.new }
+        ensures some { 0 < left.new }
+        ensures less { left.new ≤ left.old }
+        ensures made { (S.view steps.new).steps + left.new ≡ (S.view steps.old).steps + left.old }
+        ensures going { ended_at self.new ≡ ended_at self.old }
+        ensures fits { (wants : WantsOf) (u : View) →
+            Fits (S.sizes steps.old) wants key.now value self.old stock.now u (S.view steps.old) →
+            Fits (S.sizes steps.old) wants key.now value self.new stock.now u (S.view steps.new) }
+    {
+        let Supplying::Packing(mut packing) = *self else {
+            return;
+        };
+        let Some(leaf) = stock.leaf() else {
+            unreachable!();
+        };
+        while *left > 1 {
+            match packing.next(key, value) {
+                // what follows the last word is left to the machine
+                Some(put) if put.place < LAST_WORD => write_leaf(steps, leaf, put),
+                _ => break,
+            }
+            packing.told();
+            *left -= 1;
+        }
+        *self = Supplying::Packing(packing);
     }
 
     /// How it ended, if it has.

@@ -1,10 +1,10 @@
-use Rattle.std.proofs.Common.{◌∙◌, subst, sym, arith}
+use Rattle.std.proofs.Common.{◌∙◌, subst, sym}
 use Rattle.std.proofs.lemmas.Bool.{eqb-false, eqb-true}
 use Rattle.art_frame.specs.Stocks.{HasStock}
 use Rattle.art_frame.specs.declared.stocks.Stock.{Stock}
-use Rattle.art_gather.proofs.Supplies.{asks_next, leaf_words, packed_all, packed_few, packed_on, packed_soon, wrote_word}
+use Rattle.art_gather.proofs.Supplies.{asks_next, leaf_words, packed_all, packed_next, packed_soon, wrote_word}
 use Rattle.art_gather.proofs.supplying.leaf_packed.Goals as goal
-use Rattle.art_gather.specs.Supplying.{HasLeafWords, IsPacking, OnlySupplies}
+use Rattle.art_gather.specs.Supplying.{HasLeafWords, OnlySupplies}
 
 pub node_wanted-requires : goal.node_wanted-requires
 node_wanted-requires c =
@@ -41,21 +41,4 @@ returns-clause-fits c z k value u v w asked word fits is row =
     let q = fits.stage.1 in
     let packs = c.told.ensures.fits z q.leaf k value q.early v w _ q.packs (asks_next z wants k value s u p v w fits) (wrote_word z wants k value s u p v w fits asked word is row) in
     let other = eqb-false c.told.new.self.place 10 (sym c.is_over.ensures ∙ c.if-is_over.false) in
-    let next : IsPacking z k value s u c.told.new.self w = record {
-      early = q.early;
-      base = q.base;
-      soon = q.soon;
-      leaf = q.leaf;
-      is = q.is;
-      blank = q.blank;
-      packs = packs;
-      more = let low = packs.low in omega (arith, low, other);
-    } in
-    let soon = packed_few z wants k value s u p v w fits asked word is row c.told.new.self packs in
-    record {
-      sizes = fits.sizes;
-      only = packed_on z wants k value s u p v w fits asked word is row c.told.new.self packs;
-      few = soon.steps;
-      counted = soon.counted;
-      stage = (fits.stage.0, next);
-    }
+    packed_next z wants k value s u p v w fits asked word is row c.told.new.self packs other
