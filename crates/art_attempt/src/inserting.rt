@@ -305,6 +305,26 @@ impl Inserting {
         }
     }
 
+    /// Writes words of the leaf that comes, as long as more than one is to be written and more than one turn is left.
+    #[inline(always)]
+    fn pack_all<S: EpochSteps>(&mut self, steps: &mut S, room: &Room, left: &mut u32)
+        requires stage { self.old.stage ≡ stages.Supplying }
+        requires short { length room.now.row.key.items ≤ 64 }
+        requires turn { 0 < left.old }
+        requires fits { (u : View) × Fits (S.sizes steps.old) u self.old room.now (S.view steps.old) }
+        ensures only { S.only steps.old steps.new }
+        ensures stage { self.new.stage ≡ stages.Supplying }
+        ensures turn { 0 < left.new }
+        ensures less { left.new ≤ left.old }
+        ensures made { (S.view steps.new).steps + left.new ≡ (S.view steps.old).steps + left.old }
+        ensures fits { (u : View) → Fits (S.sizes steps.old) u self.old room.now (S.view steps.old) →
+            Fits (S.sizes steps.old) u self.new room.now (S.view steps.new) }
+    {
+        let key = room.row.key.as_slice();
+        self.supplying
+            .pack_on(steps, key, room.row.value, &room.stock, left);
+    }
+
     /// Makes steps until all is in hand, or a pool gave no number, as long as more than one turn is left.
     fn supply_all<S: EpochSteps>(&mut self, steps: &mut S, room: &mut Room, left: &mut u32)
         requires stage { self.old.stage ≡ stages.Supplying }
@@ -325,6 +345,10 @@ impl Inserting {
             match self.stage {
                 Stage::Supplying => {}
                 _ => return,
+            }
+            self.pack_all(steps, room, left);
+            if *left == 1 {
+                return;
             }
             let key = room.row.key.as_slice();
             let Some(asked) = self.supplying.next(key, room.row.value, &room.stock) else {

@@ -17,61 +17,91 @@ use Rattle.art_attempt.proofs.inserting.Inserting.supply_all.Goals as goal
 has_supplies : (z : Sizes) (u : View) (m : Inserting) (r : Room) (v : View) → m.stage ≡ Supplying → Fits z u m r v → HasSupplies z u m r v
 has_supplies z u m r v is fits = (subst (λ (s : Stage). StageFits z u s m r v) is fits.stage).0
 
+-- words of the leaf were written before, whose carrier has the same sizes
+keeps : (y z : Sizes) (m m' : Inserting) (r : Room) (v w : View) → y ≡ z → ((u : View) → Fits y u m r v → Fits y u m' r w) → (u : View) → Fits z u m r v → Fits z u m' r w
+keeps y z m m' r v w is pack = subst (λ (x : Sizes). (u : View) → Fits x u m r v → Fits x u m' r w) is pack
+
+pub pack_all-requires-clause-fits : goal.pack_all-requires-clause-fits
+pack_all-requires-clause-fits g c =
+    let i = c.loop-left.invariant in
+    (i.here.0, subst (λ (y : Sizes). Fits y i.here.0 c.loop-left.self c.loop-left.room (g.S.Steps.view c.loop-left.steps)) (sym i.sizes) i.here.1)
+
+pub returns-then-left-eq1-clause-only : goal.returns-then-left-eq1-clause-only
+returns-then-left-eq1-clause-only g c =
+    g.met.S.Steps.only_then c.args.steps.now c.loop-left.steps c.pack_all.new.steps c.loop-left.invariant.only c.pack_all.ensures.only
+
+pub returns-then-left-eq1-clause-fits : goal.returns-then-left-eq1-clause-fits
+returns-then-left-eq1-clause-fits g c u fits =
+    let z = g.S.Steps.sizes c.args.steps.now in
+    let v = g.S.Steps.view c.loop-left.steps in
+    let w = g.S.Steps.view c.pack_all.new.steps in
+    let i = c.loop-left.invariant in
+    keeps (g.S.Steps.sizes c.loop-left.steps) z c.loop-left.self c.pack_all.new.self c.loop-left.room v w i.sizes c.pack_all.ensures.fits u (i.fits u fits)
+
 pub make-word-requires : goal.make-word-requires
 make-word-requires g c =
     let z = g.S.Steps.sizes c.args.steps.now in
-    let v = g.S.Steps.view c.loop-left.steps in
+    let v = g.S.Steps.view c.pack_all.new.steps in
     let i = c.loop-left.invariant in
-    let m = c.loop-left.self in
+    let m = c.pack_all.new.self in
     let r = c.loop-left.room in
-    let h = has_supplies z i.here.0 m r v c.in-Supplying.is i.here.1 in
+    let same = g.met.S.Steps.only_sizes c.loop-left.steps c.pack_all.new.steps c.pack_all.ensures.only ∙ i.sizes in
+    let here = keeps (g.S.Steps.sizes c.loop-left.steps) z c.loop-left.self m r (g.S.Steps.view c.loop-left.steps) v i.sizes c.pack_all.ensures.fits i.here.0 i.here.1 in
+    let h = has_supplies z i.here.0 m r v c.pack_all.ensures.stage here in
     let wants = wants_of z m.stand.verdict in
-    subst (λ (y : Sizes). IsAllowed y v c.in-Some.asked) (sym i.sizes)
+    subst (λ (y : Sizes). IsAllowed y v c.in-Some.asked) (sym same)
     (c.in-Some.ensures.allowed z h.early v wants (subst (λ (l : List ℕ). SupplyFits z wants l r.row.value m.supplying r.stock h.early v) (sym c.as_slice-key.ensures.value) h.fits))
 
 pub supply_told-requires : goal.supply_told-requires
 supply_told-requires g c =
     let z = g.S.Steps.sizes c.args.steps.now in
-    let v = g.S.Steps.view c.loop-left.steps in
+    let v = g.S.Steps.view c.pack_all.new.steps in
     let w = g.S.Steps.view c.make-word.new.steps in
     let i = c.loop-left.invariant in
-    let m = c.loop-left.self in
+    let m = c.pack_all.new.self in
     let r = c.loop-left.room in
-    let is = subst (λ (l : List ℕ). asks l r.row.value r.stock m.supplying ≡ Some c.in-Some.asked) c.as_slice-key.ensures.value (sym c.next.ensures.asks ∙ c.in-Some.is) in
-    let row = subst (λ (y : Sizes). Answers y c.in-Some.asked c.make-word.result v w) i.sizes c.make-word.ensures.row in
-    (z, i.here.0, v, w, c.in-Some.asked, i.here.1.room, has_supplies z i.here.0 m r v c.in-Supplying.is i.here.1, is, row)
+    let same = g.met.S.Steps.only_sizes c.loop-left.steps c.pack_all.new.steps c.pack_all.ensures.only ∙ i.sizes in
+    let here = keeps (g.S.Steps.sizes c.loop-left.steps) z c.loop-left.self m r (g.S.Steps.view c.loop-left.steps) v i.sizes c.pack_all.ensures.fits i.here.0 i.here.1 in
+    let is = subst (λ (l : List ℕ). asks l r.row.value r.stock m.supplying ≡ Some c.in-Some.asked) c.as_slice-key.ensures.value (sym {b = asks _ r.row.value r.stock m.supplying} c.next.ensures.asks ∙ c.in-Some.is) in
+    let row = subst (λ (y : Sizes). Answers y c.in-Some.asked c.make-word.result v w) same c.make-word.ensures.row in
+    (z, i.here.0, v, w, c.in-Some.asked, i.here.1.room, has_supplies z i.here.0 m r v c.pack_all.ensures.stage here, is, row)
 
 pub loop-left-preserved : goal.loop-left-preserved
 loop-left-preserved g c =
     let s = c.args.steps.now in
-    let t = c.loop-left.steps in
+    let t = c.pack_all.new.steps in
     let z = g.S.Steps.sizes s in
     let v = g.S.Steps.view t in
     let w = g.S.Steps.view c.make-word.new.steps in
     let i = c.loop-left.invariant in
-    let m = c.loop-left.self in
+    let m = c.pack_all.new.self in
     let r = c.loop-left.room in
     let k = r.row.key.items in
-    let is : asks k r.row.value r.stock m.supplying ≡ Some c.in-Some.asked = subst (λ (l : List ℕ). asks l r.row.value r.stock m.supplying ≡ Some c.in-Some.asked) c.as_slice-key.ensures.value (sym c.next.ensures.asks ∙ c.in-Some.is) in
-    let row : Answers z c.in-Some.asked c.make-word.result v w = subst (λ (y : Sizes). Answers y c.in-Some.asked c.make-word.result v w) i.sizes c.make-word.ensures.row in
-    let h = has_supplies z i.here.0 m r v c.in-Supplying.is i.here.1 in
+    let same = g.met.S.Steps.only_sizes c.loop-left.steps t c.pack_all.ensures.only ∙ i.sizes in
+    let packs = keeps (g.S.Steps.sizes c.loop-left.steps) z c.loop-left.self m r (g.S.Steps.view c.loop-left.steps) v i.sizes c.pack_all.ensures.fits in
+    let is : asks k r.row.value r.stock m.supplying ≡ Some c.in-Some.asked = subst (λ (l : List ℕ). asks l r.row.value r.stock m.supplying ≡ Some c.in-Some.asked) c.as_slice-key.ensures.value (sym {b = asks _ r.row.value r.stock m.supplying} c.next.ensures.asks ∙ c.in-Some.is) in
+    let row : Answers z c.in-Some.asked c.make-word.result v w = subst (λ (y : Sizes). Answers y c.in-Some.asked c.make-word.result v w) same c.make-word.ensures.row in
+    let h = has_supplies z i.here.0 m r v c.pack_all.ensures.stage (packs i.here.0 i.here.1) in
     let wants = wants_of z m.stand.verdict in
     let few = supply_few z wants k r.row.value r.stock h.early v w m.supplying c.in-Some.asked c.make-word.result h.fits is row in
     let one = supply_one z wants k r.row.value r.stock h.early v w m.supplying c.in-Some.asked c.make-word.result h.fits is row in
     let on : (u : View) → Fits z u m r v → Fits z u c.supply_told.new.self c.supply_told.new.room w = λ u fits.
-    c.supply_told.ensures.fits z u v w c.in-Some.asked fits.room (has_supplies z u m r v c.in-Supplying.is fits) is row in
+    c.supply_told.ensures.fits z u v w c.in-Some.asked fits.room (has_supplies z u m r v c.pack_all.ensures.stage fits) is row in
     let made = i.made in
     let less = i.less in
-    let more = c.loop-left-test.true in
+    let packed = c.pack_all.ensures.made in
+    let fewer = c.pack_all.ensures.less in
+    let some = c.pack_all.ensures.turn in
+    let more = c.if-left-eq1.false in
     record {
-      only = g.met.S.Steps.only_then s t c.make-word.new.steps i.only c.make-word.ensures.only;
-      sizes = g.met.S.Steps.only_sizes t c.make-word.new.steps c.make-word.ensures.only ∙ i.sizes;
+      only = g.met.S.Steps.only_then s t c.make-word.new.steps (g.met.S.Steps.only_then s c.loop-left.steps t i.only c.pack_all.ensures.only) c.make-word.ensures.only;
+      sizes = g.met.S.Steps.only_sizes t c.make-word.new.steps c.make-word.ensures.only ∙ same;
       row = record { key = c.supply_told.ensures.row.key ∙ i.row.key; value = c.supply_told.ensures.row.value ∙ i.row.value };
       free = c.supply_told.ensures.free;
       not_overlaps = c.supply_told.ensures.not_overlaps;
-      some = omega (arith, more);
-      less = omega (arith, less);
-      made = omega (arith, made, one, few, more);
-      here = (i.here.0, on i.here.0 i.here.1);
-      fits = λ u fits. on u (i.fits u fits);
+      some = omega (arith, more, some);
+      less = omega (arith, less, fewer);
+      made = omega (arith, made, packed, one, few, more, some);
+      here = (i.here.0, on i.here.0 (packs i.here.0 i.here.1));
+      fits = λ u fits. on u (packs u (i.fits u fits));
     }
