@@ -42,7 +42,8 @@
 //! # The words that are missing
 //!
 //! A descent reads the words of a node that it needs, and no more. A `Rereading` reads the others of one stamped cell, in
-//! ascending place, so that a plan sees all of them. What was found stays found meanwhile (`standing_stays`).
+//! ascending place, so that a plan sees all of them. What was found stays found meanwhile (`standing_stays`). `read_on_node`
+//! and `read_on_above` of a desk make its reads in a loop of their own, where only turns can stop it.
 #![tactic(auto)]
 
 mod desks;
