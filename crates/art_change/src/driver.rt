@@ -31,7 +31,6 @@ pub struct Stepped {
 }
 
 /// Makes the step that a write asks for, whose attempt this is.
-#[inline(always)]
 fn make<S: EpochSteps>(steps: &mut S, asked: Asked, trying: &Trying, room: &Room) -> Answer
     requires admitted { (a : AttemptAsked) → asked ≡ attempt_asked a → S.admits steps.old (key_by trying.now room.now) }
     requires deed { (a : ChangeAsked) → asked ≡ attempt_asked (change_asked a) → IsMadeBy trying.now room.now }
@@ -60,7 +59,6 @@ fn make<S: EpochSteps>(steps: &mut S, asked: Asked, trying: &Trying, room: &Room
 }
 
 /// Makes the next step of a write: one step, or none where a counter is at its end.
-#[inline(always)]
 pub fn step<S: EpochSteps>(
     steps: &mut S,
     write: &mut Write,
@@ -97,7 +95,6 @@ pub fn step<S: EpochSteps>(
 }
 
 /// Makes all steps that are left of a write.
-#[inline(always)]
 pub fn finish<S: EpochSteps>(
     steps: &mut S,
     write: Write,

@@ -40,7 +40,6 @@ pub struct Made {
 }
 
 /// Looks at a cell; where that settles the answer, the event of the walk is made.
-#[inline(always)]
 fn look_at<S: Steps>(
     steps: &mut S,
     asked: CellAsked,
@@ -72,7 +71,6 @@ fn look_at<S: Steps>(
 }
 
 /// Makes the step that a seek asks for. The key is the one that is looked for, or the lower end of the range.
-#[inline(always)]
 pub fn make<S: EpochSteps>(
     steps: &mut S,
     asked: Asked,
@@ -96,7 +94,6 @@ pub fn make<S: EpochSteps>(
 }
 
 /// Which kind of step it was, by what was asked and answered.
-#[inline(always)]
 fn kind_of(asked: Asked, answer: Answer) -> Stepped
     ensures { result ≡ stepped_by asked answer }
 {
@@ -111,7 +108,6 @@ fn kind_of(asked: Asked, answer: Answer) -> Stepped
 }
 
 /// Makes the next step of a seek, and says which kind it was. The key is the one that is looked for, or the lower end of the range.
-#[inline(always)]
 pub fn step<S: EpochSteps>(
     steps: &mut S,
     seek: &mut Seek,
@@ -151,7 +147,6 @@ pub fn step<S: EpochSteps>(
 }
 
 /// Makes all steps that are left of a seek. The key is the one that is looked for, or the lower end of the range.
-#[inline(always)]
 pub fn finish<S: EpochSteps>(
     steps: &mut S,
     seek: Seek,
