@@ -3,7 +3,7 @@ use Rattle.std.proofs.Common.{◌≡◌, ◌≢◌, ℕ, zero, suc, ◌+◌, ◌
 use Rattle.std.proofs.lemmas.Bool.{cases_eq, cases_lt}
 use Rattle.std.proofs.lemmas.List.{length-set, length-replicate, get_or_past, get_or-replicate}
 use Rattle.std.proofs.lemmas.List.FromFn.{length-map-range_with_len, get_or-map-range_with_len, fill_by_all}
-use Rattle.std.proofs.lemmas.Nat.Bits.{bit_at-lt, bit_at-pow_other, bit_at_ones, bit_at-zero, bit_at_or, bit_at_mask_above, bit_at_mask_below, bit_at_mask_inside, bit_at_set_same, bit_at_set_other}
+use Rattle.std.proofs.lemmas.Nat.Bits.{bit_at-lt, bit_at-pow_other, bit_at-zero, bit_at_or, bit_at_mask_above, bit_at_mask_below, bit_at_mask_inside, bit_at_set_same, bit_at_set_other}
 use Rattle.std.specs.Prelude.{unwrap_or}
 use Rattle.std.specs.Int.{w64, bit_at}
 use Rattle.std.specs.Int.RustNames.{bit_or}
@@ -194,13 +194,13 @@ module _ (words words' bits run : List ℕ) (place m : ℕ) (within : place % 64
       above = λ p high. kept_word p (bit_above p high) (above p high);
     }
 
--- where all bits but the first are set, all words but the first are known
-pub known_of_full : (words bits : List ℕ) (xs : List (Option ℕ)) (place : ℕ) → known_words words bits ≡ xs → bit_or (get_or bits (place / 64) 0) 1 ≡ 2 ^ 64 - 1 → place % 64 ≢ 0 → place < 266
-    → get_or words place 0 ≡ unwrap_or (get_or xs place None) 0
-known_of_full words bits xs place same full later low =
+-- where all bits up to one are set, but perhaps the first, all words up to it but the first are known
+pub known_of_full : (words bits : List ℕ) (xs : List (Option ℕ)) (place count : ℕ) → known_words words bits ≡ xs → bit_or (get_or bits (place / 64) 0) 1 ≡ 2 ^ count - 2 ^ 0
+    → place % 64 ≢ 0 → place % 64 < count → place < 266 → get_or words place 0 ≡ unwrap_or (get_or xs place None) 0
+known_of_full words bits xs place count same full later below low =
     let n = get_or bits (place / 64) 0 in
     let i = place % 64 in
-    let one : bit_at (bit_or n 1) i ≡ 1 = ap (λ (m : ℕ). bit_at m i) full ∙ bit_at_ones 64 i (omega arith) in
+    let one : bit_at (bit_or n 1) i ≡ 1 = ap (λ (m : ℕ). bit_at m i) full ∙ bit_at_mask_inside 0 count i (omega arith) below in
     let none : bit_at 1 i ≡ 0 = bit_at-pow_other 0 i later in
     let both = bit_at_or n 1 i in
     let bit : known_bit bits place ≡ 1 = omega (arith, one, none, both) in

@@ -108,17 +108,32 @@ impl Reads {
         ensures here { (place : ℕ) → 64 * group ≤ place → place < min 266 (64 * group + 64) →
             get_or words.new place 0 ≡ unwrap_or (word_read self.now place) 0 }
     {
+        let length = bit_length(self.known[group]);
+        self.copy_first(words, group, length);
+        clear(
+            words,
+            WORDS.min(64 * group + length),
+            WORDS.min(64 * group + 64),
+        );
+    }
+
+    /// Copies so to the first places of one word of bits, so many.
+    fn copy_first(&self, words: &mut [u64; WORDS], group: usize, count: usize)
+        requires group { group < 5 }
+        requires few { count ≤ 64 }
+        ensures below { (place : ℕ) → place < 64 * group → get_or words.new place 0 ≡ get_or words.old place 0 }
+        ensures here { (place : ℕ) → 64 * group ≤ place → place < min 266 (64 * group + count) →
+            get_or words.new place 0 ≡ unwrap_or (word_read self.now place) 0 }
+    {
         let from = 64 * group;
-        let end = WORDS.min(from + 64);
+        let end = WORDS.min(from + count);
         // the version word of a cell, which is the first one, is never read
-        if self.known[group] | 1 == u64::MAX {
+        if count > 0 && self.known[group] | 1 == mask(0, count) {
             let all = &mut words[..];
             all[from..end].copy_from_slice(&self.words[from..end]);
             words[from] = self.get(from).unwrap_or(0);
         } else {
-            let last = end.min(from + bit_length(self.known[group]));
-            self.copy_each(words, from, last);
-            clear(words, last, end);
+            self.copy_each(words, from, end);
         }
     }
 
