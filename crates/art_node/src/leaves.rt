@@ -1,5 +1,5 @@
 //! The words of a leaf.
-ghost use Rattle.std.specs.Prelude.{◌≡◌, ◌≤◌, ◌<◌, length, get_or, IfSome};
+ghost use Rattle.std.specs.Prelude.{◌≡◌, ◌+◌, ◌≤◌, ◌<◌, length, get_or, IfSome};
 ghost use Rattle.std.specs.Option.{option_map};
 ghost use Rattle.art_cell.specs.Leaves.{IsLeaf, MeansLeaf, key_read, leaf_word, leaf_writes, leaf_read, word_of_bytes};
 ghost use Rattle.art_cell.specs.Reads.{Agrees, written};
@@ -59,11 +59,32 @@ pub(crate) fn key_word(key: &[u8], from: usize) -> u64
     if key.len() <= from {
         return 0;
     }
+    if from + 8 <= key.len() {
+        return whole_word(key, from);
+    }
     let mut bytes = [0; 8];
     for at in 0..8 {
         bytes[at] = byte_at(key, from + at);
     }
     u64::from_be_bytes(bytes)
+}
+
+/// Eight bytes of the key as a word, where all of them are there.
+#[inline(always)]
+fn whole_word(key: &[u8], from: usize) -> u64
+    requires { from + 8 ≤ length key.now }
+    ensures { result ≡ word_of_bytes key.now from }
+{
+    u64::from_be_bytes([
+        key[from],
+        key[from + 1],
+        key[from + 2],
+        key[from + 3],
+        key[from + 4],
+        key[from + 5],
+        key[from + 6],
+        key[from + 7],
+    ])
 }
 
 /// The byte of the key at a place, and 0 after the last.
