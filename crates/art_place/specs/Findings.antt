@@ -1,11 +1,12 @@
 -- What a finding knows between two of its steps: what its descent does, and of the words that it keeps.
-use Rattle.std.specs.Prelude.{◌≡◌, ◌<◌, ◌≤◌, ℕ, List, Option, Some, None, length, replicate, set, take, ⊤}
+use Rattle.std.specs.Prelude.{◌≡◌, ◌<◌, ◌≤◌, ℕ, Bool, true, false, List, Option, Some, None, length, replicate, set, take, ⊤}
 use Rattle.std.specs.Option.{option_map}
 use Rattle.art_cell.specs.declared.cells.Cell.{Cell}
 use Rattle.art_cell.specs.declared.cells.Cell.TheVariants as cell
 use Rattle.art_cell.specs.declared.cells.Link.TheVariants.{Node as node}
 use Rattle.art_cell.specs.declared.cells.Node.{Node}
-use Rattle.art_find.specs.Descents.{Fits, decided_at, stands_on}
+use Rattle.art_find.specs.Asking.{Answers, goes_on}
+use Rattle.art_find.specs.Descents.{Fits, IsExact, Stays, asks, decided_at, most_steps, stands_on}
 use Rattle.art_find.specs.Verdicts.{Says}
 use Rattle.art_find.specs.declared.asked.Answer.{Answer}
 use Rattle.art_find.specs.declared.asked.Answer.TheVariants.{Begun, Checked}
@@ -107,3 +108,22 @@ abbrev pub Keeps : Answer → Option Asked → Option Asked → ℕ → Option A
 Keeps (told.Word word) asked next depth above desk above' desk' = (above' ≡ above) × IsHeard asked word desk desk'
 Keeps (Begun r) asked next depth above desk above' desk' = Enters asked next depth above desk above' desk'
 Keeps (Checked r) asked next depth above desk above' desk' = Enters asked next depth above desk above' desk'
+
+-- ---- a step of a finding
+
+-- the step that it asked for was made and answered so
+pub record WasLooked (z : Sizes) (m : Finding) (asked : Asked) (answer : Answer) (v w : View) : Type 0 where
+  pub asked_it : asks m.descent.stage ≡ Some asked
+  pub row : (d : Deed) → Answers z d asked answer v w
+
+-- and it heard that: it has come further, or begins anew
+pub record HasHeard (z : Sizes) (k : List ℕ) (answer : Answer) (m : Finding) (desk : Desk) (v : View) (m' : Finding) (desk' : Desk) (w : View) : Type 0 where
+  pub further : goes_on answer ≡ true → most_steps m.descent.depth m.descent.stage < most_steps m'.descent.depth m'.descent.stage
+  pub anew : goes_on answer ≡ false → most_steps m'.descent.depth m'.descent.stage ≡ 0
+  pub stays : Stays answer m.descent m'.descent
+  pub exact : IsExact m'.descent.stage
+  pub fits : (what : Option ℕ → Deed) (u : View) → FindingFits z k what m desk u v → FindingFits z k what m' desk' u w
+
+-- a step was made and heard, after which it goes on or begins anew
+abbrev pub LookedOn : Sizes → List ℕ → Bool → Finding → Desk → View → Finding → Desk → View → Type 0
+LookedOn z k on m desk v m' desk' w = (asked : Asked) × (answer : Answer) × WasLooked z m asked answer v w × HasHeard z k answer m desk v m' desk' w × (on ≡ goes_on answer)

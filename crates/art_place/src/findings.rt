@@ -2,9 +2,9 @@
 ghost use Rattle.std.specs.Prelude.{◌≡◌, ◌≤◌, ◌<◌, ℕ, List, Option, length, None};
 ghost use Rattle.art_place.specs.Findings.{AsksPlace, IsHeard};
 
-use crate::Desk;
+use crate::{Desk, look};
 use art_find::{Answer, Asked, Descent, Verdict};
-use art_step::Stamp;
+use art_step::{Stamp, Steps};
 
 /// The cell that has the node as its child where a finding stands.
 #[derive(Clone, Copy)]
@@ -40,13 +40,14 @@ impl Finding {
     ghost use Rattle.art_find.specs.Descents.{IsExact, IsReading, Stays};
     ghost use Rattle.art_find.specs.Descents.{answer_at, asks, ended_at, most_steps};
     ghost use Rattle.art_find.specs.declared.asked.Asked.{Asked as AskedStep};
-    ghost use Rattle.art_place.specs.Findings.{Enters, FindingFits, IsStanding, Keeps, stand_at};
+    ghost use Rattle.art_find.specs.declared.asked.Asked.TheVariants.{Read as read_asked};
+    ghost use Rattle.art_place.specs.Findings.{Enters, FindingFits, IsStanding, Keeps, LookedOn, stand_at};
     ghost use Rattle.art_place.specs.declared.desks.Desk.{Desk as DeskOf};
     ghost use Rattle.art_step.specs.Shows.{HasValue};
     ghost use Rattle.art_step.specs.declared.deeds.Deed.{Deed};
     ghost use Rattle.art_step.specs.declared.views.Sizes.{Sizes};
     ghost use Rattle.art_step.specs.declared.views.View.{View};
-    ghost use Rattle.std.specs.Prelude.{Some, IfSome, true, false};
+    ghost use Rattle.std.specs.Prelude.{Some, IfNone, IfSome, true, false};
 
     /// At its beginning.
     pub fn new() -> Finding
@@ -112,6 +113,50 @@ impl Finding {
         let on = self.descent.told(key, answer);
         self.keep(desk, asked, answer);
         on
+    }
+
+    /// Makes the next step, unless the place is known or it has ended, and hears it. Whether it goes on: else it begins anew.
+    #[inline(always)]
+    pub fn look_on<S: Steps>(&mut self, steps: &mut S, desk: &mut Desk, key: &[u8]) -> Option<bool>
+        requires few { length key.now ≤ 64 }
+        requires fits { (what : Option ℕ → Deed) × (u : View) ×
+            FindingFits (S.sizes steps.old) key.now what self.old desk.old u (S.view steps.old) }
+        ensures only { S.only steps.old steps.new }
+        ensures none { IfNone result ((self.new ≡ self.old) × (desk.new ≡ desk.old) × (S.view steps.new ≡ S.view steps.old)) }
+        ensures looked { IfSome result (λ on. LookedOn (S.sizes steps.old) key.now on self.old desk.old (S.view steps.old)
+            self.new desk.new (S.view steps.new)) }
+    {
+        let asked = self.next()?;
+        if let Asked::Read(stamp, place) = asked {
+            self.read_on(steps, desk, key, stamp, place);
+            return Some(true);
+        }
+        let answer = look(steps, asked)?;
+        Some(self.told(desk, key, answer))
+    }
+
+    /// Reads the word that it asks for, hears it and keeps it.
+    #[inline(always)]
+    fn read_on<S: Steps>(
+        &mut self,
+        steps: &mut S,
+        desk: &mut Desk,
+        key: &[u8],
+        stamp: Stamp,
+        place: usize,
+    )
+        requires few { length key.now ≤ 64 }
+        requires asked { asks self.old.descent.stage ≡ Some (read_asked stamp place) }
+        requires inside { place < 266 }
+        requires fits { (what : Option ℕ → Deed) × (u : View) ×
+            FindingFits (S.sizes steps.old) key.now what self.old desk.old u (S.view steps.old) }
+        ensures only { S.only steps.old steps.new }
+        ensures looked { LookedOn (S.sizes steps.old) key.now true self.old desk.old (S.view steps.old)
+            self.new desk.new (S.view steps.new) }
+    {
+        let found = steps.read(stamp, place);
+        self.descent.read(key, found);
+        desk.note(place, found);
     }
 
     /// A version word was locked, obsolete or changed: the finding begins anew.
