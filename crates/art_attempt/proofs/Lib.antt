@@ -2,6 +2,7 @@ pub mod Counts
 pub mod Enters
 pub mod Finds
 pub mod Free
+pub mod Heard
 pub mod Left
 pub mod Looks
 pub mod Overlaps

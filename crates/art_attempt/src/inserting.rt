@@ -294,14 +294,14 @@ impl Inserting {
                 Some(_) => return,
                 None => {}
             }
-            let Some(asked) = self.finding.next() else {
-                return;
-            };
-            let Some(answer) = look(steps, asked) else {
+            let key = room.row.key.as_slice();
+            let Some(on) = self.finding.look_on(steps, &mut room.desk, key) else {
                 return;
             };
             *left -= 1;
-            self.read_on(room, answer);
+            if !on {
+                self.stage = Stage::Ended(Entered::Anew);
+            }
         }
     }
 

@@ -2,6 +2,7 @@ pub mod Chosen
 pub mod Counts
 pub mod Finds
 pub mod Free
+pub mod Heard
 pub mod Joins
 pub mod Left
 pub mod Stages

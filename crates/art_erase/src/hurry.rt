@@ -5,7 +5,7 @@ ghost use Rattle.art_erase.specs.Erasing.{Fits, IsKept, ended_at, is_free, steps
 ghost use Rattle.art_erase.specs.declared.erasing.Stage.TheVariants as stages;
 ghost use Rattle.art_step.specs.declared.views.View.{View};
 
-use crate::erasing::{Erasing, Stage, goes};
+use crate::erasing::{Erased, Erasing, Stage, goes};
 use art_attempt::{Room, is_begun, steps_of};
 use art_gather::{make as make_supply, read_cells};
 use art_make::make as make_change;
@@ -36,14 +36,14 @@ impl Erasing {
                 Some(_) => return,
                 None => {}
             }
-            let Some(asked) = self.finding.next() else {
-                return;
-            };
-            let Some(answer) = look(steps, asked) else {
+            let key = room.gone.key.as_slice();
+            let Some(on) = self.finding.look_on(steps, &mut room.desk, key) else {
                 return;
             };
             *left -= 1;
-            self.find_on(room, answer);
+            if !on {
+                self.stage = Stage::Ended(Erased::Anew);
+            }
         }
     }
 

@@ -1,50 +1,25 @@
 -- The steps are those of the finding.
-use Rattle.std.proofs.Common.{◌≡◌, ◌∙◌, Some, None, ap, sym, subst, arith}
-use Rattle.std.specs.Prelude.{⊤}
-use Rattle.art_erase.proofs.Stages.{is_finding, kept_on}
-use Rattle.art_erase.specs.Erasing.{Fits, absent, absent_of, asks_place, finding_asks}
+use Rattle.std.proofs.Common.{◌≡◌, ◌∙◌, List, ℕ, Some, None, refl, sym, subst, arith}
+use Rattle.art_attempt.proofs.Heard.{heard_so}
+use Rattle.art_erase.proofs.Heard.{ends_anew, finds_on}
+use Rattle.art_erase.proofs.Stages.{is_finding}
+use Rattle.art_erase.specs.Erasing.{Fits, absent, absent_of}
 use Rattle.art_find.proofs.Counting.{answers_count}
-use Rattle.art_find.specs.Asking.{Answers, IsAllowed}
-use Rattle.art_find.specs.Descents.{answer_at, asks}
-use Rattle.art_find.specs.declared.asked.Asked.{Asked}
-use Rattle.art_place.specs.Findings.{stand_at}
-use Rattle.art_place.specs.declared.findings.Finding.{Finding}
-use Rattle.art_place.specs.declared.findings.Stand.{Stand}
-use Rattle.art_step.specs.Shows.{HasValue}
-use Rattle.art_place.proofs.Looks.{looked}
-use Rattle.std.specs.Prelude.{Option}
+use Rattle.art_place.specs.Findings.{FindingFits}
 use Rattle.art_step.specs.declared.views.Sizes.{Sizes}
 use Rattle.art_step.specs.declared.views.View.{View}
 use Rattle.art_erase.proofs.erasing.Erasing.find_all.Goals as goal
 
-asks_on : (m : Finding) (a : Asked) → stand_at m ≡ None → asks m.descent.stage ≡ Some a → finding_asks m ≡ Some a
-asks_on m a nowhere is = ap (λ (t : Option Stand). asks_place t (asks m.descent.stage)) nowhere ∙ is
-
-pub look-requires : goal.look-requires
-look-requires g c =
+pub look_on-requires-clause-fits : goal.look_on-requires-clause-fits
+look_on-requires-clause-fits g c =
     let z = g.S.Steps.sizes c.args.steps.now in
     let v = g.S.Steps.view c.loop-left.steps in
     let i = c.loop-left.invariant in
     let m = c.loop-left.self in
     let r = c.loop-left.room in
-    let h = is_finding z i.here.0 m r v c.in-Finding.is i.here.1 in
-    record {
-      allowed = subst (λ (y : Sizes). IsAllowed y (λ s. ⊤) v c.in-Some-next.asked) (sym i.sizes)
-          (looked z v (λ s. HasValue s r.gone.key.items (answer_at m.finding.descent.stage)) c.in-Some-next.asked
-          (c.in-Some-next.ensures.allowed z r.gone.key.items (absent_of r.gone) r.desk h.early v h.fits));
-    }
-
-pub find_on-requires-clause-told : goal.find_on-requires-clause-told
-find_on-requires-clause-told g c =
-    let z = g.S.Steps.sizes c.args.steps.now in
-    let v = g.S.Steps.view c.loop-left.steps in
-    let w = g.S.Steps.view c.look.new.steps in
-    let i = c.loop-left.invariant in
-    let m = c.loop-left.self in
-    let r = c.loop-left.room in
-    let d = absent r.gone in
-    let row = subst (λ (y : Sizes). Answers y d c.in-Some-next.asked c.in-Some-look.answer v w) i.sizes (c.in-Some-look.ensures.row d) in
-    (z, i.here.0, v, w, c.in-Some-next.asked, i.here.1.room, is_finding z i.here.0 m r v c.in-Finding.is i.here.1, asks_on m.finding c.in-Some-next.asked (sym c.stand.ensures.at ∙ c.in-None.is) (sym c.next.ensures.asks ∙ c.in-Some-next.is), row)
+    let f = is_finding z i.here.0 m r v c.in-Finding.is i.here.1 in
+    let key = subst (λ (k : List ℕ). FindingFits z k (absent_of r.gone) m.finding r.desk f.early v) (sym c.as_slice-key.ensures.value) f.fits in
+    (absent_of r.gone, f.early, subst (λ (y : Sizes). FindingFits y c.as_slice-key.result.now (absent_of r.gone) m.finding r.desk f.early v) (sym i.sizes) key)
 
 pub loop-left-preserved : goal.loop-left-preserved
 loop-left-preserved g c =
@@ -52,28 +27,60 @@ loop-left-preserved g c =
     let t = c.loop-left.steps in
     let z = g.S.Steps.sizes s in
     let v = g.S.Steps.view t in
-    let w = g.S.Steps.view c.look.new.steps in
+    let w = g.S.Steps.view c.look_on.new.steps in
     let i = c.loop-left.invariant in
     let m = c.loop-left.self in
     let r = c.loop-left.room in
-    let d = absent r.gone in
-    let a = c.in-Some-next.asked in
-    let row : Answers z d a c.in-Some-look.answer v w = subst (λ (y : Sizes). Answers y d a c.in-Some-look.answer v w) i.sizes (c.in-Some-look.ensures.row d) in
-    let is = asks_on m.finding c.in-Some-next.asked (sym c.stand.ensures.at ∙ c.in-None.is) (sym c.next.ensures.asks ∙ c.in-Some-next.is) in
-    let one = (answers_count z d a c.in-Some-look.answer v w row).steps in
-    let on : (u : View) → Fits z u m r v → Fits z u c.find_on.new.self c.find_on.new.room w = λ u fits.
-    c.find_on.ensures.fits z u v w a fits.room (is_finding z u m r v c.in-Finding.is fits) is row in
+    let nowhere = sym c.stand.ensures.at ∙ c.in-None.is in
+    let l = heard_so (g.S.Steps.sizes t) z c.as_slice-key.result.now r.gone.key.items c.in-Some-look_on.on m.finding c.look_on.new.self r.desk c.look_on.new.desk v w i.sizes c.as_slice-key.ensures.value
+        c.in-Some-look_on.ensures.looked in
+    let on = sym l.4 ∙ c.if-not-on.false in
+    let one = (answers_count z (absent r.gone) l.0 l.1 v w (l.2.row (absent r.gone))).steps in
+    let next : (u : View) → Fits z u m r v → Fits z u _ _ w = λ u fits.
+    finds_on z u m r v w fits.room (is_finding z u m r v c.in-Finding.is fits) nowhere l.0 l.1 l.2 c.look_on.new.self c.look_on.new.desk l.3 on c.in-Finding.is in
     let made = i.made in
     let less = i.less in
     let more = c.loop-left-test.true in
     record {
-      only = g.met.S.Steps.only_then s t c.look.new.steps i.only c.look.ensures.only;
-      sizes = g.met.S.Steps.only_sizes t c.look.new.steps c.look.ensures.only ∙ i.sizes;
-      kept = kept_on c.args.room.now r c.find_on.new.room i.kept c.find_on.ensures.kept;
-      free = c.find_on.ensures.free;
+      only = g.met.S.Steps.only_then s t c.look_on.new.steps i.only c.look_on.ensures.only;
+      sizes = g.met.S.Steps.only_sizes t c.look_on.new.steps c.look_on.ensures.only ∙ i.sizes;
+      kept = record { key = i.kept.key; row = i.kept.row; sizes = i.kept.sizes };
+      free = i.free;
       some = omega (arith, more);
       less = omega (arith, less);
       made = omega (arith, made, one, more);
-      here = (i.here.0, on i.here.0 i.here.1);
-      fits = λ u fits. on u (i.fits u fits);
+      here = (i.here.0, next i.here.0 i.here.1);
+      fits = λ u fits. next u (i.fits u fits);
+    }
+
+pub loop-left-preserved-then-not-on : goal.loop-left-preserved-then-not-on
+loop-left-preserved-then-not-on g c =
+    let s = c.args.steps.now in
+    let t = c.loop-left.steps in
+    let z = g.S.Steps.sizes s in
+    let v = g.S.Steps.view t in
+    let w = g.S.Steps.view c.look_on.new.steps in
+    let i = c.loop-left.invariant in
+    let m = c.loop-left.self in
+    let r = c.loop-left.room in
+    let nowhere = sym c.stand.ensures.at ∙ c.in-None.is in
+    let l = heard_so (g.S.Steps.sizes t) z c.as_slice-key.result.now r.gone.key.items c.in-Some-look_on.on m.finding c.look_on.new.self r.desk c.look_on.new.desk v w i.sizes c.as_slice-key.ensures.value
+        c.in-Some-look_on.ensures.looked in
+    let off = sym l.4 ∙ c.if-not-on.true in
+    let one = (answers_count z (absent r.gone) l.0 l.1 v w (l.2.row (absent r.gone))).steps in
+    let next : (u : View) → Fits z u m r v → Fits z u _ _ w = λ u fits.
+    ends_anew z u m r v w fits.room (is_finding z u m r v c.in-Finding.is fits) nowhere l.0 l.1 l.2 c.look_on.new.self c.look_on.new.desk l.3 off in
+    let made = i.made in
+    let less = i.less in
+    let more = c.loop-left-test.true in
+    record {
+      only = g.met.S.Steps.only_then s t c.look_on.new.steps i.only c.look_on.ensures.only;
+      sizes = g.met.S.Steps.only_sizes t c.look_on.new.steps c.look_on.ensures.only ∙ i.sizes;
+      kept = record { key = i.kept.key; row = i.kept.row; sizes = i.kept.sizes };
+      free = refl;
+      some = omega (arith, more);
+      less = omega (arith, less);
+      made = omega (arith, made, one, more);
+      here = (i.here.0, next i.here.0 i.here.1);
+      fits = λ u fits. next u (i.fits u fits);
     }
