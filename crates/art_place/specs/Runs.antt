@@ -29,7 +29,8 @@ WereRead z v x place words = (i : ℕ) → i < length words → WasReadAt z v x 
 
 -- a rereading went on by so many reads: what was known stays, nothing is read where all is known, and the rereading stands where
 -- single steps would have brought it
-pub record HasReadOn (z : Sizes) (x : Stamp) (n : ℕ) (v : View) (m : Rereading) (reads : List (Option ℕ)) (w : View) (m' : Rereading) (reads' : List (Option ℕ)) : Type 0 where
+pub record HasReadOn (z : Sizes) (x : Stamp) (n : ℕ) (v : View) (m : Rereading) (reads : List (Option ℕ)) (w : View) (m' : Rereading)
+    (reads' : List (Option ℕ)) : Type 0 where
   pub only : HasReadOnly v w n
   pub further : m.place + n ≤ m'.place
   pub few : m.place ≤ 266 → m'.place ≤ 266

@@ -1,5 +1,5 @@
 -- The steps are those of the finding.
-use Rattle.std.proofs.Common.{◌≡◌, ◌∙◌, List, ℕ, Some, None, refl, ap, sym, subst, arith}
+use Rattle.std.proofs.Common.{◌≡◌, ◌∙◌, List, ℕ, refl, sym, subst, arith}
 use Rattle.art_attempt.proofs.Heard.{ends_anew, finds_on, heard_so}
 use Rattle.art_attempt.specs.Inserting.{Fits, IsFinding, StageFits, deed_at, present_of}
 use Rattle.art_attempt.specs.declared.inserting.Inserting.{Inserting}
@@ -38,7 +38,7 @@ loop-left-preserved g c =
     let r = c.loop-left.room in
     let nowhere = sym c.stand.ensures.at ∙ c.in-None.is in
     let l = heard_so (g.S.Steps.sizes t) z c.as_slice-key.result.now r.row.key.items c.in-Some-look_on.on m.finding c.look_on.new.self r.desk c.look_on.new.desk v w i.sizes c.as_slice-key.ensures.value
-        c.in-Some-look_on.ensures.looked in
+    c.in-Some-look_on.ensures.looked in
     let on = sym l.4 ∙ c.if-not-on.false in
     let one = (answers_count z (deed_at m r) l.0 l.1 v w (l.2.row (deed_at m r))).steps in
     let next : (u : View) → Fits z u m r v → Fits z u _ _ w = λ u fits.
@@ -71,7 +71,7 @@ loop-left-preserved-then-not-on g c =
     let r = c.loop-left.room in
     let nowhere = sym c.stand.ensures.at ∙ c.in-None.is in
     let l = heard_so (g.S.Steps.sizes t) z c.as_slice-key.result.now r.row.key.items c.in-Some-look_on.on m.finding c.look_on.new.self r.desk c.look_on.new.desk v w i.sizes c.as_slice-key.ensures.value
-        c.in-Some-look_on.ensures.looked in
+    c.in-Some-look_on.ensures.looked in
     let off = sym l.4 ∙ c.if-not-on.true in
     let one = (answers_count z (deed_at m r) l.0 l.1 v w (l.2.row (deed_at m r))).steps in
     let next : (u : View) → Fits z u m r v → Fits z u _ _ w = λ u fits.

@@ -1,5 +1,5 @@
 -- The steps are those of the finding.
-use Rattle.std.proofs.Common.{◌≡◌, ◌∙◌, List, ℕ, Some, None, refl, sym, subst, arith}
+use Rattle.std.proofs.Common.{◌∙◌, List, ℕ, refl, sym, subst, arith}
 use Rattle.art_attempt.proofs.Heard.{heard_so}
 use Rattle.art_erase.proofs.Heard.{ends_anew, finds_on}
 use Rattle.art_erase.proofs.Stages.{is_finding}
@@ -33,7 +33,7 @@ loop-left-preserved g c =
     let r = c.loop-left.room in
     let nowhere = sym c.stand.ensures.at ∙ c.in-None.is in
     let l = heard_so (g.S.Steps.sizes t) z c.as_slice-key.result.now r.gone.key.items c.in-Some-look_on.on m.finding c.look_on.new.self r.desk c.look_on.new.desk v w i.sizes c.as_slice-key.ensures.value
-        c.in-Some-look_on.ensures.looked in
+    c.in-Some-look_on.ensures.looked in
     let on = sym l.4 ∙ c.if-not-on.false in
     let one = (answers_count z (absent r.gone) l.0 l.1 v w (l.2.row (absent r.gone))).steps in
     let next : (u : View) → Fits z u m r v → Fits z u _ _ w = λ u fits.
@@ -65,7 +65,7 @@ loop-left-preserved-then-not-on g c =
     let r = c.loop-left.room in
     let nowhere = sym c.stand.ensures.at ∙ c.in-None.is in
     let l = heard_so (g.S.Steps.sizes t) z c.as_slice-key.result.now r.gone.key.items c.in-Some-look_on.on m.finding c.look_on.new.self r.desk c.look_on.new.desk v w i.sizes c.as_slice-key.ensures.value
-        c.in-Some-look_on.ensures.looked in
+    c.in-Some-look_on.ensures.looked in
     let off = sym l.4 ∙ c.if-not-on.true in
     let one = (answers_count z (absent r.gone) l.0 l.1 v w (l.2.row (absent r.gone))).steps in
     let next : (u : View) → Fits z u m r v → Fits z u _ _ w = λ u fits.

@@ -1,6 +1,4 @@
-use Rattle.std.proofs.Common.{◌≡◌, ◌∙◌, sym, subst}
-use Rattle.std.specs.Prelude.{⊤}
-use Rattle.art_find.specs.Asking.{IsAllowed}
+use Rattle.std.proofs.Common.{◌∙◌, sym}
 use Rattle.art_find.specs.Descents.{answer_at}
 use Rattle.art_place.proofs.Looks.{looked}
 use Rattle.art_step.specs.Shows.{HasValue}
