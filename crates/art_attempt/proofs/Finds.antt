@@ -488,3 +488,15 @@ module _ (z : Sizes) (u : View) (m : Inserting) (r : Room) (v : View) (f : IsFin
 
   pub finding_allowed : (a : Asked) → finding_asks m.finding ≡ Some a → MayAsk z (deed_at m r) v a
   finding_allowed a is = place_allowed (stand_at m.finding) a refl is
+
+-- what may be asked of a place may be asked of a look, where it tells nothing of a row
+pub may_look : (z : Sizes) (d : Deed) (v : View) (a : Asked) → MayAsk z d v a → IsAllowed z (λ s. ⊤) v a
+may_look z d v (Begin c) may = may
+may_look z d v (Read x i) may = may
+may_look z d v (ReadLeaf x l i) may = may
+may_look z d v (Check x) may = may
+may_look z d v (Settle x) may = (may.0, record { stamp = may.1.stamp; shows = λ s shape holds. tt })
+
+-- where the place is known, its check is asked for
+pub asks_check : (m : Finding) (t : Stand) → stand_at m ≡ Some t → finding_asks m ≡ Some (check_of t)
+asks_check m t is = ap (λ (o : Option Stand). asks_place o (asks m.descent.stage)) is

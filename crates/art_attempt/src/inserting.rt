@@ -305,6 +305,39 @@ impl Inserting {
         }
     }
 
+    /// Checks the place of the key, once that is known, where this tells nothing and more than one turn is left.
+    #[inline(always)]
+    fn settle_on<S: EpochSteps>(&mut self, steps: &mut S, room: &mut Room, left: &mut u32)
+        requires turn { 0 < left.old }
+        requires fits { (u : View) × Fits (S.sizes steps.old) u self.old room.old (S.view steps.old) }
+        requires free { is_free self.old ≡ true }
+        requires not_overlaps { ended_at self.old ≢ Some overlaps }
+        ensures only { S.only steps.old steps.new }
+        ensures row { SameRow room.old room.new }
+        ensures free { is_free self.new ≡ true }
+        ensures not_overlaps { ended_at self.new ≢ Some overlaps }
+        ensures turn { 0 < left.new }
+        ensures less { left.new ≤ left.old }
+        ensures made { (S.view steps.new).steps + left.new ≡ (S.view steps.old).steps + left.old }
+        ensures fits { (u : View) → Fits (S.sizes steps.old) u self.old room.old (S.view steps.old) →
+            Fits (S.sizes steps.old) u self.new room.new (S.view steps.new) }
+    {
+        let Stage::Finding = self.stage else {
+            return;
+        };
+        let Some(stand) = self.finding.stand() else {
+            return;
+        };
+        if *left <= 1 || matches!(stand.verdict, Verdict::Overlaps) {
+            return;
+        }
+        let Some(answer) = look(steps, check_of(&stand)) else {
+            return;
+        };
+        *left -= 1;
+        self.settled(room, stand, answer);
+    }
+
     /// Writes words of the leaf that comes, as long as more than one is to be written and more than one turn is left.
     #[inline(always)]
     fn pack_all<S: EpochSteps>(&mut self, steps: &mut S, room: &Room, left: &mut u32)
@@ -475,7 +508,10 @@ impl Inserting {
             return;
         }
         match self.stage {
-            Stage::Finding => self.find_on(steps, room, left),
+            Stage::Finding => {
+                self.find_on(steps, room, left);
+                self.settle_on(steps, room, left);
+            }
             Stage::Supplying => self.supply_all(steps, room, left),
             Stage::Vouching => {
                 self.read_all(steps, room, left);

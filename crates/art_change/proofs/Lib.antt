@@ -7,4 +7,5 @@ pub mod Looked
 pub mod Overlaps
 pub mod Parts
 pub mod Ready
+pub mod SameWrite
 pub mod Steps

@@ -310,6 +310,15 @@ RestartsBy m next answer = (next.restarts ≡ m.restarts) ⊎ ((t : Trying) × t
 abbrev pub IsApart : Write → Type 0
 IsApart m = m.outcome ≢ Overlaps
 
+-- it is the same write after some of its steps: of this job, in these turns, of this key and value; it ends as a refusal where it had to
+-- before, and no key was found to begin the other
+pub record IsSameWrite (m : Write) (r : Room) (n : Write) (s : Room) : Type 0 where
+  pub job : n.job ≡ m.job
+  pub turns : n.turns ≡ m.turns
+  pub key : tries.SameKey m.job r s
+  pub refuses : WillRefuse m → WillRefuse n
+  pub apart : IsApart m → IsApart n
+
 -- that became the outcome only where this answer to its attempt was why
 abbrev pub OverlapsBy : Write → Write → AttemptAnswer → Type 0
 OverlapsBy m next answer = next.outcome ≡ Overlaps → (m.outcome ≡ Overlaps) ⊎

@@ -118,11 +118,13 @@ pub fn finish<S: EpochSteps>(
         Fits (S.sizes steps.old) u ps result room.new (places_of limbo.new) (S.view steps.new) }
 {
     let mut write = write;
-    while write.ended().is_none() {
-        write.hurry(steps, room);
+    loop {
+        write.hurry(steps, room, limbo);
+        if write.ended().is_some() {
+            return write;
+        }
         step(steps, &mut write, room, limbo);
     }
-    write
 }
 
 /// Writes what the room has, in so many turns. The pass `own` is idle, with nothing in hand, before and after.

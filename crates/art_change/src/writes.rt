@@ -1,5 +1,5 @@
 //! A write, step by step: its opening, its attempts, its close.
-ghost use Rattle.std.specs.Prelude.{◌≡◌, ◌⊎◌, ℕ, ◌+◌, ◌-◌, ◌<◌, ◌≤◌, List, [], length, Some, None, true, false};
+ghost use Rattle.std.specs.Prelude.{◌≡◌, ◌≢◌, ◌⊎◌, ℕ, ◌+◌, ◌-◌, ◌<◌, ◌≤◌, List, [], length, Some, None, true, false};
 ghost use Rattle.art_attempt.specs.Asking.{Answers as AttemptAnswers, steps_in};
 ghost use Rattle.art_attempt.specs.Inserting.{tries_left};
 ghost use Rattle.art_attempt.specs.declared.asked.Asked.{Asked as AttemptAsked};
@@ -7,14 +7,15 @@ ghost use Rattle.art_attempt.specs.declared.rooms.Room.{Room as RoomOf};
 ghost use Rattle.art_change.specs.Asking.{Answers, attempt_in};
 ghost use Rattle.art_change.specs.Tries.{EndFits, HasHand, IsRoom, SameKey, asks as attempt_asks, is_free, key_of, value_of};
 ghost use Rattle.art_change.specs.Tries as tries;
-ghost use Rattle.art_change.specs.Writes.{Fits, HasAnswered, HasBegun, HasCounted, HasGround, HasOutcome, HasTurn, IsApart, IsClosing, IsOpening, IsReady, IsTrying, MayWrite, OverlapsBy, RestartsBy, WasOpened};
+ghost use Rattle.art_change.specs.Writes.{Fits, HasAnswered, HasBegun, HasCounted, HasGround, HasOutcome, HasTurn, IsApart, IsClosing, IsOpening, IsReady, IsSameWrite, IsTrying, MayWrite, OverlapsBy, RestartsBy, WasOpened};
 ghost use Rattle.art_change.specs.Writes.{HoldsOrTold, WillRefuse, freed_by, given, is_refusal, turns_used};
 ghost use Rattle.art_change.specs.Writes.{asks, asks_at, deed_at, ended_at, ended_left, gone_by, left_at, most_steps, or_busy, outcome_of, steps_left};
 ghost use Rattle.art_change.specs.declared.asked.Asked.{Asked as AskedStep};
+ghost use Rattle.art_change.specs.declared.asked.Asked.TheVariants as steps_asked;
 ghost use Rattle.art_change.specs.declared.tries.Tried.TheVariants.{Anew as anew, Overlaps as tried_overlaps};
 ghost use Rattle.art_change.specs.declared.writes.Outcome.TheVariants.{Overlaps as overlaps};
 ghost use Rattle.art_change.specs.declared.writes.Stage.TheVariants as stages;
-ghost use Rattle.art_epoch.specs.Asking.{Answers as FrameAnswers};
+ghost use Rattle.art_epoch.specs.Asking.{Answers as FrameAnswers, IsAllowed as IsFrameAllowed};
 ghost use Rattle.art_epoch.specs.Limbo.{places_of};
 ghost use Rattle.art_epoch.specs.declared.asked.Asked.{Asked as FrameAsked};
 ghost use Rattle.art_epoch.specs.declared.limbo.Place.{Place};
@@ -29,7 +30,7 @@ use crate::asked::{attempt_in, word_in};
 use crate::{Answer, Asked, Job, Tried, Trying};
 use art_attempt::{Answer as AttemptAnswer, Room, steps_in};
 use art_cell::{Cell, Pool};
-use art_epoch::{Asked as FrameStep, Limbo};
+use art_epoch::{Asked as FrameStep, Limbo, make as make_frame};
 use art_frame::{Blocker, Closing, Opened, Opening};
 use art_plan::Change;
 use art_step::EpochSteps;
@@ -57,9 +58,9 @@ pub enum Outcome {
     Crowded(Blocker),
 }
 
-/// How many stages of an attempt may follow one another with no step of the machine in between: numbers are brought into the hand, cells
-/// are vouched for, the change is made.
-const STAGES: u32 = 3;
+/// How many stages may follow one another with no step of the machine in between: the opening, then of an attempt the place that is sought,
+/// numbers that are brought into the hand, cells that are vouched for, and the change that is made, then the close.
+const STAGES: u32 = 6;
 
 /// Where a write stands between two of its steps.
 #[derive(Clone, Copy)]
@@ -371,51 +372,78 @@ impl Write {
         self.stage = Stage::Closing;
     }
 
-    /// Makes the steps of its attempt, stage after stage, as far as nothing stops it.
-    pub(crate) fn hurry<S: EpochSteps>(&mut self, steps: &mut S, room: &mut Room)
+    /// Makes its steps, stage after stage, as far as nothing stops it.
+    pub(crate) fn hurry<S: EpochSteps>(&mut self, steps: &mut S, room: &mut Room, limbo: &mut Limbo)
         requires admitted { S.admits steps.old (key_of self.old.job room.old).items }
-        requires fits { (u : View) × (ps : List Place) × (qs : List Place) ×
-            Fits (S.sizes steps.old) u ps self.old room.old qs (S.view steps.old) }
+        requires fits { (u : View) × (ps : List Place) ×
+            Fits (S.sizes steps.old) u ps self.old room.old (places_of limbo.old) (S.view steps.old) }
         ensures only { S.only steps.old steps.new }
-        ensures job { self.new.job ≡ self.old.job }
-        ensures turns { self.new.turns ≡ self.old.turns }
-        ensures key { SameKey self.old.job room.old room.new }
-        ensures refuses { WillRefuse self.old → WillRefuse self.new }
-        ensures apart { IsApart self.old → IsApart self.new }
-        ensures going { ended_at self.old ≡ None → ended_at self.new ≡ None }
+        ensures same { IsSameWrite self.old room.old self.new room.new }
         ensures later { (S.view steps.old).steps ≤ (S.view steps.new).steps }
-        ensures left { (qs : List Place) → (S.view steps.new).steps + steps_left self.new room.new qs ≤
-            (S.view steps.old).steps + steps_left self.old room.old qs }
-        ensures fits { (u : View) (ps qs : List Place) → Fits (S.sizes steps.old) u ps self.old room.old qs (S.view steps.old) →
-            Fits (S.sizes steps.old) u ps self.new room.new qs (S.view steps.new) }
+        ensures left { (S.view steps.new).steps + steps_left self.new room.new (places_of limbo.new) ≤
+            (S.view steps.old).steps + steps_left self.old room.old (places_of limbo.old) }
+        ensures fits { (u : View) (ps : List Place) →
+            Fits (S.sizes steps.old) u ps self.old room.old (places_of limbo.old) (S.view steps.old) →
+            Fits (S.sizes steps.old) u ps self.new room.new (places_of limbo.new) (S.view steps.new) }
     {
-        // what is in hand is vouched for, and what is vouched for is made, with no step of the machine in between
+        // each stage goes on where the one before it ended, with no step of the machine in between
         'stages: for _ in 0..STAGES {
-            self.hurry_stage(steps, room);
+            self.hurry_stage(steps, room, limbo);
         }
     }
 
-    /// Makes the steps of the stage where its attempt stands, one after another.
-    fn hurry_stage<S: EpochSteps>(&mut self, steps: &mut S, room: &mut Room)
+    /// Makes the steps of the stage where it stands, one after another.
+    fn hurry_stage<S: EpochSteps>(&mut self, steps: &mut S, room: &mut Room, limbo: &mut Limbo)
         requires admitted { S.admits steps.old (key_of self.old.job room.old).items }
-        requires fits { (u : View) × (ps : List Place) × (qs : List Place) ×
-            Fits (S.sizes steps.old) u ps self.old room.old qs (S.view steps.old) }
+        requires fits { (u : View) × (ps : List Place) ×
+            Fits (S.sizes steps.old) u ps self.old room.old (places_of limbo.old) (S.view steps.old) }
         ensures only { S.only steps.old steps.new }
-        ensures job { self.new.job ≡ self.old.job }
-        ensures turns { self.new.turns ≡ self.old.turns }
-        ensures key { SameKey self.old.job room.old room.new }
-        ensures refuses { WillRefuse self.old → WillRefuse self.new }
-        ensures apart { IsApart self.old → IsApart self.new }
-        ensures going { ended_at self.old ≡ None → ended_at self.new ≡ None }
+        ensures same { IsSameWrite self.old room.old self.new room.new }
         ensures later { (S.view steps.old).steps ≤ (S.view steps.new).steps }
-        ensures left { (qs : List Place) → (S.view steps.new).steps + steps_left self.new room.new qs ≤
-            (S.view steps.old).steps + steps_left self.old room.old qs }
-        ensures fits { (u : View) (ps qs : List Place) → Fits (S.sizes steps.old) u ps self.old room.old qs (S.view steps.old) →
-            Fits (S.sizes steps.old) u ps self.new room.new qs (S.view steps.new) }
+        ensures left { (S.view steps.new).steps + steps_left self.new room.new (places_of limbo.new) ≤
+            (S.view steps.old).steps + steps_left self.old room.old (places_of limbo.old) }
+        ensures fits { (u : View) (ps : List Place) →
+            Fits (S.sizes steps.old) u ps self.old room.old (places_of limbo.old) (S.view steps.old) →
+            Fits (S.sizes steps.old) u ps self.new room.new (places_of limbo.new) (S.view steps.new) }
     {
         match self.stage {
             Stage::Trying => self.try_on(steps, room),
-            Stage::Opening | Stage::Closing | Stage::Ended => {}
+            Stage::Opening | Stage::Closing => self.frame_on(steps, room, limbo),
+            Stage::Ended => {}
+        }
+    }
+
+    /// Makes the steps of its opening, or of its close, one after another.
+    fn frame_on<S: EpochSteps>(&mut self, steps: &mut S, room: &mut Room, limbo: &mut Limbo)
+        requires fits { (u : View) × (ps : List Place) ×
+            Fits (S.sizes steps.old) u ps self.old room.old (places_of limbo.old) (S.view steps.old) }
+        ensures only { S.only steps.old steps.new }
+        ensures same { IsSameWrite self.old room.old self.new room.new }
+        ensures later { (S.view steps.old).steps ≤ (S.view steps.new).steps }
+        ensures left { (S.view steps.new).steps + steps_left self.new room.new (places_of limbo.new) ≤
+            (S.view steps.old).steps + steps_left self.old room.old (places_of limbo.old) }
+        ensures fits { (u : View) (ps : List Place) →
+            Fits (S.sizes steps.old) u ps self.old room.old (places_of limbo.old) (S.view steps.old) →
+            Fits (S.sizes steps.old) u ps self.new room.new (places_of limbo.new) (S.view steps.new) }
+    {
+        while let Some(asked) = self.frame_asked(room, limbo) {
+            let word = make_frame(steps, asked);
+            self.told(room, limbo, Answer::Word(word));
+        }
+    }
+
+    /// What comes next of its opening, or of its close.
+    #[inline(always)]
+    fn frame_asked(&self, room: &Room, limbo: &Limbo) -> Option<FrameStep>
+        ensures asks { IfSome result (λ a. asks self.now room.now (places_of limbo.now) ≡ Some (steps_asked.Frame a)) }
+        ensures framed { IfSome result (λ a. self.now.stage ≢ stages.Trying) }
+        ensures allowed { (z : Sizes) (u v : View) (ps : List Place) → Fits z u ps self.now room.now (places_of limbo.now) v →
+            IfSome result (IsFrameAllowed z v) }
+    {
+        match self.stage {
+            Stage::Opening => self.opening.next(limbo),
+            Stage::Closing => self.closing.next(&room.stock),
+            Stage::Trying | Stage::Ended => None,
         }
     }
 

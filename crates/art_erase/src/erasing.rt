@@ -300,7 +300,7 @@ impl Erasing {
     }
 
     /// The place of the key was checked.
-    fn settled(&mut self, room: &mut Room, stand: Stand, answer: CellAnswer)
+    pub(crate) fn settled(&mut self, room: &mut Room, stand: Stand, answer: CellAnswer)
         requires { (z : SizesOf) × (u : View) × (v : View) × (w : View) × IsRoom z room.old × IsFinding z u self.old room.old v ×
             (stand_at self.old.finding ≡ Some stand) × CellAnswers z (absent room.old.gone) (check_of stand) answer v w }
         ensures kept { IsKept room.old room.new }
@@ -495,7 +495,7 @@ fn finding_asked(finding: &Finding) -> Option<CellAsked>
 }
 
 /// Where no leaf has the key, a check tells that; of a leaf that has it a check tells nothing yet.
-fn check_of(stand: &Stand) -> CellAsked
+pub(crate) fn check_of(stand: &Stand) -> CellAsked
     ensures { result ≡ check_of stand.now }
 {
     match stand.verdict {

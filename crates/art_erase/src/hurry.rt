@@ -5,7 +5,7 @@ ghost use Rattle.art_erase.specs.Erasing.{Fits, IsKept, ended_at, is_free, steps
 ghost use Rattle.art_erase.specs.declared.erasing.Stage.TheVariants as stages;
 ghost use Rattle.art_step.specs.declared.views.View.{View};
 
-use crate::erasing::{Erased, Erasing, Stage, goes};
+use crate::erasing::{Erased, Erasing, Stage, check_of, goes};
 use art_attempt::{Room, is_begun, steps_of};
 use art_gather::{make as make_supply, read_cells};
 use art_make::make as make_change;
@@ -45,6 +45,37 @@ impl Erasing {
                 self.stage = Stage::Ended(Erased::Anew);
             }
         }
+    }
+
+    /// Checks the place of the key, once that is known, where this tells nothing and more than one turn is left.
+    #[inline(always)]
+    fn settle_on<S: EpochSteps>(&mut self, steps: &mut S, room: &mut Room, left: &mut u32)
+        requires turn { 0 < left.old }
+        requires free { is_free self.old ≡ true }
+        requires fits { (u : View) × Fits (S.sizes steps.old) u self.old room.old (S.view steps.old) }
+        ensures only { S.only steps.old steps.new }
+        ensures free { is_free self.new ≡ true }
+        ensures kept { IsKept room.old room.new }
+        ensures turn { 0 < left.new }
+        ensures less { left.new ≤ left.old }
+        ensures made { (S.view steps.new).steps + left.new ≡ (S.view steps.old).steps + left.old }
+        ensures fits { (u : View) → Fits (S.sizes steps.old) u self.old room.old (S.view steps.old) →
+            Fits (S.sizes steps.old) u self.new room.new (S.view steps.new) }
+    {
+        let Stage::Finding = self.stage else {
+            return;
+        };
+        let Some(stand) = self.finding.stand() else {
+            return;
+        };
+        if *left <= 1 {
+            return;
+        }
+        let Some(answer) = look(steps, check_of(&stand)) else {
+            return;
+        };
+        *left -= 1;
+        self.settled(room, stand, answer);
     }
 
     /// Makes steps until a smaller node is in hand, or none was found, as long as more than one turn is left.
@@ -246,7 +277,10 @@ impl Erasing {
             return;
         }
         match self.stage {
-            Stage::Finding => self.find_all(steps, room, left),
+            Stage::Finding => {
+                self.find_all(steps, room, left);
+                self.settle_on(steps, room, left);
+            }
             Stage::Supplying(_) => self.supply_all(steps, room, left),
             Stage::Reading(_) => self.read_all(steps, room, left),
             Stage::Vouching => {

@@ -75,6 +75,7 @@ impl Descent {
     ghost use Rattle.art_find.specs.declared.asked.Answer.{Answer as AnswerTold};
     ghost use Rattle.art_find.specs.declared.asked.Answer.TheVariants as told;
     ghost use Rattle.art_find.specs.declared.asked.Asked.{Asked as AskedStep};
+    ghost use Rattle.art_find.specs.declared.descents.Stage.TheVariants as stages;
     ghost use Rattle.art_step.specs.Shows.{HasValue};
     ghost use Rattle.art_step.specs.declared.deeds.Deed.{Deed};
     ghost use Rattle.art_step.specs.declared.views.Sizes.{Sizes};
@@ -130,6 +131,14 @@ impl Descent {
         ensures { result ≡ self.now.depth }
     {
         self.depth
+    }
+
+    /// Where it stands.
+    #[inline(always)]
+    pub fn stage(&self) -> Stage
+        ensures { result ≡ self.now.stage }
+    {
+        self.stage
     }
 
     /// The key's value, or that it has none: at the step that settles it, and once that is settled.
@@ -211,7 +220,22 @@ impl Descent {
             Fits z k what self.old u v → asks self.old.stage ≡ Some asked →
             Answers z (what (answer_at self.old.stage)) asked (told.Begun (Ok stamp)) v w → Fits z k what self.new u w }
     {
-        self.stage = match self.stage {
+        self.began_at(self.stage, stamp);
+    }
+
+    /// A version word was clear, and gave this stamp, where the descent stood at this stage.
+    #[inline(always)]
+    pub fn began_at(&mut self, stage: Stage, stamp: Stamp)
+        requires at { self.old.stage ≡ stage }
+        requires wants { WantsVersion (asks stage) }
+        ensures steps { most_steps self.old.depth self.old.stage < most_steps self.new.depth self.new.stage }
+        ensures stays { self.new ≡ record self.old { stage = stage_begun stamp self.old.stage } }
+        ensures exact { IsExact self.new.stage }
+        ensures fits { (z : Sizes) (k : List ℕ) (what : Option ℕ → Deed) (u v w : View) (asked : AskedStep) →
+            Fits z k what self.old u v → asks self.old.stage ≡ Some asked →
+            Answers z (what (answer_at self.old.stage)) asked (told.Begun (Ok stamp)) v w → Fits z k what self.new u w }
+    {
+        self.stage = match stage {
             Stage::Start => Stage::Anchor(stamp),
             Stage::Below(above, node) => Stage::Both(above, stamp, node),
             _ => unreachable!(),
@@ -229,7 +253,22 @@ impl Descent {
             Fits z k what self.old u v → asks self.old.stage ≡ Some asked →
             Answers z (what (answer_at self.old.stage)) asked (told.Checked (Ok tt)) v w → Fits z k what self.new u w }
     {
-        self.stage = match self.stage {
+        self.checked_at(self.stage);
+    }
+
+    /// A version word was unchanged, where the descent stood at this stage.
+    #[inline(always)]
+    pub fn checked_at(&mut self, stage: Stage)
+        requires at { self.old.stage ≡ stage }
+        requires wants { WantsCheck (asks stage) }
+        ensures steps { most_steps self.old.depth self.old.stage < most_steps self.new.depth self.new.stage }
+        ensures stays { self.new ≡ record self.old { stage = stage_checked self.old.stage } }
+        ensures exact { IsExact self.new.stage }
+        ensures fits { (z : Sizes) (k : List ℕ) (what : Option ℕ → Deed) (u v w : View) (asked : AskedStep) →
+            Fits z k what self.old u v → asks self.old.stage ≡ Some asked →
+            Answers z (what (answer_at self.old.stage)) asked (told.Checked (Ok tt)) v w → Fits z k what self.new u w }
+    {
+        self.stage = match stage {
             Stage::Child(stamp, link) => below(stamp, link),
             Stage::Both(_, stamp, node) => Stage::Header(stamp, node),
             Stage::Decided(_, verdict) => Stage::Ended(verdict.value()),
@@ -240,6 +279,7 @@ impl Descent {
     /// A version word was locked, obsolete or changed: the descent begins anew.
     #[inline(always)]
     pub fn failed(&mut self)
+        ensures start { self.new ≡ record self.old { stage = stages.Start } }
         ensures steps { most_steps self.new.depth self.new.stage ≡ 0 }
         ensures exact { IsExact self.new.stage }
         ensures fits { (z : Sizes) (k : List ℕ) (what : Option ℕ → Deed) (u v : View) → IsReading u v → Fits z k what self.new u v }

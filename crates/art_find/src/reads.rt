@@ -38,7 +38,25 @@ impl Descent {
             Fits z key.now what self.old u v → asks self.old.stage ≡ Some asked →
             Answers z (what (answer_at self.old.stage)) asked (told.Word word) v w → Fits z key.now what self.new u w }
     {
-        match self.stage {
+        self.read_at(self.stage, key, word);
+    }
+
+    /// The word that it asked for, where it stood at this stage, is this.
+    #[inline(always)]
+    pub fn read_at(&mut self, stage: Stage, key: &[u8], word: u64)
+        requires few { length key.now ≤ 64 }
+        requires at { self.old.stage ≡ stage }
+        requires wants { WantsWord (asks stage) }
+        requires fits { (z : Sizes) × (what : Option ℕ → Deed) × (u : View) × (v : View) × Fits z key.now what self.old u v }
+        ensures steps { most_steps self.old.depth self.old.stage < most_steps self.new.depth self.new.stage }
+        ensures going { ended_at self.new.stage ≡ None }
+        ensures stays { stands_on self.new.stage ≡ stands_on self.old.stage }
+        ensures exact { IsExact self.new.stage }
+        ensures fits { (z : Sizes) (what : Option ℕ → Deed) (u v w : View) (asked : AskedStep) →
+            Fits z key.now what self.old u v → asks self.old.stage ≡ Some asked →
+            Answers z (what (answer_at self.old.stage)) asked (told.Word word) v w → Fits z key.now what self.new u w }
+    {
+        match stage {
             Stage::Anchor(stamp) => self.see_root(key, stamp, word),
             Stage::Header(stamp, node) => self.see_header(
                 key,

@@ -1,4 +1,5 @@
 pub mod FoundPlaces
+mod Hearing
 pub mod Keeping
 pub mod Looks
 pub mod Placing

@@ -2,8 +2,9 @@
 ghost use Rattle.std.specs.Prelude.{◌≡◌, ◌≤◌, ◌<◌, ℕ, List, Option, length, None};
 ghost use Rattle.art_place.specs.Findings.{AsksPlace, IsHeard};
 
-use crate::{Desk, look};
-use art_find::{Answer, Asked, Descent, Verdict};
+use crate::Desk;
+use art_cell::Cell;
+use art_find::{Answer, Asked, Descent, Stage, Verdict};
 use art_step::{Stamp, Steps};
 
 /// The cell that has the node as its child where a finding stands.
@@ -40,14 +41,14 @@ impl Finding {
     ghost use Rattle.art_find.specs.Descents.{IsExact, IsReading, Stays};
     ghost use Rattle.art_find.specs.Descents.{answer_at, asks, ended_at, most_steps};
     ghost use Rattle.art_find.specs.declared.asked.Asked.{Asked as AskedStep};
-    ghost use Rattle.art_find.specs.declared.asked.Asked.TheVariants.{Read as read_asked};
+    ghost use Rattle.art_find.specs.declared.asked.Asked.TheVariants.{Begin as begin_asked, Check as check_asked, Read as read_asked, ReadLeaf as leaf_asked};
     ghost use Rattle.art_place.specs.Findings.{Enters, FindingFits, IsStanding, Keeps, LookedOn, stand_at};
     ghost use Rattle.art_place.specs.declared.desks.Desk.{Desk as DeskOf};
     ghost use Rattle.art_step.specs.Shows.{HasValue};
     ghost use Rattle.art_step.specs.declared.deeds.Deed.{Deed};
     ghost use Rattle.art_step.specs.declared.views.Sizes.{Sizes};
     ghost use Rattle.art_step.specs.declared.views.View.{View};
-    ghost use Rattle.std.specs.Prelude.{Some, IfNone, IfSome, true, false};
+    ghost use Rattle.std.specs.Prelude.{Some, IfNone, IfSome, true, false, ⊤};
 
     /// At its beginning.
     pub fn new() -> Finding
@@ -127,12 +128,46 @@ impl Finding {
             self.new desk.new (S.view steps.new)) }
     {
         let asked = self.next()?;
-        if let Asked::Read(stamp, place) = asked {
-            self.read_on(steps, desk, key, stamp, place);
-            return Some(true);
+        // a copy: what is in memory is read anew after each step, since other threads write there
+        let stage = self.descent.stage();
+        match asked {
+            Asked::Begin(cell) => Some(self.begin_on(steps, desk, stage, cell)),
+            Asked::Read(stamp, place) => {
+                self.read_on(steps, desk, key, stage, stamp, place);
+                Some(true)
+            }
+            Asked::ReadLeaf(stamp, leaf, place) => {
+                self.read_leaf_on(steps, key, stage, stamp, leaf, place);
+                Some(true)
+            }
+            Asked::Check(stamp) => Some(self.check_on(steps, desk, stage, stamp)),
+            Asked::Settle(_) => None,
         }
-        let answer = look(steps, asked)?;
-        Some(self.told(desk, key, answer))
+    }
+
+    /// Reads the version word that it asks for, and goes on where that is clear: else it begins anew.
+    #[inline(always)]
+    fn begin_on<S: Steps>(&mut self, steps: &mut S, desk: &mut Desk, stage: Stage, cell: Cell) -> bool
+        requires at { self.old.descent.stage ≡ stage }
+        requires asked { asks stage ≡ Some (begin_asked cell) }
+        requires may { IsAllowed (S.sizes steps.old) (λ s. ⊤) (S.view steps.old) (begin_asked cell) }
+        requires fits { (k : List ℕ) × (what : Option ℕ → Deed) × (u : View) ×
+            FindingFits (S.sizes steps.old) k what self.old desk.old u (S.view steps.old) }
+        ensures only { S.only steps.old steps.new }
+        ensures looked { (k : List ℕ) → LookedOn (S.sizes steps.old) k result self.old desk.old (S.view steps.old)
+            self.new desk.new (S.view steps.new) }
+    {
+        match steps.begin(cell) {
+            Ok(stamp) => {
+                self.descent.began_at(stage, stamp);
+                self.enter(desk, Some(Asked::Begin(cell)));
+                true
+            }
+            Err(_) => {
+                self.descent.failed();
+                false
+            }
+        }
     }
 
     /// Reads the word that it asks for, hears it and keeps it.
@@ -142,11 +177,13 @@ impl Finding {
         steps: &mut S,
         desk: &mut Desk,
         key: &[u8],
+        stage: Stage,
         stamp: Stamp,
         place: usize,
     )
         requires few { length key.now ≤ 64 }
-        requires asked { asks self.old.descent.stage ≡ Some (read_asked stamp place) }
+        requires at { self.old.descent.stage ≡ stage }
+        requires asked { asks stage ≡ Some (read_asked stamp place) }
         requires inside { place < 266 }
         requires fits { (what : Option ℕ → Deed) × (u : View) ×
             FindingFits (S.sizes steps.old) key.now what self.old desk.old u (S.view steps.old) }
@@ -155,8 +192,58 @@ impl Finding {
             self.new desk.new (S.view steps.new) }
     {
         let found = steps.read(stamp, place);
-        self.descent.read(key, found);
+        self.descent.read_at(stage, key, found);
         desk.note(place, found);
+    }
+
+    /// Reads the word of a leaf that it asks for, and hears it. Nothing is kept of a leaf.
+    #[inline(always)]
+    fn read_leaf_on<S: Steps>(
+        &mut self,
+        steps: &mut S,
+        key: &[u8],
+        stage: Stage,
+        stamp: Stamp,
+        leaf: u32,
+        place: usize,
+    )
+        requires few { length key.now ≤ 64 }
+        requires at { self.old.descent.stage ≡ stage }
+        requires asked { asks stage ≡ Some (leaf_asked stamp leaf place) }
+        requires may { IsAllowed (S.sizes steps.old) (λ s. ⊤) (S.view steps.old) (leaf_asked stamp leaf place) }
+        requires fits { (what : Option ℕ → Deed) × (desk : DeskOf) × (u : View) ×
+            FindingFits (S.sizes steps.old) key.now what self.old desk u (S.view steps.old) }
+        ensures only { S.only steps.old steps.new }
+        ensures looked { (desk : DeskOf) → LookedOn (S.sizes steps.old) key.now true self.old desk (S.view steps.old)
+            self.new desk (S.view steps.new) }
+    {
+        let found = steps.read_leaf(stamp, leaf, place);
+        self.descent.read_at(stage, key, found);
+    }
+
+    /// Checks the cell that it asks for, and goes on where that is unchanged: else it begins anew.
+    #[inline(always)]
+    fn check_on<S: Steps>(&mut self, steps: &mut S, desk: &mut Desk, stage: Stage, stamp: Stamp) -> bool
+        requires at { self.old.descent.stage ≡ stage }
+        requires asked { asks stage ≡ Some (check_asked stamp) }
+        requires may { IsAllowed (S.sizes steps.old) (λ s. ⊤) (S.view steps.old) (check_asked stamp) }
+        requires fits { (k : List ℕ) × (what : Option ℕ → Deed) × (u : View) ×
+            FindingFits (S.sizes steps.old) k what self.old desk.old u (S.view steps.old) }
+        ensures only { S.only steps.old steps.new }
+        ensures looked { (k : List ℕ) → LookedOn (S.sizes steps.old) k result self.old desk.old (S.view steps.old)
+            self.new desk.new (S.view steps.new) }
+    {
+        match steps.check(stamp, None) {
+            Ok(()) => {
+                self.descent.checked_at(stage);
+                self.enter(desk, Some(Asked::Check(stamp)));
+                true
+            }
+            Err(_) => {
+                self.descent.failed();
+                false
+            }
+        }
     }
 
     /// A version word was locked, obsolete or changed: the finding begins anew.
@@ -166,11 +253,11 @@ impl Finding {
         ensures fits { (z : Sizes) (k : List ℕ) (what : Option ℕ → Deed) (desk : DeskOf) (u v : View) → IsReading u v →
             FindingFits z k what self.new desk u v }
     {
-        self.descent.failed();
-        self.above = None;
+        *self = Finding::new();
     }
 
     /// Keeps what was read by the step that was asked for.
+    #[inline(always)]
     fn keep(&mut self, desk: &mut Desk, asked: Option<Asked>, answer: Answer)
         requires { AsksPlace asked }
         ensures descent { self.new.descent ≡ self.old.descent }
@@ -185,6 +272,7 @@ impl Finding {
     }
 
     /// A version word was asked for. Where a read of a cell comes next, the finding stands on that cell from now on.
+    #[inline(always)]
     fn enter(&mut self, desk: &mut Desk, asked: Option<Asked>)
         ensures descent { self.new.descent ≡ self.old.descent }
         ensures enters { Enters asked (asks self.old.descent.stage) self.old.descent.depth self.old.above desk.old
@@ -208,6 +296,7 @@ impl Finding {
 }
 
 /// Keeps a word that was read.
+#[inline(always)]
 fn hear(desk: &mut Desk, asked: Option<Asked>, word: u64)
     requires { AsksPlace asked }
     ensures { IsHeard asked word desk.old desk.new }

@@ -41,7 +41,7 @@ hurry-requires-clause-fits g c =
     let l = c.loop-write in
     let q = c.requires.fits in
     let here = l.invariant.fits q.0 q.1 q.2 in
-    (q.0, q.1, places_of l.limbo, subst (λ (z : Sizes). Fits z q.0 q.1 l.write l.room (places_of l.limbo) (g.S.Steps.view l.steps)) (sym l.invariant.sizes) here)
+    (q.0, q.1, subst (λ (z : Sizes). Fits z q.0 q.1 l.write l.room (places_of l.limbo) (g.S.Steps.view l.steps)) (sym l.invariant.sizes) here)
 
 pub step-requires-clause-admitted : goal.step-requires-clause-admitted
 step-requires-clause-admitted g c =
@@ -49,11 +49,11 @@ step-requires-clause-admitted g c =
     let i = l.invariant in
     let e = c.hurry.ensures in
     let job = c.args.write.job in
-    let same = subst (λ (j : JobOf). SameKey j l.room c.hurry.new.room) i.job e.key in
+    let same = subst (λ (j : JobOf). SameKey j l.room c.hurry.new.room) i.job e.same.key in
     let here = subst (λ (k : ArrayVec ℕ). g.S.Steps.admits c.hurry.new.steps k.items) (sym (same.key ∙ i.key.key))
     ((g.met.S.Steps.only_admits l.steps c.hurry.new.steps (key_of job c.args.room.now).items e.only).1
     ((g.met.S.Steps.only_admits c.args.steps.now l.steps (key_of job c.args.room.now).items i.only).1 c.requires.admitted)) in
-    subst (λ (j : JobOf). g.S.Steps.admits c.hurry.new.steps (key_of j c.hurry.new.room).items) (sym (e.job ∙ i.job)) here
+    subst (λ (j : JobOf). g.S.Steps.admits c.hurry.new.steps (key_of j c.hurry.new.room).items) (sym (e.same.job ∙ i.job)) here
 
 pub step-requires-clause-fits : goal.step-requires-clause-fits
 step-requires-clause-fits g c =
@@ -63,15 +63,15 @@ step-requires-clause-fits g c =
     let here = subst (λ (z : Sizes). Fits z q.0 q.1 l.write l.room (places_of l.limbo) (g.S.Steps.view l.steps)) (sym l.invariant.sizes) (l.invariant.fits q.0 q.1 q.2) in (
       q.0,
       q.1,
-      subst (λ (z : Sizes). Fits z q.0 q.1 c.hurry.new.self c.hurry.new.room (places_of l.limbo) (g.S.Steps.view c.hurry.new.steps))
-          (sym (g.met.S.Steps.only_sizes l.steps c.hurry.new.steps e.only)) (e.fits q.0 q.1 (places_of l.limbo) here),
+      subst (λ (z : Sizes). Fits z q.0 q.1 c.hurry.new.self c.hurry.new.room (places_of c.hurry.new.limbo) (g.S.Steps.view c.hurry.new.steps))
+          (sym (g.met.S.Steps.only_sizes l.steps c.hurry.new.steps e.only)) (e.fits q.0 q.1 here),
     )
 
 pub loop-write-smaller : goal.loop-write-smaller
 loop-write-smaller g c =
     let less = c.step.ensures.left in
     let later = c.hurry.ensures.later in
-    let few = c.hurry.ensures.left (places_of c.loop-write.limbo) in
+    let few = c.hurry.ensures.left in
     omega (arith, less, later, few)
 
 pub loop-write-preserved : goal.loop-write-preserved
@@ -87,21 +87,51 @@ loop-write-preserved g c =
     record {
       only = g.met.S.Steps.only_then s c.hurry.new.steps c.step.new.steps only e.only;
       sizes = g.met.S.Steps.only_sizes c.hurry.new.steps c.step.new.steps e.only ∙ sizes;
-      job = e.job ∙ (h.job ∙ i.job);
-      turns = e.turns ∙ (h.turns ∙ i.turns);
+      job = e.job ∙ (h.same.job ∙ i.job);
+      turns = e.turns ∙ (h.same.turns ∙ i.turns);
       key =
-          let one = subst (λ (j : JobOf). SameKey j l.room c.hurry.new.room) i.job h.key in
-          let two = subst (λ (j : JobOf). SameKey j c.hurry.new.room c.step.new.room) (h.job ∙ i.job) e.key in
+          let one = subst (λ (j : JobOf). SameKey j l.room c.hurry.new.room) i.job h.same.key in
+          let two = subst (λ (j : JobOf). SameKey j c.hurry.new.room c.step.new.room) (h.same.job ∙ i.job) e.key in
           record { key = two.key ∙ (one.key ∙ i.key.key); value = two.value ∙ (one.value ∙ i.key.value) };
-      refuses = λ r. e.refuses (h.refuses (i.refuses r));
-      apart = λ keys a. e.apart (still_apart (g.S.Steps.admits s) (g.S.Steps.admits c.hurry.new.steps) (λ k. (g.met.S.Steps.only_admits s c.hurry.new.steps k only).0) keys) (h.apart (i.apart keys a));
-      left = let one = e.one in let less = e.left in let before = i.left in let few = h.left (places_of l.limbo) in omega (arith, one, less, before, few);
+      refuses = λ r. e.refuses (h.same.refuses (i.refuses r));
+      apart = λ keys a. e.apart (still_apart (g.S.Steps.admits s) (g.S.Steps.admits c.hurry.new.steps) (λ k. (g.met.S.Steps.only_admits s c.hurry.new.steps k only).0) keys) (h.same.apart (i.apart keys a));
+      left = let one = e.one in let less = e.left in let before = i.left in let few = h.left in omega (arith, one, less, before, few);
       fits = λ u ps fits. subst (λ (z : Sizes). Fits z u ps c.step.new.write c.step.new.room (places_of c.step.new.limbo) w) sizes
-          (e.fits u ps (subst (λ (z : Sizes). Fits z u ps c.hurry.new.self c.hurry.new.room (places_of l.limbo) (g.S.Steps.view c.hurry.new.steps)) (sym (g.met.S.Steps.only_sizes l.steps c.hurry.new.steps h.only))
-          (h.fits u ps (places_of l.limbo) (subst (λ (z : Sizes). Fits z u ps l.write l.room (places_of l.limbo) (g.S.Steps.view l.steps)) (sym i.sizes) (i.fits u ps fits)))));
+          (e.fits u ps (subst (λ (z : Sizes). Fits z u ps c.hurry.new.self c.hurry.new.room (places_of c.hurry.new.limbo) (g.S.Steps.view c.hurry.new.steps)) (sym (g.met.S.Steps.only_sizes l.steps c.hurry.new.steps h.only))
+          (h.fits u ps (subst (λ (z : Sizes). Fits z u ps l.write l.room (places_of l.limbo) (g.S.Steps.view l.steps)) (sym i.sizes) (i.fits u ps fits)))));
     }
 
-pub returns-clause-ended : goal.returns-clause-ended
-returns-clause-ended g c =
-    let some = some_there c.ended.result (cc (c.is_none.ensures, c.loop-write-test.false)) in
+pub returns-then-is_some-clause-only : goal.returns-then-is_some-clause-only
+returns-then-is_some-clause-only g c = g.met.S.Steps.only_then c.args.steps.now c.loop-write.steps c.hurry.new.steps c.loop-write.invariant.only c.hurry.ensures.only
+
+pub returns-then-is_some-clause-key : goal.returns-then-is_some-clause-key
+returns-then-is_some-clause-key g c =
+    let l = c.loop-write in
+    let i = l.invariant in
+    let one = subst (λ (j : JobOf). SameKey j l.room c.hurry.new.room) i.job c.hurry.ensures.same.key in
+    record { key = one.key ∙ i.key.key; value = one.value ∙ i.key.value }
+
+pub returns-then-is_some-clause-refuses : goal.returns-then-is_some-clause-refuses
+returns-then-is_some-clause-refuses g c = λ will. c.hurry.ensures.same.refuses (c.loop-write.invariant.refuses will)
+
+pub returns-then-is_some-clause-apart : goal.returns-then-is_some-clause-apart
+returns-then-is_some-clause-apart g c = λ keys is. c.hurry.ensures.same.apart (c.loop-write.invariant.apart keys is)
+
+pub returns-then-is_some-clause-left : goal.returns-then-is_some-clause-left
+returns-then-is_some-clause-left g c =
+    let before = c.loop-write.invariant.left in
+    let few = c.hurry.ensures.left in
+    omega (arith, before, few)
+
+pub returns-then-is_some-clause-fits : goal.returns-then-is_some-clause-fits
+returns-then-is_some-clause-fits g c = λ u ps fits.
+    let l = c.loop-write in
+    let i = l.invariant in
+    let h = c.hurry.new in
+    subst (λ (z : Sizes). Fits z u ps h.self h.room (places_of h.limbo) (g.S.Steps.view h.steps)) i.sizes
+    (c.hurry.ensures.fits u ps (subst (λ (z : Sizes). Fits z u ps l.write l.room (places_of l.limbo) (g.S.Steps.view l.steps)) (sym i.sizes) (i.fits u ps fits)))
+
+pub returns-then-is_some-clause-ended : goal.returns-then-is_some-clause-ended
+returns-then-is_some-clause-ended g c =
+    let some = some_there c.ended.result (sym c.is_some.ensures ∙ c.if-is_some.true) in
     (some.0, sym c.ended.ensures.at ∙ some.1)

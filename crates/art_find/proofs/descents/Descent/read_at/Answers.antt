@@ -1,4 +1,4 @@
-use Rattle.std.proofs.Common.{◌+◌, refl}
+use Rattle.std.proofs.Common.{◌+◌, ◌∙◌, refl}
 use Rattle.art_cell.specs.declared.cells.Cell.TheVariants as cell
 use Rattle.art_find.specs.declared.asked.Answer.TheVariants.{Word as word_told}
 use Rattle.art_find.specs.declared.asked.Asked.TheVariants.{Read, ReadLeaf}
@@ -6,14 +6,14 @@ use Rattle.art_find.specs.declared.descents.Stage.TheVariants.{Anchor, Header, P
 use Rattle.art_step.specs.declared.views.Fact.TheVariants.{Word}
 use Rattle.art_step.proofs.Shows.{read_rest, read_stamp}
 use Rattle.art_find.proofs.Stages.{at_stage, leaf_on, leaf_still, leaf_word, node_noted, node_on, node_still, node_word, reads_on}
-use Rattle.art_find.proofs.descents.Descent.read.Goals as goal
+use Rattle.art_find.proofs.descents.Descent.read_at.Goals as goal
 
 pub returns-in-Anchor-clause-fits : goal.returns-in-Anchor-clause-fits
 returns-in-Anchor-clause-fits c = λ z what u v w asked fits is row.
     let m = c.args.self.now in
     let x = c.in-Anchor.stamp in
     let word = c.args.word in
-    let both = at_stage z c.args.key.now what m.depth m.stage (Anchor x) asked (word_told word) u v w c.in-Anchor.is is fits row in
+    let both = at_stage z c.args.key.now what m.depth m.stage (Anchor x) asked (word_told word) u v w (c.requires.at ∙ c.in-Anchor.is) is fits row in
     let read = both.1 (Read x 1) refl in
     c.see_root.ensures.fits z what u w (reads_on u v w (read_rest v w x (Word 1 word) read.is) both.0.0) (read_stamp z v w x (Word 1 word) x read.is both.0.1) both.0.2
     (node_word z u v w x 1 word cell.Anchor both.0.2 read) (node_noted z u v w x 1 word read)
@@ -24,7 +24,7 @@ returns-in-Header-clause-fits c = λ z what u v w asked fits is row.
     let y = c.in-Header.stamp in
     let n = c.in-Header.node in
     let word = c.args.word in
-    let both = at_stage z c.args.key.now what m.depth m.stage (Header y n) asked (word_told word) u v w c.in-Header.is is fits row in
+    let both = at_stage z c.args.key.now what m.depth m.stage (Header y n) asked (word_told word) u v w (c.requires.at ∙ c.in-Header.is) is fits row in
     let read = both.1 (Read y 1) refl in
     let there = node_word z u v w y 1 word (cell.Node n) both.0.0.cell read in
     let still = node_still z u v w y 1 word _ read both.0.2 in
@@ -36,7 +36,7 @@ returns-in-Prefix-clause-fits c = λ z what u v w asked fits is row.
     let seen = c.in-Prefix.seen in
     let word = c.args.word in
     let place = 2 + c.in-Prefix.number in
-    let both = at_stage z c.args.key.now what m.depth m.stage (Prefix seen c.in-Prefix.number c.in-Prefix.before) asked (word_told word) u v w c.in-Prefix.is is fits row in
+    let both = at_stage z c.args.key.now what m.depth m.stage (Prefix seen c.in-Prefix.number c.in-Prefix.before) asked (word_told word) u v w (c.requires.at ∙ c.in-Prefix.is) is fits row in
     let read = both.1 (Read seen.stamp place) refl in
     c.see_prefix.ensures.fits z what u w (node_on z u v w seen.stamp place word seen.node both.0.0 read) (node_still z u v w seen.stamp place word _ read both.0.1.shows)
     (node_word z u v w seen.stamp place word (cell.Node seen.node) both.0.0.cell read)
@@ -47,7 +47,7 @@ returns-in-Keys-clause-fits c = λ z what u v w asked fits is row.
     let seen = c.in-Keys.seen in
     let word = c.args.word in
     let place = 10 + c.in-Keys.number in
-    let both = at_stage z c.args.key.now what m.depth m.stage (Keys seen c.in-Keys.number) asked (word_told word) u v w c.in-Keys.is is fits row in
+    let both = at_stage z c.args.key.now what m.depth m.stage (Keys seen c.in-Keys.number) asked (word_told word) u v w (c.requires.at ∙ c.in-Keys.is) is fits row in
     let read = both.1 (Read seen.stamp place) refl in
     c.see_keys.ensures.fits z what u w (node_on z u v w seen.stamp place word seen.node both.0.0 read) (node_still z u v w seen.stamp place word _ read both.0.1.shows)
     (node_word z u v w seen.stamp place word (cell.Node seen.node) both.0.0.cell read)
@@ -58,7 +58,7 @@ returns-in-Slot-clause-fits c = λ z what u v w asked fits is row.
     let seen = c.in-Slot.seen in
     let place = c.in-Slot.place in
     let word = c.args.word in
-    let both = at_stage z c.args.key.now what m.depth m.stage (Slot seen place) asked (word_told word) u v w c.in-Slot.is is fits row in
+    let both = at_stage z c.args.key.now what m.depth m.stage (Slot seen place) asked (word_told word) u v w (c.requires.at ∙ c.in-Slot.is) is fits row in
     let read = both.1 (Read seen.stamp place) refl in
     c.see_slot.ensures.fits z what u w (node_on z u v w seen.stamp place word seen.node both.0.0 read) (node_still z u v w seen.stamp place word _ read both.0.1.shows)
     (node_word z u v w seen.stamp place word (cell.Node seen.node) both.0.0.cell read) (node_noted z u v w seen.stamp place word read)
@@ -69,7 +69,7 @@ returns-in-Value-clause-fits c = λ z what u v w asked fits is row.
     let x = c.in-Value.stamp in
     let l = c.in-Value.leaf in
     let word = c.args.word in
-    let both = at_stage z c.args.key.now what m.depth m.stage (Value x l) asked (word_told word) u v w c.in-Value.is is fits row in
+    let both = at_stage z c.args.key.now what m.depth m.stage (Value x l) asked (word_told word) u v w (c.requires.at ∙ c.in-Value.is) is fits row in
     let read = both.1 (ReadLeaf x l 0) refl in
     let there = leaf_word z u v w x 0 word l read in
     let still = leaf_still z u v w x 0 word l _ read both.0.1.shows in
@@ -81,7 +81,7 @@ returns-in-Length-clause-fits c = λ z what u v w asked fits is row.
     let x = c.in-Length.stamp in
     let l = c.in-Length.leaf in
     let word = c.args.word in
-    let both = at_stage z c.args.key.now what m.depth m.stage (Length x l c.in-Length.value) asked (word_told word) u v w c.in-Length.is is fits row in
+    let both = at_stage z c.args.key.now what m.depth m.stage (Length x l c.in-Length.value) asked (word_told word) u v w (c.requires.at ∙ c.in-Length.is) is fits row in
     let read = both.1 (ReadLeaf x l 1) refl in
     c.see_length.ensures.fits z what u w (leaf_on z u v w x 1 word l both.0.0 read) (leaf_still z u v w x 1 word l _ read both.0.2) (leaf_word z u v w x 1 word l read)
 
@@ -91,7 +91,7 @@ returns-in-Bytes-clause-fits c = λ z what u v w asked fits is row.
     let seen = c.in-Bytes.seen in
     let word = c.args.word in
     let place = 2 + c.in-Bytes.number in
-    let both = at_stage z c.args.key.now what m.depth m.stage (Bytes seen c.in-Bytes.number c.in-Bytes.before) asked (word_told word) u v w c.in-Bytes.is is fits row in
+    let both = at_stage z c.args.key.now what m.depth m.stage (Bytes seen c.in-Bytes.number c.in-Bytes.before) asked (word_told word) u v w (c.requires.at ∙ c.in-Bytes.is) is fits row in
     let read = both.1 (ReadLeaf seen.stamp seen.leaf place) refl in
     c.see_bytes.ensures.fits z what u w (leaf_on z u v w seen.stamp place word seen.leaf both.0.0 read) (leaf_still z u v w seen.stamp place word seen.leaf _ read both.0.2.shows)
     (leaf_word z u v w seen.stamp place word seen.leaf read)
