@@ -14,7 +14,6 @@ use Rattle.art_find.specs.Asking.{Answers, WantsCheck, WantsVersion, WantsWord, 
 use Rattle.art_find.specs.Compares.{ComparesWord, HasByte, IsBeside, IsWithin, TellsBeside, at_first}
 use Rattle.art_find.specs.declared.compares.Beside.{Beside}
 use Rattle.art_find.specs.Descents.{IsAbove, IsChild, IsOn, IsReading, StageFits, WasNamed, WasNoted, answer_at, asks, ended_at, stage_below, staged}
-use Rattle.art_find.specs.Driven.{GetEnds, GetFits, get_done, settled}
 use Rattle.art_find.specs.declared.descents.Descent.{Descent}
 use Rattle.art_step.specs.Events.{MakesEvent}
 use Rattle.art_find.specs.Verdicts.{Says, value_of}
@@ -564,7 +563,3 @@ has_ended z k what depth (Value x l) o u v is fits = cc
 has_ended z k what depth (Length x l value) o u v is fits = cc
 has_ended z k what depth (Bytes seen i r) o u v is fits = cc
 has_ended z k what depth (Decided x found) o u v is fits = cc
-
-pub get_ends : (z : Sizes) (k : List ℕ) (m : Descent) (o : Option ℕ) (u v : View) (n : ℕ) → ended_at m.stage ≡ Some o → GetFits z k u v m n → GetEnds k u v (settled o)
-get_ends z k m (Some value) u v n is fits = has_ended z k (get_done k) m.depth m.stage (Some value) u v is fits.fits
-get_ends z k m None u v n is fits = has_ended z k (get_done k) m.depth m.stage None u v is fits.fits

@@ -2,13 +2,9 @@
 use Rattle.std.specs.Prelude.{◌≡◌, ℕ, ◌+◌, ◌*◌, ◌≤◌, Bool, if◌then◌else◌, List, Option, Some, None}
 use Rattle.art_find.specs.Descents.{Fits, most_steps}
 use Rattle.art_find.specs.declared.descents.Descent.{Descent}
-use Rattle.art_find.specs.declared.driver.Got.{Got}
-use Rattle.art_find.specs.declared.driver.Got.TheVariants.{Found, Absent, Busy}
 use Rattle.art_model.specs.declared.commands.Answer.TheVariants as reply
 use Rattle.art_step.specs.Deeds.{key_of}
-use Rattle.art_step.specs.Events.{MakesEvent}
 use Rattle.art_step.specs.Histories.{by_value}
-use Rattle.art_step.specs.Shows.{OnlyReads, OnlyTells}
 use Rattle.art_step.specs.declared.deeds.Act.TheVariants.{Get}
 use Rattle.art_step.specs.declared.deeds.Deed.{Deed}
 use Rattle.art_step.specs.declared.deeds.Deed.TheVariants.{Done}
@@ -18,17 +14,6 @@ use Rattle.art_step.specs.declared.views.View.{View}
 -- what a get of the key does where it finds this value, or none
 abbrev pub get_done : List ℕ → Option ℕ → Deed
 get_done k o = Done (Get (key_of k)) (by_value o reply.Found reply.Absent)
-
--- how it ends then
-abbrev pub settled : Option ℕ → Got
-settled (Some value) = Found value
-settled None = Absent
-
--- it made one event, the get with this answer, and nothing else changed but what reading changes; or it told nothing, and only read
-abbrev pub GetEnds : List ℕ → View → View → Got → Type 0
-GetEnds k u w (Found value) = MakesEvent u w (get_done k (Some value)) × OnlyTells u w
-GetEnds k u w Absent = MakesEvent u w (get_done k None) × OnlyTells u w
-GetEnds k u w Busy = OnlyReads u w
 
 -- how often it began anew, after a step that went on or did not
 abbrev pub restarts_after : ℕ → Bool → ℕ

@@ -48,8 +48,7 @@
 //! # What settles
 //!
 //! The check that decides is asked for as `Settle`. What was read under the stamp then shows the key's value, or that it has
-//! none; which deed that is, whoever drives the descent says: the get of the key, or an insert that finds its key there. `get`
-//! makes the get.
+//! none; which deed that is, whoever drives the descent says: the get of the key, or an insert that finds its key there.
 //!
 //! `decided` says more, for an insert or a removal that goes on from there. A `Verdict` names the leaf that has the key, or says
 //! why none has it: the anchor is empty, another leaf stands on the way, a node's prefix is another, a node has no child at the
@@ -59,9 +58,9 @@
 //! # The straight way
 //!
 //! A machine's stage stands in memory between two steps, in one form or another, and a loop that asks it for each step spends
-//! more instructions on stages than on words. `get` goes straight down instead, as long as nothing stops it: the same steps in
-//! the same order, each a call of its own that hands the next one what it needs. Its contracts say at which stage the descent
-//! would stand (`GetGoes`), so that where something does stop it (a prefix, a version word that is locked or changed, few turns)
+//! more instructions on stages than on words. A get goes straight down instead (`go_down`), as long as nothing stops it: the same
+//! steps in the same order, each a call of its own that hands the next one what it needs. Its contracts say at which stage the
+//! descent would stand (`GetGoes`), so that where something does stop it (a version word that is locked or changed, few turns)
 //! the machine goes on from there.
 //!
 //! # How many steps
@@ -73,7 +72,7 @@
 mod asked;
 mod compares;
 mod descents;
-mod driver;
+mod got;
 mod reads;
 mod straight;
 mod verdicts;
@@ -81,6 +80,6 @@ mod verdicts;
 pub use asked::{Answer, Asked};
 pub use compares::Beside;
 pub use descents::{Descent, LeafSeen, NodeSeen, Stage};
-pub use driver::{Got, Gotten, get, step};
+pub use got::Got;
 pub use straight::{Tally, go_down};
 pub use verdicts::Verdict;

@@ -6,10 +6,10 @@ ghost use Rattle.art_step.specs.Views.{last_counter};
 ghost use Rattle.art_world.specs.Stepper.{OnlyStepped, sizes_of, view_of};
 
 use art_change::{Outcome, Writer};
-use art_epoch::{pin, unpin};
-use art_find::{Got, get};
+use art_find::Got;
 use art_key::Key;
 use art_model::NoMemory;
+use art_seek::Seeker;
 use art_step::Sizes;
 use art_world::{Stepper, World};
 use std::alloc::Global;
@@ -60,10 +60,7 @@ fn looks_up(stepper: &mut Stepper<'_>, writer: &Writer, key: &Key) -> Got
     ensures may { IsWriter (sizes_of stepper.new) (view_of stepper.new) writer.now }
 {
     let _ = writer.limbo();
-    pin(stepper);
-    let got = get(stepper, key, TURNS).got;
-    unpin(stepper);
-    got
+    Seeker::new().get(stepper, key, TURNS).got
 }
 
 /// How a get of the key ends.

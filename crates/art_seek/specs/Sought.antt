@@ -4,8 +4,8 @@ use Rattle.art_epoch.specs.Limbo.{IsLimbo}
 use Rattle.art_epoch.specs.Pins.{MayPin}
 use Rattle.art_epoch.specs.declared.limbo.Place.{Place}
 use Rattle.art_find.specs.Driven.{get_done}
-use Rattle.art_find.specs.declared.driver.Got.{Got}
-use Rattle.art_find.specs.declared.driver.Got.TheVariants as got
+use Rattle.art_find.specs.declared.got.Got.{Got}
+use Rattle.art_find.specs.declared.got.Got.TheVariants as got
 use Rattle.art_seek.specs.declared.walks.Outcome.{Outcome}
 use Rattle.art_seek.specs.declared.walks.Outcome.TheVariants.{Found, Absent, Seen, Busy}
 use Rattle.art_step.specs.Steps.Epoch.{labelled}

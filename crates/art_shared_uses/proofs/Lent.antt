@@ -2,6 +2,7 @@
 use Rattle.std.proofs.Common.{◌≡◌, ◌∙◌, [], ap, subst}
 use Rattle.art_change.specs.Writes.{IsWriter}
 use Rattle.art_change.specs.declared.writers.Writer.{Writer}
+use Rattle.art_epoch.specs.Pins.{MayPin}
 use Rattle.art_shared.specs.declared.law.Basis.{Basis}
 use Rattle.art_shared.specs.declared.pass.Pass.{Pass}
 use Rattle.art_shared.specs.declared.shared.Shared.{Shared}
@@ -24,6 +25,10 @@ module _ (t : Shared) (p : Pass) (a b : Stepper) (of : IsPassOf t p) (lent : pas
   pub writes_looked : (w : Writer) → IsWriter (sizes_of b) (view_of b) w → Writes t (pass_of b) w
   writes_looked w may = writes_still w (subst (λ (z : Sizes). IsWriter z (view_of b) w) (ap (λ (s : Basis). s.sizes) only.basis) may)
 
+  -- where it is idle
+  pub idle_again : MayPin (view_of b) → IsIdle t (pass_of b)
+  idle_again may = record { of = stays; may = may }
+
   -- where it goes idle last
   pub idle_still : (v : View) → v.held ≡ [] → pin.Outcome v (view_of b) 0 → IsIdle t (pass_of b)
-  idle_still v free row = record { of = stays; may = record { idle = ap (λ (u : View). u.pin) row; free = ap (λ (u : View). u.held) row ∙ free } }
+  idle_still v free row = idle_again (record { idle = ap (λ (u : View). u.pin) row; free = ap (λ (u : View). u.held) row ∙ free })

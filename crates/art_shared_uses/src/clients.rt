@@ -8,10 +8,10 @@ ghost use Rattle.art_shared.specs.Tables.{IsPassOf, sizes_in};
 ghost use Rattle.art_shared_uses.specs.Clients.{AreNew, IsIdle, IsKey, IsNew, Writes};
 
 use art_change::{Outcome, Writer};
-use art_epoch::{pin, unpin};
-use art_find::{Got, get};
+use art_find::Got;
 use art_key::{Key, Schema, encode};
 use art_model::{Tuple, Value};
+use art_seek::Seeker;
 use art_shared::{Pass, Shared, Stepper};
 use std::process::Abort;
 
@@ -83,10 +83,7 @@ pub(crate) fn finds(shared: &Shared, pass: &mut Pass, key: &Key, turns: u32) -> 
     ensures { IsIdle shared.now pass.new }
 {
     let mut stepper = shared.at(pass);
-    pin(&mut stepper);
-    let got = get(&mut stepper, key, turns).got;
-    unpin(&mut stepper);
-    got
+    Seeker::new().get(&mut stepper, key, turns).got
 }
 
 /// How a get of the key ends, of the pass of the writer.
@@ -97,10 +94,7 @@ fn looks_up(stepper: &mut Stepper<'_>, writer: &Writer, key: &Key) -> Got
     ensures may { IsWriter (sizes_of stepper.new) (view_of stepper.new) writer.now }
 {
     let _ = writer.limbo();
-    pin(stepper);
-    let got = get(stepper, key, TURNS).got;
-    unpin(stepper);
-    got
+    Seeker::new().get(stepper, key, TURNS).got
 }
 
 /// How a get of the key ends, between two writes.

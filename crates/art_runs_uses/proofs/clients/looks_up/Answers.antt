@@ -1,25 +1,21 @@
 use Rattle.std.proofs.Common.{◌∙◌, sym, subst}
 use Rattle.art_change.specs.Writes.{IsReady}
 use Rattle.art_change.proofs.Looked.{looked_ready}
-use Rattle.art_runs_uses.proofs.clients.looks_up.Goals as goal
 use Rattle.art_epoch.specs.Limbo.{places_of}
+use Rattle.art_world.specs.Stepper.{only_sizes, sizes_of, view_of}
+use Rattle.art_runs_uses.proofs.clients.looks_up.Goals as goal
 use Rattle.art_step.specs.declared.views.Sizes.{Sizes}
-use Rattle.art_world.specs.Stepper.{only_sizes, only_then, sizes_of, view_of}
-
-pub returns-clause-only : goal.returns-clause-only
-returns-clause-only c =
-    only_then c.args.stepper.now c.get-got.new.steps c.unpin.new.steps
-    (only_then c.args.stepper.now c.pin.new.steps c.get-got.new.steps c.pin.ensures.only c.get-got.ensures.only) c.unpin.ensures.only
 
 pub returns-clause-may : goal.returns-clause-may
 returns-clause-may c =
     let a = c.args.stepper.now in
+    let b = c.get.new.steps in
     let w = c.args.writer.now in
-    let only = only_then a c.get-got.new.steps c.unpin.new.steps (only_then a c.pin.new.steps c.get-got.new.steps c.pin.ensures.only c.get-got.ensures.only) c.unpin.ensures.only in
-    let sizes = only_sizes a c.unpin.new.steps only in
-    let ready = looked_ready (sizes_of a) w.own (places_of w.limbo) w.room.stock c.args.key.now.items c.get-got.result.got (view_of a) (view_of c.pin.new.steps) (view_of c.get-got.new.steps) (view_of c.unpin.new.steps)
-    c.requires.ready c.pin.ensures.pins c.get-got.ensures.ends c.get-got.ensures.free c.unpin.ensures.row in
+    let e = c.get.ensures in
+    let sizes = only_sizes a b e.only in
+    let places = places_of w.limbo in
+    let ready = looked_ready (sizes_of a) w.own places w.room.stock (view_of a) (view_of b) c.requires.ready e.idle.may e.idle.pass e.idle.hand (e.idle.waits places) in
     record {
       sizes = c.requires.sizes ∙ sym sizes;
-      ready = subst (λ (z : Sizes). IsReady z (view_of c.unpin.new.steps) w.own (places_of w.limbo) w.room.stock) (sym sizes) ready;
+      ready = subst (λ (z : Sizes). IsReady z (view_of b) w.own places w.room.stock) (sym sizes) ready;
     }
