@@ -135,10 +135,10 @@ impl Descent {
 
     /// Where it stands.
     #[inline(always)]
-    pub fn stage(&self) -> Stage
-        ensures { result ≡ self.now.stage }
+    pub fn stage(&self) -> &Stage
+        ensures { result.now ≡ self.now.stage }
     {
-        self.stage
+        &self.stage
     }
 
     /// The key's value, or that it has none: at the step that settles it, and once that is settled.

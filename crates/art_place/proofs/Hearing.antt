@@ -1,25 +1,28 @@
 -- A finding that made a step and heard it has looked on.
 use Rattle.std.proofs.Common.{◌≡◌, ◌<◌, ℕ, Bool, true, false, List, Option, Some, None, refl, sym, subst}
-use Rattle.std.specs.Prelude.{IfSome, Err}
+use Rattle.std.specs.Prelude.{IfSome, Err, ⊤}
 use Rattle.art_cell.specs.declared.cells.Cell.{Cell}
 use Rattle.art_find.proofs.Allowed.{allowed}
 use Rattle.art_find.specs.Asking.{Answers, IsAllowed, goes_on}
 use Rattle.art_find.proofs.Stages.{reads_on, still_reading}
 use Rattle.art_find.specs.Descents.{Fits, IsExact, IsReading, Stays, answer_at, asks, ended_at, most_steps, stands_on}
 use Rattle.art_find.specs.declared.asked.Answer.{Answer}
+use Rattle.art_find.specs.declared.asked.Answer.TheVariants.{Word}
 use Rattle.art_find.specs.declared.asked.Asked.{Asked}
-use Rattle.art_find.specs.declared.asked.Asked.TheVariants.{Begin, Check}
+use Rattle.art_find.specs.declared.asked.Asked.TheVariants.{Begin, ReadLeaf, Check}
 use Rattle.art_find.specs.declared.descents.Descent.{Descent}
 use Rattle.art_find.specs.declared.descents.Stage.{Stage}
 use Rattle.art_find.specs.declared.descents.Stage.TheVariants.{Start, Anchor, Child, Below, Both, Header, Prefix, Keys, Slot, Value, Length, Bytes, Decided, Ended}
+use Rattle.art_place.proofs.Looks.{looked}
 use Rattle.art_place.proofs.Placing.{told_fits}
-use Rattle.art_place.specs.Findings.{FindingFits, HasHeard, Keeps, LookedOn, PlaceFits}
+use Rattle.art_place.specs.Findings.{FindingFits, HasHeard, IsHeard, Keeps, LookedOn, PlaceFits}
 use Rattle.art_place.specs.declared.desks.Desk.{Desk}
 use Rattle.art_place.specs.declared.findings.Finding.{Finding}
 use Rattle.art_step.proofs.Shows.{begun_rest, failed_rest}
 use Rattle.art_step.specs.Shows.{HasValue}
 use Rattle.art_step.specs.Steps.Begin as begin
 use Rattle.art_step.specs.Steps.Check as check
+use Rattle.art_step.specs.Steps.Read as read
 use Rattle.art_step.specs.declared.deeds.Deed.{Deed}
 use Rattle.art_step.specs.declared.faults.Changed.{Changed}
 use Rattle.art_step.specs.declared.faults.Locked.{Locked}
@@ -27,6 +30,14 @@ use Rattle.art_step.specs.declared.views.Sizes.{Sizes}
 use Rattle.art_step.specs.declared.views.Stamp.{Stamp}
 use Rattle.art_step.specs.declared.views.View.{View}
 use Rattle.art_tree.specs.Heaps.{Cells}
+
+-- ---- what is asked for
+
+-- what its descent asks for may be made, where nothing is settled
+pub may_look : (z : Sizes) (k : List ℕ) (what : Option ℕ → Deed) (m : Finding) (desk : Desk) (u v : View) (a : Asked) → asks m.descent.stage ≡ Some a → FindingFits z k what m desk u v → IsAllowed z (λ s. ⊤) v a
+may_look z k what m desk u v a is fits =
+    let so : Cells → Type 0 = λ s. HasValue s k (answer_at m.descent.stage) in
+    looked z v so a (subst (λ (o : Option Asked). IfSome o (IsAllowed z so v)) is (allowed z k what m.descent.depth m.descent.stage u v fits.descent))
 
 -- ---- a version word was locked, obsolete or changed
 
@@ -89,3 +100,24 @@ module _ (z : Sizes) (k : List ℕ) (on : Bool) (m m' : Finding) (desk desk' : D
 
   pub looked_on : on ≡ goes_on answer → HasHeard z k answer m desk v m' desk' w → LookedOn z k on m desk v m' desk' w
   looked_on goes has = (asked, answer, record { asked_it = is; row = row }, has, goes)
+
+-- a word was heard
+pub word_came : (z : Sizes) (k : List ℕ) (v w : View) (m n : Descent) (asked : Asked) (word : ℕ) → asks m.stage ≡ Some asked → ((d : Deed) → Answers z d asked (Word word) v w)
+    → most_steps m.depth m.stage < most_steps n.depth n.stage → stands_on n.stage ≡ stands_on m.stage → IsExact n.stage
+    → ((y : Sizes) (what : Option ℕ → Deed) (u before after : View) (a : Asked) → Fits y k what m u before → asks m.stage ≡ Some a → Answers y (what (answer_at m.stage)) a (Word word) before after → Fits y k what n u after)
+    → CameTo z k asked (Word word) m n v w
+word_came z k v w m n asked word is row further stays exact fits = record {
+  further = λ on. further;
+  anew = λ off. absurd (cc);
+  stays = stays;
+  exact = exact;
+  fits = λ what u before. fits z what u v w asked before is (row (what (answer_at m.stage)));
+}
+
+-- nothing is kept of a word of a leaf
+pub leaf_heard : (z : Sizes) (k : List ℕ) (v w : View) (m : Finding) (n : Descent) (desk : Desk) (x : Stamp) (l i word : ℕ) → asks m.descent.stage ≡ Some (ReadLeaf x l i) → read.LeafOutcome v w x l i word
+    → CameTo z k (ReadLeaf x l i) (Word word) m.descent n v w → LookedOn z k true m desk v (record m { descent = n }) desk w
+leaf_heard z k v w m n desk x l i word is row came =
+    let kept : IsHeard (asks m.descent.stage) word desk desk = subst (λ (o : Option Asked). IsHeard o word desk desk) (sym is) (record { node = refl; above = refl }) in
+    looked_on z k true m (record m { descent = n }) desk desk v w (ReadLeaf x l i) (Word word) is (λ d. row) refl
+    (heard z k true m (record m { descent = n }) desk desk v w (ReadLeaf x l i) (Word word) is (λ d. row) n refl came (refl, kept))

@@ -12,7 +12,7 @@ use Rattle.art_find.specs.declared.asked.Answer.{Answer}
 use Rattle.art_find.specs.declared.asked.Answer.TheVariants.{Begun, Checked}
 use Rattle.art_find.specs.declared.asked.Answer.TheVariants as told
 use Rattle.art_find.specs.declared.asked.Asked.{Asked}
-use Rattle.art_find.specs.declared.asked.Asked.TheVariants.{Read, Check}
+use Rattle.art_find.specs.declared.asked.Asked.TheVariants.{Read, ReadLeaf, Check}
 use Rattle.art_find.specs.declared.verdicts.Verdict.{Verdict}
 use Rattle.art_place.specs.Desks.{above_of, node_of}
 use Rattle.art_place.specs.Kept.{HasPath, IsKept}
@@ -82,6 +82,11 @@ pub record IsStanding (z : Sizes) (k : List ℕ) (t : Stand) (desk : Desk) (v : 
 abbrev pub AsksPlace : Option Asked → Type 0
 AsksPlace (Some (Read x i)) = i < 266
 AsksPlace asked = ⊤
+
+-- a word of a leaf is asked for
+abbrev pub AsksLeaf : Option Asked → Type 0
+AsksLeaf (Some (ReadLeaf x l i)) = ⊤
+AsksLeaf asked = ⊥
 
 -- a word that was asked for is kept
 abbrev pub reads_heard : Option Asked → ℕ → List (Option ℕ) → List (Option ℕ)

@@ -5,7 +5,7 @@ ghost use Rattle.art_place.specs.Findings.{AsksPlace, IsHeard};
 use crate::Desk;
 use art_cell::Cell;
 use art_find::{Answer, Asked, Descent, Stage, Verdict};
-use art_step::{Stamp, Steps};
+use art_step::{Changed, Locked, Stamp, Steps};
 
 /// The cell that has the node as its child where a finding stands.
 #[derive(Clone, Copy)]
@@ -37,18 +37,21 @@ pub struct Finding {
 }
 
 impl Finding {
-    ghost use Rattle.art_find.specs.Asking.{Answers, IsAllowed, goes_on};
+    ghost use Rattle.art_find.specs.Asking.{Answers, IsAllowed, WantsWord, goes_on};
     ghost use Rattle.art_find.specs.Descents.{IsExact, IsReading, Stays};
     ghost use Rattle.art_find.specs.Descents.{answer_at, asks, ended_at, most_steps};
     ghost use Rattle.art_find.specs.declared.asked.Asked.{Asked as AskedStep};
-    ghost use Rattle.art_find.specs.declared.asked.Asked.TheVariants.{Begin as begin_asked, Check as check_asked, Read as read_asked, ReadLeaf as leaf_asked};
-    ghost use Rattle.art_place.specs.Findings.{Enters, FindingFits, IsStanding, Keeps, LookedOn, stand_at};
+    ghost use Rattle.art_find.specs.declared.asked.Asked.TheVariants.{Begin as begin_asked, Check as check_asked, Read as read_asked};
+    ghost use Rattle.art_place.specs.Findings.{AsksLeaf, Enters, FindingFits, IsStanding, Keeps, LookedOn, stand_at};
     ghost use Rattle.art_place.specs.declared.desks.Desk.{Desk as DeskOf};
     ghost use Rattle.art_step.specs.Shows.{HasValue};
+    ghost use Rattle.art_step.specs.Steps.Begin.{Outcome as Begun};
+    ghost use Rattle.art_step.specs.Steps.Check.{Outcome as WasChecked};
+    ghost use Rattle.art_step.specs.Steps.Read.{Outcome as WasRead};
     ghost use Rattle.art_step.specs.declared.deeds.Deed.{Deed};
     ghost use Rattle.art_step.specs.declared.views.Sizes.{Sizes};
     ghost use Rattle.art_step.specs.declared.views.View.{View};
-    ghost use Rattle.std.specs.Prelude.{Some, IfNone, IfSome, true, false, ⊤};
+    ghost use Rattle.std.specs.Prelude.{Some, IfNone, IfSome, true, false};
 
     /// At its beginning.
     pub fn new() -> Finding
@@ -117,7 +120,6 @@ impl Finding {
     }
 
     /// Makes the next step, unless the place is known or it has ended, and hears it. Whether it goes on: else it begins anew.
-    #[inline(always)]
     pub fn look_on<S: Steps>(&mut self, steps: &mut S, desk: &mut Desk, key: &[u8]) -> Option<bool>
         requires few { length key.now ≤ 64 }
         requires fits { (what : Option ℕ → Deed) × (u : View) ×
@@ -127,37 +129,114 @@ impl Finding {
         ensures looked { IfSome result (λ on. LookedOn (S.sizes steps.old) key.now on self.old desk.old (S.view steps.old)
             self.new desk.new (S.view steps.new)) }
     {
-        let asked = self.next()?;
-        // a copy: what is in memory is read anew after each step, since other threads write there
-        let stage = self.descent.stage();
-        match asked {
-            Asked::Begin(cell) => Some(self.begin_on(steps, desk, stage, cell)),
-            Asked::Read(stamp, place) => {
-                self.read_on(steps, desk, key, stage, stamp, place);
+        // what a step needs is taken out of the stage before it: memory is read anew behind it, since other threads write there
+        match *self.descent.stage() {
+            Stage::Start => {
+                let begun = steps.begin(Cell::Anchor);
+                Some(self.hear_begun(desk, Stage::Start, Cell::Anchor, begun))
+            }
+            Stage::Below(above, node) => {
+                let begun = steps.begin(Cell::Node(node));
+                Some(self.hear_begun(desk, Stage::Below(above, node), Cell::Node(node), begun))
+            }
+            Stage::Child(stamp, link) => {
+                let checked = steps.check(stamp, None);
+                Some(self.hear_checked(desk, Stage::Child(stamp, link), stamp, checked))
+            }
+            Stage::Both(above, stamp, node) => {
+                let checked = steps.check(above, None);
+                Some(self.hear_checked(desk, Stage::Both(above, stamp, node), above, checked))
+            }
+            Stage::Decided(_, _) | Stage::Ended(_) => None,
+            _ => {
+                self.read_on(steps, desk, key);
                 Some(true)
             }
-            Asked::ReadLeaf(stamp, leaf, place) => {
-                self.read_leaf_on(steps, key, stage, stamp, leaf, place);
-                Some(true)
-            }
-            Asked::Check(stamp) => Some(self.check_on(steps, desk, stage, stamp)),
-            Asked::Settle(_) => None,
         }
     }
 
-    /// Reads the version word that it asks for, and goes on where that is clear: else it begins anew.
+    /// Reads the word that comes next of a cell or of a leaf, and hears it.
     #[inline(always)]
-    fn begin_on<S: Steps>(&mut self, steps: &mut S, desk: &mut Desk, stage: Stage, cell: Cell) -> bool
-        requires at { self.old.descent.stage ≡ stage }
-        requires asked { asks stage ≡ Some (begin_asked cell) }
-        requires may { IsAllowed (S.sizes steps.old) (λ s. ⊤) (S.view steps.old) (begin_asked cell) }
-        requires fits { (k : List ℕ) × (what : Option ℕ → Deed) × (u : View) ×
-            FindingFits (S.sizes steps.old) k what self.old desk.old u (S.view steps.old) }
+    fn read_on<S: Steps>(&mut self, steps: &mut S, desk: &mut Desk, key: &[u8])
+        requires few { length key.now ≤ 64 }
+        requires word { WantsWord (asks self.old.descent.stage) }
+        requires fits { (what : Option ℕ → Deed) × (u : View) ×
+            FindingFits (S.sizes steps.old) key.now what self.old desk.old u (S.view steps.old) }
         ensures only { S.only steps.old steps.new }
-        ensures looked { (k : List ℕ) → LookedOn (S.sizes steps.old) k result self.old desk.old (S.view steps.old)
+        ensures looked { LookedOn (S.sizes steps.old) key.now true self.old desk.old (S.view steps.old)
             self.new desk.new (S.view steps.new) }
     {
-        match steps.begin(cell) {
+        match *self.descent.stage() {
+            Stage::Anchor(stamp) => {
+                let word = steps.read(stamp, 1);
+                self.hear_word(desk, key, Stage::Anchor(stamp), stamp, 1, word);
+            }
+            Stage::Header(stamp, node) => {
+                let word = steps.read(stamp, 1);
+                self.hear_word(desk, key, Stage::Header(stamp, node), stamp, 1, word);
+            }
+            Stage::Prefix(seen, number, before) => {
+                let place = 2 + usize::from(number);
+                let word = steps.read(seen.stamp, place);
+                let stage = Stage::Prefix(seen, number, before);
+                self.hear_word(desk, key, stage, seen.stamp, place, word);
+            }
+            Stage::Keys(seen, number) => {
+                let place = 10 + usize::from(number);
+                let word = steps.read(seen.stamp, place);
+                self.hear_word(desk, key, Stage::Keys(seen, number), seen.stamp, place, word);
+            }
+            Stage::Slot(seen, place) => {
+                let word = steps.read(seen.stamp, place);
+                self.hear_word(desk, key, Stage::Slot(seen, place), seen.stamp, place, word);
+            }
+            _ => self.read_leaf_on(steps, key),
+        }
+    }
+
+    /// Reads the word of a leaf that comes next, and hears it. Nothing is kept of a leaf.
+    #[inline(always)]
+    fn read_leaf_on<S: Steps>(&mut self, steps: &mut S, key: &[u8])
+        requires few { length key.now ≤ 64 }
+        requires leaf { AsksLeaf (asks self.old.descent.stage) }
+        requires fits { (what : Option ℕ → Deed) × (desk : DeskOf) × (u : View) ×
+            FindingFits (S.sizes steps.old) key.now what self.old desk u (S.view steps.old) }
+        ensures only { S.only steps.old steps.new }
+        ensures looked { (desk : DeskOf) → LookedOn (S.sizes steps.old) key.now true self.old desk (S.view steps.old)
+            self.new desk (S.view steps.new) }
+    {
+        match *self.descent.stage() {
+            Stage::Value(stamp, leaf) => {
+                let word = steps.read_leaf(stamp, leaf, 0);
+                self.descent.read_at(Stage::Value(stamp, leaf), key, word);
+            }
+            Stage::Length(stamp, leaf, value) => {
+                let word = steps.read_leaf(stamp, leaf, 1);
+                self.descent.read_at(Stage::Length(stamp, leaf, value), key, word);
+            }
+            Stage::Bytes(seen, number, before) => {
+                let word = steps.read_leaf(seen.stamp, seen.leaf, 2 + usize::from(number));
+                self.descent.read_at(Stage::Bytes(seen, number, before), key, word);
+            }
+            _ => unreachable!(),
+        }
+    }
+
+    /// The version word that it asked for, where its descent stood at this stage, was found so. Whether it goes on.
+    #[inline(always)]
+    fn hear_begun(
+        &mut self,
+        desk: &mut Desk,
+        stage: Stage,
+        cell: Cell,
+        begun: Result<Stamp, Locked>,
+    ) -> bool
+        requires at { self.old.descent.stage ≡ stage }
+        requires asked { asks stage ≡ Some (begin_asked cell) }
+        ensures looked { (z : Sizes) (k : List ℕ) (v w : View) → Begun z v w cell begun →
+            LookedOn z k result self.old desk.old v self.new desk.new w }
+    {
+        match begun {
             Ok(stamp) => {
                 self.descent.began_at(stage, stamp);
                 self.enter(desk, Some(Asked::Begin(cell)));
@@ -170,70 +249,46 @@ impl Finding {
         }
     }
 
-    /// Reads the word that it asks for, hears it and keeps it.
+    /// The word of a cell that it asked for, where its descent stood at this stage, is this: it is kept.
     #[inline(always)]
-    fn read_on<S: Steps>(
+    fn hear_word(
         &mut self,
-        steps: &mut S,
         desk: &mut Desk,
         key: &[u8],
         stage: Stage,
         stamp: Stamp,
         place: usize,
+        word: u64,
     )
         requires few { length key.now ≤ 64 }
         requires at { self.old.descent.stage ≡ stage }
         requires asked { asks stage ≡ Some (read_asked stamp place) }
         requires inside { place < 266 }
-        requires fits { (what : Option ℕ → Deed) × (u : View) ×
-            FindingFits (S.sizes steps.old) key.now what self.old desk.old u (S.view steps.old) }
-        ensures only { S.only steps.old steps.new }
-        ensures looked { LookedOn (S.sizes steps.old) key.now true self.old desk.old (S.view steps.old)
-            self.new desk.new (S.view steps.new) }
+        requires fits { (z : Sizes) × (what : Option ℕ → Deed) × (u : View) × (v : View) ×
+            FindingFits z key.now what self.old desk.old u v }
+        ensures looked { (z : Sizes) (v w : View) → WasRead z v w stamp place word →
+            LookedOn z key.now true self.old desk.old v self.new desk.new w }
     {
-        let found = steps.read(stamp, place);
-        self.descent.read_at(stage, key, found);
-        desk.note(place, found);
+        let _ = stamp.version;
+        self.descent.read_at(stage, key, word);
+        desk.note(place, word);
     }
 
-    /// Reads the word of a leaf that it asks for, and hears it. Nothing is kept of a leaf.
+    /// The cell that it asked for, where its descent stood at this stage, was checked. Whether it goes on.
     #[inline(always)]
-    fn read_leaf_on<S: Steps>(
+    fn hear_checked(
         &mut self,
-        steps: &mut S,
-        key: &[u8],
+        desk: &mut Desk,
         stage: Stage,
         stamp: Stamp,
-        leaf: u32,
-        place: usize,
-    )
-        requires few { length key.now ≤ 64 }
-        requires at { self.old.descent.stage ≡ stage }
-        requires asked { asks stage ≡ Some (leaf_asked stamp leaf place) }
-        requires may { IsAllowed (S.sizes steps.old) (λ s. ⊤) (S.view steps.old) (leaf_asked stamp leaf place) }
-        requires fits { (what : Option ℕ → Deed) × (desk : DeskOf) × (u : View) ×
-            FindingFits (S.sizes steps.old) key.now what self.old desk u (S.view steps.old) }
-        ensures only { S.only steps.old steps.new }
-        ensures looked { (desk : DeskOf) → LookedOn (S.sizes steps.old) key.now true self.old desk (S.view steps.old)
-            self.new desk (S.view steps.new) }
-    {
-        let found = steps.read_leaf(stamp, leaf, place);
-        self.descent.read_at(stage, key, found);
-    }
-
-    /// Checks the cell that it asks for, and goes on where that is unchanged: else it begins anew.
-    #[inline(always)]
-    fn check_on<S: Steps>(&mut self, steps: &mut S, desk: &mut Desk, stage: Stage, stamp: Stamp) -> bool
+        checked: Result<(), Changed>,
+    ) -> bool
         requires at { self.old.descent.stage ≡ stage }
         requires asked { asks stage ≡ Some (check_asked stamp) }
-        requires may { IsAllowed (S.sizes steps.old) (λ s. ⊤) (S.view steps.old) (check_asked stamp) }
-        requires fits { (k : List ℕ) × (what : Option ℕ → Deed) × (u : View) ×
-            FindingFits (S.sizes steps.old) k what self.old desk.old u (S.view steps.old) }
-        ensures only { S.only steps.old steps.new }
-        ensures looked { (k : List ℕ) → LookedOn (S.sizes steps.old) k result self.old desk.old (S.view steps.old)
-            self.new desk.new (S.view steps.new) }
+        ensures looked { (z : Sizes) (k : List ℕ) (v w : View) → WasChecked z v w stamp None checked →
+            LookedOn z k result self.old desk.old v self.new desk.new w }
     {
-        match steps.check(stamp, None) {
+        match checked {
             Ok(()) => {
                 self.descent.checked_at(stage);
                 self.enter(desk, Some(Asked::Check(stamp)));

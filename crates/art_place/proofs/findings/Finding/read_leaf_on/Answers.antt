@@ -1,39 +1,70 @@
-use Rattle.std.proofs.Common.{◌∙◌, Option, true, refl, sym, ap, subst}
+-- Each word is the next of the leaf.
+use Rattle.std.proofs.Common.{ℕ, ◌+◌, ◌∙◌, sym, ap, subst}
 use Rattle.art_find.specs.Descents.{asks}
-use Rattle.art_find.specs.declared.asked.Answer.TheVariants.{Word}
-use Rattle.art_find.specs.declared.asked.Asked.{Asked}
 use Rattle.art_find.specs.declared.asked.Asked.TheVariants.{ReadLeaf}
 use Rattle.art_find.specs.declared.descents.Stage.{Stage}
-use Rattle.art_place.proofs.Hearing.{CameTo, heard, looked_on}
-use Rattle.art_place.specs.Findings.{IsHeard}
-use Rattle.art_place.specs.declared.findings.Finding.{Finding}
+use Rattle.art_place.proofs.Hearing.{leaf_heard, may_look, word_came}
+use Rattle.art_step.specs.Steps.Read as read
 use Rattle.art_place.proofs.findings.Finding.read_leaf_on.Goals as goal
 
-pub read_at-requires-clause-fits : goal.read_at-requires-clause-fits
-read_at-requires-clause-fits g c =
+pub read_leaf-word-requires-clause-may : goal.read_leaf-word-requires-clause-may
+read_leaf-word-requires-clause-may g c =
     let q = c.requires.fits in
-    (g.S.Steps.sizes c.args.steps.now, q.0, q.2, g.S.Steps.view c.args.steps.now, q.3.descent)
+    (may_look (g.S.Steps.sizes c.args.steps.now) c.args.key.now q.0 c.args.self.now q.1 q.2 (g.S.Steps.view c.args.steps.now) (ReadLeaf c.in-Value.stamp c.in-Value.leaf 0) (ap (λ (s : Stage). asks s) (sym c.stage.ensures ∙ c.in-Value.is)) q.3).1
 
-pub returns-clause-looked : goal.returns-clause-looked
-returns-clause-looked g c = λ desk.
+pub read_leaf-word-requires-in-Length-clause-may : goal.read_leaf-word-requires-in-Length-clause-may
+read_leaf-word-requires-in-Length-clause-may g c =
+    let q = c.requires.fits in
+    (may_look (g.S.Steps.sizes c.args.steps.now) c.args.key.now q.0 c.args.self.now q.1 q.2 (g.S.Steps.view c.args.steps.now) (ReadLeaf c.in-Length.stamp c.in-Length.leaf 1) (ap (λ (s : Stage). asks s) (sym c.stage.ensures ∙ c.in-Length.is)) q.3).1
+
+pub read_leaf-word-requires-in-Bytes-clause-may : goal.read_leaf-word-requires-in-Bytes-clause-may
+read_leaf-word-requires-in-Bytes-clause-may g c =
     let z = g.S.Steps.sizes c.args.steps.now in
     let v = g.S.Steps.view c.args.steps.now in
-    let w = g.S.Steps.view c.read_leaf-found.new.self in
+    let q = c.requires.fits in
+    let seen = c.in-Bytes.seen in
+    let is = ap (λ (s : Stage). asks s) (sym c.stage.ensures ∙ c.in-Bytes.is) in
+    subst (λ (i : ℕ). read.MayLeaf z v seen.stamp seen.leaf (2 + i)) (sym c.from.ensures)
+    (may_look z c.args.key.now q.0 c.args.self.now q.1 q.2 v (ReadLeaf seen.stamp seen.leaf (2 + c.in-Bytes.number)) is q.3).1
+
+pub returns-in-Value-clause-looked : goal.returns-in-Value-clause-looked
+returns-in-Value-clause-looked g c = λ desk.
+    let z = g.S.Steps.sizes c.args.steps.now in
+    let v = g.S.Steps.view c.args.steps.now in
+    let w = g.S.Steps.view c.read_leaf-word.new.self in
     let k = c.args.key.now in
     let m = c.args.self.now in
     let n = c.read_at.new.self in
-    let next : Finding = record m { descent = n } in
-    let asked = ReadLeaf c.args.stamp c.args.leaf c.args.place in
-    let word = c.read_leaf-found.result in
-    let is = ap (λ (s : Stage). asks s) c.requires.at ∙ c.requires.asked in
-    let row = c.read_leaf-found.ensures.row in
-    let came : CameTo z k asked (Word word) m.descent n v w = record {
-      further = λ on. c.read_at.ensures.steps;
-      anew = λ off. absurd (cc);
-      stays = c.read_at.ensures.stays;
-      exact = c.read_at.ensures.exact;
-      fits = λ what u before. c.read_at.ensures.fits z what u v w asked before is row;
-    } in
-    let kept : IsHeard (asks m.descent.stage) word desk desk = subst (λ (o : Option Asked). IsHeard o word desk desk) (sym is) (record { node = refl; above = refl }) in
-    looked_on z k true m next desk desk v w asked (Word word) is (λ d. row) refl
-    (heard z k true m next desk desk v w asked (Word word) is (λ d. row) n refl came (refl, kept))
+    let e = c.read_at.ensures in
+    let word = c.read_leaf-word.result in
+    let row = c.read_leaf-word.ensures.row in
+    let is = ap (λ (s : Stage). asks s) (sym c.stage.ensures ∙ c.in-Value.is) in
+    leaf_heard z k v w m n desk c.in-Value.stamp c.in-Value.leaf 0 word is row (word_came z k v w m.descent n (ReadLeaf c.in-Value.stamp c.in-Value.leaf 0) word is (λ d. row) e.steps e.stays e.exact e.fits)
+
+pub returns-in-Length-clause-looked : goal.returns-in-Length-clause-looked
+returns-in-Length-clause-looked g c = λ desk.
+    let z = g.S.Steps.sizes c.args.steps.now in
+    let v = g.S.Steps.view c.args.steps.now in
+    let w = g.S.Steps.view c.read_leaf-word-in-Length.new.self in
+    let k = c.args.key.now in
+    let m = c.args.self.now in
+    let n = c.read_at-in-Length.new.self in
+    let e = c.read_at-in-Length.ensures in
+    let word = c.read_leaf-word-in-Length.result in
+    let row = c.read_leaf-word-in-Length.ensures.row in
+    let is = ap (λ (s : Stage). asks s) (sym c.stage.ensures ∙ c.in-Length.is) in
+    leaf_heard z k v w m n desk c.in-Length.stamp c.in-Length.leaf 1 word is row (word_came z k v w m.descent n (ReadLeaf c.in-Length.stamp c.in-Length.leaf 1) word is (λ d. row) e.steps e.stays e.exact e.fits)
+
+pub returns-in-Bytes-clause-looked : goal.returns-in-Bytes-clause-looked
+returns-in-Bytes-clause-looked g c = λ desk.
+    let z = g.S.Steps.sizes c.args.steps.now in
+    let v = g.S.Steps.view c.args.steps.now in
+    let w = g.S.Steps.view c.read_leaf-word-in-Bytes.new.self in
+    let k = c.args.key.now in
+    let m = c.args.self.now in
+    let n = c.read_at-in-Bytes.new.self in
+    let e = c.read_at-in-Bytes.ensures in
+    let word = c.read_leaf-word-in-Bytes.result in
+    let row = subst (λ (i : ℕ). read.LeafOutcome v w c.in-Bytes.seen.stamp c.in-Bytes.seen.leaf (2 + i) word) c.from.ensures c.read_leaf-word-in-Bytes.ensures.row in
+    let is = ap (λ (s : Stage). asks s) (sym c.stage.ensures ∙ c.in-Bytes.is) in
+    leaf_heard z k v w m n desk c.in-Bytes.seen.stamp c.in-Bytes.seen.leaf (2 + c.in-Bytes.number) word is row (word_came z k v w m.descent n (ReadLeaf c.in-Bytes.seen.stamp c.in-Bytes.seen.leaf (2 + c.in-Bytes.number)) word is (λ d. row) e.steps e.stays e.exact e.fits)

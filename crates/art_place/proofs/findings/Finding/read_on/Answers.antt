@@ -1,40 +1,7 @@
-use Rattle.std.proofs.Common.{◌∙◌, Option, true, refl, sym, ap, subst}
+use Rattle.std.proofs.Common.{ap, sym}
+use Rattle.art_cell.specs.declared.cells.Cell.TheVariants as cell
 use Rattle.art_find.specs.Descents.{asks}
-use Rattle.art_find.specs.declared.asked.Answer.TheVariants.{Word}
-use Rattle.art_find.specs.declared.asked.Asked.{Asked}
 use Rattle.art_find.specs.declared.asked.Asked.TheVariants.{Read}
 use Rattle.art_find.specs.declared.descents.Stage.{Stage}
-use Rattle.art_place.proofs.Hearing.{CameTo, heard, looked_on}
-use Rattle.art_place.specs.Findings.{IsHeard}
-use Rattle.art_place.specs.declared.findings.Finding.{Finding}
+use Rattle.art_place.proofs.Hearing.{may_look}
 use Rattle.art_place.proofs.findings.Finding.read_on.Goals as goal
-
-pub read_at-requires-clause-fits : goal.read_at-requires-clause-fits
-read_at-requires-clause-fits g c =
-    let q = c.requires.fits in
-    (g.S.Steps.sizes c.args.steps.now, q.0, q.1, g.S.Steps.view c.args.steps.now, q.2.descent)
-
-pub returns-clause-looked : goal.returns-clause-looked
-returns-clause-looked g c =
-    let z = g.S.Steps.sizes c.args.steps.now in
-    let v = g.S.Steps.view c.args.steps.now in
-    let w = g.S.Steps.view c.read-found.new.self in
-    let k = c.args.key.now in
-    let m = c.args.self.now in
-    let n = c.read_at.new.self in
-    let next : Finding = record m { descent = n } in
-    let asked = Read c.args.stamp c.args.place in
-    let word = c.read-found.result in
-    let is = ap (λ (s : Stage). asks s) c.requires.at ∙ c.requires.asked in
-    let row = c.read-found.ensures.row in
-    let came : CameTo z k asked (Word word) m.descent n v w = record {
-      further = λ on. c.read_at.ensures.steps;
-      anew = λ off. absurd (cc);
-      stays = c.read_at.ensures.stays;
-      exact = c.read_at.ensures.exact;
-      fits = λ what u before. c.read_at.ensures.fits z what u v w asked before is row;
-    } in
-    let kept : IsHeard (asks m.descent.stage) word c.args.desk.now c.note.new.self = subst (λ (o : Option Asked). IsHeard o word c.args.desk.now c.note.new.self) (sym is)
-    (record { node = c.note.ensures.node; above = c.note.ensures.above }) in
-    looked_on z k true m next c.args.desk.now c.note.new.self v w asked (Word word) is (λ d. row) refl
-    (heard z k true m next c.args.desk.now c.note.new.self v w asked (Word word) is (λ d. row) n refl came (refl, kept))
