@@ -96,9 +96,23 @@ impl Reads {
     pub fn copy_to(&self, words: &mut [u64; WORDS])
         ensures { (place : ℕ) → place < 266 → get_or words.new place 0 ≡ unwrap_or (word_read self.now place) 0 }
     {
-        for group in 0..BIT_WORDS {
+        let groups = self.groups_read();
+        for group in 0..groups {
             self.copy_group(words, group);
         }
+        clear(words, WORDS.min(64 * groups), WORDS);
+    }
+
+    /// How many words of bits there are up to the last in which a word was read.
+    fn groups_read(&self) -> usize
+        ensures within { result ≤ 5 }
+        ensures none { (place : ℕ) → 64 * result ≤ place → place < 266 → word_read self.now place ≡ None }
+    {
+        let mut groups = BIT_WORDS;
+        while groups > 0 && self.known[groups - 1] == 0 {
+            groups -= 1;
+        }
+        groups
     }
 
     /// Copies so to the places of one word of bits.
