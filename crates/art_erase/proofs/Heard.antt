@@ -1,6 +1,6 @@
 -- A step of a finding was made and heard, beside the machine.
 use Rattle.std.proofs.Common.{◌≡◌, true, false, None, sym, subst, arith}
-use Rattle.art_attempt.proofs.Finds.{still_going, undecided, zero_going}
+use Rattle.art_attempt.proofs.Finds.{zero_going}
 use Rattle.art_attempt.proofs.Steps.{cell_fails, cell_later, cell_step}
 use Rattle.art_attempt.proofs.Tries.{later_then, still_later}
 use Rattle.art_attempt.specs.declared.rooms.Room.{Room}
@@ -14,13 +14,13 @@ use Rattle.art_find.proofs.Stages.{still_reading}
 use Rattle.art_find.specs.Asking.{Answers, goes_on}
 use Rattle.art_find.specs.declared.asked.Answer.{Answer}
 use Rattle.art_find.specs.declared.asked.Asked.{Asked}
-use Rattle.art_place.specs.Findings.{HasHeard, WasLooked, stand_at}
+use Rattle.art_place.specs.Findings.{CameBack, HasHeard, WasLooked, WentOn}
 use Rattle.art_place.specs.declared.desks.Desk.{Desk}
 use Rattle.art_place.specs.declared.findings.Finding.{Finding as FindingOf}
 use Rattle.art_step.specs.declared.views.Sizes.{Sizes}
 use Rattle.art_step.specs.declared.views.View.{View}
 
-module _ (z : Sizes) (u : View) (m : Erasing) (r : Room) (v w : View) (room : IsRoom z r) (f : IsFinding z u m r v) (nowhere : stand_at m.finding ≡ None)
+module _ (z : Sizes) (u : View) (m : Erasing) (r : Room) (v w : View) (room : IsRoom z r) (f : IsFinding z u m r v)
     (asked : Asked) (answer : Answer) (looked : WasLooked z m.finding asked answer v w)
     (n : FindingOf) (desk : Desk) (heard : HasHeard z r.gone.key.items answer m.finding r.desk v n desk w) where
   abbrev then : Room
@@ -45,22 +45,42 @@ module _ (z : Sizes) (u : View) (m : Erasing) (r : Room) (v w : View) (room : Is
       let before = (still_later u f.early f.base v f.later).failures in
       record { room = same_room; stage = (record { still = so.still; spent = so.spent; has = so.has }, omega (arith, more, before)) }
 
-  -- it goes on
-  pub finds_on : goes_on answer ≡ true → m.stage ≡ Finding → Fits z u (record m { finding = n }) then w
-  finds_on on stage =
-      let d = absent r.gone in
-      let next : Erasing = record m { finding = n } in
-      let one = cell_later z d asked answer v w one_more in
-      let step = cell_step z d asked answer v w one_more in
-      let further = heard.further on in
-      let found : IsFinding z u next then w = record {
+module _ (z : Sizes) (u : View) (m : Erasing) (r : Room) (v : View) (room : IsRoom z r) (f : IsFinding z u m r v) (n : FindingOf) (desk : Desk) (w : View) where
+  -- it has gone on
+  pub goes_on_so : WentOn z r.gone.key.items m.finding r.desk v n desk w → IsFinding z u (record m { finding = n }) (record r { desk = desk }) w
+  goes_on_so on =
+      let later = on.later in
+      let failures = on.failures in
+      let further = on.further in
+      record {
         early = f.early;
         base = f.base;
-        later = later_then f.early v w f.later one;
-        spent = λ limited. (let spent = f.spent limited in let more = one.failures in omega (arith, spent, step, further, more));
+        later = later_then f.early v w f.later (record { steps = later; failures = omega (arith, failures) });
+        spent = λ limited. (let spent = f.spent limited in omega (arith, spent, further, failures));
         has = f.has;
-        fits = heard.fits (absent_of r.gone) f.early f.fits;
-        going = still_going z d asked answer v w m.finding.descent n.descent heard.stays looked.asked_it one_more (undecided m.finding nowhere) f.going on;
-        exact = heard.exact;
-      } in
-      record { room = same_room; stage = subst (λ (s : Stage). StageFits z u s next then w) (sym stage) found }
+        fits = on.fits (absent_of r.gone) f.early f.fits;
+        going = on.going f.going;
+        exact = on.exact f.exact;
+      }
+
+-- the place is sought still, or its way was changed
+pub descends_so : (z : Sizes) (u : View) (m : Erasing) (r : Room) (v : View) (n : FindingOf) (desk : Desk) (w : View) → m.stage ≡ Finding → Fits z u m r v → WentOn z r.gone.key.items m.finding r.desk v n desk w
+    → Fits z u (record m { finding = n }) (record r { desk = desk }) w
+descends_so z u m r v n desk w stage fits on =
+    let f = subst (λ (s : Stage). StageFits z u s m r v) stage fits.stage in
+    let next : Erasing = record m { finding = n } in
+    let then : Room = record r { desk = desk } in
+    record {
+      room = record { sizes = fits.room.sizes; key = fits.room.key };
+      stage = subst (λ (s : Stage). StageFits z u s next then w) (sym stage) (goes_on_so z u m r v fits.room f n desk w on);
+    }
+
+pub comes_back : (z : Sizes) (u : View) (m : Erasing) (r : Room) (v : View) (n : FindingOf) (desk : Desk) (w : View) → m.stage ≡ Finding → Fits z u m r v → CameBack z r.gone.key.items m.finding r.desk v n desk w
+    → Fits z u (record m { finding = n; stage = Ended Anew }) (record r { desk = desk }) w
+comes_back z u m r v n desk w stage fits back =
+    let f = subst (λ (s : Stage). StageFits z u s m r v) stage fits.stage in
+    let middle : Erasing = record m { finding = back.middle } in
+    let there : Room = record r { desk = back.kept } in
+    let room : IsRoom z there = record { sizes = fits.room.sizes; key = fits.room.key } in
+    let l = back.back in
+    ends_anew z u middle there back.view w room (goes_on_so z u m r v fits.room f back.middle back.kept back.view back.on) l.0 l.1 l.2 n desk l.3 (sym l.4)

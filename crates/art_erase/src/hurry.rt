@@ -27,23 +27,10 @@ impl Erasing {
         ensures fits { (u : View) → Fits (S.sizes steps.old) u self.old room.old (S.view steps.old) →
             Fits (S.sizes steps.old) u self.new room.new (S.view steps.new) }
     {
-        while *left > 1 {
-            match self.stage {
-                Stage::Finding => {}
-                _ => return,
-            }
-            match self.finding.stand() {
-                Some(_) => return,
-                None => {}
-            }
-            let key = room.gone.key.as_slice();
-            let Some(on) = self.finding.look_on(steps, &mut room.desk, key) else {
-                return;
-            };
-            *left -= 1;
-            if !on {
-                self.stage = Stage::Ended(Erased::Anew);
-            }
+        let key = room.gone.key.as_slice();
+        let on = self.finding.descend(steps, &mut room.desk, key, left);
+        if !on {
+            self.stage = Stage::Ended(Erased::Anew);
         }
     }
 

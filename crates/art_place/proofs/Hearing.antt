@@ -2,10 +2,12 @@
 use Rattle.std.proofs.Common.{◌≡◌, ◌<◌, ℕ, Bool, true, false, List, Option, Some, None, refl, sym, subst}
 use Rattle.std.specs.Prelude.{IfSome, Err, ⊤}
 use Rattle.art_cell.specs.declared.cells.Cell.{Cell}
+use Rattle.art_cell.specs.declared.cells.Link.{Link}
+use Rattle.art_cell.specs.declared.cells.Link.TheVariants.{Leaf as leaf, Node as node}
 use Rattle.art_find.proofs.Allowed.{allowed}
 use Rattle.art_find.specs.Asking.{Answers, IsAllowed, goes_on}
 use Rattle.art_find.proofs.Stages.{reads_on, still_reading}
-use Rattle.art_find.specs.Descents.{Fits, IsExact, IsReading, Stays, answer_at, asks, ended_at, most_steps, stands_on}
+use Rattle.art_find.specs.Descents.{Fits, IsExact, IsReading, Stays, answer_at, asks, ended_at, most_steps, stage_begun, stage_below, stage_checked, stands_on}
 use Rattle.art_find.specs.declared.asked.Answer.{Answer}
 use Rattle.art_find.specs.declared.asked.Answer.TheVariants.{Word}
 use Rattle.art_find.specs.declared.asked.Asked.{Asked}
@@ -38,6 +40,44 @@ pub may_look : (z : Sizes) (k : List ℕ) (what : Option ℕ → Deed) (m : Find
 may_look z k what m desk u v a is fits =
     let so : Cells → Type 0 = λ s. HasValue s k (answer_at m.descent.stage) in
     looked z v so a (subst (λ (o : Option Asked). IfSome o (IsAllowed z so v)) is (allowed z k what m.descent.depth m.descent.stage u v fits.descent))
+
+-- ---- it has not ended after a version word was clear, or unchanged
+
+pub begun_going : (stage : Stage) (y : Stamp) (c : Cell) → asks stage ≡ Some (Begin c) → ended_at (stage_begun y stage) ≡ None
+begun_going Start y c is = refl
+begun_going (Below x n) y c is = refl
+begun_going (Anchor x) y c is = cc
+begun_going (Child x d) y c is = cc
+begun_going (Both x a n) y c is = cc
+begun_going (Header x n) y c is = cc
+begun_going (Prefix seen i r) y c is = cc
+begun_going (Keys seen i) y c is = cc
+begun_going (Slot seen place) y c is = cc
+begun_going (Value x l) y c is = cc
+begun_going (Length x l value) y c is = cc
+begun_going (Bytes seen i r) y c is = cc
+begun_going (Decided x found) y c is = cc
+begun_going (Ended o) y c is = cc
+
+below_going : (x : Stamp) (d : Link) → ended_at (stage_below x d) ≡ None
+below_going x (leaf l) = refl
+below_going x (node n) = refl
+
+pub checked_going : (stage : Stage) (x : Stamp) → asks stage ≡ Some (Check x) → ended_at (stage_checked stage) ≡ None
+checked_going (Child y d) x is = below_going y d
+checked_going (Both y a n) x is = refl
+checked_going Start x is = cc
+checked_going (Anchor y) x is = cc
+checked_going (Below y n) x is = cc
+checked_going (Header y n) x is = cc
+checked_going (Prefix seen i r) x is = cc
+checked_going (Keys seen i) x is = cc
+checked_going (Slot seen place) x is = cc
+checked_going (Value y l) x is = cc
+checked_going (Length y l value) x is = cc
+checked_going (Bytes seen i r) x is = cc
+checked_going (Decided y found) x is = cc
+checked_going (Ended o) x is = cc
 
 -- ---- a version word was locked, obsolete or changed
 
@@ -72,6 +112,7 @@ pub record CameTo (z : Sizes) (k : List ℕ) (asked : Asked) (answer : Answer) (
   pub further : goes_on answer ≡ true → most_steps m.depth m.stage < most_steps n.depth n.stage
   pub anew : goes_on answer ≡ false → most_steps n.depth n.stage ≡ 0
   pub stays : Stays answer m n
+  pub going : ended_at n.stage ≡ None
   pub exact : IsExact n.stage
   pub fits : (what : Option ℕ → Deed) (u : View) → Fits z k what m u v → Fits z k what n u w
 
@@ -91,6 +132,7 @@ module _ (z : Sizes) (k : List ℕ) (on : Bool) (m m' : Finding) (desk desk' : D
     further = λ goes. subst (λ (d : Descent). most_steps m.descent.depth m.descent.stage < most_steps d.depth d.stage) (sym same) (came.further goes);
     anew = λ off. subst (λ (d : Descent). most_steps d.depth d.stage ≡ 0) (sym same) (came.anew off);
     stays = subst (Stays answer m.descent) (sym same) came.stays;
+    going = subst (λ (d : Descent). ended_at d.stage ≡ None) (sym same) came.going;
     exact = subst (λ (d : Descent). IsExact d.stage) (sym same) came.exact;
     fits = λ what u before. record {
       descent = subst (λ (d : Descent). Fits z k what d u w) (sym same) (came.fits what u before.descent);
@@ -103,13 +145,14 @@ module _ (z : Sizes) (k : List ℕ) (on : Bool) (m m' : Finding) (desk desk' : D
 
 -- a word was heard
 pub word_came : (z : Sizes) (k : List ℕ) (v w : View) (m n : Descent) (asked : Asked) (word : ℕ) → asks m.stage ≡ Some asked → ((d : Deed) → Answers z d asked (Word word) v w)
-    → most_steps m.depth m.stage < most_steps n.depth n.stage → stands_on n.stage ≡ stands_on m.stage → IsExact n.stage
+    → most_steps m.depth m.stage < most_steps n.depth n.stage → stands_on n.stage ≡ stands_on m.stage → ended_at n.stage ≡ None → IsExact n.stage
     → ((y : Sizes) (what : Option ℕ → Deed) (u before after : View) (a : Asked) → Fits y k what m u before → asks m.stage ≡ Some a → Answers y (what (answer_at m.stage)) a (Word word) before after → Fits y k what n u after)
     → CameTo z k asked (Word word) m n v w
-word_came z k v w m n asked word is row further stays exact fits = record {
+word_came z k v w m n asked word is row further stays going exact fits = record {
   further = λ on. further;
   anew = λ off. absurd (cc);
   stays = stays;
+  going = going;
   exact = exact;
   fits = λ what u before. fits z what u v w asked before is (row (what (answer_at m.stage)));
 }

@@ -1,3 +1,4 @@
+pub mod Descending
 pub mod FoundPlaces
 mod Hearing
 pub mod Keeping

@@ -1,12 +1,12 @@
 -- What a finding knows between two of its steps: what its descent does, and of the words that it keeps.
-use Rattle.std.specs.Prelude.{◌≡◌, ◌<◌, ◌≤◌, ℕ, Bool, true, false, List, Option, Some, None, length, replicate, set, take, ⊤}
+use Rattle.std.specs.Prelude.{◌≡◌, ◌+◌, ◌<◌, ◌≤◌, ℕ, Bool, true, false, List, Option, Some, None, length, replicate, set, take, ⊤}
 use Rattle.std.specs.Option.{option_map}
 use Rattle.art_cell.specs.declared.cells.Cell.{Cell}
 use Rattle.art_cell.specs.declared.cells.Cell.TheVariants as cell
 use Rattle.art_cell.specs.declared.cells.Link.TheVariants.{Node as node}
 use Rattle.art_cell.specs.declared.cells.Node.{Node}
 use Rattle.art_find.specs.Asking.{Answers, goes_on}
-use Rattle.art_find.specs.Descents.{Fits, IsExact, Stays, asks, decided_at, most_steps, stands_on}
+use Rattle.art_find.specs.Descents.{Fits, IsExact, Stays, asks, decided_at, ended_at, most_steps, stands_on}
 use Rattle.art_find.specs.Verdicts.{Says}
 use Rattle.art_find.specs.declared.asked.Answer.{Answer}
 use Rattle.art_find.specs.declared.asked.Answer.TheVariants.{Begun, Checked}
@@ -126,9 +126,31 @@ pub record HasHeard (z : Sizes) (k : List ℕ) (answer : Answer) (m : Finding) (
   pub further : goes_on answer ≡ true → most_steps m.descent.depth m.descent.stage < most_steps m'.descent.depth m'.descent.stage
   pub anew : goes_on answer ≡ false → most_steps m'.descent.depth m'.descent.stage ≡ 0
   pub stays : Stays answer m.descent m'.descent
+  pub going : ended_at m'.descent.stage ≡ None
   pub exact : IsExact m'.descent.stage
   pub fits : (what : Option ℕ → Deed) (u : View) → FindingFits z k what m desk u v → FindingFits z k what m' desk' u w
 
 -- a step was made and heard, after which it goes on or begins anew
 abbrev pub LookedOn : Sizes → List ℕ → Bool → Finding → Desk → View → Finding → Desk → View → Type 0
 LookedOn z k on m desk v m' desk' w = (asked : Asked) × (answer : Answer) × WasLooked z m asked answer v w × HasHeard z k answer m desk v m' desk' w × (on ≡ goes_on answer)
+
+-- steps were made and heard one after another, and none failed: it has come further by as many as there were
+pub record WentOn (z : Sizes) (k : List ℕ) (m : Finding) (desk : Desk) (v : View) (m' : Finding) (desk' : Desk) (w : View) : Type 0 where
+  pub later : v.steps ≤ w.steps
+  pub failures : w.failures ≡ v.failures
+  pub further : w.steps + most_steps m.descent.depth m.descent.stage ≤ v.steps + most_steps m'.descent.depth m'.descent.stage
+  pub going : ended_at m.descent.stage ≡ None → ended_at m'.descent.stage ≡ None
+  pub exact : IsExact m.descent.stage → IsExact m'.descent.stage
+  pub fits : (what : Option ℕ → Deed) (u : View) → FindingFits z k what m desk u v → FindingFits z k what m' desk' u w
+
+-- and then one failed, after which it begins anew
+pub record CameBack (z : Sizes) (k : List ℕ) (m : Finding) (desk : Desk) (v : View) (m' : Finding) (desk' : Desk) (w : View) : Type 0 where
+  pub middle : Finding
+  pub kept : Desk
+  pub view : View
+  pub on : WentOn z k m desk v middle kept view
+  pub back : LookedOn z k false middle kept view m' desk' w
+
+abbrev pub Descends : Sizes → List ℕ → Bool → Finding → Desk → View → Finding → Desk → View → Type 0
+Descends z k true m desk v m' desk' w = WentOn z k m desk v m' desk' w
+Descends z k false m desk v m' desk' w = CameBack z k m desk v m' desk' w

@@ -1,5 +1,5 @@
 //! A descent by a key that keeps what it read.
-ghost use Rattle.std.specs.Prelude.{◌≡◌, ◌≤◌, ◌<◌, ℕ, List, Option, length, None};
+ghost use Rattle.std.specs.Prelude.{◌≡◌, ◌+◌, ◌≤◌, ◌<◌, ℕ, List, Option, length, None};
 ghost use Rattle.art_place.specs.Findings.{AsksPlace, IsHeard};
 
 use crate::Desk;
@@ -42,7 +42,7 @@ impl Finding {
     ghost use Rattle.art_find.specs.Descents.{answer_at, asks, ended_at, most_steps};
     ghost use Rattle.art_find.specs.declared.asked.Asked.{Asked as AskedStep};
     ghost use Rattle.art_find.specs.declared.asked.Asked.TheVariants.{Begin as begin_asked, Check as check_asked, Read as read_asked};
-    ghost use Rattle.art_place.specs.Findings.{AsksLeaf, Enters, FindingFits, IsStanding, Keeps, LookedOn, stand_at};
+    ghost use Rattle.art_place.specs.Findings.{AsksLeaf, Descends, Enters, FindingFits, IsStanding, Keeps, LookedOn, stand_at};
     ghost use Rattle.art_place.specs.declared.desks.Desk.{Desk as DeskOf};
     ghost use Rattle.art_step.specs.Shows.{HasValue};
     ghost use Rattle.art_step.specs.Steps.Begin.{Outcome as Begun};
@@ -117,6 +117,38 @@ impl Finding {
         let on = self.descent.told(key, answer);
         self.keep(desk, asked, answer);
         on
+    }
+
+    /// Makes steps and hears them until the place is known, as long as more than one turn is left. Whether it goes on: else the last one
+    /// failed, and it begins anew.
+    pub fn descend<S: Steps>(
+        &mut self,
+        steps: &mut S,
+        desk: &mut Desk,
+        key: &[u8],
+        left: &mut u32,
+    ) -> bool
+        requires few { length key.now ≤ 64 }
+        requires turn { 0 < left.old }
+        requires fits { (what : Option ℕ → Deed) × (u : View) ×
+            FindingFits (S.sizes steps.old) key.now what self.old desk.old u (S.view steps.old) }
+        ensures only { S.only steps.old steps.new }
+        ensures turn { 0 < left.new }
+        ensures less { left.new ≤ left.old }
+        ensures made { (S.view steps.new).steps + left.new ≡ (S.view steps.old).steps + left.old }
+        ensures descends { Descends (S.sizes steps.old) key.now result self.old desk.old (S.view steps.old)
+            self.new desk.new (S.view steps.new) }
+    {
+        while *left > 1 {
+            let Some(on) = self.look_on(steps, desk, key) else {
+                return true;
+            };
+            *left -= 1;
+            if !on {
+                return false;
+            }
+        }
+        true
     }
 
     /// Makes the next step, unless the place is known or it has ended, and hears it. Whether it goes on: else it begins anew.

@@ -2,7 +2,7 @@
 use Rattle.std.proofs.Common.{◌≡◌, ℕ, ◌+◌, ◌*◌, ◌<◌, ◌≤◌, Bool, true, false, if◌then◌else◌, List, length, Option, Some, None, refl, sym, ap, subst, arith}
 use Rattle.std.specs.Option.{option_map}
 use Rattle.art_find.proofs.Counting.{few_steps}
-use Rattle.art_find.proofs.Stages.{get_ends, still_reading}
+use Rattle.art_find.proofs.Stages.{has_ended, still_reading}
 use Rattle.art_find.specs.Descents as descents
 use Rattle.art_find.specs.Driven.{get_done}
 use Rattle.art_find.specs.declared.descents.Descent.{Descent}
@@ -105,10 +105,10 @@ told_none u v reads = record {
 module _ (z : Sizes) (k : List ℕ) (hi : KeyBound) (u : View) (t : Trail) (n : ℕ) (v : View) where
   key_told : (m : Descent) (left : ℕ) (o : Outcome) → IsEnd (Key m) left o → Fits z k hi u (Key m) t n v → HasTold u v (told_of o k hi t (Key m))
   key_told m left (Found value) ends fits =
-      let q = get_ends z k m (Some value) u v n (value_found (descents.ended_at m.stage) value ends) fits in
+      let q = has_ended z k (get_done k) m.depth m.stage (Some value) u v (value_found (descents.ended_at m.stage) value ends) fits.fits in
       record { rest = q.1; tells = q.0 }
   key_told m left Absent ends fits =
-      let q = get_ends z k m None u v n (value_absent (descents.ended_at m.stage) ends) fits in
+      let q = has_ended z k (get_done k) m.depth m.stage None u v (value_absent (descents.ended_at m.stage) ends) fits.fits in
       record { rest = q.1; tells = q.0 }
   key_told m left Seen ends fits = absurd (key_not_seen m left ends)
   key_told m left Busy ends fits =

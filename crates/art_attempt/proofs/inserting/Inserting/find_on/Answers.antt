@@ -1,13 +1,12 @@
 -- The steps are those of the finding.
-use Rattle.std.proofs.Common.{◌≡◌, ◌∙◌, List, ℕ, refl, sym, subst, arith}
-use Rattle.art_attempt.proofs.Heard.{ends_anew, finds_on, heard_so}
-use Rattle.art_attempt.specs.Inserting.{Fits, IsFinding, StageFits, deed_at, present_of}
+use Rattle.std.proofs.Common.{◌≡◌, ◌∙◌, Bool, true, false, List, ℕ, sym, subst}
+use Rattle.art_attempt.proofs.Heard.{comes_back, descends_so}
+use Rattle.art_attempt.specs.Inserting.{Fits, IsFinding, StageFits, present_of}
 use Rattle.art_attempt.specs.declared.inserting.Inserting.{Inserting}
 use Rattle.art_attempt.specs.declared.inserting.Stage.{Stage}
 use Rattle.art_attempt.specs.declared.inserting.Stage.TheVariants.{Finding}
 use Rattle.art_attempt.specs.declared.rooms.Room.{Room}
-use Rattle.art_find.proofs.Counting.{answers_count}
-use Rattle.art_place.specs.Findings.{FindingFits}
+use Rattle.art_place.specs.Findings.{CameBack, Descends, FindingFits, WentOn}
 use Rattle.art_step.specs.declared.views.Sizes.{Sizes}
 use Rattle.art_step.specs.declared.views.View.{View}
 use Rattle.art_attempt.proofs.inserting.Inserting.find_on.Goals as goal
@@ -15,79 +14,36 @@ use Rattle.art_attempt.proofs.inserting.Inserting.find_on.Goals as goal
 is_finding : (z : Sizes) (u : View) (m : Inserting) (r : Room) (v : View) → m.stage ≡ Finding → Fits z u m r v → IsFinding z u m r v
 is_finding z u m r v is fits = subst (λ (s : Stage). StageFits z u s m r v) is fits.stage
 
-pub look_on-requires-clause-fits : goal.look_on-requires-clause-fits
-look_on-requires-clause-fits g c =
+pub descend-on-requires-clause-fits : goal.descend-on-requires-clause-fits
+descend-on-requires-clause-fits g c =
     let z = g.S.Steps.sizes c.args.steps.now in
-    let v = g.S.Steps.view c.loop-left.steps in
-    let i = c.loop-left.invariant in
-    let m = c.loop-left.self in
-    let r = c.loop-left.room in
-    let f = is_finding z i.here.0 m r v c.in-Finding.is i.here.1 in
-    let key = subst (λ (k : List ℕ). FindingFits z k (present_of r.row) m.finding r.desk f.early v) (sym c.as_slice-key.ensures.value) f.fits in
-    (present_of r.row, f.early, subst (λ (y : Sizes). FindingFits y c.as_slice-key.result.now (present_of r.row) m.finding r.desk f.early v) (sym i.sizes) key)
+    let v = g.S.Steps.view c.args.steps.now in
+    let m = c.args.self.now in
+    let r = c.args.room.now in
+    let q = c.requires.fits in
+    let f = is_finding z q.0 m r v c.requires.stage q.1 in
+    (present_of r.row, f.early, subst (λ (k : List ℕ). FindingFits z k (present_of r.row) m.finding r.desk f.early v) (sym c.as_slice-key.ensures.value) f.fits)
 
-pub loop-left-preserved : goal.loop-left-preserved
-loop-left-preserved g c =
-    let s = c.args.steps.now in
-    let t = c.loop-left.steps in
-    let z = g.S.Steps.sizes s in
-    let v = g.S.Steps.view t in
-    let w = g.S.Steps.view c.look_on.new.steps in
-    let i = c.loop-left.invariant in
-    let m = c.loop-left.self in
-    let r = c.loop-left.room in
-    let nowhere = sym c.stand.ensures.at ∙ c.in-None.is in
-    let l = heard_so (g.S.Steps.sizes t) z c.as_slice-key.result.now r.row.key.items c.in-Some-look_on.on m.finding c.look_on.new.self r.desk c.look_on.new.desk v w i.sizes c.as_slice-key.ensures.value
-    c.in-Some-look_on.ensures.looked in
-    let on = sym l.4 ∙ c.if-not-on.false in
-    let one = (answers_count z (deed_at m r) l.0 l.1 v w (l.2.row (deed_at m r))).steps in
-    let next : (u : View) → Fits z u m r v → Fits z u _ _ w = λ u fits.
-    finds_on z u m r v w fits.room (is_finding z u m r v c.in-Finding.is fits) nowhere l.0 l.1 l.2 c.look_on.new.self c.look_on.new.desk l.3 on c.in-Finding.is in
-    let made = i.made in
-    let less = i.less in
-    let more = c.loop-left-test.true in
-    record {
-      only = g.met.S.Steps.only_then s t c.look_on.new.steps i.only c.look_on.ensures.only;
-      sizes = g.met.S.Steps.only_sizes t c.look_on.new.steps c.look_on.ensures.only ∙ i.sizes;
-      row = record { key = i.row.key; value = i.row.value };
-      free = i.free;
-      not_overlaps = i.not_overlaps;
-      some = omega (arith, more);
-      less = omega (arith, less);
-      made = omega (arith, made, one, more);
-      here = (i.here.0, next i.here.0 i.here.1);
-      fits = λ u fits. next u (i.fits u fits);
-    }
+pub returns-then-not-on-clause-fits : goal.returns-then-not-on-clause-fits
+returns-then-not-on-clause-fits g c = λ u fits.
+    let z = g.S.Steps.sizes c.args.steps.now in
+    let v = g.S.Steps.view c.args.steps.now in
+    let m = c.args.self.now in
+    let r = c.args.room.now in
+    let n = c.descend-on.new in
+    let w = g.S.Steps.view n.steps in
+    let back = subst (λ (k : List ℕ). CameBack z k m.finding r.desk v n.self n.desk w) c.as_slice-key.ensures.value
+    (subst (λ (b : Bool). Descends z c.as_slice-key.result.now b m.finding r.desk v n.self n.desk w) c.if-not-on.true c.descend-on.ensures.descends) in
+    comes_back z u m r v n.self n.desk w c.requires.stage fits back
 
-pub loop-left-preserved-then-not-on : goal.loop-left-preserved-then-not-on
-loop-left-preserved-then-not-on g c =
-    let s = c.args.steps.now in
-    let t = c.loop-left.steps in
-    let z = g.S.Steps.sizes s in
-    let v = g.S.Steps.view t in
-    let w = g.S.Steps.view c.look_on.new.steps in
-    let i = c.loop-left.invariant in
-    let m = c.loop-left.self in
-    let r = c.loop-left.room in
-    let nowhere = sym c.stand.ensures.at ∙ c.in-None.is in
-    let l = heard_so (g.S.Steps.sizes t) z c.as_slice-key.result.now r.row.key.items c.in-Some-look_on.on m.finding c.look_on.new.self r.desk c.look_on.new.desk v w i.sizes c.as_slice-key.ensures.value
-    c.in-Some-look_on.ensures.looked in
-    let off = sym l.4 ∙ c.if-not-on.true in
-    let one = (answers_count z (deed_at m r) l.0 l.1 v w (l.2.row (deed_at m r))).steps in
-    let next : (u : View) → Fits z u m r v → Fits z u _ _ w = λ u fits.
-    ends_anew z u m r v w fits.room (is_finding z u m r v c.in-Finding.is fits) nowhere l.0 l.1 l.2 c.look_on.new.self c.look_on.new.desk l.3 off in
-    let made = i.made in
-    let less = i.less in
-    let more = c.loop-left-test.true in
-    record {
-      only = g.met.S.Steps.only_then s t c.look_on.new.steps i.only c.look_on.ensures.only;
-      sizes = g.met.S.Steps.only_sizes t c.look_on.new.steps c.look_on.ensures.only ∙ i.sizes;
-      row = record { key = i.row.key; value = i.row.value };
-      free = refl;
-      not_overlaps = λ e. absurd (cc);
-      some = omega (arith, more);
-      less = omega (arith, less);
-      made = omega (arith, made, one, more);
-      here = (i.here.0, next i.here.0 i.here.1);
-      fits = λ u fits. next u (i.fits u fits);
-    }
+pub returns-else-not-on-clause-fits : goal.returns-else-not-on-clause-fits
+returns-else-not-on-clause-fits g c = λ u fits.
+    let z = g.S.Steps.sizes c.args.steps.now in
+    let v = g.S.Steps.view c.args.steps.now in
+    let m = c.args.self.now in
+    let r = c.args.room.now in
+    let n = c.descend-on.new in
+    let w = g.S.Steps.view n.steps in
+    let on = subst (λ (k : List ℕ). WentOn z k m.finding r.desk v n.self n.desk w) c.as_slice-key.ensures.value
+    (subst (λ (b : Bool). Descends z c.as_slice-key.result.now b m.finding r.desk v n.self n.desk w) c.if-not-on.false c.descend-on.ensures.descends) in
+    descends_so z u m r v n.self n.desk w c.requires.stage fits on

@@ -1,7 +1,7 @@
 use Rattle.std.proofs.Common.{◌∙◌, Option, None, true, false, Some, refl, sym, ap, subst}
 use Rattle.std.specs.Prelude.{Result, Ok, Err}
 use Rattle.art_find.specs.Asking.{Answers}
-use Rattle.art_find.specs.Descents.{answer_at, asks}
+use Rattle.art_find.specs.Descents.{asks, ended_at}
 use Rattle.art_find.specs.declared.asked.Answer.TheVariants.{Checked}
 use Rattle.art_find.specs.declared.asked.Asked.{Asked}
 use Rattle.art_find.specs.declared.asked.Asked.TheVariants.{Begin, Check}
@@ -9,7 +9,7 @@ use Rattle.art_find.specs.declared.descents.Descent.{Descent}
 use Rattle.art_find.specs.declared.descents.Stage.{Stage}
 use Rattle.art_cell.specs.declared.cells.Cell.TheVariants as cell
 use Rattle.art_place.specs.declared.findings.Finding.{Finding}
-use Rattle.art_place.proofs.Hearing.{CameTo, check_fails, heard, looked_on}
+use Rattle.art_place.proofs.Hearing.{CameTo, check_fails, checked_going, heard, looked_on}
 use Rattle.art_place.specs.Findings.{Enters, Keeps}
 use Rattle.art_step.specs.Steps.Check as check
 use Rattle.art_step.specs.declared.faults.Changed.{Changed}
@@ -27,6 +27,7 @@ returns-in-Ok c = record {
         further = λ on. c.checked_at.ensures.steps;
         anew = λ off. absurd (cc);
         stays = c.checked_at.ensures.stays;
+        going = ap (λ (d : Descent). ended_at d.stage) c.checked_at.ensures.stays ∙ checked_going m.descent.stage c.args.stamp is;
         exact = c.checked_at.ensures.exact;
         fits = λ what u before. c.checked_at.ensures.fits z k what u v w asked before is row;
       } in
@@ -50,6 +51,7 @@ returns-in-Err c = record {
         further = λ on. absurd (cc);
         anew = λ off. c.failed.ensures.steps;
         stays = tt;
+        going = ap (λ (d : Descent). ended_at d.stage) c.failed.ensures.start;
         exact = c.failed.ensures.exact;
         fits = λ what u before. c.failed.ensures.fits z k what u w (check_fails z k what m.descent u v w before c.args.stamp e is row);
       } in
