@@ -2,6 +2,7 @@ pub mod Closing
 pub mod Ended
 pub mod Laws
 pub mod Marks
+pub mod NodePlaces
 pub mod Opening
 pub mod Passes
 pub mod Rule

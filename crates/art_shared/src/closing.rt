@@ -50,7 +50,11 @@ impl Shared {
             } = pass;
             self.table.shared.join_seat::<Glue>(&mut seat, other);
         }
-        let Shared { table, basis } = self;
+        let Shared {
+            table,
+            basis,
+            first_nodes: _,
+        } = self;
         Ended {
             closed: table.close_with(seat),
             basis,

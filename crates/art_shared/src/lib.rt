@@ -94,6 +94,7 @@ mod laws;
 mod lending;
 mod mark;
 mod marks;
+mod node_places;
 mod opening;
 mod pass;
 mod shared;

@@ -4,6 +4,7 @@ ghost use Rattle.art_shared.specs.Opening.{OpensWith};
 ghost use Rattle.art_step.specs.Views.{last_counter};
 
 use crate::law::{Basis, Known, Law};
+use crate::node_places::first_nodes;
 use crate::pass::Pass;
 use crate::shared::Shared;
 use art_key::Schema;
@@ -48,6 +49,11 @@ impl Shared {
             let seat = table.shared.split_seat::<Cut>(&mut rest);
             passes.push(Pass { seat, number })?;
         }
-        Ok((Shared { table, basis }, passes))
+        let shared = Shared {
+            table,
+            basis,
+            first_nodes: first_nodes(sizes),
+        };
+        Ok((shared, passes))
     }
 }

@@ -43,7 +43,7 @@ impl Steps for Stepper<'_> {
     ghost only_admits = { λ a b k x. only_keys a b k x };
 
     fn begin(&mut self, cell: Cell) -> Result<Stamp, Locked> {
-        let first = self.shared.basis.sizes.place_of(cell);
+        let first = self.shared.place_of(cell);
         let found = self.pass.load::<Brand, Cell>(self.shared, first, &cell);
         if !(Version { word: found }).is_clear() {
             return Err(Locked { cell, found });
@@ -103,14 +103,14 @@ impl Steps for Stepper<'_> {
             unreachable!();
         };
         let cell = Cell::Node(node);
-        let place = self.shared.basis.sizes.place_of(cell);
+        let place = self.shared.place_of(cell);
         self.pass.add::<Brand, Node>(self.shared, place, 1, &node);
         Held::of(cell)
     }
 
     fn write(&mut self, held: &mut Held, place: usize, value: u64) {
         let cell = held.cell();
-        let first = self.shared.basis.sizes.place_of(cell);
+        let first = self.shared.place_of(cell);
         let at = word_at(self.shared.basis.sizes, first, place);
         self.pass
             .store::<Brand, (Cell, usize)>(self.shared, at, value, &(cell, place));
@@ -136,7 +136,7 @@ impl Steps for Stepper<'_> {
     ) -> Unlinked {
         let cell = held.spend();
         let leaf = spent(leaf);
-        let place = self.shared.basis.sizes.place_of(cell);
+        let place = self.shared.place_of(cell);
         self.pass
             .add::<Brand, (Cell, bool, &Deed, Option<Link>, &[u64])>(
                 self.shared,
@@ -149,7 +149,7 @@ impl Steps for Stepper<'_> {
 
     fn release(&mut self, held: Held, obsolete: bool) {
         let cell = held.spend();
-        let place = self.shared.basis.sizes.place_of(cell);
+        let place = self.shared.place_of(cell);
         self.pass
             .add::<Brand, (Cell, bool)>(self.shared, place, rise(obsolete), &(cell, obsolete));
     }

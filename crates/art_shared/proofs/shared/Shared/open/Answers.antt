@@ -57,7 +57,7 @@ loop-number-preserved c =
           (get_last c.loop-number.passes.items _ a q (subst (λ xs. slice_get xs q ≡ Some a) items e));
     }
 
-pub invariant_of-result : goal.invariant_of-result
-invariant_of-result c =
+pub invariant_of-shared : goal.invariant_of-shared
+invariant_of-shared c =
     let t = c.in_ok-table.ensures in
-    record { key = t.5; wide = t.0 ∙ (opened (of c.args.sizes.now c.args.schema) c.args.counter_start c.as_slice.result.now c.requires (search rules)).long; plain = t.1 }
+    record { key = t.5; wide = t.0 ∙ (opened (of c.args.sizes.now c.args.schema) c.args.counter_start c.as_slice.result.now c.requires (search rules)).long; plain = t.1; nodes = c.first_nodes.ensures }
