@@ -11,9 +11,9 @@ use Rattle.art_model.specs.declared.commands.Reply.{Reply}
 use Rattle.art_scan.specs.Scans.{MakesLooks, scan_fault}
 use Rattle.art_scan.specs.Tiles.{Tile}
 use Rattle.art_scan.specs.declared.faults.ScanFault.{ScanFault}
-use Rattle.art_server.specs.Lines.{line_says}
+use Rattle.art_lines.specs.Lines.{line_says}
 use Rattle.art_server.specs.Sessions.{AnswersCommand, AnswersJob, AnswersLine, AnswersLines, AnswersSaid, AnswersScan}
-use Rattle.art_server.specs.declared.lines.LineFault.{LineFault}
+use Rattle.art_lines.specs.declared.lines.LineFault.{LineFault}
 use Rattle.art_server.specs.declared.refusals.Refusal.{Refusal}
 use Rattle.art_table.specs.Calls.{Sees}
 use Rattle.art_table.specs.Jobs.{job_fault, told_by}

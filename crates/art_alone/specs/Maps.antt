@@ -9,9 +9,9 @@ use Rattle.art_model.specs.declared.commands.Command.TheVariants.{Insert, Remove
 use Rattle.art_model.specs.declared.commands.Reply.{Reply}
 use Rattle.art_model.specs.declared.rows.Row.{Row}
 use Rattle.art_scan.specs.Scans.{scan_fault}
-use Rattle.art_server.specs.Lines.{line_says}
+use Rattle.art_lines.specs.Lines.{line_says}
 use Rattle.art_server.specs.Refusals.{line_refusal, scan_refusal, value_refusal}
-use Rattle.art_server.specs.declared.lines.LineFault.{LineFault}
+use Rattle.art_lines.specs.declared.lines.LineFault.{LineFault}
 use Rattle.art_server.specs.declared.refusals.Refusal.{Refusal}
 use Rattle.art_server.specs.declared.refusals.Refusal.TheVariants.{Busy, Full, Crowded, Exhausted}
 

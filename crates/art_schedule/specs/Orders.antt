@@ -4,13 +4,13 @@ use Rattle.art_model.specs.declared.commands.Command.{Command}
 use Rattle.art_model.specs.declared.rows.Row.{Row}
 use Rattle.art_schedule.specs.Lines.{Said, start, until, step, end}
 use Rattle.art_server.specs.Refusals.{line_refusal}
-use Rattle.art_server.specs.Lines.{line_says}
+use Rattle.art_lines.specs.Lines.{line_says}
 use Rattle.art_server.specs.Endings.{reply_of_ending}
 use Rattle.art_server.specs.Replies.{text_of_reply}
 use Rattle.art_schedule.specs.Seats.{BeginsThere, EndsThere, IsIdle, KeepsRunning}
 use Rattle.art_schedule.specs.Steps.{MakesFewer, MakesMany, MissesMark, ReachesMark}
 use Rattle.art_scan.specs.declared.running.Ending.{Ending}
-use Rattle.art_server.specs.declared.lines.LineFault.{LineFault}
+use Rattle.art_lines.specs.declared.lines.LineFault.{LineFault}
 use Rattle.art_scan.specs.declared.running.Running.{Running}
 use Rattle.art_table.specs.declared.tables.Table.{Table}
 use Rattle.art_schedule.specs.declared.orders.Told.{Told}

@@ -10,7 +10,8 @@ use crate::seats::{Room, Seat, begin, end};
 use crate::steps::{make_steps, make_until};
 use crate::stops::Stop;
 use crate::{Mark, Order};
-use art_server::{LineFault, Refusal, parse_line, print_ending, print_reply};
+use art_lines::{LineFault, parse_line};
+use art_server::{Refusal, print_ending, print_reply};
 use art_table::Table;
 use std::alloc::Global;
 

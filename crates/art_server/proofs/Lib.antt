@@ -1,7 +1,3 @@
-pub mod LineLaws
-pub mod NumberLaws
-pub mod TokenLaws
-pub mod TupleLaws
 pub mod ReplyLaws
 pub mod TextLaws
 pub mod Printable

@@ -12,10 +12,10 @@ use Rattle.art_table.specs.Tables.{schema_in}
 use Rattle.art_table.specs.declared.jobs.Job.{Job}
 use Rattle.art_table.specs.declared.passes.Pass.{Pass}
 use Rattle.art_table.specs.declared.tables.Table.{Table}
-use Rattle.art_server.specs.declared.lines.LineFault.{LineFault}
+use Rattle.art_lines.specs.declared.lines.LineFault.{LineFault}
 use Rattle.art_server.specs.declared.refusals.Refusal.{Refusal}
 use Rattle.art_server.specs.declared.sessions.SessionEnd.{SessionEnd}
-use Rattle.art_server.specs.Lines.{line_says}
+use Rattle.art_lines.specs.Lines.{line_says}
 use Rattle.art_server.specs.Sessions.{IsSamePass, AnswersJob, AnswersScan, AnswersCommand, AnswersSaid, AnswersLine, AnswersLines, RunsSession}
 
 IsSamePass-refl : (p : Pass) → IsSamePass p p

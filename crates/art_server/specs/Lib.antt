@@ -1,7 +1,4 @@
 pub mod Refusals
-pub mod Lines
-pub mod Tokens
-pub mod Verbs
 pub mod Replies
 pub mod Streams
 pub mod Sessions

@@ -14,8 +14,8 @@ use Rattle.art_table.specs.declared.faults.Fault.{Fault}
 use Rattle.art_table.specs.declared.faults.Fault.TheVariants as table
 use Rattle.art_table.specs.declared.faults.OpenFault.{OpenFault}
 use Rattle.art_table.specs.declared.faults.OpenFault.TheVariants as opening
-use Rattle.art_server.specs.declared.lines.LineFault.{LineFault}
-use Rattle.art_server.specs.declared.lines.LineFault.TheVariants as line
+use Rattle.art_lines.specs.declared.lines.LineFault.{LineFault}
+use Rattle.art_lines.specs.declared.lines.LineFault.TheVariants as line
 
 -- the number that a client sees
 abbrev pub refusal_number : Refusal → ℕ

@@ -1,10 +1,9 @@
 //! The sessions of the server: lines in, a reply to each line out.
 //!
-//! A line is one JSON text. `parse_line` gives the command that it says, or why it says none, and a `LineReader` does so line
-//! after line, in memory that it keeps; `print_reply` gives the text of a reply, or of a numbered refusal, with its line feed. `session` goes from the bytes of a reader to the
-//! bytes of a writer: each line is answered by the pass as the line before left it, and the end says how many
-//! replies were wholly written, and whether one more was begun. A session reads a `Counted` reader, so that its contract can
-//! say which reads it makes: at most 1,000,000, and none after one that fails.
+//! `session` goes from the bytes of a reader to the bytes of a writer: each line is read by `art_lines` and answered by the pass as the
+//! line before left it, and the end says how many replies were wholly written, and whether one more was begun. A session reads a
+//! `Counted` reader, so that its contract can say which reads it makes: at most 1,000,000, and none after one that fails. `print_reply`
+//! gives the text of a reply, or of a numbered refusal, with its line feed.
 //!
 //! A command that is made step by step ends in an `Ending` of `art_scan`: `print_ending` gives the text of its reply. `write_text` writes a
 //! text and flushes it, for whoever writes lines of its own.
@@ -13,17 +12,14 @@
 mod accounts;
 mod counted;
 mod endings;
-mod lines;
 mod refusals;
 mod replies;
 mod sessions;
 mod streams;
 mod texts;
-mod tokens;
 
 pub use counted::Counted;
 pub use endings::{endings_are_answers, print_ending};
-pub use lines::{LINE_BYTES, LineFault, LineReader, long_lines_are_alike, parse_line};
 pub use refusals::Refusal;
 pub use replies::print_reply;
 pub use sessions::{EndCause, SessionEnd, session};

@@ -1,6 +1,6 @@
 //! The numbered refusals.
-use crate::LineFault;
 use art_key::{SchemaFault, ValueFault};
+use art_lines::LineFault;
 use art_scan::ScanFault;
 use art_table::{CloseRefusal, Fault, OpenFault};
 use std::fmt;

@@ -1,8 +1,10 @@
 //! From the bytes of a reader to the bytes of a writer.
 ghost use Rattle.std.specs.Prelude.{◌≡◌, ◌≢◌, ◌+◌, ◌<◌, ◌^◌, [], ◌++◌, length, take, true, false, Ok, Err, MatchResult};
 ghost use Rattle.std.specs.Io.KnownBytes.{IsAtEnd};
+ghost use Rattle.art_lines.specs.Lines.{line_says};
+ghost use Rattle.art_lines.specs.Readers.{lower_in, upper_in};
+ghost use Rattle.art_lines.specs.Verbs.{command_of};
 ghost use Rattle.art_server.specs.Counted.{reader_of, reads_of};
-ghost use Rattle.art_server.specs.Lines.{line_says};
 ghost use Rattle.art_server.specs.Reads.{EndsAtInput, MakesReads};
 ghost use Rattle.art_server.specs.Replies.{IsPrintable, reply_of, reply_with};
 ghost use Rattle.art_server.specs.Sessions.{AnswersCommand, AnswersJob, AnswersScan, IsSamePass, RunsSession};
@@ -13,9 +15,10 @@ ghost use Rattle.art_table.specs.declared.jobs.Job.TheVariants as jobs;
 use crate::replies::{ReplyHead, print_rows};
 use crate::streams::write_whole;
 use crate::texts::{TEXT_BYTES, put_reply};
-use crate::{Counted, LineFault, LineReader, Refusal};
+use crate::{Counted, Refusal};
 use arrayvec::ArrayVec;
-use art_model::{Answer, Command, NoMemory, Row, Tuple};
+use art_lines::{LineFault, LineReader, Verb};
+use art_model::{Answer, NoMemory, Row, Tuple};
 use art_scan::{More, scan};
 use art_table::{Inserted, Pass, Table, get, insert, remove};
 use memchr::memchr;
@@ -309,7 +312,7 @@ fn answer_line<W: Write>(
         pass.old pass.new result }
 {
     let head = match read_line(&mut buffers.reader, &mut buffers.line, part) {
-        Ok(command) => run_command(table, pass, &command, &mut buffers.rows),
+        Ok(verb) => run_command(table, pass, verb, &buffers.reader, &mut buffers.rows),
         Err(fault) => match fault {
             LineFault::NoMemory => {
                 return Err(Stop {
@@ -323,21 +326,22 @@ fn answer_line<W: Write>(
     send_reply(alloc, head, buffers.rows.as_slice(), writer)
 }
 
-/// What the line says that the part ends, behind what is kept of it. It is copied only where something is.
+/// What the line asks that the part ends, behind what is kept of it. It is copied only where something is.
 fn read_line(
     reader: &mut LineReader,
     kept: &mut ArrayVec<u8, 4097>,
     part: &[u8],
-) -> Result<Command, LineFault>
-    ensures said { MatchResult result (λ command. line_says (kept.old.items ++ part.now) ≡ Ok command)
+) -> Result<Verb, LineFault>
+    ensures said { MatchResult result
+        (λ verb. line_says (kept.old.items ++ part.now) ≡ Ok (command_of verb (lower_in reader.new) (upper_in reader.new)))
         (λ fault. fault ≢ LineFault.NoMemory → line_says (kept.old.items ++ part.now) ≡ Err fault) }
     ensures none { kept.new.items ≡ [] }
 {
     if kept.is_empty() {
-        return reader.command(part);
+        return reader.verb(part);
     }
     keep(kept, part);
-    let said = reader.command(kept.as_slice());
+    let said = reader.verb(kept.as_slice());
     kept.clear();
     said
 }
@@ -373,25 +377,27 @@ fn send_answer<W: Write>(answer: Result<Answer, Refusal>, writer: &mut W) -> Res
     Ok(())
 }
 
-/// Does the command by a call of the pass, or a scan of it, whose rows are left beside the reply.
+/// Does the command that was read, whose tuples stand in the reader, by a call of the pass, or a scan of it, whose rows are left beside
+/// the reply.
 fn run_command(
     table: &Table,
     pass: &mut Pass,
-    command: &Command,
+    verb: Verb,
+    reader: &LineReader,
     rows: &mut ArrayVec<Row, 100>,
 ) -> Result<ReplyHead, Refusal>
     requires { IsPassOf table.now pass.old }
     ensures pass { IsPassOf table.now pass.new }
-    ensures answers { AnswersCommand table.now command.now pass.old (reply_with rows.new.items result) pass.new }
+    ensures answers { AnswersCommand table.now (command_of verb (lower_in reader.now) (upper_in reader.now)) pass.old
+        (reply_with rows.new.items result) pass.new }
     ensures printable { IsPrintable (reply_with rows.new.items result) }
 {
-    match command {
-        Command::Insert(tuple, value) => {
-            Ok(ReplyHead::Answer(run_insert(table, pass, tuple, *value)?))
-        }
-        Command::Remove(tuple) => Ok(ReplyHead::Answer(run_remove(table, pass, tuple)?)),
-        Command::Get(tuple) => Ok(ReplyHead::Answer(run_get(table, pass, tuple)?)),
-        Command::Scan(lo, hi, limit) => run_scan(table, pass, lo, hi, *limit, rows),
+    let tuple = reader.lower();
+    match verb {
+        Verb::Insert(value) => Ok(ReplyHead::Answer(run_insert(table, pass, tuple, value)?)),
+        Verb::Remove => Ok(ReplyHead::Answer(run_remove(table, pass, tuple)?)),
+        Verb::Get => Ok(ReplyHead::Answer(run_get(table, pass, tuple)?)),
+        Verb::Scan(limit) => run_scan(table, pass, tuple, reader.upper(), limit, rows),
     }
 }
 

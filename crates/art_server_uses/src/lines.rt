@@ -1,7 +1,8 @@
 //! Lines as clients write them.
 use art_key::ValueFault;
+use art_lines::{LineFault, long_lines_are_alike, parse_line};
 use art_model::{Command, Text, Tuple, Value};
-use art_server::{LineFault, lines_are_read_back, long_lines_are_alike, parse_line};
+use art_server::lines_are_read_back;
 use std::alloc::Global;
 use std::process::Abort;
 use std::test::Fail;

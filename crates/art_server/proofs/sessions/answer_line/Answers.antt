@@ -16,7 +16,7 @@ returns-clause-sends g c =
     let answers : AnswersLine table line p reply q =
     elim c.match-read_line.branch [
       | in-Ok w ↦ rw (w.head-is, w.buffers-is, w.pass-is)
-          (AnswersLine-said table line w.in-Ok.command p _ _ w.in-Ok.ensures.said w.run_command-head.ensures.answers)
+          (AnswersLine-said table line _ p _ _ w.in-Ok.ensures.said w.run_command-head.ensures.answers)
       | in-Err+in_default w ↦ rw (w.head-is, w.pass-is, w.from.ensures)
           (AnswersLine-refused table line w.in-Err.fault p _ (w.in-Err.ensures.said w.in_default.not-NoMemory) refl)
     ] in

@@ -1,0 +1,5 @@
+pub mod LineLaws
+mod CursorLaws
+mod NumberLaws
+mod TokenLaws
+mod TupleLaws

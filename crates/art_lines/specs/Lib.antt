@@ -1,0 +1,5 @@
+pub mod Lines
+pub mod Tokens
+pub mod Verbs
+pub mod Cursors
+pub mod Readers

@@ -1,5 +1,0 @@
-use Rattle.art_server.proofs.LineLaws.{line_says-take}
-use Rattle.art_server.proofs.lines.long_lines_are_alike.Goals as goal
-
-pub returns : goal.returns
-returns c = line_says-take

@@ -1,5 +1,0 @@
-use Rattle.art_server.proofs.TupleLaws.{IsReadTo}
-use Rattle.art_server.proofs.lines.tuple_of.Given as goal
-
-abbrev pub invariant-loop-place : goal.invariant-loop-place
-invariant-loop-place l = IsReadTo l.elements l.tuple.items l.place
