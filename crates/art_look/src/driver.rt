@@ -3,7 +3,6 @@ ghost use Rattle.std.specs.Prelude.{◌≡◌, ◌≢◌, ◌⊎◌, ℕ, ◌+�
 ghost use Rattle.art_find.specs.Asking.{Answers, IsAllowed};
 ghost use Rattle.art_find.specs.Driven.{restarts_after};
 ghost use Rattle.art_key.specs.Bounds.{is_before};
-ghost use Rattle.art_key.specs.declared.bounds.Bound.{Bound as KeyBound};
 ghost use Rattle.art_look.specs.Driven.{LookEnds, LookFits};
 ghost use Rattle.art_look.specs.Looks.{Settles, asks, deed_at, has_ended};
 ghost use Rattle.art_look.specs.Seen.{bound_at};
@@ -13,9 +12,8 @@ ghost use Rattle.art_tree.specs.Looks.{IsBelow};
 ghost use Rattle.art_tree.specs.declared.bounds.Bound.TheVariants.{To as to_text};
 
 use crate::{Look, Seen, Trail};
-use art_find::{Answer, Asked, Tally};
+use art_find::{Answer, Asked};
 use art_key::{Bound, Key};
-use art_place::look as look_at;
 use art_step::{Deed, Steps};
 
 /// What a look has seen, or that all turns were used; and how often it began anew.
@@ -78,44 +76,6 @@ pub fn step<S: Steps>(
     };
     let answer = make(steps, asked, look, lo, hi, trail);
     look.told(lo, trail, answer)
-}
-
-/// Makes the steps of a look of the range from the key on, one after another, as long as more than one turn is left: not the check that
-/// settles what it has seen.
-pub fn look_on<S: Steps>(
-    steps: &mut S,
-    tally: &mut Tally,
-    look: &mut Look,
-    lo: &[u8],
-    trail: &mut Trail,
-)
-    requires some { 0 < tally.old.left }
-    requires few { tally.old.restarts + tally.old.left ≤ 4294967295 }
-    requires going { has_ended look.old.stage ≡ false }
-    requires fits { (hi : KeyBound) × (u : View) ×
-        LookFits (S.sizes steps.old) lo.now hi u (S.view steps.old) look.old trail.old tally.old.restarts }
-    ensures only { S.only steps.old steps.new }
-    ensures some { 0 < tally.new.left }
-    ensures less { tally.new.left ≤ tally.old.left }
-    ensures few { tally.new.restarts + tally.new.left ≤ 4294967295 }
-    ensures made { (S.view steps.new).steps + tally.new.left ≡ (S.view steps.old).steps + tally.old.left }
-    ensures going { has_ended look.new.stage ≡ false }
-    ensures fits { (hi : KeyBound) (u : View) →
-        LookFits (S.sizes steps.old) lo.now hi u (S.view steps.old) look.old trail.old tally.old.restarts →
-        LookFits (S.sizes steps.old) lo.now hi u (S.view steps.new) look.new trail.new tally.new.restarts }
-{
-    while tally.left > 1 {
-        let Some(asked) = look.next() else {
-            return;
-        };
-        let Some(answer) = look_at(steps, asked) else {
-            return;
-        };
-        tally.left -= 1;
-        if !look.told(lo, trail, answer) {
-            tally.restarts += 1;
-        }
-    }
 }
 
 /// Looks for the first row from the key on, before the bound, in at most so many steps. The pass is pinned and holds nothing.

@@ -54,9 +54,11 @@ mod driver;
 mod fronts;
 mod looks;
 mod reads;
+mod straight;
 mod trails;
 
-pub use driver::{Looked, look_from, look_on, step};
+pub use driver::{Looked, look_from, step};
 pub use fronts::Front;
 pub use looks::{ChildSought, Look, LookStage, Reach, Seen};
+pub use straight::look_on;
 pub use trails::Trail;

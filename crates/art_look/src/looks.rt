@@ -108,6 +108,7 @@ impl Look {
     }
 
     /// The next step, or none where it has ended.
+    #[inline(always)]
     pub fn next(&self) -> Option<Asked>
         ensures asks { result ≡ asks self.now.stage }
         ensures allowed { (z : Sizes) (lo : List ℕ) (hi : KeyBound) (t : Trailed) (u v : View) → Fits z lo hi self.now t u v →
@@ -159,6 +160,7 @@ impl Look {
     }
 
     /// The step that it asked for was made, with this answer. Whether it goes on: else it begins anew.
+    #[inline(always)]
     pub fn told(&mut self, lo: &[u8], trail: &mut Trail, answer: Answer) -> bool
         requires fits { (z : Sizes) × (hi : KeyBound) × (u : View) × (v : View) × (w : View) × (asked : AskedStep) ×
             Fits z lo.now hi self.old trail.old u v × (asks self.old.stage ≡ Some asked) ×
@@ -191,6 +193,7 @@ impl Look {
     }
 
     /// A version word was clear, and gave this stamp.
+    #[inline(always)]
     pub fn began(&mut self, stamp: Stamp)
         requires { WantsVersion (asks self.old.stage) }
         ensures going { has_ended self.new.stage ≡ false }
@@ -208,6 +211,7 @@ impl Look {
     }
 
     /// A version word was unchanged.
+    #[inline(always)]
     pub fn checked(&mut self)
         requires { WantsCheck (asks self.old.stage) }
         ensures going { has_ended self.new.stage ≡ true → IsSettling self.old.stage }
@@ -226,6 +230,7 @@ impl Look {
     }
 
     /// A version word was locked, obsolete or changed: the look begins anew.
+    #[inline(always)]
     pub fn failed(&mut self)
         ensures steps { most_steps self.new.depth self.new.stage ≡ 0 }
         ensures least { least_steps self.new.stage ≡ 0 }
@@ -236,6 +241,7 @@ impl Look {
 }
 
 /// The cell that names the link was checked.
+#[inline(always)]
 fn below(stamp: Stamp, link: Link) -> LookStage
     ensures { result ≡ stage_below stamp link }
 {

@@ -31,6 +31,7 @@ impl Look {
     ghost use Rattle.std.specs.Prelude.{List, Some, false};
 
     /// The word that it asked for is this.
+    #[inline(always)]
     pub fn read(&mut self, lo: &[u8], trail: &mut Trail, word: u64)
         requires wants { WantsWord (asks self.old.stage) }
         requires fits { (z : Sizes) × (hi : KeyBound) × (u : View) × (v : View) × Fits z lo.now hi self.old trail.old u v }
@@ -70,6 +71,7 @@ impl Look {
     }
 
     /// The anchor's child word was read.
+    #[inline(always)]
     fn see_root(&mut self, trail: &mut Trail, stamp: Stamp, word: u64)
         ensures steps { 1 < most_steps self.new.depth self.new.stage }
         ensures least { least_steps self.new.stage ≤ 2 }
@@ -86,6 +88,7 @@ impl Look {
     }
 
     /// The header of a node was read.
+    #[inline(always)]
     fn see_header(&mut self, lo: &[u8], trail: &mut Trail, seen: NodeSeen)
         requires few { self.old.depth ≤ 64 }
         requires long { length trail.old.path.items ≡ self.old.depth }
@@ -107,6 +110,7 @@ impl Look {
     }
 
     /// A word of the prefix was read.
+    #[inline(always)]
     fn see_prefix(&mut self, lo: &[u8], trail: &mut Trail, seen: NodeSeen, number: u8, word: u64)
         requires long { length trail.old.path.items ≡ self.old.depth + 8 * number }
         requires more { 8 * number < count_in seen.header }
@@ -128,6 +132,7 @@ impl Look {
     }
 
     /// All bytes of the prefix were read.
+    #[inline(always)]
     fn pass(&mut self, lo: &[u8], trail: &mut Trail, seen: NodeSeen)
         requires long { length trail.old.path.items ≡ self.old.depth + count_in seen.header }
         requires short { self.old.depth + count_in seen.header < 64 }
@@ -152,6 +157,7 @@ impl Look {
     }
 
     /// A word of key bytes, or of the index, was read.
+    #[inline(always)]
     fn see_keys(
         &mut self,
         lo: &[u8],
@@ -179,6 +185,7 @@ impl Look {
     }
 
     /// The child word was read.
+    #[inline(always)]
     fn see_child(&mut self, lo: &[u8], trail: &mut Trail, sought: ChildSought, word: u64)
         requires sought { IsSought lo.now self.old.depth trail.old.path.items sought.front }
         requires low { low_at sought.front lo.now trail.old.path.items ≤ sought.byte }
@@ -199,6 +206,7 @@ impl Look {
     }
 
     /// It names this.
+    #[inline(always)]
     fn follow(&mut self, lo: &[u8], trail: &mut Trail, sought: ChildSought, link: Link)
         requires sought { IsSought lo.now self.old.depth trail.old.path.items sought.front }
         requires low { low_at sought.front lo.now trail.old.path.items ≤ sought.byte }
@@ -226,6 +234,7 @@ impl Look {
     }
 
     /// The length of a leaf's key was read.
+    #[inline(always)]
     fn see_length(&mut self, trail: &mut Trail, stamp: Stamp, leaf: u32, value: u64, bytes: u64)
         requires few { self.old.depth ≤ 64 }
         ensures steps { 320 * self.old.depth + 4 < most_steps self.new.depth self.new.stage }
@@ -254,6 +263,7 @@ impl Look {
     }
 
     /// A word of a leaf's key was read.
+    #[inline(always)]
     fn see_bytes(&mut self, trail: &mut Trail, seen: LeafSeen, number: u8, word: u64)
         requires few { self.old.depth ≤ 64 }
         requires long { length trail.old.key.items ≡ 8 * number }
@@ -276,6 +286,7 @@ impl Look {
 }
 
 /// The stage after a search in a node.
+#[inline(always)]
 fn staged(sought: SoughtFrom, seen: NodeSeen, front: Front) -> LookStage
     ensures { result ≡ staged sought seen front }
 {
@@ -292,6 +303,7 @@ fn staged(sought: SoughtFrom, seen: NodeSeen, front: Front) -> LookStage
 }
 
 /// The byte has no child: in a node with a place for each byte the next one comes, if there is one.
+#[inline(always)]
 fn next_child(sought: ChildSought) -> LookStage
     ensures { result ≡ next_child sought }
 {
@@ -310,6 +322,7 @@ fn next_child(sought: ChildSought) -> LookStage
 }
 
 /// Whether the path with the byte of the child begins the lower end.
+#[inline(always)]
 fn begins(sought: ChildSought, lo: &[u8], path: &[u8]) -> bool
     requires { IsFront sought.front lo.now path.now }
     ensures { result ≡ is_within sought.front lo.now path.now sought.byte }

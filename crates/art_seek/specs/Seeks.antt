@@ -115,6 +115,10 @@ StageFits z k hi u stage.Ended m t v = WentIdle z k hi u m t v
 abbrev pub Fits : Sizes → List ℕ → KeyBound → View → Seek → Trail → View → Type 0
 Fits z k hi u m t v = StageFits z k hi u m.stage m t v
 
+-- some seek has come to this
+abbrev pub IsUnderWay : Sizes → List ℕ → KeyBound → Seek → Trail → View → Type 0
+IsUnderWay z k hi m t v = (u : View) × Fits z k hi u m t v
+
 -- ---- a seek that is given up
 
 -- it will end as busy: it has come to that, or has no turns
@@ -126,6 +130,15 @@ busy_at stage.Ended m = m.outcome ≡ Busy
 
 abbrev pub WillBeBusy : Seek → Type 0
 WillBeBusy m = busy_at m.stage m
+
+-- by steps of its own a seek m, of a pass with the view v, has come to m', with the view w; it may have made none
+pub record GoesTo (z : Sizes) (k : List ℕ) (hi : KeyBound) (m : Seek) (t : Trail) (v : View) (m' : Seek) (t' : Trail) (w : View) : Type 0 where
+  pub aim : aim_of m'.walk ≡ aim_of m.walk
+  pub turns : m'.turns ≡ m.turns
+  pub refuses : WillBeBusy m → WillBeBusy m'
+  pub less : steps_left m' ≤ steps_left m
+  pub left : w.steps + steps_left m' ≤ v.steps + steps_left m
+  pub fits : (u : View) → Fits z k hi u m t v → Fits z k hi u m' t' w
 
 -- the turns that it has used where it is given up
 abbrev pub turns_used_at : SeekStage → Seek → ℕ

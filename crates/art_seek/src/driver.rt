@@ -40,7 +40,8 @@ pub struct Made {
 }
 
 /// Looks at a cell; where that settles the answer, the event of the walk is made.
-fn look_at<S: Steps>(
+#[inline(always)]
+pub(crate) fn look_at<S: Steps>(
     steps: &mut S,
     asked: CellAsked,
     walk: &Walk,
@@ -167,11 +168,12 @@ pub fn finish<S: EpochSteps>(
         Fits (S.sizes steps.old) key.now hi.now u result trail.new (S.view steps.new) }
 {
     let mut seek = seek;
-    while seek.ended().is_none() {
-        seek.hurry(steps, key, trail);
-        step(steps, &mut seek, key, hi, trail);
+    loop {
+        if !seek.hurry(steps, key, trail) {
+            return seek;
+        }
+        seek.walk_by(steps, key, hi, trail);
     }
-    seek
 }
 
 /// Makes all steps of a seek of this, in so many turns. The pass is idle and holds nothing, before and after.

@@ -38,6 +38,7 @@ mod asked;
 mod driver;
 mod seekers;
 mod seeks;
+mod straight;
 mod walks;
 
 pub use asked::{Answer, Asked};

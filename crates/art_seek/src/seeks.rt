@@ -26,10 +26,9 @@ use crate::asked::{cell_in, word_in};
 use crate::walks::Walk;
 use crate::{Aim, Answer, Asked, Outcome};
 use art_epoch::{Asked as FrameStep, Pinning};
-use art_find::{Answer as CellAnswer, Tally};
+use art_find::Answer as CellAnswer;
 use art_key::Bound;
 use art_look::{Seen, Trail};
-use art_step::Steps;
 
 /// Where a seek stands between two of its steps.
 #[derive(Clone, Copy)]
@@ -46,14 +45,14 @@ pub enum SeekStage {
 /// A get of a key, or a look of a range. What it looks for and the trail of a look stand beside it.
 #[derive(Clone, Copy)]
 pub struct Seek {
-    stage: SeekStage,
-    pinning: Pinning,
-    walk: Walk,
+    pub(crate) stage: SeekStage,
+    pub(crate) pinning: Pinning,
+    pub(crate) walk: Walk,
     outcome: Outcome,
     turns: u32,
     /// How many turns are left: steps that the walk may still make.
-    left: u32,
-    restarts: u64,
+    pub(crate) left: u32,
+    pub(crate) restarts: u64,
 }
 
 impl Seek {
@@ -194,35 +193,9 @@ impl Seek {
         &self.walk
     }
 
-    /// Makes the steps of its walk one after another, where it walks, as far as nothing stops it.
-    pub(crate) fn hurry<S: Steps>(&mut self, steps: &mut S, key: &[u8], trail: &mut Trail)
-        requires short { length key.now ≤ 64 }
-        requires fits { (hi : KeyBound) × (u : View) ×
-            Fits (S.sizes steps.old) key.now hi u self.old trail.old (S.view steps.old) }
-        ensures only { S.only steps.old steps.new }
-        ensures aim { aim_of self.new.walk ≡ aim_of self.old.walk }
-        ensures turns { self.new.turns ≡ self.old.turns }
-        ensures refuses { WillBeBusy self.old → WillBeBusy self.new }
-        ensures ended { ended_at self.new ≡ ended_at self.old }
-        ensures less { steps_left self.new ≤ steps_left self.old }
-        ensures left { (S.view steps.new).steps + steps_left self.new ≡ (S.view steps.old).steps + steps_left self.old }
-        ensures fits { (hi : KeyBound) (u : View) → Fits (S.sizes steps.old) key.now hi u self.old trail.old (S.view steps.old) →
-            Fits (S.sizes steps.old) key.now hi u self.new trail.new (S.view steps.new) }
-    {
-        let SeekStage::Walking = self.stage else {
-            return;
-        };
-        let mut tally = Tally {
-            left: self.left,
-            restarts: self.restarts as u32,
-        };
-        self.walk.hurry(steps, &mut tally, key, trail);
-        self.left = tally.left;
-        self.restarts = u64::from(tally.restarts);
-    }
-
     /// A step of the pin was made.
-    fn pin_told(&mut self, word: u64)
+    #[inline(always)]
+    pub(crate) fn pin_told(&mut self, word: u64)
         requires stage { self.old.stage ≡ stages.Pinning }
         requires going { (a : FrameAsked) × (pins.asks self.old.pinning ≡ Some a) }
         ensures walk { self.new.walk ≡ self.old.walk }
@@ -242,6 +215,7 @@ impl Seek {
     }
 
     /// The walk goes on, where turns are left.
+    #[inline(always)]
     fn turn(&mut self)
         ensures walk { self.new.walk ≡ self.old.walk }
         ensures turns { self.new.turns ≡ self.old.turns }
@@ -259,6 +233,7 @@ impl Seek {
     }
 
     /// It ends so, once the pass is idle.
+    #[inline(always)]
     fn close(&mut self, outcome: Outcome)
         ensures refuses { outcome ≡ busy → WillBeBusy self.new }
         ensures walk { self.new.walk ≡ self.old.walk }
@@ -273,7 +248,8 @@ impl Seek {
     }
 
     /// A step of the walk was made: it is counted, and so is a restart.
-    fn walk_told(&mut self, key: &[u8], trail: &mut Trail, answer: CellAnswer)
+    #[inline(always)]
+    pub(crate) fn walk_told(&mut self, key: &[u8], trail: &mut Trail, answer: CellAnswer)
         requires short { length key.now ≤ 64 }
         requires turn { 0 < self.old.left }
         requires few { self.old.restarts + self.old.left ≤ 4294967295 }

@@ -1,82 +1,62 @@
--- The steps are those of the walk.
-use Rattle.std.proofs.Common.{◌≡◌, ℕ, ◌+◌, List, sym, subst, arith}
-use Rattle.art_key.specs.declared.bounds.Bound.{Bound as KeyBound}
-use Rattle.art_look.specs.declared.trails.Trail.{Trail as Trailed}
-use Rattle.art_seek.specs.Seeks.{Fits, GoesOn, StageFits, left_at}
-use Rattle.art_seek.specs.Walks.{Fits as WalkFits, HasTurns}
+use Rattle.std.proofs.Common.{◌≡◌, Some, sym, subst, refl}
+use Rattle.art_seek.proofs.Going.{goes_then, still_on}
+use Rattle.art_seek.specs.Seeks.{ended_at, outcome_at}
 use Rattle.art_seek.specs.declared.seeks.Seek.{Seek}
 use Rattle.art_seek.specs.declared.seeks.SeekStage.{SeekStage}
-use Rattle.art_seek.specs.declared.seeks.SeekStage.TheVariants.{Walking}
-use Rattle.art_step.specs.declared.views.Sizes.{Sizes}
-use Rattle.art_step.specs.declared.views.View.{View}
+use Rattle.art_seek.specs.declared.seeks.SeekStage.TheVariants.{Ended}
+use Rattle.art_seek.specs.declared.walks.Outcome.{Outcome}
 use Rattle.art_seek.proofs.seeks.Seek.hurry.Goals as goal
 
-module _ (z : Sizes) (k : List ℕ) (hi : KeyBound) (u : View) (m : Seek) (t : Trailed) (v : View) (at : m.stage ≡ Walking) (fits : Fits z k hi u m t v) where
-  walks_on : GoesOn z k hi u m t v
-  walks_on = subst (λ (s : SeekStage). StageFits z k hi u s m t v) at fits
+ended_as : (m : Seek) → m.stage ≡ Ended → (o : Outcome) × (ended_at m ≡ Some o)
+ended_as m is = (m.outcome, subst (λ (s : SeekStage). outcome_at s m.outcome ≡ Some m.outcome) (sym is) refl)
 
-  -- a seek that walks has as many turns as its walk
-  turns_of : HasTurns z k hi m.turns walks_on.walking.opened m.walk t (record { left = m.left; restarts = m.restarts }) v
-  turns_of = record {
-    going = walks_on.going;
-    walk = walks_on.walking.walk;
-    made = walks_on.walking.counted;
-    few = walks_on.walking.few;
-  }
-
-pub hurry-requires-clause-some : goal.hurry-requires-clause-some
-hurry-requires-clause-some g c =
+pub pin-requires : goal.pin-requires
+pin-requires g c =
     let q = c.requires.fits in
-    (walks_on (g.S.Steps.sizes c.args.steps.now) c.args.key.now q.0 q.1 c.args.self.now c.args.trail.now (g.S.Steps.view c.args.steps.now) c.in-Walking.is q.2).turn
+    record { fits = (c.args.key.now, q.0, c.args.trail.now, q.1) }
 
-pub hurry-requires-clause-goes : goal.hurry-requires-clause-goes
-hurry-requires-clause-goes g c =
-    let q = c.requires.fits in
-    let z = g.S.Steps.sizes c.args.steps.now in
-    let v = g.S.Steps.view c.args.steps.now in
-    let m = c.args.self.now in
-    (q.0, m.turns, (walks_on z c.args.key.now q.0 q.1 m c.args.trail.now v c.in-Walking.is q.2).walking.opened, turns_of z c.args.key.now q.0 q.1 m c.args.trail.now v c.in-Walking.is q.2)
-
-pub returns-clause-left : goal.returns-clause-left
-returns-clause-left g c =
-    let q = c.requires.fits in
-    let z = g.S.Steps.sizes c.args.steps.now in
-    let v = g.S.Steps.view c.args.steps.now in
-    let w = g.S.Steps.view c.hurry.new.steps in
-    let m = c.args.self.now in
-    let before = turns_of z c.args.key.now q.0 q.1 m c.args.trail.now v c.in-Walking.is q.2 in
-    let after = c.hurry.ensures.goes q.0 m.turns _ before in
-    let made = before.made in
-    let then = after.made in
-    let next : Seek = record m { walk = c.hurry.new.self; left = c.hurry.new.tally.left; restarts = c.from-self.result } in
-    subst (λ (s : SeekStage). w.steps + left_at s next ≡ v.steps + left_at s m) (sym c.in-Walking.is) (omega (arith, made, then))
-
-pub returns-clause-fits : goal.returns-clause-fits
-returns-clause-fits g c hi u fits =
-    let z = g.S.Steps.sizes c.args.steps.now in
+pub walk_on-requires-clause-fits : goal.walk_on-requires-clause-fits
+walk_on-requires-clause-fits g c =
+    let s = c.args.steps.now in
+    let p = c.pin.new.steps in
     let k = c.args.key.now in
-    let v = g.S.Steps.view c.args.steps.now in
-    let w = g.S.Steps.view c.hurry.new.steps in
-    let m = c.args.self.now in
     let t = c.args.trail.now in
-    let walk = (walks_on z k hi u m t v c.in-Walking.is fits).walking in
-    let after = c.hurry.ensures.goes hi m.turns walk.opened (turns_of z k hi u m t v c.in-Walking.is fits) in
-    let next : Seek = record m { walk = c.hurry.new.self; left = c.hurry.new.tally.left; restarts = c.from-self.result } in
-    let within = walk.within in
-    let less = c.hurry.ensures.less in
-    let few = after.few in
-    let now = c.from-self.ensures in
-    let on : GoesOn z k hi u next c.hurry.new.trail w = record {
-      walking = record {
-        opened = walk.opened;
-        may = walk.may;
-        pins_to = walk.pins_to;
-        walk = subst (λ (n : ℕ). WalkFits z k hi walk.opened c.hurry.new.self c.hurry.new.trail n w) (sym now) after.walk;
-        counted = after.made;
-        within = omega (arith, within, less);
-        few = omega (arith, few, now);
-      };
-      going = after.going;
-      turn = c.hurry.ensures.some;
-    } in
-    subst (λ (a : SeekStage). StageFits z k hi u a next c.hurry.new.trail w) (sym c.in-Walking.is) on
+    let q = c.requires.fits in
+    (q.0, still_on (g.S.Steps.sizes s) (g.S.Steps.sizes p) (g.met.S.Steps.only_sizes s p c.pin.ensures.only) k q.0 c.args.self.now t (g.S.Steps.view s) c.pin.new.self t (g.S.Steps.view p)
+    (c.pin.ensures.goes k q.0 t) q.1)
+
+pub go_idle-requires-clause-fits : goal.go_idle-requires-clause-fits
+go_idle-requires-clause-fits g c =
+    let s = c.args.steps.now in
+    let p = c.pin.new.steps in
+    let k = c.args.key.now in
+    let t = c.args.trail.now in
+    let q = c.requires.fits in
+    (k, q.0, t, still_on (g.S.Steps.sizes s) (g.S.Steps.sizes p) (g.met.S.Steps.only_sizes s p c.pin.ensures.only) k q.0 c.args.self.now t (g.S.Steps.view s) c.pin.new.self t (g.S.Steps.view p)
+    (c.pin.ensures.goes k q.0 t) q.1)
+
+pub returns-in-Walking-clause-goes : goal.returns-in-Walking-clause-goes
+returns-in-Walking-clause-goes g c = λ hi.
+    let s = c.args.steps.now in
+    let p = c.pin.new.steps in
+    let w = c.walk_on.new in
+    let k = c.args.key.now in
+    let t = c.args.trail.now in
+    goes_then (g.S.Steps.sizes s) (g.S.Steps.sizes p) (g.met.S.Steps.only_sizes s p c.pin.ensures.only) k hi c.args.self.now t (g.S.Steps.view s) c.pin.new.self t (g.S.Steps.view p)
+    (c.pin.ensures.goes k hi t) w.self w.trail (g.S.Steps.view w.steps) (c.walk_on.ensures.goes hi)
+
+pub returns-in-Closing-clause-goes : goal.returns-in-Closing-clause-goes
+returns-in-Closing-clause-goes g c = λ hi.
+    let s = c.args.steps.now in
+    let p = c.pin.new.steps in
+    let w = c.go_idle.new in
+    let k = c.args.key.now in
+    let t = c.args.trail.now in
+    goes_then (g.S.Steps.sizes s) (g.S.Steps.sizes p) (g.met.S.Steps.only_sizes s p c.pin.ensures.only) k hi c.args.self.now t (g.S.Steps.view s) c.pin.new.self t (g.S.Steps.view p)
+    (c.pin.ensures.goes k hi t) w.self t (g.S.Steps.view w.steps) (c.go_idle.ensures.goes k hi t)
+
+pub returns-in-Ended-clause-goes : goal.returns-in-Ended-clause-goes
+returns-in-Ended-clause-goes g c = λ hi. c.pin.ensures.goes c.args.key.now hi c.args.trail.now
+
+pub returns-in-Ended-clause-ended : goal.returns-in-Ended-clause-ended
+returns-in-Ended-clause-ended g c = λ e. ended_as c.pin.new.self c.in-Ended.is

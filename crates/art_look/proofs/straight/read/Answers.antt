@@ -1,0 +1,28 @@
+use Rattle.std.proofs.Common.{refl}
+use Rattle.art_find.specs.declared.asked.Asked.TheVariants.{Read}
+use Rattle.art_look.proofs.Going.{may_make}
+use Rattle.art_look.proofs.straight.read.Goals as goal
+
+pub read-word-requires : goal.read-word-requires
+read-word-requires g c =
+    let q = c.requires.looks in
+    let may = may_make (g.S.Steps.sizes c.args.steps.now) c.args.lo.now q.0 q.1 (g.S.Steps.view c.args.steps.now) c.args.look.now c.args.trail.now (Read c.args.stamp c.args.place) c.requires.asked q.2.fits in
+    record { inside = may.0; may = may.1 }
+
+pub hear-requires : goal.hear-requires
+hear-requires g c = record {
+  turn = c.requires.turn;
+  told = (
+    g.S.Steps.sizes c.args.steps.now,
+    g.S.Steps.view c.args.steps.now,
+    g.S.Steps.view c.read-word.new.self,
+    Read c.args.stamp c.args.place,
+    c.requires.looks,
+    c.requires.asked,
+    λ hi. c.read-word.ensures.row,
+  );
+}
+
+pub returns-clause-gone : goal.returns-clause-gone
+returns-clause-gone g c =
+    c.hear.ensures.gone (g.S.Steps.sizes c.args.steps.now) (g.S.Steps.view c.args.steps.now) (g.S.Steps.view c.read-word.new.self) (Read c.args.stamp c.args.place) c.requires.asked (λ x e. cc) (λ hi. c.read-word.ensures.row)
