@@ -3,7 +3,7 @@ use Rattle.std.proofs.Common.{◌≡◌, ◌+◌, ◌<◌, ◌≤◌, ℕ, true,
 use Rattle.std.specs.Option.{option_map}
 use Rattle.arrayvec.specs.ArrayVec.{ArrayVec}
 use Rattle.art_call.specs.Calls.{GoesOn, Get, HasCalled, HasUsed, Insert, IsCaller, LeavesTurns, Look, Remove, SeesRange, Wish, may_end, told_by, turns_left_in, turns_left_of}
-use Rattle.art_call.specs.Outcomes.{of_seek}
+use Rattle.art_call.specs.Outcomes.{of_look, of_seek}
 use Rattle.art_call.specs.declared.callers.Call.TheVariants as call
 use Rattle.art_call.specs.declared.callers.Caller.{Caller}
 use Rattle.art_call.specs.declared.outcomes.Outcome.{Outcome as OutcomeOf}
@@ -58,19 +58,12 @@ module _ (k : ArrayVec ℕ) (hi : Bound) (t : Trail) (left : ℕ) where
 
 -- ---- a look
 
--- how it ends, by what it has seen
-looked : Option SeenOf → OutcomeOf
-looked (Some seen) = outcome.Seen seen
-looked None = outcome.Busy
-
 module _ (k : List ℕ) (hi : Bound) (t : Trail) (left : ℕ) where
-  seen_ends : (s : Option SeenOf) → of_seek Seen s ≡ looked s
-  unfolding looked
+  seen_ends : (s : Option SeenOf) → of_seek Seen s ≡ of_look s
   seen_ends (Some seen) = refl
   seen_ends None = refl
 
-  range_ends : (w : Walk) (o : Outcome) → aim_of w ≡ aim.Range → IsEnd w left o → of_seek o (seen_by (Some o) w k hi t) ≡ looked (seen_by (Some o) w k hi t)
-  unfolding looked
+  range_ends : (w : Walk) (o : Outcome) → aim_of w ≡ aim.Range → IsEnd w left o → of_seek o (seen_by (Some o) w k hi t) ≡ of_look (seen_by (Some o) w k hi t)
   range_ends w Seen is ends = seen_ends (seen_by (Some Seen) w k hi t)
   range_ends w Busy is ends = refl
   range_ends (Key m) (Found value) is ends = cc
@@ -79,19 +72,16 @@ module _ (k : List ℕ) (hi : Bound) (t : Trail) (left : ℕ) where
   range_ends (Range m) Absent is ends = absurd (range_not_absent m left ends)
 
 module _ (lo : ArrayVec ℕ) (hi : Bound) where
-  seen_tells : (s : Option SeenOf) → told_by (Look lo hi) (looked s) ≡ option_map look_done s
-  unfolding looked
+  seen_tells : (s : Option SeenOf) → told_by (Look lo hi) (of_look s) ≡ option_map look_done s
   seen_tells (Some seen) = refl
   seen_tells None = refl
 
-  seen_may : (s : Option SeenOf) → may_end (Look lo hi) (looked s) ≡ true
-  unfolding looked
+  seen_may : (s : Option SeenOf) → may_end (Look lo hi) (of_look s) ≡ true
   seen_may (Some seen) = refl
   seen_may None = refl
 
   seen_range : (z : Sizes) (u v : View) (s : Option SeenOf) → ((i : ℕ) → get_or lo.items i 0 < 256) → is_before (bound_at (To lo.items)) hi ≡ true → LookEnds z lo.items hi u v s
-      → SeesRange z (Look lo hi) (looked s)
-  unfolding looked
+      → SeesRange z (Look lo hi) (of_look s)
   seen_range z u v (Some seen) small before ends = record {
     stood = ends.2;
     after = sees_after z lo.items hi u v (Some seen) small before ends;
@@ -99,8 +89,7 @@ module _ (lo : ArrayVec ℕ) (hi : Bound) where
   }
   seen_range z u v None small before ends = tt
 
-some_seen : (s : Option SeenOf) (seen : SeenOf) → looked s ≡ outcome.Seen seen → s ≡ Some seen
-unfolding looked
+some_seen : (s : Option SeenOf) (seen : SeenOf) → of_look s ≡ outcome.Seen seen → s ≡ Some seen
 some_seen (Some x) seen is = cc
 some_seen None seen is = cc
 
@@ -111,8 +100,7 @@ has_seen (Found value) w k hi t seen is = cc
 has_seen Absent w k hi t seen is = cc
 has_seen Busy w k hi t seen is = cc
 
-none_seen : (s : Option SeenOf) → looked s ≡ outcome.Busy → s ≡ None
-unfolding looked
+none_seen : (s : Option SeenOf) → of_look s ≡ outcome.Busy → s ≡ None
 none_seen (Some seen) is = cc
 none_seen None is = refl
 
@@ -182,6 +170,27 @@ module _ (z : Sizes) (u : View) (c : Caller) (m : Seek) (v : View) (o : Outcome)
     steps = few;
   }
 
+  -- a look
+  pub look_called : (given : ℕ) → aim_of m.walk ≡ aim.Range → c.call ≡ call.Seek m → ((i : ℕ) → get_or k.items i 0 < 256) → is_before (bound_at (To k.items)) hi ≡ true
+      → v.steps ≤ u.steps + given + 1000 → HasCalled z (Look k hi) given turns m.restarts u c (of_look (seen_by (Some o) m.walk k.items hi c.trail)) v
+  look_called given aim called small before few =
+      let s = seen_by (Some o) m.walk k.items hi c.trail in
+      let closed = ended_closed z k.items hi u m c.trail v o ended fits in
+      let looks = look_ends k.items hi c.trail m.left z closed.over.walking.opened closed.before m.restarts m.walk o aim ends closed.over.walking.walk in
+      record {
+        may = seen_may k hi s;
+        tells = subst (SeesEvent u v) (look_told k.items hi c.trail m.left m.walk o aim ends ∙ sym (seen_tells k hi s)) sought.tells;
+        caller = caller;
+        range = seen_range k hi z closed.over.walking.opened closed.before s small before looks;
+        ground = tt;
+        failed = failed;
+        busy = λ told. used (seen_busy k.items hi c.trail m.left m.walk o aim ends (none_seen s told));
+        left = leaves called aim (of_look s)
+            (λ seen told. has_seen o m.walk k.items hi c.trail seen (some_seen s seen told))
+            (λ told. seen_busy k.items hi c.trail m.left m.walk o aim ends (none_seen s told));
+        steps = few;
+      }
+
 module _ (z : Sizes) (u : View) (c : Caller) (m : Seek) (v : View) (o : Outcome) (ended : seeks.ended_at m ≡ Some o) where
   pub seek_called : (w : Wish) (given turns : ℕ) → c.call ≡ call.Seek m → ((i : ℕ) → get_or c.key.items i 0 < 256) → GoesOn z w turns u c (call.Seek m) v → v.steps ≤ u.steps + given + 1000
       → HasCalled z w given turns m.restarts u c (of_seek o (seeks.seen_at m c.key.items c.hi c.trail)) v
@@ -189,26 +198,12 @@ module _ (z : Sizes) (u : View) (c : Caller) (m : Seek) (v : View) (o : Outcome)
       get_called z u c m v o ended k c.hi turns on.short on.caller on.turns_are on.fits given (seeks.seen_at m c.key.items c.hi c.trail) on.aim_is few
   seek_called (Look lo hi) given turns called small on few =
       let n = on.0 in
-      let s = seen_by (Some o) m.walk lo.items hi c.trail in
       let e = ends z u c m v o ended lo hi turns n.short n.caller n.turns_are n.fits in
-      let closed = ended_closed z lo.items hi u m c.trail v o ended n.fits in
-      let looks = look_ends lo.items hi c.trail m.left z closed.over.walking.opened closed.before m.restarts m.walk o n.aim_is e closed.over.walking.walk in
-      let same : of_seek o (seeks.seen_at m c.key.items c.hi c.trail) ≡ looked s =
+      let same : of_seek o (seeks.seen_at m c.key.items c.hi c.trail) ≡ of_look (seen_by (Some o) m.walk lo.items hi c.trail) =
       ap (λ (k : ArrayVec ℕ). of_seek o (seeks.seen_at m k.items c.hi c.trail)) n.key_is ∙ (ap (λ (b : Bound). of_seek o (seeks.seen_at m lo.items b c.trail)) n.bound_is
       ∙ (ap (λ (p : Option Outcome). of_seek o (seen_by p m.walk lo.items hi c.trail)) ended ∙ range_ends lo.items hi c.trail m.left m.walk o n.aim_is e)) in
       let bytes = subst (λ (k : ArrayVec ℕ). (i : ℕ) → get_or k.items i 0 < 256) n.key_is small in
-      subst (λ (x : OutcomeOf). HasCalled z (Look lo hi) given turns m.restarts u c x v) (sym same) (record {
-        may = seen_may lo hi s;
-        tells = subst (SeesEvent u v) (look_told lo.items hi c.trail m.left m.walk o n.aim_is e ∙ sym (seen_tells lo hi s)) (sought z u c m v o ended lo hi turns n.short n.caller n.turns_are n.fits).tells;
-        caller = caller z u c m v o ended lo hi turns n.short n.caller n.turns_are n.fits;
-        range = seen_range lo hi z closed.over.walking.opened closed.before s bytes on.1 looks;
-        ground = tt;
-        failed = failed z u c m v o ended lo hi turns n.short n.caller n.turns_are n.fits;
-        busy = λ told. used z u c m v o ended lo hi turns n.short n.caller n.turns_are n.fits (seen_busy lo.items hi c.trail m.left m.walk o n.aim_is e (none_seen s told));
-        left = leaves z u c m v o ended lo hi turns n.short n.caller n.turns_are n.fits called n.aim_is (looked s)
-            (λ seen told. has_seen o m.walk lo.items hi c.trail seen (some_seen s seen told))
-            (λ told. seen_busy lo.items hi c.trail m.left m.walk o n.aim_is e (none_seen s told));
-        steps = few;
-      })
+      subst (λ (x : OutcomeOf). HasCalled z (Look lo hi) given turns m.restarts u c x v) (sym same)
+      (look_called z u c m v o ended lo hi turns n.short n.caller n.turns_are n.fits given n.aim_is called bytes on.1 few)
   seek_called (Insert k value) given turns called small on few = absurd on
   seek_called (Remove k) given turns called small on few = absurd on

@@ -26,3 +26,8 @@ of_seek seek.Absent seen = outcome.Absent
 of_seek seek.Seen (Some seen) = outcome.Seen seen
 of_seek seek.Seen None = outcome.Busy
 of_seek seek.Busy seen = outcome.Busy
+
+-- a look that was made at once, which has seen this, or used all of its turns
+abbrev pub of_look : Option Seen → Outcome
+of_look (Some seen) = outcome.Seen seen
+of_look None = outcome.Busy

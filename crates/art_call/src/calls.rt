@@ -1,15 +1,20 @@
 //! Calls that are made at once: their machines are values, and stand in no caller.
-ghost use Rattle.std.specs.Prelude.{◌≢◌, ℕ, None};
-ghost use Rattle.art_call.specs.Calls.{Get as get_wish, HasCalled, Insert as insert_wish, IsCaller, Remove as remove_wish, write_wish};
-ghost use Rattle.art_call.specs.Outcomes.{of_seek, of_write};
+ghost use Rattle.std.specs.Prelude.{◌≡◌, ◌≢◌, ℕ, None, true};
+ghost use Rattle.art_call.specs.Calls.{Get as get_wish, HasCalled, Insert as insert_wish, IsCaller, Look as look_wish, Remove as remove_wish, write_wish};
+ghost use Rattle.art_call.specs.Outcomes.{of_look, of_seek, of_write};
 ghost use Rattle.art_change.specs.Tries.{IsRoom, key_of, value_of};
 ghost use Rattle.art_change.specs.declared.writes.Outcome.TheVariants.{Overlaps as overlaps};
+ghost use Rattle.art_key.specs.Bounds.{is_before};
+ghost use Rattle.art_look.specs.Seen.{bound_at};
 ghost use Rattle.art_step.specs.Histories.{AreApart};
 ghost use Rattle.art_step.specs.declared.views.View.{View};
+ghost use Rattle.art_tree.specs.declared.bounds.Bound.TheVariants.{To as to_text};
 
 use crate::Caller;
+use crate::callers::Call;
 use art_change::{Job, Outcome as WriteOutcome, Write, finish as finish_write};
 use art_key::{Bound, Key};
+use art_look::Seen;
 use art_seek::{Aim, Outcome as SeekOutcome, Seek, finish as finish_seek};
 use art_step::EpochSteps;
 
@@ -79,5 +84,27 @@ impl Caller {
         let seek = Seek::new(Aim::Key, turns);
         let done = finish_seek(steps, seek, key.as_slice(), &Bound::End, &mut self.trail);
         done.ended().unwrap()
+    }
+
+    /// Looks for the first row from the key on, before the bound, in so many turns: what it has seen, or none where all turns were used. How
+    /// many turns are left is kept (`turns_left`).
+    pub fn look<S: EpochSteps>(
+        &mut self,
+        steps: &mut S,
+        lo: &Key,
+        hi: &Bound,
+        turns: u32,
+    ) -> Option<Seen>
+        requires before { is_before (bound_at (to_text lo.now.items)) hi.now ≡ true }
+        requires caller { IsCaller (S.sizes steps.old) (S.view steps.old) self.old }
+        ensures only { S.only steps.old steps.new }
+        ensures called { (restarts : ℕ) × HasCalled (S.sizes steps.old) (look_wish lo.now hi.now) turns turns restarts (S.view steps.old)
+            self.new (of_look result) (S.view steps.new) }
+    {
+        let bytes = lo.as_slice();
+        let seek = Seek::new(Aim::Range, turns);
+        let done = finish_seek(steps, seek, bytes, hi, &mut self.trail);
+        self.call = Call::Seek(done);
+        done.seen(bytes, hi, &self.trail)
     }
 }

@@ -1,9 +1,12 @@
 //! A look of a range.
 ghost use Rattle.std.specs.Prelude.{◌≡◌, ℕ, ◌≤◌, ◌<◌, ◌+◌, List, Option, length, None, Ok};
+ghost use Rattle.art_key.specs.Bounds.{is_before};
 ghost use Rattle.art_key.specs.declared.bounds.Bound.{Bound as KeyBound};
+ghost use Rattle.art_key.specs.declared.bounds.Bound.TheVariants.{At as at};
 ghost use Rattle.art_look.specs.Looks.{stage_below};
 ghost use Rattle.art_look.specs.Seen.{bound_at, nearer, row_within, seen_of};
 ghost use Rattle.art_look.specs.Table.{end_at};
+ghost use Rattle.art_step.specs.Deeds.{key_of};
 
 use crate::Trail;
 use crate::fronts::Front;
@@ -148,6 +151,7 @@ impl Look {
     }
 
     /// What it has seen, of the range from the key on, before the bound: at the step that settles it, and once that is settled.
+    #[inline(always)]
     pub fn seen(&self, lo: &[u8], hi: &Bound, trail: &Trail) -> Option<Seen>
         requires { length lo.now ≤ 64 }
         ensures { result ≡ seen_at lo.now hi.now trail.now self.now.stage }
@@ -252,6 +256,7 @@ fn below(stamp: Stamp, link: Link) -> LookStage
 }
 
 /// What was seen by a look that ends at the trail's path, and found a leaf with the trail's key and this value, or none.
+#[inline(always)]
 fn seen_of(lo: &[u8], hi: &Bound, trail: &Trail, reach: Reach, value: Option<u64>) -> Seen
     requires { length lo.now ≤ 64 }
     ensures { result ≡ seen_of lo.now hi.now trail.now.path.items trail.now.key.items reach value }
@@ -264,6 +269,7 @@ fn seen_of(lo: &[u8], hi: &Bound, trail: &Trail, reach: Reach, value: Option<u64
 }
 
 /// How far a look sees that ends at the path.
+#[inline(always)]
 fn end_at(reach: Reach, path: &[u8]) -> Bound
     requires { length path.now ≤ 64 }
     ensures { result ≡ bound_at (end_at reach path.now) }
@@ -275,6 +281,7 @@ fn end_at(reach: Reach, path: &[u8]) -> Bound
 }
 
 /// The nearer of two ends.
+#[inline(always)]
 fn nearer(end: Bound, hi: &Bound) -> Bound
     ensures { result ≡ nearer end hi.now }
 {
@@ -288,16 +295,25 @@ fn nearer(end: Bound, hi: &Bound) -> Bound
 }
 
 /// The row, where its key is not before the lower end and is before the upper one.
+#[inline(always)]
 fn row_within(lo: &[u8], hi: &Bound, key: &[u8], value: u64) -> Option<(Key, u64)>
     requires { length key.now ≤ 64 }
     ensures { result ≡ row_within lo.now hi.now key.now value }
 {
-    if key.cmp(lo).is_lt() {
-        return None;
-    }
-    let at = Bound::At(copied(key));
-    if !at.before(hi) {
+    if key.cmp(lo).is_lt() || !is_below(key, hi) {
         return None;
     }
     Some((copied(key), value))
+}
+
+/// Whether the key is before the bound.
+#[inline(always)]
+fn is_below(key: &[u8], bound: &Bound) -> bool
+    requires { length key.now ≤ 64 }
+    ensures { result ≡ is_before (at (key_of key.now)) bound.now }
+{
+    match bound {
+        Bound::At(end) => key.cmp(end.as_slice()).is_lt(),
+        Bound::End => true,
+    }
 }

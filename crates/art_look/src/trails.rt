@@ -46,6 +46,7 @@ fn append(text: &mut Key, bytes: &[u8])
 }
 
 /// The bytes as a key.
+#[inline(always)]
 pub(crate) fn copied(bytes: &[u8]) -> Key
     requires { length bytes.now ≤ 64 }
     ensures { result.items ≡ bytes.now }

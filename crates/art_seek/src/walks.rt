@@ -137,6 +137,7 @@ impl Walk {
     }
 
     /// What a look has seen: at the step that settles it, and once that is settled.
+    #[inline(always)]
     pub(crate) fn seen(&self, lo: &[u8], hi: &Bound, trail: &Trail) -> Option<Seen>
         requires { length lo.now ≤ 64 }
         ensures { result ≡ seen_at self.now lo.now hi.now trail.now }
@@ -148,6 +149,7 @@ impl Walk {
     }
 
     /// The event of the step that settles the answer.
+    #[inline(always)]
     pub(crate) fn deed(&self, key: &[u8], hi: &Bound, trail: &Trail) -> Deed
         requires short { length key.now ≤ 64 }
         requires settles { (x : Stamp) × (asks self.now ≡ Some (settle_asked x)) }
@@ -171,6 +173,7 @@ fn of_value(value: Option<u64>) -> Outcome
 }
 
 /// What a get of the key does where it has this value, or none.
+#[inline(always)]
 fn get_done(key: &[u8], value: Option<u64>) -> Deed
     requires { length key.now ≤ 64 }
     ensures { result ≡ get_done key.now value }
@@ -183,6 +186,7 @@ fn get_done(key: &[u8], value: Option<u64>) -> Deed
 }
 
 /// The bytes as a key.
+#[inline(always)]
 fn copied(bytes: &[u8]) -> Key
     requires { length bytes.now ≤ 64 }
     ensures { result.items ≡ bytes.now }
@@ -193,6 +197,7 @@ fn copied(bytes: &[u8]) -> Key
 }
 
 /// What a look does that settles what it has seen.
+#[inline(always)]
 fn look_done(look: &Look, lo: &[u8], hi: &Bound, trail: &Trail) -> Deed
     requires short { length lo.now ≤ 64 }
     requires settles { (x : Stamp) × (looks.asks look.now.stage ≡ Some (settle_asked x)) }

@@ -1,5 +1,5 @@
--- A call of one tuple that was made at once: its pass comes back, and it ends so.
-use Rattle.std.proofs.Common.{◌≡◌, ◌∙◌, ℕ, List, Result, sym, ap, subst}
+-- A call that was made at once: its pass comes back, and it ends so.
+use Rattle.std.proofs.Common.{◌≡◌, ◌∙◌, ℕ, List, None, Result, sym, ap, subst}
 use Rattle.std.specs.Box.{with_value}
 use Rattle.arrayvec.specs.ArrayVec.{ArrayVec}
 use Rattle.art_call.specs.Calls.{HasCalled, IsCaller, Wish}
@@ -30,19 +30,11 @@ use Rattle.art_table.specs.declared.jobs.Outcome.{Outcome}
 use Rattle.art_table.specs.declared.passes.Pass.{Pass}
 use Rattle.art_table.specs.declared.tables.Table.{Table}
 
-module _ (t : Table) (a : Pass) (s : Stepper) (old : Caller) (same : old ≡ caller_of a) (lent : pass_of s ≡ a.seat) (basis : basis_of s ≡ basis_in t.shared)
-    (is : IsPassOf t a) (tuple : Tuple) (k : ArrayVec ℕ) (schema : List Column) (schema_is : schema ≡ schema_in t) (spelt : IsSpelling schema tuple.items k.items) where
-  here : IsSpelling (schema_in t) tuple.items k.items
-  here = subst (λ (x : List Column). IsSpelling x tuple.items k.items) schema_is spelt
-
+module _ (t : Table) (a : Pass) (s : Stepper) (old : Caller) (same : old ≡ caller_of a) (lent : pass_of s ≡ a.seat) (basis : basis_of s ≡ basis_in t.shared) (is : IsPassOf t a) where
   sizes_are : sizes_of s ≡ sizes_in t
   sizes_are = ap (λ (x : Basis). x.sizes) basis
 
-  -- its key is one that the stepper admits
-  pub key_admitted : IsKeyOf (schema_of s) k.items
-  key_admitted = (tuple.items, subst (λ (x : List Column). IsSpelling x tuple.items k.items) (sym (ap (λ (x : Basis). x.schema) basis)) here)
-
-  -- and the pass may call
+  -- the pass may call
   pub lent_caller : IsCaller (sizes_of s) (stepper.view_of s) old
   lent_caller =
       subst (λ (x : Seat). IsCaller (sizes_of s) (view_of_pass x) old) (sym lent)
@@ -53,18 +45,35 @@ module _ (t : Table) (a : Pass) (s : Stepper) (old : Caller) (same : old ≡ cal
     back : Pass
     back = record { seat = pass_of b; caller = with_value a.caller new }
 
-    pub tuple_ends : (j : Job) (turns : ℕ) (wish : ArrayVec ℕ → Wish) → wish (key_of (schema_in t) tuple) ≡ wish_of (schema_in t) j
-        → job_fault (schema_in t) j ≡ tuple_fault (schema_in t) tuple.items → IsRange j
-        → (o : CallOutcome) → (restarts : ℕ) × HasCalled (sizes_of s) (wish k) turns turns restarts (stepper.view_of s) new o (stepper.view_of b)
+    pub made_ends : (j : Job) (turns : ℕ) (wish : Wish) → wish ≡ wish_of (schema_in t) j → job_fault (schema_in t) j ≡ None → IsRange j
+        → (o : CallOutcome) → (restarts : ℕ) × HasCalled (sizes_of s) wish turns turns restarts (stepper.view_of s) new o (stepper.view_of b)
         → (r : Result Outcome Fault) → r ≡ result_of (schema_in t) o
         → IsPassOf t (record { seat = pass_of b; caller = with_value a.caller new }) × Ends t j turns a r (record { seat = pass_of b; caller = with_value a.caller new })
     unfolding back
-    tuple_ends j turns wish wish_is fault range o called r r_is =
-        let stands = fault ∙ here.stands in
-        let as_seat = subst (λ (x : Seat). HasCalled (sizes_of s) (wish k) turns turns called.0 (view_of_pass x) new o (stepper.view_of b)) lent called.1 in
-        let as_wish = subst (λ (w : Wish). HasCalled (sizes_of s) w turns turns called.0 (view_of a) new o (stepper.view_of b)) (ap wish (spelled (schema_in t) tuple k here) ∙ wish_is) as_seat in
+    made_ends j turns wish wish_is stands range o called r r_is =
+        let as_seat = subst (λ (x : Seat). HasCalled (sizes_of s) wish turns turns called.0 (view_of_pass x) new o (stepper.view_of b)) lent called.1 in
+        let as_wish = subst (λ (w : Wish). HasCalled (sizes_of s) w turns turns called.0 (view_of a) new o (stepper.view_of b)) wish_is as_seat in
         let as_sizes = subst (λ (z : Sizes). HasCalled z (wish_of (schema_in t) j) turns turns called.0 (view_of a) new o (stepper.view_of b)) sizes_are as_wish in
         let of = lent_passes_stay t.shared a.seat s b is.of lent basis only in
         let seats = subst (λ (x : Seat). SamePass x (pass_of b)) lent only.pass in
         let e = has_ended t j turns turns called.0 a back o is stands range of seats as_sizes in
         (e.pass, ends t j turns a r back stands (subst (λ (x : Result Outcome Fault). HasEnded t j turns turns a x back) (sym r_is) e))
+
+-- ---- a call of one tuple
+
+module _ (t : Table) (a : Pass) (s : Stepper) (old : Caller) (same : old ≡ caller_of a) (lent : pass_of s ≡ a.seat) (basis : basis_of s ≡ basis_in t.shared)
+    (is : IsPassOf t a) (tuple : Tuple) (k : ArrayVec ℕ) (schema : List Column) (schema_is : schema ≡ schema_in t) (spelt : IsSpelling schema tuple.items k.items) where
+  here : IsSpelling (schema_in t) tuple.items k.items
+  here = subst (λ (x : List Column). IsSpelling x tuple.items k.items) schema_is spelt
+
+  -- its key is one that the stepper admits
+  pub key_admitted : IsKeyOf (schema_of s) k.items
+  key_admitted = (tuple.items, subst (λ (x : List Column). IsSpelling x tuple.items k.items) (sym (ap (λ (x : Basis). x.schema) basis)) here)
+
+  pub tuple_ends : (b : Stepper) (new : Caller) → OnlyStepped s b → (j : Job) (turns : ℕ) (wish : ArrayVec ℕ → Wish) → wish (key_of (schema_in t) tuple) ≡ wish_of (schema_in t) j
+      → job_fault (schema_in t) j ≡ tuple_fault (schema_in t) tuple.items → IsRange j
+      → (o : CallOutcome) → (restarts : ℕ) × HasCalled (sizes_of s) (wish k) turns turns restarts (stepper.view_of s) new o (stepper.view_of b)
+      → (r : Result Outcome Fault) → r ≡ result_of (schema_in t) o
+      → IsPassOf t (record { seat = pass_of b; caller = with_value a.caller new }) × Ends t j turns a r (record { seat = pass_of b; caller = with_value a.caller new })
+  tuple_ends b new only j turns wish wish_is fault range o called r r_is =
+      made_ends t a s old same lent basis is b new only j turns (wish k) (ap wish (spelled (schema_in t) tuple k here) ∙ wish_is) (fault ∙ here.stands) range o called r r_is

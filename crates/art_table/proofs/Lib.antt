@@ -1,7 +1,6 @@
 pub mod Answered
 mod AtOnce
 mod Begun
-mod Called
 mod Ended
 mod GivenUp
 mod Here

@@ -6,12 +6,13 @@ ghost use Rattle.art_call.specs.Outcomes.{of_seek, of_write};
 ghost use Rattle.art_key.specs.Bounds.{is_before};
 ghost use Rattle.art_key.specs.declared.columns.Column.{Column};
 ghost use Rattle.art_table.specs.Calls.{Ends};
-ghost use Rattle.art_table.specs.Jobs.{IsOf, of_got, of_inserted, of_removed, result_of, with_result};
+ghost use Rattle.art_table.specs.Jobs.{of_got, of_inserted, of_removed, result_of, with_result};
 ghost use Rattle.art_table.specs.Tables.{IsPassOf};
 ghost use Rattle.art_table.specs.declared.jobs.Job.TheVariants as jobs;
 ghost use Rattle.art_table.specs.declared.jobs.Outcome.TheVariants.{Seen as saw};
 
-use crate::{Fault, Outcome, Pass, Seen, Table};
+use crate::jobs::seen_of;
+use crate::{Fault, Pass, Seen, Table};
 use art_call::WriteOutcome;
 use art_key::{Bound, encode};
 use art_model::Tuple;
@@ -83,10 +84,11 @@ pub fn look(
     ensures pass { IsPassOf table.now pass.new }
     ensures ends { Ends table.now (jobs.Look lo.now hi.now) turns pass.old (with_result saw result) pass.new }
 {
-    pass.begin_look(table, lo, hi, turns);
-    match pass.run(table) {
-        Ok(outcome) => Ok(looked_of(outcome)),
-        Err(fault) => Err(fault),
+    let Bound::At(key) = lo else { unreachable!() };
+    let mut stepper = table.shared.at(&mut pass.seat);
+    match pass.caller.look(&mut stepper, key, hi, turns) {
+        Some(seen) => Ok(seen_of(table.schema(), seen)),
+        None => Err(Fault::Busy),
     }
 }
 
@@ -133,16 +135,5 @@ fn got_of(outcome: SeekOutcome) -> Result<Option<u64>, Fault>
         SeekOutcome::Found(value) => Ok(Some(value)),
         SeekOutcome::Absent => Ok(None),
         SeekOutcome::Seen | SeekOutcome::Busy => Err(Fault::Busy),
-    }
-}
-
-/// What a look answers, by its outcome.
-fn looked_of(outcome: Outcome) -> Seen
-    requires { IsOf saw outcome }
-    ensures { saw result ≡ outcome }
-{
-    match outcome {
-        Outcome::Seen(seen) => seen,
-        _ => unreachable!(),
     }
 }

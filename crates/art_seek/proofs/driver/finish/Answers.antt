@@ -12,9 +12,11 @@ pub hurry-requires-clause-fits : goal.hurry-requires-clause-fits
 hurry-requires-clause-fits g c =
     let s = c.args.steps.now in
     let l = c.loop-seek in
-    let hi = c.args.hi.now in
-    (hi, still_on (g.S.Steps.sizes s) (g.S.Steps.sizes l.steps) (g.met.S.Steps.only_sizes s l.steps l.invariant.only) c.args.key.now hi c.args.seek c.args.trail.now (g.S.Steps.view s) l.seek l.trail (g.S.Steps.view l.steps)
-    l.invariant.goes c.requires.fits)
+    let hi = c.args.hi.now in (
+      hi,
+      still_on (g.S.Steps.sizes s) (g.S.Steps.sizes l.steps) (g.met.S.Steps.only_sizes s l.steps l.invariant.only) c.args.key.now hi c.args.seek c.args.trail.now (g.S.Steps.view s) l.seek l.trail (g.S.Steps.view l.steps)
+          l.invariant.goes c.requires.fits,
+    )
 
 pub returns-then-not-hurry : goal.returns-then-not-hurry
 returns-then-not-hurry g c =
@@ -76,5 +78,5 @@ loop-seek-preserved g c =
     record {
       only = g.met.S.Steps.only_then s h.steps w.steps only c.walk_by.ensures.only;
       goes = goes_then (g.S.Steps.sizes s) (g.S.Steps.sizes h.steps) (g.met.S.Steps.only_sizes s h.steps only) k hi c.args.seek c.args.trail.now v h.self h.trail (g.S.Steps.view h.steps)
-      goes w.self w.trail (g.S.Steps.view w.steps) c.walk_by.ensures.goes;
+          goes w.self w.trail (g.S.Steps.view w.steps) c.walk_by.ensures.goes;
     }

@@ -21,7 +21,7 @@ get-requires-clause-caller c =
     let p = c.args.pass.now in
     let s = c.at-stepper.result in
     let at = c.at-stepper.ensures in
-    lent_caller t p s c.deref_mut.result.now c.deref_mut.ensures.value at.pass at.basis c.requires c.args.tuple.now c.in_ok-key.key c.schema.result.now c.schema.ensures c.in_ok-key.ensures.key
+    lent_caller t p s c.deref_mut.result.now c.deref_mut.ensures.value at.pass at.basis c.requires
 
 pub returns : goal.returns
 returns c =

@@ -23,7 +23,7 @@ insert-requires-clause-caller c =
     let p = c.args.pass.now in
     let s = c.at-stepper.result in
     let at = c.at-stepper.ensures in
-    lent_caller t p s c.deref_mut.result.now c.deref_mut.ensures.value at.pass at.basis c.requires c.args.tuple.now c.in_ok-key.key c.schema.result.now c.schema.ensures c.in_ok-key.ensures.key
+    lent_caller t p s c.deref_mut.result.now c.deref_mut.ensures.value at.pass at.basis c.requires
 
 pub inserted_of-requires-clause-may : goal.inserted_of-requires-clause-may
 inserted_of-requires-clause-may c = (c.in_ok-key.key, c.args.value, c.insert.ensures.called.1.may)

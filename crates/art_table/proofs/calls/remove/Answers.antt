@@ -21,7 +21,7 @@ remove-requires-clause-caller c =
     let p = c.args.pass.now in
     let s = c.at-stepper.result in
     let at = c.at-stepper.ensures in
-    lent_caller t p s c.deref_mut.result.now c.deref_mut.ensures.value at.pass at.basis c.requires c.args.tuple.now c.in_ok-key.key c.schema.result.now c.schema.ensures c.in_ok-key.ensures.key
+    lent_caller t p s c.deref_mut.result.now c.deref_mut.ensures.value at.pass at.basis c.requires
 
 pub removed_of-requires : goal.removed_of-requires
 removed_of-requires c = record { may = (c.in_ok-key.key, c.remove.ensures.called.1.may) }

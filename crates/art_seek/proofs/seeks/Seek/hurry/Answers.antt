@@ -21,9 +21,11 @@ walk_on-requires-clause-fits g c =
     let p = c.pin.new.steps in
     let k = c.args.key.now in
     let t = c.args.trail.now in
-    let q = c.requires.fits in
-    (q.0, still_on (g.S.Steps.sizes s) (g.S.Steps.sizes p) (g.met.S.Steps.only_sizes s p c.pin.ensures.only) k q.0 c.args.self.now t (g.S.Steps.view s) c.pin.new.self t (g.S.Steps.view p)
-    (c.pin.ensures.goes k q.0 t) q.1)
+    let q = c.requires.fits in (
+      q.0,
+      still_on (g.S.Steps.sizes s) (g.S.Steps.sizes p) (g.met.S.Steps.only_sizes s p c.pin.ensures.only) k q.0 c.args.self.now t (g.S.Steps.view s) c.pin.new.self t (g.S.Steps.view p)
+          (c.pin.ensures.goes k q.0 t) q.1,
+    )
 
 pub go_idle-requires-clause-fits : goal.go_idle-requires-clause-fits
 go_idle-requires-clause-fits g c =
@@ -31,9 +33,13 @@ go_idle-requires-clause-fits g c =
     let p = c.pin.new.steps in
     let k = c.args.key.now in
     let t = c.args.trail.now in
-    let q = c.requires.fits in
-    (k, q.0, t, still_on (g.S.Steps.sizes s) (g.S.Steps.sizes p) (g.met.S.Steps.only_sizes s p c.pin.ensures.only) k q.0 c.args.self.now t (g.S.Steps.view s) c.pin.new.self t (g.S.Steps.view p)
-    (c.pin.ensures.goes k q.0 t) q.1)
+    let q = c.requires.fits in (
+      k,
+      q.0,
+      t,
+      still_on (g.S.Steps.sizes s) (g.S.Steps.sizes p) (g.met.S.Steps.only_sizes s p c.pin.ensures.only) k q.0 c.args.self.now t (g.S.Steps.view s) c.pin.new.self t (g.S.Steps.view p)
+          (c.pin.ensures.goes k q.0 t) q.1,
+    )
 
 pub returns-in-Walking-clause-goes : goal.returns-in-Walking-clause-goes
 returns-in-Walking-clause-goes g c = λ hi.

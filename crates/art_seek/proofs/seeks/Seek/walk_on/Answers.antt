@@ -60,22 +60,22 @@ returns-clause-goes g c = λ hi.
       less = subst (λ (s : SeekStage). left_at s next ≤ left_at s m) (sym at) (omega (arith, less));
       left = subst (λ (s : SeekStage). w.steps + left_at s next ≤ v.steps + left_at s m) (sym at) (omega (arith, made, then));
       fits = λ u fits.
-      let walk = (walks_on z k hi u m t v at fits).walking in
-      let after = c.hurry.ensures.goes hi m.turns walk.opened (turns_of z k hi u m t v at fits) in
-      let within = walk.within in
-      let few = after.few in
-      let on : GoesOn z k hi u next c.hurry.new.trail w = record {
-        walking = record {
-          opened = walk.opened;
-          may = walk.may;
-          pins_to = walk.pins_to;
-          walk = subst (λ (n : ℕ). WalkFits z k hi walk.opened c.hurry.new.self c.hurry.new.trail n w) (sym now) after.walk;
-          counted = after.made;
-          within = omega (arith, within, less);
-          few = omega (arith, few, now);
-        };
-        going = after.going;
-        turn = c.hurry.ensures.some;
-      } in
-      subst (λ (a : SeekStage). StageFits z k hi u a next c.hurry.new.trail w) (sym at) on;
+          let walk = (walks_on z k hi u m t v at fits).walking in
+          let after = c.hurry.ensures.goes hi m.turns walk.opened (turns_of z k hi u m t v at fits) in
+          let within = walk.within in
+          let few = after.few in
+          let on : GoesOn z k hi u next c.hurry.new.trail w = record {
+            walking = record {
+              opened = walk.opened;
+              may = walk.may;
+              pins_to = walk.pins_to;
+              walk = subst (λ (n : ℕ). WalkFits z k hi walk.opened c.hurry.new.self c.hurry.new.trail n w) (sym now) after.walk;
+              counted = after.made;
+              within = omega (arith, within, less);
+              few = omega (arith, few, now);
+            };
+            going = after.going;
+            turn = c.hurry.ensures.some;
+          } in
+          subst (λ (a : SeekStage). StageFits z k hi u a next c.hurry.new.trail w) (sym at) on;
     }
