@@ -1,4 +1,3 @@
-use Rattle.std.proofs.Common.{refl}
 use Rattle.art_find.specs.declared.asked.Asked.TheVariants.{Check}
 use Rattle.art_look.proofs.Going.{may_make}
 use Rattle.art_look.proofs.straight.check.Goals as goal

@@ -1,4 +1,3 @@
-use Rattle.std.proofs.Common.{refl}
 use Rattle.art_find.specs.declared.asked.Asked.TheVariants.{Read}
 use Rattle.art_look.proofs.Going.{may_make}
 use Rattle.art_look.proofs.straight.read.Goals as goal

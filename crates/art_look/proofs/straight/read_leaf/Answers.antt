@@ -1,4 +1,3 @@
-use Rattle.std.proofs.Common.{refl}
 use Rattle.art_find.specs.declared.asked.Asked.TheVariants.{ReadLeaf}
 use Rattle.art_look.proofs.Going.{may_make}
 use Rattle.art_look.proofs.straight.read_leaf.Goals as goal

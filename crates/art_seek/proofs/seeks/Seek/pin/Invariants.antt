@@ -1,8 +1,8 @@
 -- So far the pass is being pinned.
-use Rattle.std.proofs.Common.{◌≡◌, ℕ, List}
+use Rattle.std.proofs.Common.{ℕ, List}
 use Rattle.art_key.specs.declared.bounds.Bound.{Bound as KeyBound}
 use Rattle.art_look.specs.declared.trails.Trail.{Trail as Trailed}
-use Rattle.art_seek.specs.Seeks.{GoesTo, IsUnderWay, steps_left}
+use Rattle.art_seek.specs.Seeks.{GoesTo, steps_left}
 use Rattle.art_seek.proofs.seeks.Seek.pin.Given as goal
 
 abbrev pub invariant-loop-self : goal.invariant-loop-self

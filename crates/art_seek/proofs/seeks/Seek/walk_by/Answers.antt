@@ -1,4 +1,4 @@
-use Rattle.std.proofs.Common.{◌≡◌, ◌+◌, ◌≤◌, ◌<◌, ◌∙◌, ℕ, List, None, sym, ap, subst, arith}
+use Rattle.std.proofs.Common.{◌≡◌, ◌+◌, ◌≤◌, ◌<◌, ◌∙◌, ℕ, List, sym, subst, arith}
 use Rattle.std.specs.Prelude.{IfSome, Option}
 use Rattle.art_find.proofs.Counting.{answers_count}
 use Rattle.art_find.specs.Asking.{IsAllowed}

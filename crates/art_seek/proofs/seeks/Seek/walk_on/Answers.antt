@@ -2,7 +2,7 @@
 use Rattle.std.proofs.Common.{◌≡◌, ◌≤◌, ℕ, ◌+◌, List, refl, sym, subst, arith}
 use Rattle.art_key.specs.declared.bounds.Bound.{Bound as KeyBound}
 use Rattle.art_look.specs.declared.trails.Trail.{Trail as Trailed}
-use Rattle.art_seek.specs.Seeks.{Fits, GoesOn, StageFits, busy_at, left_at, steps_left}
+use Rattle.art_seek.specs.Seeks.{Fits, GoesOn, StageFits, busy_at, left_at}
 use Rattle.art_seek.specs.Walks.{Fits as WalkFits, HasTurns}
 use Rattle.art_seek.specs.declared.seeks.Seek.{Seek}
 use Rattle.art_seek.specs.declared.seeks.SeekStage.{SeekStage}
