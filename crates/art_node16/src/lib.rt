@@ -1,7 +1,7 @@
 //! Nodes of at most 16 children, in ascending order of their bytes, in 28 words.
 #![tactic(auto)]
 
-use art_cell::{Body, Entries, NextProbe, NodeKind, Probe, Reads};
+use art_cell::{Body, Entries, NextProbe, NodeKind, Probe, Reads, Writes};
 use art_sorted::Sorted;
 
 /// Nodes of at most 16 children (ICDE 2013): the key bytes in two words, and the children after them.
@@ -34,5 +34,17 @@ impl NodeKind for Node16 {
 
     fn list(body: &Body) -> Entries {
         art_sorted::list(Sorted::Sixteen, body)
+    }
+
+    fn plan_add(body: &Body, byte: u8, child: u64, writes: &mut Writes) -> bool {
+        art_sorted::plan_add(Sorted::Sixteen, body, byte, child, writes)
+    }
+
+    fn plan_set(body: &Body, byte: u8, child: u64, writes: &mut Writes) {
+        art_sorted::plan_set(Sorted::Sixteen, body, byte, child, writes);
+    }
+
+    fn plan_drop(body: &Body, byte: u8, writes: &mut Writes) {
+        art_sorted::plan_drop(Sorted::Sixteen, body, byte, writes);
     }
 }

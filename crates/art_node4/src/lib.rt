@@ -1,7 +1,7 @@
 //! The smallest nodes: at most 4 children, in ascending order of their bytes, in 15 words.
 #![tactic(auto)]
 
-use art_cell::{Body, Entries, NextProbe, NodeKind, Probe, Reads};
+use art_cell::{Body, Entries, NextProbe, NodeKind, Probe, Reads, Writes};
 use art_sorted::Sorted;
 
 /// Nodes of at most 4 children (ICDE 2013): the key bytes in one word, and the children after it.
@@ -34,5 +34,17 @@ impl NodeKind for Node4 {
 
     fn list(body: &Body) -> Entries {
         art_sorted::list(Sorted::Four, body)
+    }
+
+    fn plan_add(body: &Body, byte: u8, child: u64, writes: &mut Writes) -> bool {
+        art_sorted::plan_add(Sorted::Four, body, byte, child, writes)
+    }
+
+    fn plan_set(body: &Body, byte: u8, child: u64, writes: &mut Writes) {
+        art_sorted::plan_set(Sorted::Four, body, byte, child, writes);
+    }
+
+    fn plan_drop(body: &Body, byte: u8, writes: &mut Writes) {
+        art_sorted::plan_drop(Sorted::Four, body, byte, writes);
     }
 }

@@ -148,6 +148,15 @@ holds_body s w body = subst (λ (xs : List Entry). Holds (layout_of s) w xs w) (
           | inr past ↦ form.no_child i past h ∙ ap (λ (e : Entry). e.child) (unused i past)
         ]
 
+-- the entry at a position in use, and past the last one
+pub entry_used : (s : Sorted) (w : Words) (i : ℕ) → IsBody (layout_of s) w → i < count_of w → entry_or_none (entries (layout_of s) w) i ≡ entry_here (first_child (layout_of s)) w i
+entry_used s w i body h =
+    ap (λ (xs : List Entry). entry_or_none xs i) (entries_is s w (form_is s w body.form))
+    ∙ get_or-map-range_with_len (entry_here (first_child (layout_of s)) w) 0 (count_of w) i i no_entry h (omega arith)
+
+pub entry_unused : (s : Sorted) (w : Words) (i : ℕ) → IsBody (layout_of s) w → count_of w ≤ i → entry_or_none (entries (layout_of s) w) i ≡ no_entry
+entry_unused s w i body h = get_or_past (entries (layout_of s) w) i no_entry (omega (arith, body.counted))
+
 -- ---- the words after a write
 
 pub count_held : (k : Layout) (w after : Words) (xs : List Entry) → length xs ≤ 16 → Holds k w xs after → count_of after ≡ length xs
@@ -364,12 +373,11 @@ list_more first w index byte c xs ys so_far key child more =
     ∙ sym (map-range_with_len_more (entry_here first w) 0 index index (omega arith))
 
 pub added : (s : Sorted) (w after : Words) (xs ys : List Entry) (i byte c : ℕ) → xs ≡ entries (layout_of s) w → IsBody (layout_of s) w → child_of (layout_of s) w byte ≡ None → byte < 256 → 0 < c
-    → IsPosition xs byte i → length xs ≢ places (layout_of s) → ((p : ℕ) → after p < 2 ^ 64)
+    → IsPosition (entries (layout_of s) w) byte i → length (entries (layout_of s) w) ≢ places (layout_of s) → ((p : ℕ) → after p < 2 ^ 64)
     → ys ≡ insert xs i (record { byte = byte; child = c }) → Holds (layout_of s) w ys after
     → Becomes (layout_of s) w after (with_child (child_of (layout_of s) w) byte c)
 added s w after xs ys i byte c same body free small some at room words is holds =
-    add_becomes s w after i byte c body free small some (subst (λ (zs : List Entry). IsPosition zs byte i) same at)
-    (λ e. room (ap (λ (zs : List Entry). length zs) same ∙ e)) words
+    add_becomes s w after i byte c body free small some at room words
     (subst (λ (zs : List Entry). Holds (layout_of s) w zs after) (is ∙ ap (λ (zs : List Entry). insert zs i (record { byte = byte; child = c })) same) holds)
 
 -- the list has room for one entry more
@@ -379,16 +387,17 @@ room_for s w xs same body =
     omega (arith, ap (λ (zs : List Entry). length zs) same, body.counted, form.few)
 
 -- the position of a byte with a child is in use
-pub in_use : (s : Sorted) (w : Words) (xs : List Entry) (i byte d : ℕ) → xs ≡ entries (layout_of s) w → IsBody (layout_of s) w → child_of (layout_of s) w byte ≡ Some d → IsPosition xs byte i → i < length xs
+pub in_use : (s : Sorted) (w : Words) (xs : List Entry) (i byte d : ℕ) → xs ≡ entries (layout_of s) w → IsBody (layout_of s) w → child_of (layout_of s) w byte ≡ Some d
+    → IsPosition (entries (layout_of s) w) byte i → i < length xs
 in_use s w xs i byte d same body there at =
-    let here = stands s w i byte d body there (subst (λ (zs : List Entry). IsPosition zs byte i) same at) in
+    let here = stands s w i byte d body there at in
     omega (arith, here.0, ap (λ (zs : List Entry). length zs) same)
 
 pub taken : (s : Sorted) (w after : Words) (xs ys : List Entry) (i byte d : ℕ) → xs ≡ entries (layout_of s) w → IsBody (layout_of s) w → child_of (layout_of s) w byte ≡ Some d
-    → IsPosition xs byte i → ((p : ℕ) → after p < 2 ^ 64) → ys ≡ remove xs i → Holds (layout_of s) w ys after
+    → IsPosition (entries (layout_of s) w) byte i → ((p : ℕ) → after p < 2 ^ 64) → ys ≡ remove xs i → Holds (layout_of s) w ys after
     → Becomes (layout_of s) w after (without_child (child_of (layout_of s) w) byte)
 taken s w after xs ys i byte d same body there at words is holds =
-    take_becomes s w after i byte d body there (subst (λ (zs : List Entry). IsPosition zs byte i) same at) words
+    take_becomes s w after i byte d body there at words
     (subst (λ (zs : List Entry). Holds (layout_of s) w zs after) (is ∙ ap (λ (zs : List Entry). remove zs i) same) holds)
 
 -- a child word is written
@@ -398,12 +407,12 @@ child_differs k words i place c at within = record {
   elsewhere = λ p apart. get_or-set_other words place p c 0 (λ e. apart (e ∙ at));
 }
 
-pub was_set : (s : Sorted) (words : List ℕ) (xs : List Entry) (i byte place c d : ℕ) → xs ≡ entries (layout_of s) (λ p. get_or words p 0) → IsBody (layout_of s) (λ p. get_or words p 0)
-    → child_of (layout_of s) (λ p. get_or words p 0) byte ≡ Some d → 0 < c → IsPosition xs byte i → ((p : ℕ) → get_or (set words place c) p 0 < 2 ^ 64)
+pub was_set : (s : Sorted) (words : List ℕ) (i byte place c d : ℕ) → IsBody (layout_of s) (λ p. get_or words p 0)
+    → child_of (layout_of s) (λ p. get_or words p 0) byte ≡ Some d → 0 < c → IsPosition (entries (layout_of s) (λ p. get_or words p 0)) byte i → ((p : ℕ) → get_or (set words place c) p 0 < 2 ^ 64)
     → place ≡ first_child (layout_of s) + i → place < length words
     → Becomes (layout_of s) (λ p. get_or words p 0) (λ p. get_or (set words place c) p 0) (with_child (child_of (layout_of s) (λ p. get_or words p 0)) byte c)
-was_set s words xs i byte place c d same body there some at below is within =
-    set_becomes s (λ p. get_or words p 0) (λ p. get_or (set words place c) p 0) i byte c d body there some (subst (λ (zs : List Entry). IsPosition zs byte i) same at) below
+was_set s words i byte place c d body there some at below is within =
+    set_becomes s (λ p. get_or words p 0) (λ p. get_or (set words place c) p 0) i byte c d body there some at below
     (child_differs (layout_of s) words i place c is within)
 
 pub set_outside_at : (s : Sorted) (words : List ℕ) (i place c : ℕ) → place ≡ first_child (layout_of s) + i → i < places (layout_of s) → SameOutside (layout_of s) (λ p. get_or words p 0) (λ p. get_or (set words place c) p 0)

@@ -1,65 +1,93 @@
-//! One child more, another child, and one less.
-ghost use Rattle.std.specs.Prelude.{◌≡◌, ◌<◌, ◌≤◌, ◌↔◌, ℕ, Some, None, true, false, length};
-ghost use Rattle.art_cell.specs.Words.{child_of};
-ghost use Rattle.art_cell.specs.Bodies.{IsFull, Becomes};
-ghost use Rattle.art_cell.specs.Reads.{word_of, IsBodyOf, SameOutside, changes, with_child, without_child, most_writes};
-ghost use Rattle.art_sorted.specs.Sorted.{layout_of};
+//! A child that comes or goes, and the words that are other words then.
+ghost use Rattle.std.specs.Prelude.{◌≡◌, ◌≤◌, ◌<◌, ◌+◌, ◌-◌, ◌*◌, ◌/◌};
+ghost use Rattle.art_cell.specs.Words.{first_child, size};
+ghost use Rattle.art_cell.specs.Reads.{word_of};
+ghost use Rattle.art_sorted.specs.Edits.{IsEdit, children_after, edit_position, key_word, words_after};
+ghost use Rattle.art_sorted.specs.Sorted.{entry_or_none, layout_of};
 
 use crate::Sorted;
-use crate::lists::{Children, listed, position};
-use crate::writes::write;
+use crate::keys::{put_in, take_out};
+use crate::lists::entry_at;
+use crate::searches::{FIRST_KEYS, HEADER};
 use art_cell::{Body, Entry};
 
-/// Gives the byte, which has none, this child. False, with nothing changed, where each position is in use.
-pub fn add(sorted: Sorted, body: &mut Body, byte: u8, child: u64) -> bool
-    requires body { IsBodyOf (layout_of sorted) body.old }
-    requires free { child_of (layout_of sorted) (word_of body.old) byte ≡ None }
-    requires child { 0 < child }
-    ensures full { (result ≡ false) ↔ IsFull (layout_of sorted) (word_of body.old) }
-    ensures added { result ≡ true → Becomes (layout_of sorted) (word_of body.old) (word_of body.new)
-        (with_child (child_of (layout_of sorted) (word_of body.old)) byte child) }
-    ensures refused { result ≡ false → body.new ≡ body.old }
-    ensures layout { body.new.layout ≡ body.old.layout }
-    ensures outside { SameOutside (layout_of sorted) (word_of body.old) (word_of body.new) }
-    ensures few { result ≡ true → length (changes (layout_of sorted) (word_of body.old) (word_of body.new)) ≤ most_writes }
-{
-    let mut children: Children = listed(sorted, body);
-    if children.len() == sorted.positions() {
-        return false;
+/// One child more, or one less, at a position.
+#[derive(Clone, Copy)]
+pub(crate) enum Edit {
+    /// This one comes, before the one that stands there.
+    Add(usize, Entry),
+    /// The one that stands there goes.
+    Remove(usize),
+}
+
+impl Edit {
+    /// The first position whose child is another one then.
+    #[inline(always)]
+    pub(crate) fn position(self) -> usize
+        ensures { result ≡ edit_position self }
+    {
+        match self {
+            Edit::Add(position, _) | Edit::Remove(position) => position,
+        }
     }
-    let index = position(&children, byte);
-    children.insert(index, Entry { byte, child });
-    write(sorted, body, &children);
-    true
 }
 
-/// Gives the byte, which has a child, this one.
-pub fn set(sorted: Sorted, body: &mut Body, byte: u8, child: u64)
-    requires body { IsBodyOf (layout_of sorted) body.old }
-    requires there { (c : ℕ) × (child_of (layout_of sorted) (word_of body.old) byte ≡ Some c) }
-    requires child { 0 < child }
-    ensures set { Becomes (layout_of sorted) (word_of body.old) (word_of body.new)
-        (with_child (child_of (layout_of sorted) (word_of body.old)) byte child) }
-    ensures layout { body.new.layout ≡ body.old.layout }
-    ensures outside { SameOutside (layout_of sorted) (word_of body.old) (word_of body.new) }
-    ensures one { length (changes (layout_of sorted) (word_of body.old) (word_of body.new)) ≤ 1 }
+/// The header after the edit.
+#[inline(always)]
+pub(crate) fn header_after(sorted: Sorted, body: &Body, edit: Edit) -> u64
+    requires { IsEdit sorted body.now edit }
+    ensures { result ≡ words_after sorted body.now edit 1 }
 {
-    let index = position(&listed(sorted, body), byte);
-    body.words[sorted.first_child() + index] = child;
+    match edit {
+        Edit::Add(_, _) => body.words[HEADER] + 1,
+        Edit::Remove(_) => body.words[HEADER] - 1,
+    }
 }
 
-/// Takes away the child of the byte, which has one.
-pub fn take(sorted: Sorted, body: &mut Body, byte: u8)
-    requires body { IsBodyOf (layout_of sorted) body.old }
-    requires there { (c : ℕ) × (child_of (layout_of sorted) (word_of body.old) byte ≡ Some c) }
-    ensures taken { Becomes (layout_of sorted) (word_of body.old) (word_of body.new)
-        (without_child (child_of (layout_of sorted) (word_of body.old)) byte) }
-    ensures layout { body.new.layout ≡ body.old.layout }
-    ensures outside { SameOutside (layout_of sorted) (word_of body.old) (word_of body.new) }
-    ensures few { length (changes (layout_of sorted) (word_of body.old) (word_of body.new)) ≤ most_writes }
+/// The entry at a position after the edit, and after the last one an entry of zeros.
+#[inline(always)]
+fn entry_after(sorted: Sorted, body: &Body, edit: Edit, position: usize) -> Entry
+    requires edit { IsEdit sorted body.now edit }
+    requires within { position < 256 }
+    ensures { result ≡ entry_or_none (children_after sorted body.now edit) position }
 {
-    let mut children: Children = listed(sorted, body);
-    let index = position(&children, byte);
-    children.remove(index);
-    write(sorted, body, &children);
+    match edit {
+        Edit::Add(at, entry) if position == at => entry,
+        Edit::Add(at, _) if position > at => entry_at(sorted, body, position - 1),
+        Edit::Remove(at) if position >= at => entry_at(sorted, body, position + 1),
+        _ => entry_at(sorted, body, position),
+    }
+}
+
+/// The word of key bytes at a place after the edit, which is that of its position, or one after it.
+#[inline(always)]
+fn key_word_after(sorted: Sorted, body: &Body, edit: Edit, place: usize) -> u64
+    requires edit { IsEdit sorted body.now edit }
+    requires low { 10 + edit_position edit / 8 ≤ place }
+    requires high { place < first_child (layout_of sorted) }
+    ensures { result ≡ key_word (children_after sorted body.now edit) ((place - 10) * 8) }
+{
+    let from = (place - FIRST_KEYS) * 8;
+    let at = edit.position().saturating_sub(from);
+    let word = body.words[place];
+    match edit {
+        Edit::Add(_, _) => put_in(word, at, entry_after(sorted, body, edit, from + at).byte),
+        Edit::Remove(_) => take_out(word, at, entry_after(sorted, body, edit, from + 7).byte),
+    }
+}
+
+/// The word at a place of key bytes or of a child after the edit.
+#[inline(always)]
+pub(crate) fn word_after(sorted: Sorted, body: &Body, edit: Edit, place: usize) -> u64
+    requires edit { IsEdit sorted body.now edit }
+    requires low { 10 + edit_position edit / 8 ≤ place }
+    requires within { place < size (layout_of sorted) }
+    ensures { result ≡ words_after sorted body.now edit place }
+{
+    let first_child = sorted.first_child();
+    if place < first_child {
+        key_word_after(sorted, body, edit, place)
+    } else {
+        entry_after(sorted, body, edit, place - first_child).child
+    }
 }

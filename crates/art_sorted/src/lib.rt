@@ -5,14 +5,18 @@
 //! use stand first, and what stands at the others is 0.
 #![tactic(auto)]
 
+mod bodies;
 mod edits;
+mod keys;
 mod layouts;
 mod lists;
+mod plans;
 mod probes;
 mod searches;
 mod writes;
 
-pub use edits::{add, set, take};
+pub use bodies::{add, set, take};
 pub use layouts::Sorted;
 pub use lists::list;
+pub use plans::{plan_add, plan_drop, plan_set};
 pub use probes::{at_least, probe};

@@ -1,6 +1,6 @@
-//! The children of a node, as a list.
+//! The children of a node, by their positions and as a list.
 ghost use Rattle.std.specs.Prelude.{◌≡◌, ◌≤◌};
-ghost use Rattle.art_cell.specs.Words.{entries};
+ghost use Rattle.art_cell.specs.Words.{count_of, entries};
 ghost use Rattle.art_cell.specs.Reads.{word_of, IsBodyOf};
 ghost use Rattle.art_sorted.specs.Sorted.{layout_of, entry_or_none, IsPosition};
 
@@ -27,7 +27,7 @@ pub(crate) fn listed<const CAP: usize>(sorted: Sorted, body: &Body) -> ArrayVec<
     ensures { result.items ≡ entries (layout_of sorted) (word_of body.now) }
 {
     let mut list = ArrayVec::new();
-    let count = (body.words[HEADER] % 512) as usize;
+    let count = count(body);
     let first_child = sorted.first_child();
     for index in 0..count {
         let byte = byte_at(body.words[FIRST_KEYS + index / 8], index % 8);
@@ -37,16 +37,43 @@ pub(crate) fn listed<const CAP: usize>(sorted: Sorted, body: &Body) -> ArrayVec<
     list
 }
 
-/// Where a byte stands, or would stand, in the list.
-pub(crate) fn position(list: &Children, byte: u8) -> usize
-    ensures { IsPosition list.now.items byte result }
+/// How many children there are.
+#[inline(always)]
+pub(crate) fn count(body: &Body) -> usize
+    ensures { result ≡ count_of (word_of body.now) }
 {
-    for index in 0..list.len() {
-        if list[index].byte >= byte {
+    (body.words[HEADER] % 512) as usize
+}
+
+/// The entry at a position, and after the last one an entry of zeros.
+#[inline(always)]
+pub(crate) fn entry_at(sorted: Sorted, body: &Body, position: usize) -> Entry
+    requires { IsBodyOf (layout_of sorted) body.now }
+    ensures { result ≡ entry_or_none (entries (layout_of sorted) (word_of body.now)) position }
+{
+    if position < count(body) {
+        Entry {
+            byte: byte_at(body.words[FIRST_KEYS + position / 8], position % 8),
+            child: body.words[sorted.first_child() + position],
+        }
+    } else {
+        Entry { byte: 0, child: 0 }
+    }
+}
+
+/// Where a byte stands among the children, or would stand.
+#[inline(always)]
+pub(crate) fn position(sorted: Sorted, body: &Body, byte: u8) -> usize
+    requires { IsBodyOf (layout_of sorted) body.now }
+    ensures { IsPosition (entries (layout_of sorted) (word_of body.now)) byte result }
+{
+    let count = count(body);
+    for index in 0..count {
+        if entry_at(sorted, body, index).byte >= byte {
             return index;
         }
     }
-    list.len()
+    count
 }
 
 /// The entry at a position of the list, and after its end an entry of zeros.

@@ -2,12 +2,13 @@ use Rattle.std.proofs.Common.{arith}
 use Rattle.art_cell.specs.Reads.{word_of}
 use Rattle.art_sorted.proofs.Differing.{few_held}
 use Rattle.art_sorted.proofs.NodeWords.{added}
-use Rattle.art_sorted.proofs.edits.add.Goals as goal
+use Rattle.art_sorted.proofs.bodies.add.Goals as goal
 
 pub returns-clause-added : goal.returns-clause-added
 returns-clause-added c _ =
+    let counted = c.requires.body.meaning.counted in
     added c.args.sorted (word_of c.args.body.now) (word_of c.write.new.body) c.listed-children.result.items c.insert.new.self.items c.position-index.result c.args.byte c.args.child
-    c.listed-children.ensures c.requires.body.meaning c.requires.free (omega arith) c.requires.child c.position-index.ensures (λ e. omega (arith, e)) (c.write.ensures.fits c.requires.body.meaning.words)
+    c.listed-children.ensures c.requires.body.meaning c.requires.free (omega arith) c.requires.child c.position-index.ensures (λ e. omega (arith, e, counted)) (c.write.ensures.fits c.requires.body.meaning.words)
     c.insert.ensures.items c.write.ensures.holds
 
 pub returns-clause-few : goal.returns-clause-few

@@ -2,7 +2,7 @@ use Rattle.std.proofs.Common.{arith}
 use Rattle.art_cell.specs.Reads.{word_of}
 use Rattle.art_sorted.proofs.Differing.{few_held}
 use Rattle.art_sorted.proofs.NodeWords.{in_use, taken}
-use Rattle.art_sorted.proofs.edits.take.Goals as goal
+use Rattle.art_sorted.proofs.bodies.take.Goals as goal
 
 pub remove-requires : goal.remove-requires
 remove-requires c =
