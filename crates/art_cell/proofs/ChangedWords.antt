@@ -1,5 +1,5 @@
 -- What a change writes, and what the words are after it.
-use Rattle.std.proofs.Common.{◌≡◌, ◌≢◌, ◌⊎◌, ℕ, zero, suc, ◌+◌, ◌-◌, ◌<◌, ◌≤◌, Bool, true, false, cond, eqb, List, [], ◌∷◌, ◌++◌, length, Option, Some, None, refl, sym, ap, subst, ◌∙◌, inl, inr, arith, eq-eqb, ne_eqb, eqb-true}
+use Rattle.std.proofs.Common.{◌≡◌, ◌≢◌, ◌⊎◌, ℕ, zero, suc, ◌+◌, ◌-◌, ◌<◌, ◌≤◌, Bool, true, false, cond, eqb, List, [], ◌∷◌, ◌++◌, Option, Some, None, refl, sym, ap, subst, ◌∙◌, inl, inr, arith, eq-eqb, ne_eqb, eqb-true}
 use Rattle.std.proofs.lemmas.Bool.{cases_lt}
 use Rattle.std.specs.List.{range_with_len, cons_option, filter_map}
 use Rattle.std.proofs.lemmas.List.Elements.{filter_map-append}
@@ -105,13 +105,3 @@ plan_from k w after writes child outside exact becomes =
       exact = exact ∙ ap (changes k w) (sym same);
       outside = subst (SameOutside k w) (sym same) outside;
     }
-
--- the same, where the changes are those of a body
-pub plan_of : (k l : Layout) (w after : Words) (writes : List Write) (child : ℕ → Option ℕ) → l ≡ k → SameOutside k w after → writes ≡ changes l w after → Becomes k w after child → IsPlan k w writes child
-plan_of k l w after writes child same outside exact becomes = plan_from k w after writes child outside (exact ∙ ap (λ (m : Layout). changes m w after) same) becomes
-
--- as many words are written as differ
-pub few_written : (k l : Layout) (w after : Words) (writes : List Write) (most : ℕ) → l ≡ k → writes ≡ changes l w after → length (changes k w after) ≤ most → length writes ≤ most
-few_written k l w after writes most same exact few =
-    let all : length writes ≡ length (changes k w after) = ap (λ (xs : List Write). length xs) exact ∙ ap (λ (m : Layout). length (changes m w after)) same in
-    omega arith

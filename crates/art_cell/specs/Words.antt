@@ -1,5 +1,5 @@
 -- The words of a node, and what they mean: a prefix, and a finite map from byte to child.
-use Rattle.std.specs.Prelude.{ℕ, ◌+◌, ◌-◌, ◌/◌, ◌%◌, ◌^◌, List, map, find, filter_map, ◌==◌, if◌then◌else◌, Option, Some, None}
+use Rattle.std.specs.Prelude.{ℕ, ◌+◌, ◌-◌, ◌/◌, ◌%◌, ◌^◌, List, map, find, filter_map, get_or, ◌==◌, if◌then◌else◌, Option, Some, None}
 use Rattle.std.specs.Option.{option_map, option_and_then}
 use Rattle.std.specs.List.{range_with_len}
 use Rattle.art_cell.specs.declared.layouts.Layout.{Layout}
@@ -93,3 +93,7 @@ listed child from count = filter_map (entry_at child) (range_with_len from count
 -- the children, in ascending order of their bytes
 abbrev pub entries : Layout → Words → List Entry
 entries k w = listed (child_of k w) 0 256
+
+-- the entry at an index, and after the last one an entry of zeros
+abbrev pub nth_entry : List Entry → ℕ → Entry
+nth_entry es i = get_or es i (record { byte = 0; child = 0 })

@@ -1,7 +1,7 @@
 //! What every layout of a node can do.
-ghost use Rattle.std.specs.Prelude.{◌≡◌, ◌<◌, ◌≤◌, ◌↔◌, ℕ, Some, None, IsNone, IfSome, false, true, length};
+ghost use Rattle.std.specs.Prelude.{◌≡◌, ◌<◌, ◌≤◌, ◌↔◌, ℕ, Some, None, IsNone, IfSome, false, true, length, take};
 
-use crate::{Body, Reads, Writes, changes};
+use crate::{Body, Reads, Writes};
 use arrayvec::ArrayVec;
 
 /// What is known of the child of a byte.
@@ -42,7 +42,7 @@ pub type Entries = ArrayVec<Entry, 256>;
 /// answers; where they are words of a node, the answer is that of the node's map.
 pub trait NodeKind {
     ghost use Rattle.art_cell.specs.declared.layouts.Layout.{Layout};
-    ghost use Rattle.art_cell.specs.Words.{Words, child_of, entries};
+    ghost use Rattle.art_cell.specs.Words.{Words, child_of, entries, listed, nth_entry};
     ghost use Rattle.art_cell.specs.Bodies.{IsBody, IsFull, Becomes};
     ghost use Rattle.art_cell.specs.Reads.{Agrees, ProbeNeeds, ProbeTells, NextNeeds, NextTells};
     ghost use Rattle.art_cell.specs.Reads.{word_of, IsBodyOf, SameOutside, changes, IsPlan, with_child, without_child, most_writes};
@@ -96,8 +96,17 @@ pub trait NodeKind {
         requires { IsBodyOf layout body.now }
         ensures { result.items ≡ entries layout (word_of body.now) };
 
+    /// The child at this index, in ascending order of their bytes: the least one at this byte or above, where those before it are
+    /// the ones below the byte.
+    fn nth(body: &Body, index: usize, from: usize) -> Entry
+        requires body { IsBodyOf layout body.now }
+        requires there { index < length (entries layout (word_of body.now)) }
+        requires within { from ≤ 256 }
+        requires before { listed (child_of layout (word_of body.now)) 0 from ≡ take index (entries layout (word_of body.now)) }
+        ensures { result ≡ nth_entry (entries layout (word_of body.now)) index };
+
     /// Makes the writes the words by which the byte, which has none, gets this child. False, with nothing changed, where the node
-    /// is full. A layout that knows which words these are says so itself; else the body is changed and compared.
+    /// is full.
     fn plan_add(body: &Body, byte: u8, child: u64, writes: &mut Writes) -> bool
         requires body { IsBodyOf layout body.now }
         requires free { child_of layout (word_of body.now) byte ≡ None }
@@ -106,15 +115,7 @@ pub trait NodeKind {
         ensures plan { result ≡ true → IsPlan layout (word_of body.now) writes.new.items
             (with_child (child_of layout (word_of body.now)) byte child) }
         ensures refused { result ≡ false → writes.new ≡ writes.old }
-        ensures few { result ≡ true → length writes.new.items ≤ most_writes }
-    {
-        let mut after = *body;
-        if !Self::add(&mut after, byte, child) {
-            return false;
-        }
-        changes(body, &after, writes);
-        true
-    }
+        ensures few { result ≡ true → length writes.new.items ≤ most_writes };
 
     /// Makes the writes the words by which the byte, which has a child, gets this one.
     fn plan_set(body: &Body, byte: u8, child: u64, writes: &mut Writes)
@@ -122,22 +123,12 @@ pub trait NodeKind {
         requires there { (c : ℕ) × (child_of layout (word_of body.now) byte ≡ Some c) }
         requires child { 0 < child }
         ensures plan { IsPlan layout (word_of body.now) writes.new.items (with_child (child_of layout (word_of body.now)) byte child) }
-        ensures one { length writes.new.items ≤ 1 }
-    {
-        let mut after = *body;
-        Self::set(&mut after, byte, child);
-        changes(body, &after, writes);
-    }
+        ensures one { length writes.new.items ≤ 1 };
 
     /// Makes the writes the words by which the byte, which has a child, has none.
     fn plan_drop(body: &Body, byte: u8, writes: &mut Writes)
         requires body { IsBodyOf layout body.now }
         requires there { (c : ℕ) × (child_of layout (word_of body.now) byte ≡ Some c) }
         ensures plan { IsPlan layout (word_of body.now) writes.new.items (without_child (child_of layout (word_of body.now)) byte) }
-        ensures few { length writes.new.items ≤ most_writes }
-    {
-        let mut after = *body;
-        Self::take(&mut after, byte);
-        changes(body, &after, writes);
-    }
+        ensures few { length writes.new.items ≤ most_writes };
 }

@@ -17,12 +17,12 @@ pub record Copied (k l : Layout) (w next : Words) (i : ℕ) : Type 0 where
   pub count : length (listed (child_of l next) 0 256) ≡ i
   pub children : (b : ℕ) → b < 256 → child_of l next b ≡ child_in (take i (entries k w)) b
 
-pub copied_start : (k l : Layout) (w next : Words) → IsBody k w → IsEmpty w next → Copied k l w next 0
+pub copied_start : (k l : Layout) (w next : Words) → IsBody k w → IsEmpty l w next → Copied k l w next 0
 copied_start k l w next body empty = record {
   body = empty_body l w next body.prefix body.words empty;
-  prefix = empty_prefix w next body.prefix empty;
-  count = ap length (same_listed (λ _. None) (child_of l next) 0 256 (λ b low high. no_child l w next b empty));
-  children = λ b low. no_child l w next b empty;
+  prefix = empty_prefix l w next body.prefix empty;
+  count = ap length (same_listed (λ _. None) (child_of l next) 0 256 (λ b low high. no_child l w next b high empty));
+  children = λ b low. no_child l w next b low empty;
 }
 
 pub next_child : (k : Layout) (w : Words) (i : ℕ) (d e : Entry) → i < length (entries k w) → e ≡ get_or (entries k w) i d → IsNext (child_of k w) 0 256 (take i (entries k w)) e

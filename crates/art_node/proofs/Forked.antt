@@ -10,10 +10,10 @@ use Rattle.art_cell.specs.Words.{Words, child_of, count_of}
 use Rattle.art_node.specs.Prefixes.{IsNodeOf, two_of}
 
 -- a node with the children of one that has none
-pub has_none : (k : Layout) (e w : Words) (p : List ℕ) → k ≡ Node4 → IsNodeOf k w p (child_of k e) → ((b : ℕ) → child_of Node4 e b ≡ None) → IsNodeOf Node4 w p (λ b. None)
+pub has_none : (k : Layout) (e w : Words) (p : List ℕ) → k ≡ Node4 → IsNodeOf k w p (child_of k e) → ((b : ℕ) → b < 256 → child_of Node4 e b ≡ None) → IsNodeOf Node4 w p (λ b. None)
 has_none k e w p is node none =
     let here = subst (λ (l : Layout). IsNodeOf l w p (child_of l e)) is node in
-    record { body = here.body; prefix = here.prefix; children = λ b low. here.children b low ∙ none b }
+    record { body = here.body; prefix = here.prefix; children = λ b low. here.children b low ∙ none b low }
 
 module _ (w : Words) (p : List ℕ) (node : IsNodeOf Node4 w p (λ b. None)) where
   none_counted : count_of w ≡ 0

@@ -58,6 +58,25 @@ next_listed child from (suc n) i d lt = by_first (child from) (listed child (fro
         let r = rest i (omega arith) in
         record { low = omega (arith, r.low); high = omega (arith, r.high); here = r.here; first = rw (ne_eqb from (get_or es i d).byte (λ e. omega (arith, r.low))) r.first }
 
+-- the children up to one of them are those below the byte after its own
+pub listed_upto : (child : ℕ → Option ℕ) (from n i m : ℕ) (d : Entry) → i < length (listed child from n) → from + m ≡ (get_or (listed child from n) i d).byte + 1 → listed child from m ≡ take (i + 1) (listed child from n)
+listed_upto child from zero i m d lt is = absurd (omega arith)
+listed_upto child from (suc n) i zero d lt is = let here = next_listed child from (suc n) i d lt in absurd (omega (arith, here.low, is))
+listed_upto child from (suc n) i (suc m) d lt is =
+    by_first (child from) (listed child (from + 1) n) (λ j low last. listed_upto child (from + 1) n j m d low last) (λ j low. (next_listed child (from + 1) n j d low).low) i lt is
+  where
+    by_first : (o : Option ℕ) (es : List Entry) → ((j : ℕ) → j < length es → from + 1 + m ≡ (get_or es j d).byte + 1 → listed child (from + 1) m ≡ take (j + 1) es) → ((j : ℕ) → j < length es → from + 1 ≤ (get_or es j d).byte)
+        → (i : ℕ) → i < length (cons_option (option_map (λ c. record { byte = from; child = c }) o) es) → from + suc m ≡ (get_or (cons_option (option_map (λ c. record { byte = from; child = c }) o) es) i d).byte + 1
+        → cons_option (option_map (λ c. record { byte = from; child = c }) o) (listed child (from + 1) m) ≡ take (i + 1) (cons_option (option_map (λ c. record { byte = from; child = c }) o) es)
+    by_first None es rest above i lt is = rest i lt (omega arith)
+    by_first (Some c) es rest above zero lt is =
+        let none : m ≡ 0 = omega arith in
+        ap (λ (k : ℕ). record { byte = from; child = c } ∷ listed child (from + 1) k) none
+    by_first (Some c) es rest above (suc i) lt is =
+        let more : suc (i + 1) ≡ suc i + 1 = omega arith in
+        ap (λ (ys : List Entry). record { byte = from; child = c } ∷ ys) (rest i (omega arith) (omega arith))
+        ∙ ap (λ (k : ℕ). take {A = Entry} k (record { byte = from; child = c } ∷ es)) more
+
 -- one entry more
 pub one_more_in : (es : List Entry) (e : Entry) (b : ℕ) → child_in es e.byte ≡ None → child_in (es ++ e ∷ []) b ≡ with_child (child_in es) e.byte e.child b
 one_more_in es e b free =

@@ -7,6 +7,7 @@ ghost use Rattle.art_cell.specs.declared.layouts.Layout.TheVariants as layouts;
 ghost use Rattle.art_node.specs.Prefixes.{IsNodeOf, IsPrefixPlan, two_of};
 
 use crate::leaves::key_word;
+use crate::relaid::clear;
 use art_cell::{Body, Layout, NodeKind, Writes, changes};
 use art_node4::Node4;
 
@@ -31,20 +32,20 @@ pub fn fork(forked: &mut Body, prefix: &[u8], one: u8, one_child: u64, other: u8
     ensures layout { forked.new.layout ≡ layouts.Node4 }
     ensures node { IsNodeOf layouts.Node4 (word_of forked.new) prefix.now (two_of one one_child other other_child) }
 {
-    clear(forked);
+    bare(forked);
     set_prefix(forked, prefix);
     Node4::add(forked, one, one_child);
     Node4::add(forked, other, other_child);
 }
 
 /// Makes it a Node4 without a prefix or a child.
-fn clear(body: &mut Body)
+fn bare(body: &mut Body)
     ensures layout { body.new.layout ≡ layouts.Node4 }
     ensures body { IsBody layouts.Node4 (word_of body.new) }
-    ensures none { (b : ℕ) → child_of layouts.Node4 (word_of body.new) b ≡ None }
+    ensures none { (b : ℕ) → b < 256 → child_of layouts.Node4 (word_of body.new) b ≡ None }
 {
     body.layout = Layout::Node4;
-    body.words = [0; 266];
+    clear(&mut body.words, 0, Layout::Node4.size());
 }
 
 /// Gives the node this prefix, and leaves it its children.

@@ -1,7 +1,7 @@
 //! Nodes of at most 16 children, in ascending order of their bytes, in 28 words.
 #![tactic(auto)]
 
-use art_cell::{Body, Entries, NextProbe, NodeKind, Probe, Reads, Writes};
+use art_cell::{Body, Entries, Entry, NextProbe, NodeKind, Probe, Reads, Writes};
 use art_sorted::Sorted;
 
 /// Nodes of at most 16 children (ICDE 2013): the key bytes in two words, and the children after them.
@@ -34,6 +34,10 @@ impl NodeKind for Node16 {
 
     fn list(body: &Body) -> Entries {
         art_sorted::list(Sorted::Sixteen, body)
+    }
+
+    fn nth(body: &Body, index: usize, _from: usize) -> Entry {
+        art_sorted::entry_at(Sorted::Sixteen, body, index)
     }
 
     fn plan_add(body: &Body, byte: u8, child: u64, writes: &mut Writes) -> bool {

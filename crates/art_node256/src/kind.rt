@@ -73,6 +73,17 @@ impl NodeKind for Node256 {
         entries
     }
 
+    fn nth(body: &Body, _index: usize, from: usize) -> Entry {
+        for at in from..256 {
+            let byte = at as u8;
+            let child = body.words[place_of(byte)];
+            if child != 0 {
+                return Entry { byte, child };
+            }
+        }
+        unreachable!()
+    }
+
     fn plan_add(body: &Body, byte: u8, child: u64, writes: &mut Writes) -> bool {
         plan_both(writes, body.words[HEADER] + 1, byte, child);
         // a byte with no child is a place that is free

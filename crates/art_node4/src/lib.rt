@@ -1,7 +1,7 @@
 //! The smallest nodes: at most 4 children, in ascending order of their bytes, in 15 words.
 #![tactic(auto)]
 
-use art_cell::{Body, Entries, NextProbe, NodeKind, Probe, Reads, Writes};
+use art_cell::{Body, Entries, Entry, NextProbe, NodeKind, Probe, Reads, Writes};
 use art_sorted::Sorted;
 
 /// Nodes of at most 4 children (ICDE 2013): the key bytes in one word, and the children after it.
@@ -34,6 +34,10 @@ impl NodeKind for Node4 {
 
     fn list(body: &Body) -> Entries {
         art_sorted::list(Sorted::Four, body)
+    }
+
+    fn nth(body: &Body, index: usize, _from: usize) -> Entry {
+        art_sorted::entry_at(Sorted::Four, body, index)
     }
 
     fn plan_add(body: &Body, byte: u8, child: u64, writes: &mut Writes) -> bool {

@@ -87,6 +87,16 @@ impl NodeKind for Node48 {
         entries
     }
 
+    fn nth(body: &Body, _index: usize, from: usize) -> Entry {
+        for at in from..256 {
+            let byte = at as u8;
+            if let Some(child) = child_in(body, byte) {
+                return Entry { byte, child };
+            }
+        }
+        unreachable!()
+    }
+
     fn plan_add(body: &Body, byte: u8, child: u64, writes: &mut Writes) -> bool {
         let Some(place) = free_place(body.words[HEADER]) else {
             return false;
@@ -199,12 +209,8 @@ fn write(body: &mut Body, header: u64, byte: u8, entry: usize, place: usize, chi
 fn free_place(header: u64) -> Option<usize>
     ensures { IsFreePlace header result }
 {
-    for place in 0..PLACES {
-        if (header >> (USED + place)) % 2 == 0 {
-            return Some(place);
-        }
-    }
-    None
+    let place = (header >> USED).trailing_ones() as usize;
+    if place < PLACES { Some(place) } else { None }
 }
 
 /// The child of a byte.

@@ -17,6 +17,6 @@ mod writes;
 
 pub use bodies::{add, set, take};
 pub use layouts::Sorted;
-pub use lists::list;
+pub use lists::{entry_at, list};
 pub use plans::{plan_add, plan_drop, plan_set};
 pub use probes::{at_least, probe};

@@ -47,7 +47,7 @@ pub(crate) fn count(body: &Body) -> usize
 
 /// The entry at a position, and after the last one an entry of zeros.
 #[inline(always)]
-pub(crate) fn entry_at(sorted: Sorted, body: &Body, position: usize) -> Entry
+pub fn entry_at(sorted: Sorted, body: &Body, position: usize) -> Entry
     requires { IsBodyOf (layout_of sorted) body.now }
     ensures { result ≡ entry_or_none (entries (layout_of sorted) (word_of body.now)) position }
 {

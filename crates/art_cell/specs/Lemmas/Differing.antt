@@ -10,7 +10,7 @@ use Rattle.art_cell.specs.Reads.{change_at, changes}
 use Rattle.art_cell.specs.Words.{Words, size}
 
 -- a stretch of places, and the next one
-range_both : (a m n : ℕ) → range_with_len a (m + n) ≡ range_with_len a m ++ range_with_len (a + m) n
+pub range_both : (a m n : ℕ) → range_with_len a (m + n) ≡ range_with_len a m ++ range_with_len (a + m) n
 range_both a zero n =
     let start : a ≡ a + 0 = omega arith in
     let count : 0 + n ≡ n = omega arith in

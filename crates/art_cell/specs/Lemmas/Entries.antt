@@ -1,12 +1,14 @@
 -- The children of a map in order, how many there are, and a body after one of them changes.
-use Rattle.std.proofs.Common.{◌≡◌, ◌≢◌, ℕ, zero, suc, ◌+◌, ◌^◌, ◌<◌, ◌≤◌, List, [], ◌∷◌, ◌++◌, length, Option, Some, None, refl, sym, ap, ◌∙◌, inl, inr, arith, eq-eqb, ne_eqb, add-one, append-nil}
+use Rattle.std.proofs.Common.{◌≡◌, ◌≢◌, ℕ, zero, suc, ◌+◌, ◌-◌, ◌^◌, ◌<◌, ◌≤◌, List, [], ◌∷◌, ◌++◌, length, Option, Some, None, refl, sym, ap, ◌∙◌, inl, inr, arith, eq-eqb, ne_eqb, add-one, append-nil, append_assoc, get_or, take, length-take}
 use Rattle.std.proofs.lemmas.Bool.{cases_lt, cases_order}
-use Rattle.std.specs.List.{cons_option}
+use Rattle.std.proofs.lemmas.List.Elements.{filter_map-append}
+use Rattle.std.specs.List.{cons_option, filter_map, range_with_len}
 use Rattle.std.specs.Option.{option_map}
 use Rattle.art_cell.specs.declared.layouts.Layout.{Layout}
 use Rattle.art_cell.specs.declared.node_kinds.Entry.{Entry}
-use Rattle.art_cell.specs.Words.{Words, count_of, nonzero, child_of, entry_at, listed}
+use Rattle.art_cell.specs.Words.{Words, count_of, nonzero, child_of, entry_at, listed, nth_entry}
 use Rattle.art_cell.specs.Bodies.{HasForm, IsBody, Becomes}
+use Rattle.art_cell.specs.Lemmas.Differing.{range_both}
 use Rattle.art_cell.specs.Lemmas.Headers.{SamePrefix, prefix_kept, same_prefix_of}
 use Rattle.art_cell.specs.Reads.{NoneFrom, with_child, without_child}
 
@@ -197,3 +199,35 @@ becomes_without k w after byte c low is body count changed =
     let child = child_of k w in
     let less = one_less_listed child (without_child child byte) byte c 0 256 (omega arith) low is (without_here child byte) (without_elsewhere child byte 0 256) in
     becomes k w after (without_child child byte) body changed (omega (arith, body.counted, less))
+
+-- ---- the children one after another
+
+listed_both : (child : ℕ → Option ℕ) (from m n : ℕ) → listed child from (m + n) ≡ listed child from m ++ listed child (from + m) n
+listed_both child from m n =
+    ap (filter_map (entry_at child)) (range_both from m n) ∙ filter_map-append (entry_at child) (range_with_len from m) (range_with_len (from + m) n)
+
+at_seam : (xs ys : List Entry) (y d : Entry) → get_or (xs ++ y ∷ ys) (length xs) d ≡ y
+at_seam [] ys y d = refl
+at_seam (x ∷ xs) ys y d = at_seam xs ys y d
+
+-- where the children before an index are those below a byte, and the byte has a child, this is the one at the index
+pub nth_listed : (child : ℕ → Option ℕ) (byte c index : ℕ) → byte < 256 → child byte ≡ Some c → listed child 0 byte ≡ take index (listed child 0 256) → index < length (listed child 0 256)
+    → record { byte = byte; child = c } ≡ nth_entry (listed child 0 256) index
+nth_listed child byte c index low is before there =
+    let entry : Entry = record { byte = byte; child = c } in
+    let count : byte + 1 + (255 - byte) ≡ 256 = omega arith in
+    let many : length (listed child 0 byte) ≡ index = ap length before ∙ length-take index (listed child 0 256) ∙ omega arith in
+    let all : listed child 0 256 ≡ listed child 0 byte ++ entry ∷ listed child (0 + (byte + 1)) (255 - byte) =
+    ap (listed child 0) (sym count)
+    ∙ listed_both child 0 (byte + 1) (255 - byte)
+    ∙ ap (λ (es : List Entry). es ++ listed child (0 + (byte + 1)) (255 - byte)) (listed_with child 0 byte byte c (omega arith) is)
+    ∙ append_assoc (listed child 0 byte) (entry ∷ []) (listed child (0 + (byte + 1)) (255 - byte)) in
+    sym (ap (λ (es : List Entry). nth_entry es index) all
+    ∙ ap (nth_entry (listed child 0 byte ++ entry ∷ listed child (0 + (byte + 1)) (255 - byte))) (sym many)
+    ∙ at_seam (listed child 0 byte) (listed child (0 + (byte + 1)) (255 - byte)) entry (record { byte = 0; child = 0 }))
+
+-- and where they are all that there are, there is none at the index
+pub no_nth_listed : (child : ℕ → Option ℕ) (index : ℕ) → listed child 0 256 ≡ take index (listed child 0 256) → ¬ (index < length (listed child 0 256))
+no_nth_listed child index before there =
+    let many : length (listed child 0 256) ≡ index = ap length before ∙ length-take index (listed child 0 256) ∙ omega arith in
+    omega arith

@@ -1,45 +1,62 @@
-use Rattle.std.proofs.Common.{◌<◌, length, get_or, ap, ◌∙◌, arith}
+use Rattle.std.proofs.Common.{◌+◌, ◌<◌, length, refl, ap, subst, ◌∙◌, arith}
+use Rattle.art_cell.specs.declared.layouts.Layout.{Layout}
 use Rattle.art_cell.specs.declared.node_kinds.Entry.{Entry}
-use Rattle.art_cell.specs.Words.{entries}
+use Rattle.art_cell.specs.Lemmas.Empty.{IsEmpty}
+use Rattle.art_cell.specs.Words.{child_of, entries}
 use Rattle.art_cell.specs.Reads.{word_of}
-use Rattle.art_node.proofs.Copies.{true_from, copied_start, copied_more, copied_end, next_is_free, next_is_some, next_has_room}
+use Rattle.art_node.proofs.Copies.{true_from, copied_start, copied_more, copied_end, next_child, next_is_free, next_is_some, next_has_room}
+use Rattle.art_node.proofs.Lookups.{listed_upto}
 use Rattle.art_node.proofs.relaid.relaid.Goals as goal
 
-pub loop-entry-init : goal.loop-entry-init
-loop-entry-init g c = record {
+pub loop-index-init : goal.loop-index-init
+loop-index-init g c = record {
   layout = c.emptied.ensures.layout ∙ c.requires.new;
-  copied = copied_start g.Old.NodeKind.layout g.New.NodeKind.layout (word_of c.args.body.now) (word_of c.emptied.new.after) c.requires.old.meaning c.emptied.ensures.empty;
+  copied =
+      copied_start g.Old.NodeKind.layout g.New.NodeKind.layout (word_of c.args.body.now) (word_of c.emptied.new.after) c.requires.old.meaning
+      (subst (λ (k : Layout). IsEmpty k (word_of c.args.body.now) (word_of c.emptied.new.after)) c.requires.new c.emptied.ensures.empty);
+  within = omega arith;
+  before = refl;
+}
+
+pub nth-entry-requires : goal.nth-entry-requires
+nth-entry-requires g c = record {
+  body = c.requires.old;
+  there = omega (arith, c.loop-index-test.true, c.requires.old.meaning.counted);
+  within = c.loop-index.invariant.within;
+  before = c.loop-index.invariant.before;
 }
 
 pub add-requires-clause-free : goal.add-requires-clause-free
 add-requires-clause-free g c =
-    let children = c.as_slice-entry-items.ensures.value ∙ c.list-children.ensures in
     let d : Entry = record { byte = 0; child = 0 } in
-    next_is_free g.Old.NodeKind.layout g.New.NodeKind.layout (word_of c.args.body.now) (word_of c.loop-entry.after) c.loop-entry.entry-index d _ c.loop-entry.invariant.copied
-    (omega (arith, c.loop-entry-test.true, ap length children)) (ap (λ es. get_or es c.loop-entry.entry-index d) children)
+    next_is_free g.Old.NodeKind.layout g.New.NodeKind.layout (word_of c.args.body.now) (word_of c.loop-index.after) c.loop-index.index d _ c.loop-index.invariant.copied
+    (omega (arith, c.loop-index-test.true, c.requires.old.meaning.counted)) c.nth-entry.ensures
 
 pub add-requires-clause-child : goal.add-requires-clause-child
 add-requires-clause-child g c =
-    let children = c.as_slice-entry-items.ensures.value ∙ c.list-children.ensures in
     let d : Entry = record { byte = 0; child = 0 } in
-    next_is_some g.Old.NodeKind.layout (word_of c.args.body.now) c.loop-entry.entry-index d _
-    (omega (arith, c.loop-entry-test.true, ap length children)) (ap (λ es. get_or es c.loop-entry.entry-index d) children)
+    next_is_some g.Old.NodeKind.layout (word_of c.args.body.now) c.loop-index.index d _
+    (omega (arith, c.loop-index-test.true, c.requires.old.meaning.counted)) c.nth-entry.ensures
 
-pub loop-entry-preserved : goal.loop-entry-preserved
-loop-entry-preserved g c =
-    let children = c.as_slice-entry-items.ensures.value ∙ c.list-children.ensures in
+pub loop-index-preserved : goal.loop-index-preserved
+loop-index-preserved g c =
     let d : Entry = record { byte = 0; child = 0 } in
-    let lt : c.loop-entry.entry-index < length (entries g.Old.NodeKind.layout (word_of c.args.body.now)) = omega (arith, c.loop-entry-test.true, ap length children) in
-    let room = next_has_room g.Old.NodeKind.layout g.New.NodeKind.layout (word_of c.args.body.now) (word_of c.loop-entry.after) c.loop-entry.entry-index c.requires.old.meaning c.requires.fits c.loop-entry.invariant.copied lt in
+    let k = g.Old.NodeKind.layout in
+    let w = word_of c.args.body.now in
+    let lt : c.loop-index.index < length (entries k w) = omega (arith, c.loop-index-test.true, c.requires.old.meaning.counted) in
+    let room = next_has_room k g.New.NodeKind.layout w (word_of c.loop-index.after) c.loop-index.index c.requires.old.meaning c.requires.fits c.loop-index.invariant.copied lt in
     let added = true_from c.add.result (λ refused. room (c.add.ensures.full.0 refused)) in
+    let here = next_child k w c.loop-index.index d _ lt c.nth-entry.ensures in
+    let byte = ap (λ (e : Entry). e.byte) c.nth-entry.ensures in
     record {
-      layout = c.add.ensures.layout ∙ c.loop-entry.invariant.layout;
+      layout = c.add.ensures.layout ∙ c.loop-index.invariant.layout;
       copied =
-          copied_more g.Old.NodeKind.layout g.New.NodeKind.layout (word_of c.args.body.now) (word_of c.loop-entry.after) (word_of c.add.new.body) c.loop-entry.entry-index d _ c.loop-entry.invariant.copied lt
-          (ap (λ es. get_or es c.loop-entry.entry-index d) children) (c.add.ensures.added added);
+          copied_more k g.New.NodeKind.layout w (word_of c.loop-index.after) (word_of c.add.new.body) c.loop-index.index d _ c.loop-index.invariant.copied lt
+          c.nth-entry.ensures (c.add.ensures.added added);
+      within = omega (arith, here.high, c.from-from.ensures);
+      before = listed_upto (child_of k w) 0 256 c.loop-index.index (c.from-from.result + 1) d lt (omega (arith, c.from-from.ensures, byte));
     }
 
 pub returns-clause-relaid : goal.returns-clause-relaid
 returns-clause-relaid g c =
-    let children = c.as_slice-entry-items.ensures.value ∙ c.list-children.ensures in
-    copied_end g.Old.NodeKind.layout g.New.NodeKind.layout (word_of c.args.body.now) (word_of c.loop-entry.after) c.loop-entry.entry-index (omega (arith, c.loop-entry-test.false, ap length children)) c.loop-entry.invariant.copied
+    copied_end g.Old.NodeKind.layout g.New.NodeKind.layout (word_of c.args.body.now) (word_of c.loop-index.after) c.loop-index.index (omega (arith, c.loop-index-test.false, c.requires.old.meaning.counted)) c.loop-index.invariant.copied

@@ -1,10 +1,13 @@
-use Rattle.std.proofs.Common.{◌≡◌}
+use Rattle.std.proofs.Common.{◌≡◌, ◌≤◌, take}
 use Rattle.art_cell.specs.Reads.{word_of}
+use Rattle.art_cell.specs.Words.{child_of, entries, listed}
 use Rattle.art_node.proofs.Copies.{Copied}
 use Rattle.art_node.proofs.relaid.relaid.Given as goal
 
-abbrev pub invariant-loop-entry : goal.invariant-loop-entry
-invariant-loop-entry g l = record {
+abbrev pub invariant-loop-index : goal.invariant-loop-index
+invariant-loop-index g l = record {
   layout : l.after.layout ≡ g.New.NodeKind.layout;
-  copied : Copied g.Old.NodeKind.layout g.New.NodeKind.layout (word_of l.body) (word_of l.after) l.entry-index;
+  copied : Copied g.Old.NodeKind.layout g.New.NodeKind.layout (word_of l.body) (word_of l.after) l.index;
+  within : l.from ≤ 256;
+  before : listed (child_of g.Old.NodeKind.layout (word_of l.body)) 0 l.from ≡ take l.index (entries g.Old.NodeKind.layout (word_of l.body));
 }

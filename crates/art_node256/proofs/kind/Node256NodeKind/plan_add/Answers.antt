@@ -1,7 +1,5 @@
-use Rattle.std.proofs.Common.{◌≡◌, ◌+◌, ◌∙◌, ◌≢◌, ◌<◌, None, Some, ap, sym, subst, arith}
-use Rattle.art_cell.specs.Reads.{IsPlan, with_child, word_of}
-use Rattle.art_cell.specs.Words.{child_of}
-use Rattle.art_cell.specs.declared.layouts.Layout.TheVariants.{Node256}
+use Rattle.std.proofs.Common.{◌+◌, ◌<◌, arith}
+use Rattle.art_cell.specs.Reads.{word_of}
 use Rattle.art_node256.proofs.Writes.{added, both_exact, both_outside, both_written, free_room, free_word}
 use Rattle.art_node256.proofs.kind.Node256NodeKind.plan_add.Goals as goal
 

@@ -1,4 +1,4 @@
-use Rattle.std.proofs.Common.{◌≡◌, ◌+◌, ◌-◌, ◌∙◌, ◌≢◌, ◌<◌, None, Some, ap, sym, subst, arith}
+use Rattle.std.proofs.Common.{◌-◌, ◌<◌, arith}
 use Rattle.art_cell.specs.Reads.{word_of}
 use Rattle.art_node256.proofs.Writes.{both_exact, both_outside, both_written, removed, some_word, taken_some}
 use Rattle.art_node256.proofs.kind.Node256NodeKind.plan_drop.Goals as goal

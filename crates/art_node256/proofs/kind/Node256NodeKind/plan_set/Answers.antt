@@ -1,4 +1,4 @@
-use Rattle.std.proofs.Common.{◌≡◌, ◌+◌, ◌∙◌, ◌<◌, ℕ, List, ap, sym, subst, arith, length}
+use Rattle.std.proofs.Common.{◌∙◌, ℕ, List, ap, sym, subst, arith}
 use Rattle.art_cell.specs.Reads.{IsPlan, with_child, word_of}
 use Rattle.art_cell.specs.Words.{child_of}
 use Rattle.art_cell.specs.declared.layouts.Layout.TheVariants.{Node256}

@@ -1,4 +1,4 @@
-use Rattle.std.proofs.Common.{◌≡◌, ◌+◌, ◌*◌, ◌^◌, ◌%◌, ◌∙◌, ◌<◌, List, refl, sym, subst, arith}
+use Rattle.std.proofs.Common.{◌+◌, ◌*◌, ◌^◌, ◌%◌, ◌<◌, List, refl, sym, subst, arith}
 use Rattle.art_cell.specs.Reads.{IsPlan, with_child, word_of}
 use Rattle.art_cell.specs.Words.{indexed_child}
 use Rattle.art_cell.specs.declared.layouts.Layout.TheVariants.{Node48}
