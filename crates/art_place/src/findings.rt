@@ -216,7 +216,14 @@ impl Finding {
             Stage::Keys(seen, number) => {
                 let place = 10 + usize::from(number);
                 let word = steps.read(seen.stamp, place);
-                self.hear_word(desk, key, Stage::Keys(seen, number), seen.stamp, place, word);
+                self.hear_word(
+                    desk,
+                    key,
+                    Stage::Keys(seen, number),
+                    seen.stamp,
+                    place,
+                    word,
+                );
             }
             Stage::Slot(seen, place) => {
                 let word = steps.read(seen.stamp, place);
@@ -244,11 +251,13 @@ impl Finding {
             }
             Stage::Length(stamp, leaf, value) => {
                 let word = steps.read_leaf(stamp, leaf, 1);
-                self.descent.read_at(Stage::Length(stamp, leaf, value), key, word);
+                self.descent
+                    .read_at(Stage::Length(stamp, leaf, value), key, word);
             }
             Stage::Bytes(seen, number, before) => {
                 let word = steps.read_leaf(seen.stamp, seen.leaf, 2 + usize::from(number));
-                self.descent.read_at(Stage::Bytes(seen, number, before), key, word);
+                self.descent
+                    .read_at(Stage::Bytes(seen, number, before), key, word);
             }
             _ => unreachable!(),
         }

@@ -20,7 +20,8 @@ use art_look::Trail;
 use art_step::{EpochSteps, Steps};
 
 impl Seek {
-    /// Makes the steps that need no answer of its machine, one after another. Whether one of its walk is next: else it has ended.
+    /// Makes the steps of the pin, those of the walk as far as nothing stops it, and that of the close. Whether one of its walk is next: else it
+    /// has ended.
     #[inline(always)]
     pub(crate) fn hurry<S: EpochSteps>(
         &mut self,

@@ -1,1 +1,0 @@
--- The steps are those of the look.
