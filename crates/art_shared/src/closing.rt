@@ -54,6 +54,7 @@ impl Shared {
             table,
             basis,
             first_nodes: _,
+            epoch_at: _,
         } = self;
         Ended {
             closed: table.close_with(seat),

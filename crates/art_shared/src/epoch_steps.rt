@@ -44,13 +44,12 @@ impl EpochSteps for Stepper<'_> {
     }
 
     fn epoch(&mut self) -> u64 {
-        let place = self.shared.basis.sizes.epoch_place();
+        let place = self.shared.epoch_place();
         self.pass.load::<Brand, ()>(self.shared, place, &())
     }
 
     fn pass_store(&mut self, word: u64) {
-        let sizes = self.shared.basis.sizes;
-        let place = sizes.pass_place(self.pass.number as usize);
+        let place = self.shared.pass_place(self.pass.number as usize);
         self.pass.store::<Brand, ()>(self.shared, place, word, &());
     }
 
@@ -60,7 +59,7 @@ impl EpochSteps for Stepper<'_> {
     }
 
     fn pass_load(&mut self, pass: u32) -> u64 {
-        let place = self.shared.basis.sizes.pass_place(pass as usize);
+        let place = self.shared.pass_place(pass as usize);
         self.pass.load::<Brand, u32>(self.shared, place, &pass)
     }
 }

@@ -53,6 +53,7 @@ impl Shared {
             table,
             basis,
             first_nodes: first_nodes(sizes),
+            epoch_at: sizes.epoch_place(),
         };
         Ok((shared, passes))
     }

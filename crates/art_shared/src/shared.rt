@@ -1,6 +1,6 @@
 //! The table of all words, which threads share.
-ghost use Rattle.std.specs.Prelude.{◌≡◌};
-ghost use Rattle.art_step.specs.WordPlaces.{place_of, word_count};
+ghost use Rattle.std.specs.Prelude.{◌≡◌, ◌<◌};
+ghost use Rattle.art_step.specs.WordPlaces.{epoch_place, pass_place, place_of, word_count};
 ghost use Rattle.art_shared.specs.NodePlaces.{first_nodes as first_nodes_of};
 
 use crate::law::{Basis, Known, Law};
@@ -11,6 +11,9 @@ use art_step::Sizes;
 use atomic_table::Table;
 use std::alloc::Global;
 
+/// How many words from the word of one pass to that of the next, as `art_step` lays them out.
+const LINE_GAP: usize = 16;
+
 /// The words of all cells, of free numbers, of the epoch and of the passes, in one table.
 #[derive(Drop)]
 pub struct Shared {
@@ -18,10 +21,13 @@ pub struct Shared {
     pub(crate) basis: Basis,
     /// The place of the first word of each layout's first node, which the sizes determine: steps find their words by it.
     pub(crate) first_nodes: [usize; 4],
+    /// The place of the epoch, which they determine too.
+    pub(crate) epoch_at: usize,
     ghost key: { table.shared.key ≡ basis },
     ghost wide: { table.shared.table_id.words ≡ word_count basis.sizes },
     ghost plain: { table.shared.table_id.slots ≡ 0 },
     ghost nodes: { first_nodes ≡ first_nodes_of basis.sizes },
+    ghost epoch: { epoch_at ≡ epoch_place basis.sizes },
 }
 
 impl Shared {
@@ -50,4 +56,32 @@ impl Shared {
             Cell::Anchor | Cell::Leaf(_) => sizes.place_of(cell),
         }
     }
+
+    /// The place of the epoch.
+    #[inline(always)]
+    pub(crate) fn epoch_place(&self) -> usize
+        ensures { result ≡ epoch_place self.now.basis.sizes }
+    {
+        self.epoch_at
+    }
+
+    /// The place of a pass's word.
+    #[inline(always)]
+    pub(crate) fn pass_place(&self, pass: usize) -> usize
+        requires { pass < self.now.basis.sizes.passes }
+        ensures { result ≡ pass_place self.now.basis.sizes pass }
+    {
+        pass_after(self.basis.sizes, self.epoch_at, pass)
+    }
+}
+
+/// The place of a pass's word, where the epoch stands at this place.
+#[inline(always)]
+fn pass_after(sizes: Sizes, epoch: usize, pass: usize) -> usize
+    requires epoch { epoch ≡ epoch_place sizes }
+    requires pass { pass < sizes.passes }
+    ensures { result ≡ pass_place sizes pass }
+{
+    let _ = sizes.passes;
+    epoch + LINE_GAP * (1 + pass)
 }
