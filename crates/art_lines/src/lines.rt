@@ -103,8 +103,8 @@ impl LineReader {
 
     /// The command that a line says, as `parse_line` has it.
     ///
-    /// A line that says one takes no memory but what the reader keeps, which grows to the longest line. Another is read again into
-    /// a tree of values, which tells its fault.
+    /// A line that says one takes no memory, where its tokens stand plain: no escape in a text, and no blank that is no space. Any
+    /// other is read into a tree of values, which takes memory, and tells the fault of a line that says none.
     pub fn command(&mut self, line: &[u8]) -> Result<Command, LineFault>
         ensures said { MatchResult result (λ command. line_says line.now ≡ Ok command)
             (λ fault. fault ≢ LineFault.NoMemory → line_says line.now ≡ Err fault) }
