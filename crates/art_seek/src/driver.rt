@@ -150,27 +150,26 @@ pub fn step<S: EpochSteps>(
 /// Makes all steps that are left of a seek. The key is the one that is looked for, or the lower end of the range.
 pub fn finish<S: EpochSteps>(
     steps: &mut S,
-    seek: Seek,
+    seek: &mut Seek,
     key: &[u8],
     hi: &Bound,
     trail: &mut Trail,
-) -> Seek
+)
     requires short { length key.now ≤ 64 }
-    requires admitted { aim_of seek.walk ≡ aims.Key → S.admits steps.old key.now }
-    requires fits { (u : View) × Fits (S.sizes steps.old) key.now hi.now u seek trail.old (S.view steps.old) }
+    requires admitted { aim_of seek.old.walk ≡ aims.Key → S.admits steps.old key.now }
+    requires fits { (u : View) × Fits (S.sizes steps.old) key.now hi.now u seek.old trail.old (S.view steps.old) }
     ensures only { S.only steps.old steps.new }
-    ensures aim { aim_of result.walk ≡ aim_of seek.walk }
-    ensures turns { result.turns ≡ seek.turns }
-    ensures ended { (o : OutcomeOf) × (ended_at result ≡ Some o) }
-    ensures refuses { WillBeBusy seek → WillBeBusy result }
-    ensures left { (S.view steps.new).steps + steps_left result ≤ (S.view steps.old).steps + steps_left seek }
-    ensures fits { (u : View) → Fits (S.sizes steps.old) key.now hi.now u seek trail.old (S.view steps.old) →
-        Fits (S.sizes steps.old) key.now hi.now u result trail.new (S.view steps.new) }
+    ensures aim { aim_of seek.new.walk ≡ aim_of seek.old.walk }
+    ensures turns { seek.new.turns ≡ seek.old.turns }
+    ensures ended { (o : OutcomeOf) × (ended_at seek.new ≡ Some o) }
+    ensures refuses { WillBeBusy seek.old → WillBeBusy seek.new }
+    ensures left { (S.view steps.new).steps + steps_left seek.new ≤ (S.view steps.old).steps + steps_left seek.old }
+    ensures fits { (u : View) → Fits (S.sizes steps.old) key.now hi.now u seek.old trail.old (S.view steps.old) →
+        Fits (S.sizes steps.old) key.now hi.now u seek.new trail.new (S.view steps.new) }
 {
-    let mut seek = seek;
     loop {
         if !seek.hurry(steps, key, trail) {
-            return seek;
+            return;
         }
         seek.walk_by(steps, key, hi, trail);
     }
@@ -194,5 +193,7 @@ pub(crate) fn sought<S: EpochSteps>(
     ensures ended { (o : OutcomeOf) × (ended_at result ≡ Some o) }
     ensures fits { Fits (S.sizes steps.old) key.now hi.now (S.view steps.old) result trail.new (S.view steps.new) }
 {
-    finish(steps, Seek::new(aim, turns), key, hi, trail)
+    let mut seek = Seek::new(aim, turns);
+    finish(steps, &mut seek, key, hi, trail);
+    seek
 }

@@ -13,7 +13,7 @@ ghost use Rattle.art_seek.specs.declared.walks.Outcome.{Outcome as OutcomeOf};
 
 use crate::driver::look_at;
 use crate::{Seek, SeekStage};
-use art_epoch::{make as make_frame, unpin};
+use art_epoch::{Pinning, unpin};
 use art_find::Tally;
 use art_key::Bound;
 use art_look::Trail;
@@ -76,11 +76,17 @@ impl Seek {
         ensures goes { (k : List ℕ) (hi : KeyBound) (t : Trailed) →
             GoesTo (S.sizes steps.old) k hi self.old t (S.view steps.old) self.new t (S.view steps.new) }
     {
-        let Some(asked) = self.pinning.next() else {
-            unreachable!()
-        };
-        let word = make_frame(steps, asked);
-        self.pin_told(word);
+        match self.pinning {
+            Pinning::Noting => {
+                let epoch = steps.epoch();
+                self.pin_told(epoch);
+            }
+            Pinning::Storing(epoch) => {
+                steps.pass_store(epoch);
+                self.pin_told(0);
+            }
+            Pinning::Ended => unreachable!(),
+        }
     }
 
     /// Makes the steps of its walk one after another, as far as nothing stops it.

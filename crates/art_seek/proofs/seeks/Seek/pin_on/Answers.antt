@@ -1,8 +1,14 @@
-use Rattle.std.proofs.Common.{◌≡◌, ◌+◌, ◌≤◌, ◌<◌, ◌∙◌, ℕ, List, sym, ap, subst, arith}
+use Rattle.std.proofs.Common.{◌≡◌, ◌+◌, ◌≤◌, ◌<◌, ◌∙◌, ℕ, List, Some, sym, ap, subst, arith}
 use Rattle.art_epoch.proofs.Counting.{answers_count}
+use Rattle.art_epoch.proofs.Pinned.{may_store}
+use Rattle.art_epoch.specs.Asking.{Answers as FrameAnswers}
+use Rattle.art_epoch.specs.Pins as pins
+use Rattle.art_epoch.specs.declared.asked.Asked.{Asked as FrameAsked}
+use Rattle.art_epoch.specs.declared.asked.Asked.TheVariants.{Note, Store}
+use Rattle.art_epoch.specs.declared.pins.Pinning.{Pinning as PinningOf}
 use Rattle.art_key.specs.declared.bounds.Bound.{Bound as KeyBound}
 use Rattle.art_look.specs.declared.trails.Trail.{Trail as Trailed}
-use Rattle.art_seek.specs.Seeks.{Fits, IsPinning, StageFits, busy_at, left_at, steps_left}
+use Rattle.art_seek.specs.Seeks.{Fits, GoesTo, IsPinning, StageFits, WillBeBusy, busy_at, left_at, steps_left}
 use Rattle.art_seek.specs.Walks.{aim_of}
 use Rattle.art_seek.specs.declared.seeks.Seek.{Seek}
 use Rattle.art_seek.specs.declared.seeks.SeekStage.{SeekStage}
@@ -14,30 +20,49 @@ use Rattle.art_seek.proofs.seeks.Seek.pin_on.Goals as goal
 pinning_at : (z : Sizes) (k : List ℕ) (hi : KeyBound) (u : View) (m : Seek) (t : Trailed) (v : View) → m.stage ≡ Pinning → Fits z k hi u m t v → IsPinning z k hi u m t v
 pinning_at z k hi u m t v at fits = subst (λ (s : SeekStage). StageFits z k hi u s m t v) at fits
 
-pub pin_told-requires : goal.pin_told-requires
-pin_told-requires g c = record { stage = c.requires.stage; going = (c.in-Some.asked, sym c.next.ensures.asks ∙ c.in-Some.is) }
+-- where it heard the answer of the step that it asked for, it goes on
+goes_on : (z : Sizes) (k : List ℕ) (hi : KeyBound) (m n : Seek) (t : Trailed) (v w : View) (asked : FrameAsked) (word : ℕ) → m.stage ≡ Pinning → pins.asks m.pinning ≡ Some asked → FrameAnswers z asked word v w
+    → n.walk ≡ m.walk → n.turns ≡ m.turns → (m.left ≡ 0 → WillBeBusy n) → steps_left n < left_at Pinning m
+    → ((u : View) → IsPinning z k hi u m t v → Fits z k hi u n t w) → GoesTo z k hi m t v n t w
+goes_on z k hi m n t v w asked word stage asks row walk turns refuses left fits =
+    let one = answers_count z asked word v w row in
+    record {
+      aim = ap aim_of walk;
+      turns = turns;
+      refuses = λ busy. refuses (subst (λ (s : SeekStage). busy_at s m) stage busy);
+      less = subst (λ (s : SeekStage). steps_left n ≤ left_at s m) (sym stage) (omega (arith, left));
+      left = subst (λ (s : SeekStage). w.steps + steps_left n ≤ v.steps + left_at s m) (sym stage) (omega (arith, left, one));
+      fits = λ u fitted. fits u (pinning_at z k hi u m t v stage fitted);
+    }
 
-pub returns-clause-less : goal.returns-clause-less
-returns-clause-less g c =
-    let m = c.args.self.now in
-    subst (λ (s : SeekStage). steps_left c.pin_told.new.self < left_at s m) (sym c.requires.stage) c.pin_told.ensures.left
-
-pub returns-clause-goes : goal.returns-clause-goes
-returns-clause-goes g c = λ k hi t.
+pub returns-in-Noting-clause-goes : goal.returns-in-Noting-clause-goes
+returns-in-Noting-clause-goes g c = λ k hi t.
     let m = c.args.self.now in
     let z = g.S.Steps.sizes c.args.steps.now in
     let v = g.S.Steps.view c.args.steps.now in
-    let w = g.S.Steps.view c.make-word.new.steps in
-    let n = c.pin_told.new.self in
-    let row = c.make-word.ensures.row in
-    let one = answers_count z c.in-Some.asked c.make-word.result v w row in
+    let w = g.S.Steps.view c.epoch-epoch.new.self in
+    let row = c.epoch-epoch.ensures.row in
     let told = c.pin_told.ensures in
-    let left = told.left in
-    record {
-      aim = ap aim_of told.walk;
-      turns = told.turns;
-      refuses = λ busy. told.refuses (subst (λ (s : SeekStage). busy_at s m) c.requires.stage busy);
-      less = subst (λ (s : SeekStage). steps_left n ≤ left_at s m) (sym c.requires.stage) (omega (arith, left));
-      left = subst (λ (s : SeekStage). w.steps + steps_left n ≤ v.steps + left_at s m) (sym c.requires.stage) (omega (arith, left, one));
-      fits = λ u fits. told.fits z k hi u v w t c.in-Some.asked (pinning_at z k hi u m t v c.requires.stage fits) (sym c.next.ensures.asks ∙ c.in-Some.is) row;
-    }
+    let asks = ap pins.asks c.in-Noting.is in
+    goes_on z k hi m c.pin_told.new.self t v w Note c.epoch-epoch.result c.requires.stage asks row told.walk told.turns told.refuses told.left (λ u fits. told.fits z k hi u v w t Note fits asks row)
+
+pub pass_store-requires : goal.pass_store-requires
+pass_store-requires g c =
+    let q = c.requires.fits in
+    let m = c.args.self.now in
+    let z = g.S.Steps.sizes c.args.steps.now in
+    let v = g.S.Steps.view c.args.steps.now in
+    let on = pinning_at z q.0 q.1 q.3.0 m q.2 v c.requires.stage q.3.1 in
+    record { may = may_store z q.3.0 v c.in-Storing.epoch (subst (λ (p : PinningOf). pins.Fits z q.3.0 p v) c.in-Storing.is on.pinning) }
+
+pub returns-in-Storing-clause-goes : goal.returns-in-Storing-clause-goes
+returns-in-Storing-clause-goes g c = λ k hi t.
+    let m = c.args.self.now in
+    let z = g.S.Steps.sizes c.args.steps.now in
+    let v = g.S.Steps.view c.args.steps.now in
+    let w = g.S.Steps.view c.pass_store.new.self in
+    let row = c.pass_store.ensures.row in
+    let told = c.pin_told-in-Storing.ensures in
+    let asked = Store c.in-Storing.epoch in
+    let asks = ap pins.asks c.in-Storing.is in
+    goes_on z k hi m c.pin_told-in-Storing.new.self t v w asked 0 c.requires.stage asks row told.walk told.turns told.refuses told.left (λ u fits. told.fits z k hi u v w t asked fits asks row)
