@@ -90,13 +90,12 @@ impl Inserting {
     ghost use Rattle.art_step.specs.declared.deeds.Deed.{Deed};
 
     /// At its beginning.
-    pub fn new(room: &Room) -> Inserting
+    pub fn new() -> Inserting
         ensures going { ended_at result ≡ None }
         ensures free { is_free result ≡ true }
-        ensures fits { (z : Sizes) (u : View) → IsRoom z room.now → StillTries u u →
-            HasStock z room.now.row.key.items room.now.row.value u room.now.stock → Fits z u result room.now u }
+        ensures fits { (z : Sizes) (u : View) (r : RoomOf) → IsRoom z r → StillTries u u →
+            HasStock z r.row.key.items r.row.value u r.stock → Fits z u result r u }
     {
-        let _ = room.sizes;
         Inserting {
             stage: Stage::Finding,
             finding: Finding::new(),

@@ -56,6 +56,7 @@ given_opening z u ps m o r qs v i = record {
   later = i.later;
   full = i.full;
   fresh = i.fresh;
+  first = i.first;
 }
 
 -- ---- an attempt begins

@@ -3,7 +3,7 @@ use Rattle.std.specs.Prelude.{◌≡◌, ◌<◌, ℕ, Option, Bool}
 use Rattle.std.specs.Option.{option_map}
 use Rattle.arrayvec.specs.ArrayVec.{ArrayVec}
 use Rattle.art_attempt.specs.Inserting as inserts
-use Rattle.art_attempt.specs.Inserting.{HasEntered, IsExhausted, IsFull, IsOverlap, IsPresent}
+use Rattle.art_attempt.specs.Inserting.{HasEntered, IsExhausted, IsFull, IsOverlap, IsPresent, tries_left}
 use Rattle.art_attempt.specs.Trying.{HasSpent, IsKey, StillTries}
 use Rattle.art_attempt.specs.declared.asked.Asked.{Asked}
 use Rattle.art_attempt.specs.declared.inserting.Entered.{Entered}
@@ -112,6 +112,12 @@ abbrev pub Fits : Sizes → View → Job → Trying → Room → View → Type 0
 Fits z u Insert (Inserting m) r v = inserts.Fits z u m r v
 Fits z u Remove (Erasing m) r v = erases.Fits z u m r v
 Fits z u job t r v = ⊥
+
+-- an attempt at its beginning, of whatever room, by whatever pass that may make one
+pub record IsFirst (job : Job) (t : Trying) : Type 0 where
+  pub going : ended_at t ≡ None
+  pub few : (left : ℕ) → steps_left left t ≤ tries_left left
+  pub fits : (z : Sizes) (u : View) (r : Room) → IsRoom z job r → StillTries u u → HasHand z job u r → Fits z u job t r u
 
 -- how an insert ended
 abbrev pub InsertEnds : Sizes → View → Insertion → Room → Tried → View → Type 0

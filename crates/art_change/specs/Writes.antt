@@ -169,6 +169,7 @@ pub record IsOpening (z : Sizes) (u : View) (ps : List Place) (m : Write) (r : R
   pub later : u.steps ≤ v.steps
   pub full : m.left ≡ m.turns
   pub fresh : m.restarts ≡ 0
+  pub first : tries.IsFirst m.job m.trying
 
 -- the pass was pinned, and no step was taken back
 pub record WasOpened (z : Sizes) (u opened : View) (ps qs : List Place) : Type 0 where

@@ -97,33 +97,32 @@ pub fn step<S: EpochSteps>(
 /// Makes all steps that are left of a write.
 pub fn finish<S: EpochSteps>(
     steps: &mut S,
-    write: Write,
+    write: &mut Write,
     room: &mut Room,
     limbo: &mut Limbo,
-) -> Write
-    requires admitted { S.admits steps.old (key_of write.job room.old).items }
+)
+    requires admitted { S.admits steps.old (key_of write.old.job room.old).items }
     requires fits { (u : View) × (ps : List Place) ×
-        Fits (S.sizes steps.old) u ps write room.old (places_of limbo.old) (S.view steps.old) }
+        Fits (S.sizes steps.old) u ps write.old room.old (places_of limbo.old) (S.view steps.old) }
     ensures only { S.only steps.old steps.new }
-    ensures ended { (o : OutcomeOf) × (ended_at result ≡ Some o) }
-    ensures job { result.job ≡ write.job }
-    ensures turns { result.turns ≡ write.turns }
-    ensures key { SameKey write.job room.old room.new }
-    ensures refuses { WillRefuse write → WillRefuse result }
-    ensures apart { AreApart (S.admits steps.old) → IsApart write → IsApart result }
-    ensures left { (S.view steps.new).steps + steps_left result room.new (places_of limbo.new) ≤
-        (S.view steps.old).steps + steps_left write room.old (places_of limbo.old) }
+    ensures ended { (o : OutcomeOf) × (ended_at write.new ≡ Some o) }
+    ensures job { write.new.job ≡ write.old.job }
+    ensures turns { write.new.turns ≡ write.old.turns }
+    ensures key { SameKey write.old.job room.old room.new }
+    ensures refuses { WillRefuse write.old → WillRefuse write.new }
+    ensures apart { AreApart (S.admits steps.old) → IsApart write.old → IsApart write.new }
+    ensures left { (S.view steps.new).steps + steps_left write.new room.new (places_of limbo.new) ≤
+        (S.view steps.old).steps + steps_left write.old room.old (places_of limbo.old) }
     ensures fits { (u : View) (ps : List Place) →
-        Fits (S.sizes steps.old) u ps write room.old (places_of limbo.old) (S.view steps.old) →
-        Fits (S.sizes steps.old) u ps result room.new (places_of limbo.new) (S.view steps.new) }
+        Fits (S.sizes steps.old) u ps write.old room.old (places_of limbo.old) (S.view steps.old) →
+        Fits (S.sizes steps.old) u ps write.new room.new (places_of limbo.new) (S.view steps.new) }
 {
-    let mut write = write;
     loop {
         write.hurry(steps, room, limbo);
         if write.ended().is_some() {
-            return write;
+            return;
         }
-        step(steps, &mut write, room, limbo);
+        step(steps, write, room, limbo);
     }
 }
 
@@ -152,10 +151,10 @@ pub(crate) fn write<S: EpochSteps>(
     ensures steps { (S.view steps.new).steps ≤
         (S.view steps.old).steps + most_steps turns (S.sizes steps.old).passes (places_of limbo.old) }
 {
-    let write = Write::new(job, own, turns, room, limbo);
-    let done = finish(steps, write, room, limbo);
+    let mut write = Write::new(job, own, turns, room, limbo);
+    finish(steps, &mut write, room, limbo);
     Written {
-        outcome: done.ended().unwrap(),
-        restarts: done.restarts(),
+        outcome: write.ended().unwrap(),
+        restarts: write.restarts(),
     }
 }

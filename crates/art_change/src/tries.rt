@@ -2,11 +2,9 @@
 ghost use Rattle.std.specs.Prelude.{◌≡◌, ◌≢◌, ℕ, ◌+◌, ◌-◌, ◌<◌, ◌≤◌, None, Some, true};
 ghost use Rattle.art_change.specs.Made.{key_by};
 ghost use Rattle.art_attempt.specs.Asking.{Answers, IsAllowed, cell_in, steps_in};
-ghost use Rattle.art_attempt.specs.Inserting.{tries_left};
-ghost use Rattle.art_attempt.specs.Trying.{StillTries};
 ghost use Rattle.art_attempt.specs.declared.asked.Asked.{Asked as AskedStep};
 ghost use Rattle.art_attempt.specs.declared.rooms.Room.{Room as RoomOf};
-ghost use Rattle.art_change.specs.Tries.{EndsSo, Fits, HasHand, IsAnewBy, IsOverlapBy, IsRoom, SameKey, asks, deed_at, ended_at, is_free, of_entered, of_erased, steps_left};
+ghost use Rattle.art_change.specs.Tries.{EndsSo, Fits, IsAnewBy, IsFirst, IsOverlapBy, SameKey, asks, deed_at, ended_at, is_free, of_entered, of_erased, steps_left};
 ghost use Rattle.art_change.specs.declared.tries.Job.{Job as JobOf};
 ghost use Rattle.art_change.specs.declared.tries.Tried.TheVariants.{Anew as anew, Overlaps as overlaps};
 ghost use Rattle.art_step.specs.declared.views.Sizes.{Sizes};
@@ -58,15 +56,13 @@ impl Trying {
     ghost use Rattle.std.specs.Prelude.{IfSome};
 
     /// At its beginning.
-    pub fn new(job: Job, room: &Room) -> Trying
-        ensures going { ended_at result ≡ None }
-        ensures few { (left : ℕ) → steps_left left result ≤ tries_left left }
-        ensures fits { (z : Sizes) (u : View) → IsRoom z job room.now → StillTries u u → HasHand z job u room.now →
-            Fits z u job result room.now u }
+    #[inline(always)]
+    pub fn new(job: Job) -> Trying
+        ensures { IsFirst job result }
     {
         match job {
-            Job::Insert => Trying::Inserting(Inserting::new(room)),
-            Job::Remove => Trying::Erasing(Erasing::new(room)),
+            Job::Insert => Trying::Inserting(Inserting::new()),
+            Job::Remove => Trying::Erasing(Erasing::new()),
         }
     }
 

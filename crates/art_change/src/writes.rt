@@ -5,7 +5,7 @@ ghost use Rattle.art_attempt.specs.Inserting.{tries_left};
 ghost use Rattle.art_attempt.specs.declared.asked.Asked.{Asked as AttemptAsked};
 ghost use Rattle.art_attempt.specs.declared.rooms.Room.{Room as RoomOf};
 ghost use Rattle.art_change.specs.Asking.{Answers, attempt_in};
-ghost use Rattle.art_change.specs.Tries.{EndFits, HasHand, IsRoom, SameKey, asks as attempt_asks, is_free, key_of, value_of};
+ghost use Rattle.art_change.specs.Tries.{EndFits, HasHand, IsFirst, IsRoom, SameKey, asks as attempt_asks, is_free, key_of, value_of};
 ghost use Rattle.art_change.specs.Tries as tries;
 ghost use Rattle.art_change.specs.Writes.{Fits, HasAnswered, HasBegun, HasCounted, HasGround, HasOutcome, HasTurn, IsApart, IsClosing, IsOpening, IsReady, IsSameWrite, IsTrying, MayWrite, OverlapsBy, RestartsBy, WasOpened};
 ghost use Rattle.art_change.specs.Writes.{HoldsOrTold, WillRefuse, freed_by, given, is_refusal, turns_used};
@@ -107,7 +107,7 @@ impl Write {
             job,
             stage: Stage::Opening,
             opening: Opening::new(own, room.sizes.passes, limbo),
-            trying: Trying::new(job, room),
+            trying: Trying::new(job),
             closing: Closing::Ended,
             outcome: Outcome::Busy,
             turns,
@@ -324,7 +324,7 @@ impl Write {
         self.opening.told(limbo, word);
         match self.opening.ended() {
             None => {}
-            Some(Opened::Pinned) => self.go_on(room),
+            Some(Opened::Pinned) => self.begin(room),
             Some(Opened::Crowded(blocker)) => {
                 self.outcome = Outcome::Crowded(blocker);
                 self.stage = Stage::Ended;
@@ -332,7 +332,7 @@ impl Write {
         }
     }
 
-    /// An attempt begins, where turns are left.
+    /// Another attempt is made, where turns are left.
     fn go_on(&mut self, room: &Room)
         ensures going { ended_at self.new ≡ None }
         ensures job { self.new.job ≡ self.old.job }
@@ -345,11 +345,28 @@ impl Write {
             HasBegun z opened self.old.restarts v → HasHand z self.old.job v room.now →
             opened.steps + self.old.turns ≤ v.steps + self.old.left → Fits z u ps self.new room.now qs v }
     {
+        self.trying = Trying::new(self.job);
+        self.begin(room);
+    }
+
+    /// The attempt that stands at its beginning is made, where turns are left.
+    fn begin(&mut self, room: &Room)
+        ensures going { ended_at self.new ≡ None }
+        ensures job { self.new.job ≡ self.old.job }
+        ensures turns { self.new.turns ≡ self.old.turns }
+        ensures restarts { self.new.restarts ≡ self.old.restarts }
+        ensures refuses { self.old.left ≡ 0 → WillRefuse self.new }
+        ensures overlaps { self.new.outcome ≡ overlaps → self.old.outcome ≡ overlaps }
+        ensures left { IsFirst self.old.job self.old.trying → (qs : List Place) → steps_left self.new room.now qs ≤ tries_left self.old.left + 7 }
+        ensures fits { IsFirst self.old.job self.old.trying → (z : Sizes) (u opened v : View) (ps qs : List Place) →
+            IsRoom z self.old.job room.now → WasOpened z u opened ps qs → HasBegun z opened self.old.restarts v →
+            HasHand z self.old.job v room.now → opened.steps + self.old.turns ≤ v.steps + self.old.left →
+            Fits z u ps self.new room.now qs v }
+    {
         if self.left == 0 {
             self.close(room, Outcome::Busy);
             return;
         }
-        self.trying = Trying::new(self.job, room);
         self.stage = Stage::Trying;
     }
 

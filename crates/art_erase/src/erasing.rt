@@ -108,13 +108,12 @@ impl Erasing {
     ghost use Rattle.art_step.specs.declared.deeds.Deed.{Deed};
 
     /// At its beginning.
-    pub fn new(room: &Room) -> Erasing
+    pub fn new() -> Erasing
         ensures going { ended_at result ≡ None }
         ensures free { is_free result ≡ true }
-        ensures fits { (z : SizesOf) (u : View) → IsRoom z room.now → StillTries u u →
-            HasStock z room.now.gone.key.items 0 u room.now.stock → Fits z u result room.now u }
+        ensures fits { (z : SizesOf) (u : View) (r : RoomOf) → IsRoom z r → StillTries u u →
+            HasStock z r.gone.key.items 0 u r.stock → Fits z u result r u }
     {
-        let _ = room.sizes;
         Erasing {
             stage: Stage::Finding,
             finding: Finding::new(),

@@ -31,7 +31,7 @@ pub hurry-requires-clause-admitted : goal.hurry-requires-clause-admitted
 hurry-requires-clause-admitted g c =
     let l = c.loop-write in
     let i = l.invariant in
-    let job = c.args.write.job in
+    let job = c.args.write.now.job in
     let here = subst (λ (k : ArrayVec ℕ). g.S.Steps.admits l.steps k.items) (sym i.key.key)
     ((g.met.S.Steps.only_admits c.args.steps.now l.steps (key_of job c.args.room.now).items i.only).1 c.requires.admitted) in
     subst (λ (j : JobOf). g.S.Steps.admits l.steps (key_of j l.room).items) (sym i.job) here
@@ -48,7 +48,7 @@ step-requires-clause-admitted g c =
     let l = c.loop-write in
     let i = l.invariant in
     let e = c.hurry.ensures in
-    let job = c.args.write.job in
+    let job = c.args.write.now.job in
     let same = subst (λ (j : JobOf). SameKey j l.room c.hurry.new.room) i.job e.same.key in
     let here = subst (λ (k : ArrayVec ℕ). g.S.Steps.admits c.hurry.new.steps k.items) (sym (same.key ∙ i.key.key))
     ((g.met.S.Steps.only_admits l.steps c.hurry.new.steps (key_of job c.args.room.now).items e.only).1

@@ -21,7 +21,7 @@ returns-in-Some-Pinned-clause-fits c z u v w ps asked room o is row =
     let m = c.args.self.now in
     let one = answers_count z asked c.args.word v w row in
     let before = o.later in
-    c.go_on.ensures.fits z u w w ps qs room (record { frame = frame; later = omega (arith, one, before) })
+    c.begin.ensures.fits o.first z u w w ps qs room (record { frame = frame; later = omega (arith, one, before) })
     (opened_begun z u w ps qs frame o.free m.restarts o.fresh) (opened_has z u w ps qs frame o.free m.job r o.has)
     (let full = o.full in omega (arith, full))
 
@@ -44,7 +44,7 @@ returns-in-None-clause-left c =
 pub returns-in-Some-Pinned-clause-left : goal.returns-in-Some-Pinned-clause-left
 returns-in-Some-Pinned-clause-left c =
     let fewer = c.told.ensures.left in
-    let few = c.go_on.ensures.left (places_of c.told.new.limbo) in
+    let few = c.begin.ensures.left c.requires.told.7.first (places_of c.told.new.limbo) in
     omega (arith, fewer, few)
 
 pub returns-in-None-clause-fits : goal.returns-in-None-clause-fits
@@ -63,11 +63,12 @@ returns-in-None-clause-fits c z u v w ps asked room o is row =
       later = omega (arith, one, before);
       full = o.full;
       fresh = o.fresh;
+      first = o.first;
     } in
     record { room = room; stage = subst (λ (s : StageOf). StageFits z u ps s next r qs w) (sym c.requires.stage) opening }
 
 pub returns-in-Some-Pinned-clause-overlaps : goal.returns-in-Some-Pinned-clause-overlaps
-returns-in-Some-Pinned-clause-overlaps c is = c.go_on.ensures.overlaps is
+returns-in-Some-Pinned-clause-overlaps c is = c.begin.ensures.overlaps is
 
 pub returns-in-Some-Crowded-clause-overlaps : goal.returns-in-Some-Crowded-clause-overlaps
 returns-in-Some-Crowded-clause-overlaps c is = absurd (cc)

@@ -4,8 +4,7 @@ use Rattle.art_erase.proofs.erasing.Erasing.new.Goals as goal
 use Rattle.art_erase.specs.Erasing.{absent_of}
 
 pub returns-clause-fits : goal.returns-clause-fits
-returns-clause-fits c z u room still has =
-    let r = c.args.room.now in
+returns-clause-fits c z u r room still has =
     record {
       room = room;
       stage = record {
