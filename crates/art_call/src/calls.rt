@@ -68,9 +68,9 @@ impl Caller {
             ..
         } = self;
         prove!(limbo.room() <= 64);
-        let write = Write::new(job, *own, turns, room, limbo);
-        let done = finish_write(steps, write, room, limbo);
-        done.ended().unwrap()
+        let mut write = Write::new(job, *own, turns, room, limbo);
+        finish_write(steps, &mut write, room, limbo);
+        write.ended().unwrap()
     }
 
     /// Looks for the value of the key, in so many turns: how that ended.
@@ -81,9 +81,15 @@ impl Caller {
         ensures called { (restarts : ℕ) × HasCalled (S.sizes steps.old) (get_wish key.now) turns turns restarts (S.view steps.old) self.new
             (of_seek result None) (S.view steps.new) }
     {
-        let seek = Seek::new(Aim::Key, turns);
-        let done = finish_seek(steps, seek, key.as_slice(), &Bound::End, &mut self.trail);
-        done.ended().unwrap()
+        let mut seek = Seek::new(Aim::Key, turns);
+        finish_seek(
+            steps,
+            &mut seek,
+            key.as_slice(),
+            &Bound::End,
+            &mut self.trail,
+        );
+        seek.ended().unwrap()
     }
 
     /// Looks for the first row from the key on, before the bound, in so many turns: what it has seen, or none where all turns were used. How
@@ -102,9 +108,9 @@ impl Caller {
             self.new (of_look result) (S.view steps.new) }
     {
         let bytes = lo.as_slice();
-        let seek = Seek::new(Aim::Range, turns);
-        let done = finish_seek(steps, seek, bytes, hi, &mut self.trail);
-        self.call = Call::Seek(done);
-        done.seen(bytes, hi, &self.trail)
+        let mut seek = Seek::new(Aim::Range, turns);
+        finish_seek(steps, &mut seek, bytes, hi, &mut self.trail);
+        self.call = Call::Seek(seek);
+        seek.seen(bytes, hi, &self.trail)
     }
 }

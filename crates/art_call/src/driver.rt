@@ -202,8 +202,8 @@ impl Caller {
             ..
         } = self;
         match call {
-            Call::Write(write) => *write = finish_write(steps, *write, room, limbo),
-            Call::Seek(seek) => *seek = finish_seek(steps, *seek, key.as_slice(), hi, trail),
+            Call::Write(write) => finish_write(steps, write, room, limbo),
+            Call::Seek(seek) => finish_seek(steps, seek, key.as_slice(), hi, trail),
         }
     }
 }

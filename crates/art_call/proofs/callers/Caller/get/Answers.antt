@@ -5,8 +5,8 @@ use Rattle.art_call.specs.declared.callers.Caller.{Caller}
 use Rattle.art_key.specs.declared.bounds.Bound.TheVariants.{End}
 use Rattle.art_seek.specs.Seeks.{Fits}
 
-pub finish-done-requires-clause-fits : goal.finish-done-requires-clause-fits
-finish-done-requires-clause-fits g c =
+pub finish-requires-clause-fits : goal.finish-requires-clause-fits
+finish-requires-clause-fits g c =
     let z = g.S.Steps.sizes c.args.steps.now in
     let u = g.S.Steps.view c.args.steps.now in
     let a = c.args.self.now in
@@ -16,13 +16,13 @@ pub returns-clause-called : goal.returns-clause-called
 returns-clause-called g c =
     let z = g.S.Steps.sizes c.args.steps.now in
     let u = g.S.Steps.view c.args.steps.now in
-    let v = g.S.Steps.view c.finish-done.new.steps in
+    let v = g.S.Steps.view c.finish.new.steps in
     let a = c.args.self.now in
     let k = c.args.key.now in
-    let m = c.finish-done.result in
-    let e = c.finish-done.ensures in
+    let m = c.finish.new.seek in
+    let e = c.finish.ensures in
     let q = c.requires.caller in
-    let n : Caller = record a { trail = c.finish-done.new.trail } in
+    let n : Caller = record a { trail = c.finish.new.trail } in
     let value = c.as_slice.ensures.value in
     let short = c.as_slice.ensures.fits in
     let fits = e.fits u (c.new-seek.ensures.fits z c.as_slice.result.now End a.trail u q.ready.frame.may) in

@@ -9,8 +9,8 @@ use Rattle.art_look.specs.declared.looks.Seen.{Seen}
 use Rattle.art_seek.specs.Seeks.{Fits, seen_by}
 use Rattle.art_seek.specs.declared.walks.Outcome.{Outcome}
 
-pub finish-done-requires-clause-fits : goal.finish-done-requires-clause-fits
-finish-done-requires-clause-fits g c =
+pub finish-requires-clause-fits : goal.finish-requires-clause-fits
+finish-requires-clause-fits g c =
     let z = g.S.Steps.sizes c.args.steps.now in
     let u = g.S.Steps.view c.args.steps.now in
     let a = c.args.self.now in
@@ -20,13 +20,13 @@ pub returns-clause-called : goal.returns-clause-called
 returns-clause-called g c =
     let z = g.S.Steps.sizes c.args.steps.now in
     let u = g.S.Steps.view c.args.steps.now in
-    let v = g.S.Steps.view c.finish-done.new.steps in
+    let v = g.S.Steps.view c.finish.new.steps in
     let a = c.args.self.now in
     let k = c.args.lo.now in
     let hi = c.args.hi.now in
-    let m = c.finish-done.result in
-    let t = c.finish-done.new.trail in
-    let e = c.finish-done.ensures in
+    let m = c.finish.new.seek in
+    let t = c.finish.new.trail in
+    let e = c.finish.ensures in
     let q = c.requires.caller in
     let n : Caller = record a { trail = t; call = call.Seek m } in
     let value = c.as_slice-bytes.ensures.value in

@@ -7,8 +7,8 @@ use Rattle.art_change.specs.Tries.{SameKey}
 use Rattle.art_change.specs.declared.tries.Job.{Job as JobOf}
 use Rattle.art_epoch.specs.Limbo.{places_of}
 
-pub finish-done-requires-clause-fits : goal.finish-done-requires-clause-fits
-finish-done-requires-clause-fits g c =
+pub finish-requires-clause-fits : goal.finish-requires-clause-fits
+finish-requires-clause-fits g c =
     let z = g.S.Steps.sizes c.args.steps.now in
     let u = g.S.Steps.view c.args.steps.now in
     let a = c.args.self.now in
@@ -19,13 +19,13 @@ pub returns-clause-called : goal.returns-clause-called
 returns-clause-called g c =
     let z = g.S.Steps.sizes c.args.steps.now in
     let u = g.S.Steps.view c.args.steps.now in
-    let v = g.S.Steps.view c.finish-done.new.steps in
+    let v = g.S.Steps.view c.finish.new.steps in
     let a = c.args.self.now in
     let ps = places_of a.limbo in
     let may = ready_may z u a.own c.args.job ps a.room c.requires.caller.ready c.requires.room in
-    let m = c.finish-done.result in
-    let e = c.finish-done.ensures in
-    let n : Caller = record a { room = c.finish-done.new.room; limbo = c.finish-done.new.limbo } in
+    let m = c.finish.new.write in
+    let e = c.finish.ensures in
+    let n : Caller = record a { room = c.finish.new.room; limbo = c.finish.new.limbo } in
     let same = subst (λ (j : JobOf). SameKey j a.room n.room) c.new-write.ensures.job e.key in
     let says = says_so m c.ended.result c.unwrap.result c.unwrap.ensures c.ended.ensures.answered c.ended.ensures.counted c.ended.ensures.grounds c.ended.ensures.ready in
     let left = e.left in
