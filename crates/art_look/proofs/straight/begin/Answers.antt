@@ -1,27 +1,33 @@
+-- Each cell is the one that was asked for.
+use Rattle.std.proofs.Common.{refl}
+use Rattle.art_cell.specs.declared.cells.Cell.TheVariants as cell
 use Rattle.art_find.specs.declared.asked.Asked.TheVariants.{Begin}
-use Rattle.art_look.proofs.Going.{may_make}
+use Rattle.art_look.specs.declared.looks.LookStage.TheVariants.{Start, Below}
+use Rattle.art_look.proofs.Going.{may_go}
 use Rattle.art_look.proofs.straight.begin.Goals as goal
 
 pub begin-begun-requires : goal.begin-begun-requires
 begin-begun-requires g c =
+    let v = g.S.Steps.view c.args.steps.now in
     let q = c.requires.looks in
-    let may = may_make (g.S.Steps.sizes c.args.steps.now) c.args.lo.now q.0 q.1 (g.S.Steps.view c.args.steps.now) c.args.look.now c.args.trail.now (Begin c.args.cell) c.requires.asked q.2.fits in
+    let may = may_go (g.S.Steps.sizes c.args.steps.now) q.0 v c.args.look.now q.1 c.args.tally.now q.2 Start c.in-Start.is (Begin cell.Anchor) refl in
     record { inside = may.0; may = may.1 }
 
-pub hear-requires : goal.hear-requires
-hear-requires g c = record {
-  turn = c.requires.turn;
-  told = (
-    g.S.Steps.sizes c.args.steps.now,
-    g.S.Steps.view c.args.steps.now,
-    g.S.Steps.view c.begin-begun.new.self,
-    Begin c.args.cell,
-    c.requires.looks,
-    c.requires.asked,
-    λ hi. c.begin-begun.ensures.row,
-  );
-}
+pub begin-begun-requires-in-Below : goal.begin-begun-requires-in-Below
+begin-begun-requires-in-Below g c =
+    let v = g.S.Steps.view c.args.steps.now in
+    let q = c.requires.looks in
+    let may = may_go (g.S.Steps.sizes c.args.steps.now) q.0 v c.args.look.now q.1 c.args.tally.now q.2 (Below c.in-Below.above c.in-Below.node) c.in-Below.is (Begin (cell.Node c.in-Below.node)) refl in
+    record { inside = may.0; may = may.1 }
 
-pub returns-clause-gone : goal.returns-clause-gone
-returns-clause-gone g c =
-    c.hear.ensures.gone (g.S.Steps.sizes c.args.steps.now) (g.S.Steps.view c.args.steps.now) (g.S.Steps.view c.begin-begun.new.self) (Begin c.args.cell) c.requires.asked (λ x e. cc) (λ hi. c.begin-begun.ensures.row)
+pub returns-in-Start-clause-gone : goal.returns-in-Start-clause-gone
+returns-in-Start-clause-gone g c = λ lo t.
+    let v = g.S.Steps.view c.args.steps.now in
+    let w = g.S.Steps.view c.begin-begun.new.self in
+    c.hear_begun.ensures.gone (g.S.Steps.sizes c.args.steps.now) lo t v w cell.Anchor refl c.begin-begun.ensures.row
+
+pub returns-in-Below-clause-gone : goal.returns-in-Below-clause-gone
+returns-in-Below-clause-gone g c = λ lo t.
+    let v = g.S.Steps.view c.args.steps.now in
+    let w = g.S.Steps.view c.begin-begun-in-Below.new.self in
+    c.hear_begun-in-Below.ensures.gone (g.S.Steps.sizes c.args.steps.now) lo t v w (cell.Node c.in-Below.node) refl c.begin-begun-in-Below.ensures.row

@@ -1,27 +1,32 @@
+-- Each cell is the one that was asked for.
+use Rattle.std.proofs.Common.{refl}
 use Rattle.art_find.specs.declared.asked.Asked.TheVariants.{Check}
-use Rattle.art_look.proofs.Going.{may_make}
+use Rattle.art_look.specs.declared.looks.LookStage.TheVariants.{Child, Both}
+use Rattle.art_look.proofs.Going.{may_go}
 use Rattle.art_look.proofs.straight.check.Goals as goal
 
 pub check-checked-requires : goal.check-checked-requires
 check-checked-requires g c =
+    let v = g.S.Steps.view c.args.steps.now in
     let q = c.requires.looks in
-    let may = may_make (g.S.Steps.sizes c.args.steps.now) c.args.lo.now q.0 q.1 (g.S.Steps.view c.args.steps.now) c.args.look.now c.args.trail.now (Check c.args.stamp) c.requires.asked q.2.fits in
+    let may = may_go (g.S.Steps.sizes c.args.steps.now) q.0 v c.args.look.now q.1 c.args.tally.now q.2 (Child c.in-Child.stamp c.in-Child.link) c.in-Child.is (Check c.in-Child.stamp) refl in
     record { inside = may.0; may = may.1; admitted = tt }
 
-pub hear-requires : goal.hear-requires
-hear-requires g c = record {
-  turn = c.requires.turn;
-  told = (
-    g.S.Steps.sizes c.args.steps.now,
-    g.S.Steps.view c.args.steps.now,
-    g.S.Steps.view c.check-checked.new.self,
-    Check c.args.stamp,
-    c.requires.looks,
-    c.requires.asked,
-    λ hi. c.check-checked.ensures.row,
-  );
-}
+pub check-checked-requires-in-Both : goal.check-checked-requires-in-Both
+check-checked-requires-in-Both g c =
+    let v = g.S.Steps.view c.args.steps.now in
+    let q = c.requires.looks in
+    let may = may_go (g.S.Steps.sizes c.args.steps.now) q.0 v c.args.look.now q.1 c.args.tally.now q.2 (Both c.in-Both.above c.in-Both.stamp c.in-Both.node) c.in-Both.is (Check c.in-Both.above) refl in
+    record { inside = may.0; may = may.1; admitted = tt }
 
-pub returns-clause-gone : goal.returns-clause-gone
-returns-clause-gone g c =
-    c.hear.ensures.gone (g.S.Steps.sizes c.args.steps.now) (g.S.Steps.view c.args.steps.now) (g.S.Steps.view c.check-checked.new.self) (Check c.args.stamp) c.requires.asked (λ x e. cc) (λ hi. c.check-checked.ensures.row)
+pub returns-in-Child-clause-gone : goal.returns-in-Child-clause-gone
+returns-in-Child-clause-gone g c = λ lo t.
+    let v = g.S.Steps.view c.args.steps.now in
+    let w = g.S.Steps.view c.check-checked.new.self in
+    c.hear_checked.ensures.gone (g.S.Steps.sizes c.args.steps.now) lo t v w c.in-Child.stamp refl c.check-checked.ensures.row
+
+pub returns-in-Both-clause-gone : goal.returns-in-Both-clause-gone
+returns-in-Both-clause-gone g c = λ lo t.
+    let v = g.S.Steps.view c.args.steps.now in
+    let w = g.S.Steps.view c.check-checked-in-Both.new.self in
+    c.hear_checked-in-Both.ensures.gone (g.S.Steps.sizes c.args.steps.now) lo t v w c.in-Both.above refl c.check-checked-in-Both.ensures.row
