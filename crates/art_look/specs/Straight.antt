@@ -1,7 +1,7 @@
 -- A look that goes straight on, step by step.
 use Rattle.std.specs.Prelude.{◌≡◌, ℕ, ◌+◌, ◌<◌, ◌≤◌, List, Option, Some, false, ⊤}
 use Rattle.art_find.specs.declared.asked.Asked.{Asked}
-use Rattle.art_find.specs.declared.asked.Asked.TheVariants.{Read, ReadLeaf, Check}
+use Rattle.art_find.specs.declared.asked.Asked.TheVariants.{Begin, Read, ReadLeaf, Check}
 use Rattle.art_find.specs.declared.straight.Tally.{Tally}
 use Rattle.art_key.specs.declared.bounds.Bound.{Bound as KeyBound}
 use Rattle.art_look.specs.Driven.{LookFits}
@@ -21,10 +21,11 @@ abbrev pub AsksLeaf : Option Asked → Type 0
 AsksLeaf (Some (ReadLeaf x l i)) = ⊤
 AsksLeaf asked = ⊥
 
--- a check that settles nothing
-abbrev pub AsksCheck : Option Asked → Type 0
-AsksCheck (Some (Check x)) = ⊤
-AsksCheck asked = ⊥
+-- the version word of a cell, where nothing is settled
+abbrev pub AsksVersion : Option Asked → Type 0
+AsksVersion (Some (Begin c)) = ⊤
+AsksVersion (Some (Check x)) = ⊤
+AsksVersion asked = ⊥
 
 -- some look from lo on has come to this
 abbrev pub IsUnderWay : Sizes → List ℕ → View → Look → Trail → Tally → Type 0

@@ -13,7 +13,7 @@ ghost use Rattle.art_find.specs.declared.asked.Asked.TheVariants as askeds;
 ghost use Rattle.art_key.specs.declared.bounds.Bound.{Bound as KeyBound};
 ghost use Rattle.art_look.specs.Driven.{LookFits};
 ghost use Rattle.art_look.specs.Looks.{Fits, asks, has_ended, least_steps, most_steps};
-ghost use Rattle.art_look.specs.Straight.{AsksCheck, AsksLeaf, AsksWord, HasGone, HasTurn, IsUnderWay};
+ghost use Rattle.art_look.specs.Straight.{AsksLeaf, AsksVersion, AsksWord, HasGone, HasTurn, IsUnderWay};
 ghost use Rattle.art_look.specs.declared.trails.Trail.{Trail as Trailed};
 ghost use Rattle.art_step.specs.Steps.Begin.{Outcome as Begun};
 ghost use Rattle.art_step.specs.Steps.Check.{Outcome as WasChecked};
@@ -53,8 +53,10 @@ pub fn look_on<S: Steps>(
 {
     while tally.left > 1 {
         match look.stage {
-            LookStage::Start | LookStage::Below(_, _) => begin(steps, tally, look),
-            LookStage::Child(_, _) | LookStage::Both(_, _, _) => check(steps, tally, look),
+            LookStage::Start
+            | LookStage::Below(_, _)
+            | LookStage::Child(_, _)
+            | LookStage::Both(_, _, _) => find_version(steps, tally, look),
             LookStage::Value(_, _) | LookStage::Length(_, _, _) | LookStage::Bytes(_, _) => {
                 read_leaf(steps, tally, look, lo, trail)
             }
@@ -64,11 +66,11 @@ pub fn look_on<S: Steps>(
     }
 }
 
-/// Stamps the cell that comes next, and hears it.
+/// Stamps or checks the cell that comes next, and hears it.
 #[inline(always)]
-fn begin<S: Steps>(steps: &mut S, tally: &mut Tally, look: &mut Look)
+fn find_version<S: Steps>(steps: &mut S, tally: &mut Tally, look: &mut Look)
     requires turn { HasTurn tally.old }
-    requires version { WantsVersion (asks look.old.stage) }
+    requires version { AsksVersion (asks look.old.stage) }
     requires looks { (lo : List ℕ) × (t : Trailed) × IsUnderWay (S.sizes steps.old) lo (S.view steps.old) look.old t tally.old }
     ensures only { S.only steps.old steps.new }
     ensures gone { (lo : List ℕ) (t : Trailed) → HasGone (S.sizes steps.old) lo (S.view steps.old) look.old t tally.old
@@ -83,21 +85,6 @@ fn begin<S: Steps>(steps: &mut S, tally: &mut Tally, look: &mut Look)
             let begun = steps.begin(Cell::Node(node));
             hear_begun(tally, look, LookStage::Below(above, node), begun);
         }
-        _ => unreachable!(),
-    }
-}
-
-/// Checks the cell that comes next, and hears it.
-#[inline(always)]
-fn check<S: Steps>(steps: &mut S, tally: &mut Tally, look: &mut Look)
-    requires turn { HasTurn tally.old }
-    requires checks { AsksCheck (asks look.old.stage) }
-    requires looks { (lo : List ℕ) × (t : Trailed) × IsUnderWay (S.sizes steps.old) lo (S.view steps.old) look.old t tally.old }
-    ensures only { S.only steps.old steps.new }
-    ensures gone { (lo : List ℕ) (t : Trailed) → HasGone (S.sizes steps.old) lo (S.view steps.old) look.old t tally.old
-        (S.view steps.new) look.new t tally.new }
-{
-    match look.stage {
         LookStage::Child(stamp, link) => {
             let checked = steps.check(stamp, None);
             hear_checked(tally, look, LookStage::Child(stamp, link), checked);
