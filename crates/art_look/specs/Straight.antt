@@ -1,5 +1,7 @@
 -- A look that goes straight on, step by step.
-use Rattle.std.specs.Prelude.{◌≡◌, ℕ, ◌+◌, ◌<◌, ◌≤◌, List, false}
+use Rattle.std.specs.Prelude.{◌≡◌, ℕ, ◌+◌, ◌<◌, ◌≤◌, List, Option, Some, false, ⊤}
+use Rattle.art_find.specs.declared.asked.Asked.{Asked}
+use Rattle.art_find.specs.declared.asked.Asked.TheVariants.{Begin, Read, ReadLeaf, Check}
 use Rattle.art_find.specs.declared.straight.Tally.{Tally}
 use Rattle.art_key.specs.declared.bounds.Bound.{Bound as KeyBound}
 use Rattle.art_look.specs.Driven.{LookFits}
@@ -8,6 +10,22 @@ use Rattle.art_look.specs.declared.looks.Look.{Look}
 use Rattle.art_look.specs.declared.trails.Trail.{Trail}
 use Rattle.art_step.specs.declared.views.Sizes.{Sizes}
 use Rattle.art_step.specs.declared.views.View.{View}
+
+-- a word of a cell is asked for
+abbrev pub AsksWord : Option Asked → Type 0
+AsksWord (Some (Read x i)) = ⊤
+AsksWord asked = ⊥
+
+-- a word of a leaf
+abbrev pub AsksLeaf : Option Asked → Type 0
+AsksLeaf (Some (ReadLeaf x l i)) = ⊤
+AsksLeaf asked = ⊥
+
+-- the version word of a cell, where nothing is settled
+abbrev pub AsksVersion : Option Asked → Type 0
+AsksVersion (Some (Begin c)) = ⊤
+AsksVersion (Some (Check x)) = ⊤
+AsksVersion asked = ⊥
 
 -- some look from lo on has come to this
 abbrev pub IsUnderWay : Sizes → List ℕ → View → Look → Trail → Tally → Type 0

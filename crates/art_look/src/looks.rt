@@ -207,7 +207,22 @@ impl Look {
             Fits z lo hi self.old t u v → asks self.old.stage ≡ Some asked →
             Answers z (deed_at lo hi t self.old.stage) asked (told.Begun (Ok stamp)) v w → Fits z lo hi self.new t u w }
     {
-        self.stage = match self.stage {
+        self.began_at(self.stage, stamp);
+    }
+
+    /// A version word was clear, and gave this stamp, where the look stood at this stage.
+    #[inline(always)]
+    pub(crate) fn began_at(&mut self, stage: LookStage, stamp: Stamp)
+        requires at { self.old.stage ≡ stage }
+        requires wants { WantsVersion (asks stage) }
+        ensures going { has_ended self.new.stage ≡ false }
+        ensures steps { most_steps self.old.depth self.old.stage < most_steps self.new.depth self.new.stage }
+        ensures least { least_steps self.new.stage ≤ least_steps self.old.stage + 1 }
+        ensures fits { (z : Sizes) (lo : List ℕ) (hi : KeyBound) (t : Trailed) (u v w : View) (asked : AskedStep) →
+            Fits z lo hi self.old t u v → asks self.old.stage ≡ Some asked →
+            Answers z (deed_at lo hi t self.old.stage) asked (told.Begun (Ok stamp)) v w → Fits z lo hi self.new t u w }
+    {
+        self.stage = match stage {
             LookStage::Start => LookStage::Anchor(stamp),
             LookStage::Below(above, node) => LookStage::Both(above, stamp, node),
             _ => unreachable!(),
@@ -225,7 +240,22 @@ impl Look {
             Fits z lo hi self.old t u v → asks self.old.stage ≡ Some asked →
             Answers z (deed_at lo hi t self.old.stage) asked (told.Checked (Ok tt)) v w → Fits z lo hi self.new t u w }
     {
-        self.stage = match self.stage {
+        self.checked_at(self.stage);
+    }
+
+    /// A version word was unchanged, where the look stood at this stage.
+    #[inline(always)]
+    pub(crate) fn checked_at(&mut self, stage: LookStage)
+        requires at { self.old.stage ≡ stage }
+        requires wants { WantsCheck (asks stage) }
+        ensures going { has_ended self.new.stage ≡ true → IsSettling self.old.stage }
+        ensures steps { most_steps self.old.depth self.old.stage < most_steps self.new.depth self.new.stage }
+        ensures least { least_steps self.new.stage ≤ least_steps self.old.stage + 1 }
+        ensures fits { (z : Sizes) (lo : List ℕ) (hi : KeyBound) (t : Trailed) (u v w : View) (asked : AskedStep) →
+            Fits z lo hi self.old t u v → asks self.old.stage ≡ Some asked →
+            Answers z (deed_at lo hi t self.old.stage) asked (told.Checked (Ok tt)) v w → Fits z lo hi self.new t u w }
+    {
+        self.stage = match stage {
             LookStage::Child(stamp, link) => below(stamp, link),
             LookStage::Both(_, stamp, node) => LookStage::Header(stamp, node),
             LookStage::Decided(_, reach, value) => LookStage::Ended(reach, value),

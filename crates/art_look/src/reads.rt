@@ -9,6 +9,7 @@ use crate::trails::spell;
 use crate::{ChildSought, Look, LookStage, Reach, Trail};
 use art_cell::{Layout, Link, Node};
 use art_find::{LeafSeen, NodeSeen};
+use art_key::Key;
 use art_node::{SoughtFrom, first_word_from, next_word_from, read_header};
 use art_step::Stamp;
 
@@ -42,7 +43,23 @@ impl Look {
             Fits z lo.now hi self.old trail.old u v → asks self.old.stage ≡ Some asked →
             Answers z (deed_at lo.now hi trail.old self.old.stage) asked (told.Word word) v w → Fits z lo.now hi self.new trail.new u w }
     {
-        match self.stage {
+        self.read_at(self.stage, lo, trail, word);
+    }
+
+    /// The word that it asked for, where it stood at this stage, is this.
+    #[inline(always)]
+    pub(crate) fn read_at(&mut self, stage: LookStage, lo: &[u8], trail: &mut Trail, word: u64)
+        requires at { self.old.stage ≡ stage }
+        requires wants { WantsWord (asks stage) }
+        requires fits { (z : Sizes) × (hi : KeyBound) × (u : View) × (v : View) × Fits z lo.now hi self.old trail.old u v }
+        ensures going { has_ended self.new.stage ≡ false }
+        ensures steps { most_steps self.old.depth self.old.stage < most_steps self.new.depth self.new.stage }
+        ensures least { least_steps self.new.stage ≤ least_steps self.old.stage + 1 }
+        ensures fits { (z : Sizes) (hi : KeyBound) (u v w : View) (asked : AskedStep) →
+            Fits z lo.now hi self.old trail.old u v → asks self.old.stage ≡ Some asked →
+            Answers z (deed_at lo.now hi trail.old self.old.stage) asked (told.Word word) v w → Fits z lo.now hi self.new trail.new u w }
+    {
+        match stage {
             LookStage::Anchor(stamp) => self.see_root(trail, stamp, word),
             LookStage::Header(stamp, node) => {
                 let header = word;
@@ -79,7 +96,8 @@ impl Look {
             stamp.cell ≡ cells.Anchor → Shows z w stamp (λ s. s cells.Anchor 1 ≡ word) → WasNoted w stamp word →
             Fits z lo hi self.new trail.new u w }
     {
-        trail.path.clear();
+        // a new key is a few moves, where `clear` overwrites the bytes by a call
+        trail.path = Key::new();
         self.depth = 0;
         self.stage = match Link::named_by(word) {
             Some(link) => LookStage::Child(stamp, link),
@@ -243,7 +261,7 @@ impl Look {
             Shows z w stamp (λ s. HasFirstValue s stamp.cell lo trail.old.path.items leaf value) →
             Shows z w stamp (λ s. s (cells.Leaf leaf) 1 ≡ bytes) → Fits z lo hi self.new trail.new u w }
     {
-        trail.key.clear();
+        trail.key = Key::new();
         if bytes > 64 {
             self.stage = LookStage::Decided(stamp, Reach::Past, None);
         } else if bytes > 0 {

@@ -1,23 +1,31 @@
 //! The straight way of a look.
 //!
-//! It makes the steps of a look in their order, and tells the look of each at once what kind of answer it was, so that no answer is made
-//! up to be taken apart again. The last turn is left to the machine, and so is the check that settles what was seen.
-ghost use Rattle.std.specs.Prelude.{◌≡◌, ◌≢◌, ◌+◌, ◌<◌, ◌≤◌, ℕ, Some, false};
-ghost use Rattle.art_find.specs.Asking.{Answers};
+//! It makes the steps of a look in their order. What a step needs is taken out of the stage before it is made, and the look hears what came
+//! of it as the stage that it stood at: memory is read anew behind a step, since other threads write there. The last turn is left to the
+//! machine, and so is the check that settles what was seen.
+ghost use Rattle.std.specs.Prelude.{◌≡◌, ◌+◌, ◌<◌, ◌≤◌, ℕ, List, Some, false};
+ghost use Rattle.art_cell.specs.declared.cells.Cell.{Cell as CellOf};
+ghost use Rattle.art_find.specs.Asking.{Answers, WantsCheck, WantsVersion, WantsWord};
+ghost use Rattle.art_find.specs.Descents.{IsReading};
+ghost use Rattle.art_find.specs.declared.asked.Answer.TheVariants as told;
 ghost use Rattle.art_find.specs.declared.asked.Asked.{Asked as AskedStep};
 ghost use Rattle.art_find.specs.declared.asked.Asked.TheVariants as askeds;
 ghost use Rattle.art_key.specs.declared.bounds.Bound.{Bound as KeyBound};
 ghost use Rattle.art_look.specs.Driven.{LookFits};
-ghost use Rattle.art_look.specs.Looks.{asks, deed_at, has_ended};
-ghost use Rattle.art_look.specs.Straight.{HasGone, HasTurn, IsUnderWay};
+ghost use Rattle.art_look.specs.Looks.{Fits, asks, has_ended, least_steps, most_steps};
+ghost use Rattle.art_look.specs.Straight.{AsksLeaf, AsksVersion, AsksWord, HasGone, HasTurn, IsUnderWay};
+ghost use Rattle.art_look.specs.declared.trails.Trail.{Trail as Trailed};
+ghost use Rattle.art_step.specs.Steps.Begin.{Outcome as Begun};
+ghost use Rattle.art_step.specs.Steps.Check.{Outcome as WasChecked};
+ghost use Rattle.art_step.specs.declared.deeds.Deed.{Deed};
 ghost use Rattle.art_step.specs.declared.views.Sizes.{Sizes};
 ghost use Rattle.art_step.specs.declared.views.Stamp.{Stamp as StampOf};
 ghost use Rattle.art_step.specs.declared.views.View.{View};
 
-use crate::{Look, Trail};
+use crate::{Look, LookStage, Trail};
 use art_cell::Cell;
-use art_find::{Answer, Asked, Tally};
-use art_step::{Stamp, Steps};
+use art_find::Tally;
+use art_step::{Changed, Locked, Stamp, Steps};
 
 /// Makes the steps of a look of the range from the key on, one after another, as long as more than one turn is left: not the check that
 /// settles what it has seen.
@@ -44,62 +52,89 @@ pub fn look_on<S: Steps>(
         LookFits (S.sizes steps.old) lo.now hi u (S.view steps.new) look.new trail.new tally.new.restarts }
 {
     while tally.left > 1 {
-        match look.next() {
-            Some(Asked::Begin(cell)) => begin(steps, tally, look, lo, trail, cell),
-            Some(Asked::Read(stamp, place)) => read(steps, tally, look, lo, trail, stamp, place),
-            Some(Asked::ReadLeaf(stamp, leaf, place)) => {
-                read_leaf(steps, tally, look, lo, trail, stamp, leaf, place)
+        match look.stage {
+            LookStage::Start
+            | LookStage::Below(_, _)
+            | LookStage::Child(_, _)
+            | LookStage::Both(_, _, _) => find_version(steps, tally, look),
+            LookStage::Value(_, _) | LookStage::Length(_, _, _) | LookStage::Bytes(_, _) => {
+                read_leaf(steps, tally, look, lo, trail)
             }
-            Some(Asked::Check(stamp)) => check(steps, tally, look, lo, trail, stamp),
-            Some(Asked::Settle(_)) | None => return,
+            LookStage::Decided(_, _, _) | LookStage::Ended(_, _) => return,
+            _ => read(steps, tally, look, lo, trail),
         }
     }
 }
 
-/// Stamps a cell.
+/// Stamps or checks the cell that comes next, and hears it.
 #[inline(always)]
-fn begin<S: Steps>(
-    steps: &mut S,
-    tally: &mut Tally,
-    look: &mut Look,
-    lo: &[u8],
-    trail: &mut Trail,
-    cell: Cell,
-)
+fn find_version<S: Steps>(steps: &mut S, tally: &mut Tally, look: &mut Look)
     requires turn { HasTurn tally.old }
-    requires asked { asks look.old.stage ≡ Some (askeds.Begin cell) }
+    requires version { AsksVersion (asks look.old.stage) }
+    requires looks { (lo : List ℕ) × (t : Trailed) × IsUnderWay (S.sizes steps.old) lo (S.view steps.old) look.old t tally.old }
+    ensures only { S.only steps.old steps.new }
+    ensures gone { (lo : List ℕ) (t : Trailed) → HasGone (S.sizes steps.old) lo (S.view steps.old) look.old t tally.old
+        (S.view steps.new) look.new t tally.new }
+{
+    match look.stage {
+        LookStage::Start => {
+            let begun = steps.begin(Cell::Anchor);
+            hear_begun(tally, look, LookStage::Start, begun);
+        }
+        LookStage::Below(above, node) => {
+            let begun = steps.begin(Cell::Node(node));
+            hear_begun(tally, look, LookStage::Below(above, node), begun);
+        }
+        LookStage::Child(stamp, link) => {
+            let checked = steps.check(stamp, None);
+            hear_checked(tally, look, LookStage::Child(stamp, link), checked);
+        }
+        LookStage::Both(above, stamp, node) => {
+            let checked = steps.check(above, None);
+            hear_checked(tally, look, LookStage::Both(above, stamp, node), checked);
+        }
+        _ => unreachable!(),
+    }
+}
+
+/// Reads the word of a cell that comes next, and hears it.
+#[inline(always)]
+fn read<S: Steps>(steps: &mut S, tally: &mut Tally, look: &mut Look, lo: &[u8], trail: &mut Trail)
+    requires turn { HasTurn tally.old }
+    requires word { AsksWord (asks look.old.stage) }
     requires looks { IsUnderWay (S.sizes steps.old) lo.now (S.view steps.old) look.old trail.old tally.old }
     ensures only { S.only steps.old steps.new }
     ensures gone { HasGone (S.sizes steps.old) lo.now (S.view steps.old) look.old trail.old tally.old
         (S.view steps.new) look.new trail.new tally.new }
 {
-    let begun = steps.begin(cell);
-    hear(tally, look, lo, trail, Answer::Begun(begun));
+    match look.stage {
+        LookStage::Anchor(stamp) => {
+            let word = steps.read(stamp, 1);
+            hear_word(tally, look, lo, trail, LookStage::Anchor(stamp), word);
+        }
+        LookStage::Header(stamp, node) => {
+            let word = steps.read(stamp, 1);
+            hear_word(tally, look, lo, trail, LookStage::Header(stamp, node), word);
+        }
+        LookStage::Prefix(seen, number) => {
+            let word = steps.read(seen.stamp, 2 + usize::from(number));
+            let stage = LookStage::Prefix(seen, number);
+            hear_word(tally, look, lo, trail, stage, word);
+        }
+        LookStage::Keys(seen, front, number) => {
+            let word = steps.read(seen.stamp, 10 + usize::from(number));
+            let stage = LookStage::Keys(seen, front, number);
+            hear_word(tally, look, lo, trail, stage, word);
+        }
+        LookStage::Slot(sought) => {
+            let word = steps.read(sought.seen.stamp, sought.place);
+            hear_word(tally, look, lo, trail, LookStage::Slot(sought), word);
+        }
+        _ => unreachable!(),
+    }
 }
 
-/// Reads a word of a stamped cell.
-#[inline(always)]
-fn read<S: Steps>(
-    steps: &mut S,
-    tally: &mut Tally,
-    look: &mut Look,
-    lo: &[u8],
-    trail: &mut Trail,
-    stamp: Stamp,
-    place: usize,
-)
-    requires turn { HasTurn tally.old }
-    requires asked { asks look.old.stage ≡ Some (askeds.Read stamp place) }
-    requires looks { IsUnderWay (S.sizes steps.old) lo.now (S.view steps.old) look.old trail.old tally.old }
-    ensures only { S.only steps.old steps.new }
-    ensures gone { HasGone (S.sizes steps.old) lo.now (S.view steps.old) look.old trail.old tally.old
-        (S.view steps.new) look.new trail.new tally.new }
-{
-    let word = steps.read(stamp, place);
-    hear(tally, look, lo, trail, Answer::Word(word));
-}
-
-/// Reads a word of a leaf that a stamped cell names.
+/// Reads the word of a leaf that comes next, and hears it.
 #[inline(always)]
 fn read_leaf<S: Steps>(
     steps: &mut S,
@@ -107,55 +142,95 @@ fn read_leaf<S: Steps>(
     look: &mut Look,
     lo: &[u8],
     trail: &mut Trail,
-    stamp: Stamp,
-    leaf: u32,
-    place: usize,
 )
     requires turn { HasTurn tally.old }
-    requires asked { asks look.old.stage ≡ Some (askeds.ReadLeaf stamp leaf place) }
+    requires leaf { AsksLeaf (asks look.old.stage) }
     requires looks { IsUnderWay (S.sizes steps.old) lo.now (S.view steps.old) look.old trail.old tally.old }
     ensures only { S.only steps.old steps.new }
     ensures gone { HasGone (S.sizes steps.old) lo.now (S.view steps.old) look.old trail.old tally.old
         (S.view steps.new) look.new trail.new tally.new }
 {
-    let word = steps.read_leaf(stamp, leaf, place);
-    hear(tally, look, lo, trail, Answer::Word(word));
+    match look.stage {
+        LookStage::Value(stamp, leaf) => {
+            let word = steps.read_leaf(stamp, leaf, 0);
+            hear_word(tally, look, lo, trail, LookStage::Value(stamp, leaf), word);
+        }
+        LookStage::Length(stamp, leaf, value) => {
+            let word = steps.read_leaf(stamp, leaf, 1);
+            let stage = LookStage::Length(stamp, leaf, value);
+            hear_word(tally, look, lo, trail, stage, word);
+        }
+        LookStage::Bytes(seen, number) => {
+            let word = steps.read_leaf(seen.stamp, seen.leaf, 2 + usize::from(number));
+            hear_word(tally, look, lo, trail, LookStage::Bytes(seen, number), word);
+        }
+        _ => unreachable!(),
+    }
 }
 
-/// Checks a stamped cell.
+/// The version word that it asked for, where it stood at this stage, was found so; its step is counted.
 #[inline(always)]
-fn check<S: Steps>(
-    steps: &mut S,
+fn hear_begun(tally: &mut Tally, look: &mut Look, stage: LookStage, begun: Result<Stamp, Locked>)
+    requires turn { HasTurn tally.old }
+    requires at { look.old.stage ≡ stage }
+    requires wants { WantsVersion (asks stage) }
+    ensures gone { (z : Sizes) (lo : List ℕ) (t : Trailed) (v w : View) (cell : CellOf) → asks stage ≡ Some (askeds.Begin cell) →
+        Begun z v w cell begun → HasGone z lo v look.old t tally.old w look.new t tally.new }
+{
+    tally.left -= 1;
+    match begun {
+        Ok(stamp) => look.began_at(stage, stamp),
+        Err(_) => begin_anew(tally, look),
+    }
+}
+
+/// The cell that it asked for, where it stood at this stage, was checked; its step is counted.
+#[inline(always)]
+fn hear_checked(tally: &mut Tally, look: &mut Look, stage: LookStage, checked: Result<(), Changed>)
+    requires turn { HasTurn tally.old }
+    requires at { look.old.stage ≡ stage }
+    requires wants { WantsCheck (asks stage) }
+    ensures gone { (z : Sizes) (lo : List ℕ) (t : Trailed) (v w : View) (x : StampOf) → asks stage ≡ Some (askeds.Check x) →
+        WasChecked z v w x None checked → HasGone z lo v look.old t tally.old w look.new t tally.new }
+{
+    tally.left -= 1;
+    match checked {
+        Ok(()) => look.checked_at(stage),
+        Err(_) => begin_anew(tally, look),
+    }
+}
+
+/// The word that it asked for, where it stood at this stage, is this; its step is counted.
+#[inline(always)]
+fn hear_word(
     tally: &mut Tally,
     look: &mut Look,
     lo: &[u8],
     trail: &mut Trail,
-    stamp: Stamp,
+    stage: LookStage,
+    word: u64,
 )
     requires turn { HasTurn tally.old }
-    requires asked { asks look.old.stage ≡ Some (askeds.Check stamp) }
-    requires looks { IsUnderWay (S.sizes steps.old) lo.now (S.view steps.old) look.old trail.old tally.old }
-    ensures only { S.only steps.old steps.new }
-    ensures gone { HasGone (S.sizes steps.old) lo.now (S.view steps.old) look.old trail.old tally.old
-        (S.view steps.new) look.new trail.new tally.new }
-{
-    let checked = steps.check(stamp, None);
-    hear(tally, look, lo, trail, Answer::Checked(checked));
-}
-
-/// The look hears the answer, and its step is counted.
-#[inline(always)]
-fn hear(tally: &mut Tally, look: &mut Look, lo: &[u8], trail: &mut Trail, answer: Answer)
-    requires turn { HasTurn tally.old }
-    requires told { (z : Sizes) × (v : View) × (w : View) × (asked : AskedStep) × IsUnderWay z lo.now v look.old trail.old tally.old ×
-        (asks look.old.stage ≡ Some asked) × ((hi : KeyBound) → Answers z (deed_at lo.now hi trail.old look.old.stage) asked answer v w) }
-    ensures gone { (z : Sizes) (v w : View) (asked : AskedStep) → asks look.old.stage ≡ Some asked → ((x : StampOf) → asked ≢ askeds.Settle x) →
-        ((hi : KeyBound) → Answers z (deed_at lo.now hi trail.old look.old.stage) asked answer v w) →
+    requires at { look.old.stage ≡ stage }
+    requires wants { WantsWord (asks stage) }
+    requires looks { (z : Sizes) × (v : View) × IsUnderWay z lo.now v look.old trail.old tally.old }
+    ensures gone { (z : Sizes) (v w : View) (asked : AskedStep) → asks stage ≡ Some asked →
+        ((d : Deed) → Answers z d asked (told.Word word) v w) →
         HasGone z lo.now v look.old trail.old tally.old w look.new trail.new tally.new }
 {
     tally.left -= 1;
-    if look.told(lo, trail, answer) {
-        return;
-    }
+    look.read_at(stage, lo, trail, word);
+}
+
+/// A version word was locked, obsolete or changed: the look begins anew, and that is counted.
+#[inline(always)]
+fn begin_anew(tally: &mut Tally, look: &mut Look)
+    requires few { tally.old.restarts < 4294967295 }
+    ensures tally { tally.new ≡ record tally.old { restarts = tally.old.restarts + 1 } }
+    ensures steps { most_steps look.new.depth look.new.stage ≡ 0 }
+    ensures least { least_steps look.new.stage ≡ 0 }
+    ensures fits { (z : Sizes) (lo : List ℕ) (hi : KeyBound) (t : Trailed) (u v : View) → IsReading u v → Fits z lo hi look.new t u v }
+{
+    look.failed();
     tally.restarts += 1;
 }

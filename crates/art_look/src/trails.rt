@@ -28,16 +28,23 @@ impl Trail {
 }
 
 /// Appends the first bytes of a word, so many.
+#[inline(always)]
 pub(crate) fn spell(text: &mut Key, word: u64, count: usize)
     requires few { count ≤ 8 }
     requires room { length text.old.items + count ≤ 64 }
     ensures { text.new.items ≡ text.old.items ++ map (byte_of word) (range_with_len 0 count) }
 {
     let bytes = word.to_be_bytes();
-    append(text, &bytes[..count]);
+    // a whole word is one move, where so many bytes as come out of a header are a call
+    if count == 8 {
+        append(text, &bytes);
+    } else {
+        append(text, &bytes[..count]);
+    }
 }
 
 /// Appends these bytes.
+#[inline(always)]
 fn append(text: &mut Key, bytes: &[u8])
     requires { length text.old.items + length bytes.now ≤ 64 }
     ensures { text.new.items ≡ text.old.items ++ bytes.now }

@@ -1,27 +1,43 @@
+-- Each word is the one that was asked for.
+use Rattle.std.proofs.Common.{ℕ, ◌+◌, refl, sym, subst}
 use Rattle.art_find.specs.declared.asked.Asked.TheVariants.{ReadLeaf}
-use Rattle.art_look.proofs.Going.{may_make}
+use Rattle.art_look.specs.declared.looks.LookStage.TheVariants.{Value, Length, Bytes}
+use Rattle.art_look.proofs.Going.{may_go}
+use Rattle.art_step.specs.Steps.Read as read
 use Rattle.art_look.proofs.straight.read_leaf.Goals as goal
 
 pub read_leaf-word-requires : goal.read_leaf-word-requires
 read_leaf-word-requires g c =
-    let q = c.requires.looks in
-    let may = may_make (g.S.Steps.sizes c.args.steps.now) c.args.lo.now q.0 q.1 (g.S.Steps.view c.args.steps.now) c.args.look.now c.args.trail.now (ReadLeaf c.args.stamp c.args.leaf c.args.place) c.requires.asked q.2.fits in
+    let v = g.S.Steps.view c.args.steps.now in
+    let may = may_go (g.S.Steps.sizes c.args.steps.now) c.args.lo.now v c.args.look.now c.args.trail.now c.args.tally.now c.requires.looks (Value c.in-Value.stamp c.in-Value.leaf) c.in-Value.is (ReadLeaf c.in-Value.stamp c.in-Value.leaf 0) refl in
     record { inside = may.0; may = may.1 }
 
-pub hear-requires : goal.hear-requires
-hear-requires g c = record {
-  turn = c.requires.turn;
-  told = (
-    g.S.Steps.sizes c.args.steps.now,
-    g.S.Steps.view c.args.steps.now,
-    g.S.Steps.view c.read_leaf-word.new.self,
-    ReadLeaf c.args.stamp c.args.leaf c.args.place,
-    c.requires.looks,
-    c.requires.asked,
-    λ hi. c.read_leaf-word.ensures.row,
-  );
-}
+pub read_leaf-word-requires-in-Length : goal.read_leaf-word-requires-in-Length
+read_leaf-word-requires-in-Length g c =
+    let v = g.S.Steps.view c.args.steps.now in
+    let may = may_go (g.S.Steps.sizes c.args.steps.now) c.args.lo.now v c.args.look.now c.args.trail.now c.args.tally.now c.requires.looks (Length c.in-Length.stamp c.in-Length.leaf c.in-Length.value) c.in-Length.is (ReadLeaf c.in-Length.stamp c.in-Length.leaf 1) refl in
+    record { inside = may.0; may = may.1 }
 
-pub returns-clause-gone : goal.returns-clause-gone
-returns-clause-gone g c =
-    c.hear.ensures.gone (g.S.Steps.sizes c.args.steps.now) (g.S.Steps.view c.args.steps.now) (g.S.Steps.view c.read_leaf-word.new.self) (ReadLeaf c.args.stamp c.args.leaf c.args.place) c.requires.asked (λ x e. cc) (λ hi. c.read_leaf-word.ensures.row)
+pub read_leaf-word-requires-in-Bytes : goal.read_leaf-word-requires-in-Bytes
+read_leaf-word-requires-in-Bytes g c =
+    let v = g.S.Steps.view c.args.steps.now in
+    let may = may_go (g.S.Steps.sizes c.args.steps.now) c.args.lo.now v c.args.look.now c.args.trail.now c.args.tally.now c.requires.looks (Bytes c.in-Bytes.seen c.in-Bytes.number) c.in-Bytes.is (ReadLeaf c.in-Bytes.seen.stamp c.in-Bytes.seen.leaf (2 + c.in-Bytes.number)) refl in
+    record { inside = may.0; may = subst (λ (i : ℕ). read.MayLeaf (g.S.Steps.sizes c.args.steps.now) v c.in-Bytes.seen.stamp c.in-Bytes.seen.leaf (2 + i)) (sym c.from.ensures) may.1 }
+
+pub returns-in-Value-clause-gone : goal.returns-in-Value-clause-gone
+returns-in-Value-clause-gone g c =
+    let v = g.S.Steps.view c.args.steps.now in
+    let w = g.S.Steps.view c.read_leaf-word.new.self in
+    c.hear_word.ensures.gone (g.S.Steps.sizes c.args.steps.now) v w (ReadLeaf c.in-Value.stamp c.in-Value.leaf 0) refl (λ d. c.read_leaf-word.ensures.row)
+
+pub returns-in-Length-clause-gone : goal.returns-in-Length-clause-gone
+returns-in-Length-clause-gone g c =
+    let v = g.S.Steps.view c.args.steps.now in
+    let w = g.S.Steps.view c.read_leaf-word-in-Length.new.self in
+    c.hear_word-in-Length.ensures.gone (g.S.Steps.sizes c.args.steps.now) v w (ReadLeaf c.in-Length.stamp c.in-Length.leaf 1) refl (λ d. c.read_leaf-word-in-Length.ensures.row)
+
+pub returns-in-Bytes-clause-gone : goal.returns-in-Bytes-clause-gone
+returns-in-Bytes-clause-gone g c =
+    let v = g.S.Steps.view c.args.steps.now in
+    let w = g.S.Steps.view c.read_leaf-word-in-Bytes.new.self in
+    c.hear_word-in-Bytes.ensures.gone (g.S.Steps.sizes c.args.steps.now) v w (ReadLeaf c.in-Bytes.seen.stamp c.in-Bytes.seen.leaf (2 + c.in-Bytes.number)) refl (λ d. subst (λ (i : ℕ). read.LeafOutcome v w c.in-Bytes.seen.stamp c.in-Bytes.seen.leaf (2 + i) c.read_leaf-word-in-Bytes.result) c.from.ensures c.read_leaf-word-in-Bytes.ensures.row)

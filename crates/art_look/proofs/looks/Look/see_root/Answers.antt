@@ -8,10 +8,10 @@ use Rattle.art_look.proofs.looks.Look.see_root.Goals.{in-Some, in-None}
 
 pub returns-clause-fits : goal.returns-clause-fits
 returns-clause-fits c = λ z lo hi u w reads stamp at shows noted.
-    let t : Trail = record { path = c.clear.new.self; key = c.args.trail.now.key } in
+    let t : Trail = record { path = c.new-trail.result; key = c.args.trail.now.key } in
     elim c.match-named_by.branch [
       | in-Some b ↦ subst (λ (g : LookStage). StageFits z lo hi 0 g t u w) (sym b.self-is)
-          (root_fits z lo hi t u w c.args.stamp c.clear.ensures reads stamp c.args.word shows b.in-Some.link at noted (sym b.in-Some.ensures))
+          (root_fits z lo hi t u w c.args.stamp c.new-trail.ensures reads stamp c.args.word shows b.in-Some.link at noted (sym b.in-Some.ensures))
       | in-None b ↦ subst (λ (g : LookStage). StageFits z lo hi 0 g t u w) (sym b.self-is)
-          (no_root_fits z lo hi t u w c.args.stamp c.clear.ensures reads stamp c.args.word shows (sym b.in-None.ensures))
+          (no_root_fits z lo hi t u w c.args.stamp c.new-trail.ensures reads stamp c.args.word shows (sym b.in-None.ensures))
     ]
