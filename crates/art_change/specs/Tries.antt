@@ -1,5 +1,5 @@
 -- An attempt of an insert or of a removal: of the row of a room, or of its leaf that goes.
-use Rattle.std.specs.Prelude.{◌≡◌, ◌<◌, ℕ, Option, Bool}
+use Rattle.std.specs.Prelude.{◌≡◌, ◌<◌, ◌≤◌, ℕ, Option, None, Bool}
 use Rattle.std.specs.Option.{option_map}
 use Rattle.arrayvec.specs.ArrayVec.{ArrayVec}
 use Rattle.art_attempt.specs.Inserting as inserts

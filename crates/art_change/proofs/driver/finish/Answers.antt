@@ -14,8 +14,8 @@ some_there : {A : Type 0} (o : Option A) → is_some o ≡ true → (x : A) × (
 some_there (Some x) some = (x, refl)
 some_there None some = cc
 
-pub loop-write-init : goal.loop-write-init
-loop-write-init g c = record {
+pub loop-steps-init : goal.loop-steps-init
+loop-steps-init g c = record {
   only = g.met.S.Steps.only_same c.args.steps.now;
   sizes = refl;
   job = refl;
@@ -29,7 +29,7 @@ loop-write-init g c = record {
 
 pub hurry-requires-clause-admitted : goal.hurry-requires-clause-admitted
 hurry-requires-clause-admitted g c =
-    let l = c.loop-write in
+    let l = c.loop-steps in
     let i = l.invariant in
     let job = c.args.write.now.job in
     let here = subst (λ (k : ArrayVec ℕ). g.S.Steps.admits l.steps k.items) (sym i.key.key)
@@ -38,14 +38,14 @@ hurry-requires-clause-admitted g c =
 
 pub hurry-requires-clause-fits : goal.hurry-requires-clause-fits
 hurry-requires-clause-fits g c =
-    let l = c.loop-write in
+    let l = c.loop-steps in
     let q = c.requires.fits in
     let here = l.invariant.fits q.0 q.1 q.2 in
     (q.0, q.1, subst (λ (z : Sizes). Fits z q.0 q.1 l.write l.room (places_of l.limbo) (g.S.Steps.view l.steps)) (sym l.invariant.sizes) here)
 
 pub step-requires-clause-admitted : goal.step-requires-clause-admitted
 step-requires-clause-admitted g c =
-    let l = c.loop-write in
+    let l = c.loop-steps in
     let i = l.invariant in
     let e = c.hurry.ensures in
     let job = c.args.write.now.job in
@@ -57,7 +57,7 @@ step-requires-clause-admitted g c =
 
 pub step-requires-clause-fits : goal.step-requires-clause-fits
 step-requires-clause-fits g c =
-    let l = c.loop-write in
+    let l = c.loop-steps in
     let q = c.requires.fits in
     let e = c.hurry.ensures in
     let here = subst (λ (z : Sizes). Fits z q.0 q.1 l.write l.room (places_of l.limbo) (g.S.Steps.view l.steps)) (sym l.invariant.sizes) (l.invariant.fits q.0 q.1 q.2) in (
@@ -67,16 +67,16 @@ step-requires-clause-fits g c =
           (sym (g.met.S.Steps.only_sizes l.steps c.hurry.new.steps e.only)) (e.fits q.0 q.1 here),
     )
 
-pub loop-write-smaller : goal.loop-write-smaller
-loop-write-smaller g c =
+pub loop-steps-smaller : goal.loop-steps-smaller
+loop-steps-smaller g c =
     let less = c.step.ensures.left in
     let later = c.hurry.ensures.later in
     let few = c.hurry.ensures.left in
     omega (arith, less, later, few)
 
-pub loop-write-preserved : goal.loop-write-preserved
-loop-write-preserved g c =
-    let l = c.loop-write in
+pub loop-steps-preserved : goal.loop-steps-preserved
+loop-steps-preserved g c =
+    let l = c.loop-steps in
     let i = l.invariant in
     let h = c.hurry.ensures in
     let e = c.step.ensures in
@@ -102,30 +102,30 @@ loop-write-preserved g c =
     }
 
 pub returns-then-is_some-clause-only : goal.returns-then-is_some-clause-only
-returns-then-is_some-clause-only g c = g.met.S.Steps.only_then c.args.steps.now c.loop-write.steps c.hurry.new.steps c.loop-write.invariant.only c.hurry.ensures.only
+returns-then-is_some-clause-only g c = g.met.S.Steps.only_then c.args.steps.now c.loop-steps.steps c.hurry.new.steps c.loop-steps.invariant.only c.hurry.ensures.only
 
 pub returns-then-is_some-clause-key : goal.returns-then-is_some-clause-key
 returns-then-is_some-clause-key g c =
-    let l = c.loop-write in
+    let l = c.loop-steps in
     let i = l.invariant in
     let one = subst (λ (j : JobOf). SameKey j l.room c.hurry.new.room) i.job c.hurry.ensures.same.key in
     record { key = one.key ∙ i.key.key; value = one.value ∙ i.key.value }
 
 pub returns-then-is_some-clause-refuses : goal.returns-then-is_some-clause-refuses
-returns-then-is_some-clause-refuses g c = λ will. c.hurry.ensures.same.refuses (c.loop-write.invariant.refuses will)
+returns-then-is_some-clause-refuses g c = λ will. c.hurry.ensures.same.refuses (c.loop-steps.invariant.refuses will)
 
 pub returns-then-is_some-clause-apart : goal.returns-then-is_some-clause-apart
-returns-then-is_some-clause-apart g c = λ keys is. c.hurry.ensures.same.apart (c.loop-write.invariant.apart keys is)
+returns-then-is_some-clause-apart g c = λ keys is. c.hurry.ensures.same.apart (c.loop-steps.invariant.apart keys is)
 
 pub returns-then-is_some-clause-left : goal.returns-then-is_some-clause-left
 returns-then-is_some-clause-left g c =
-    let before = c.loop-write.invariant.left in
+    let before = c.loop-steps.invariant.left in
     let few = c.hurry.ensures.left in
     omega (arith, before, few)
 
 pub returns-then-is_some-clause-fits : goal.returns-then-is_some-clause-fits
 returns-then-is_some-clause-fits g c = λ u ps fits.
-    let l = c.loop-write in
+    let l = c.loop-steps in
     let i = l.invariant in
     let h = c.hurry.new in
     subst (λ (z : Sizes). Fits z u ps h.self h.room (places_of h.limbo) (g.S.Steps.view h.steps)) i.sizes

@@ -8,8 +8,8 @@ use Rattle.art_epoch.specs.declared.limbo.Place.{Place}
 use Rattle.art_step.specs.Histories.{AreApart}
 use Rattle.art_step.specs.declared.views.View.{View}
 
-abbrev pub invariant-loop-write : goal.invariant-loop-write
-invariant-loop-write g l = record {
+abbrev pub invariant-loop-steps : goal.invariant-loop-steps
+invariant-loop-steps g l = record {
   only : g.S.Steps.only l.fn.steps l.steps;
   sizes : g.S.Steps.sizes l.steps ≡ g.S.Steps.sizes l.fn.steps;
   job : l.write.job ≡ l.fn.write.job;
@@ -24,5 +24,5 @@ invariant-loop-write g l = record {
       Fits (g.S.Steps.sizes l.fn.steps) u ps l.write l.room (places_of l.limbo) (g.S.Steps.view l.steps);
 }
 
-abbrev pub decreases-loop-write : goal.decreases-loop-write
-decreases-loop-write g l = steps_left l.write l.room (places_of l.limbo)
+abbrev pub decreases-loop-steps : goal.decreases-loop-steps
+decreases-loop-steps g l = steps_left l.write l.room (places_of l.limbo)
