@@ -64,3 +64,13 @@ returns-clause-closes c =
     (λ v. (λ m. subst (Member v) left ((i.keeps v).0 m), λ m. (i.keeps v).1 (subst (Member v) (sym left) m)))
     (let e = ap (λ (l : List Pass). length l) none in let n = i.count in omega (arith, e, n))
     (sym z.2.2)
+
+pub loop-pass-init : goal.loop-pass-init
+loop-pass-init c =
+    let none : c.load_new_seat-seat.result.1.me.0.views ≡ [] = ap (λ k. k.views) c.load_new_seat-seat.ensures.2 in
+    record {
+      table = c.load_new_seat-seat.ensures.0;
+      others = c.requires;
+      keeps = λ v. rw none (λ m. m, λ m. m);
+      count = let k = ap (λ vs. length vs) none in omega (arith, k);
+    }

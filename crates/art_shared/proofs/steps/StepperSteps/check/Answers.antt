@@ -21,3 +21,6 @@ returns-clause-keys c =
     let s = c.args.self.now in
     let made = c.load-found.ensures.turn.made in
     found_among (basis_of s) (known_by s) c.load-found.new.self.seat.me.0 c.args.stamp _ made (made.was.0 c.if-found-stamp.false).found
+
+pub returns-clause-row : goal.returns-clause-row
+returns-clause-row c = c.load-found.ensures.turn.row.0 c.if-found-stamp.false

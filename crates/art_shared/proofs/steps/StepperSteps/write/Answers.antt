@@ -12,3 +12,6 @@ store-requires-clause-may c =
 
 pub returns-clause-row : goal.returns-clause-row
 returns-clause-row c = rw c.cell-cell.ensures at c.store.ensures.turn.row
+
+pub returns-clause-at_once : goal.returns-clause-at_once
+returns-clause-at_once c = rw c.cell-cell.ensures at c.store.ensures.turn.made

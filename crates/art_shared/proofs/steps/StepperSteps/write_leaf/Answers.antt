@@ -1,7 +1,8 @@
 -- The words of the one leaf in hand are written.
-use Rattle.std.proofs.Common.{◌≡◌, ◌+◌, ◌<◌, ◌∙◌, ℕ, ap, sym, subst, rules}
+use Rattle.std.proofs.Common.{◌≡◌, ◌+◌, ◌<◌, ◌∙◌, ℕ, ap, sym, subst}
 use Rattle.art_cell.specs.declared.cells.Link.TheVariants.{Leaf as leaf}
 use Rattle.art_step.specs.Steps.Write as write
+use Rattle.art_step.specs.Tokens.{link_of_number}
 use Rattle.art_shared.specs.Stepper.{basis_of, known_by, sizes_of, view_of}
 use Rattle.art_shared.proofs.CellTurns.{turns_write_leaf}
 use Rattle.art_shared.proofs.steps.StepperSteps.write_leaf.Goals as goal
@@ -17,4 +18,12 @@ store-requires-clause-may c =
     turns_write_leaf (basis_of s) (known_by s) o.1 l c.args.place c.args.value _ (c.word_at-at.ensures ∙ ap (λ (n : ℕ). n + c.args.place) c.place_of-first.ensures) may.0 may.1
 
 pub returns-clause-row : goal.returns-clause-row
-returns-clause-row c = search rules
+returns-clause-row c y held =
+    let named : link_of_number c.args.number.now ≡ leaf c.in-Leaf.leaf = sym c.link.ensures ∙ c.in-Leaf.is in
+    c.store.ensures.turn.row y (rw (sym named) held)
+
+pub returns-clause-at_once : goal.returns-clause-at_once
+returns-clause-at_once c l is =
+    let named : leaf c.in-Leaf.leaf ≡ leaf l = sym c.in-Leaf.is ∙ c.link.ensures ∙ is in
+    let same : c.in-Leaf.leaf ≡ l = cc in
+    rw (sym same) c.store.ensures.turn.made

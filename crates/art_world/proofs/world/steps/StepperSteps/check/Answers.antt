@@ -29,3 +29,6 @@ pub returns-clause-keys : goal.returns-clause-keys
 returns-clause-keys c =
     let vouched = (c.find.ensures.row.0 c.if-found-stamp.false).vouched in
     record { cells = vouched.0; shape = vouched.1; holds = vouched.2; keys = λ k value row. tt }
+
+pub returns-clause-row : goal.returns-clause-row
+returns-clause-row c = c.find.ensures.row.0 c.if-found-stamp.false

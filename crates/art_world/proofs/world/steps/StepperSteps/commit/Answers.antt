@@ -2,7 +2,7 @@
 use Rattle.art_world.specs.Stepper.{pass_of, view_of, world_of}
 use Rattle.art_step.specs.WordRows.{views_of}
 use Rattle.art_world.proofs.ViewLists.{at_view}
-use Rattle.std.proofs.Common.{arith}
+use Rattle.std.proofs.Common.{arith, sym}
 use Rattle.art_step.specs.Tokens.{links_of}
 use Rattle.art_step.proofs.Changing.{moves_commits, released_fits}
 use Rattle.art_world.proofs.Moving.{version_low}
@@ -29,3 +29,6 @@ put-requires-clause-moves c i =
     let pins = standing k.views (λ q u is. (i.sound.history.tells q u is).pass) in
     rw (c.place_of-place.ensures, c.sizes.ensures, c.released-unlocked.ensures, c.version.ensures, c.spend-cell.ensures, c.spent-leaf.ensures)
     (moves_commits k.sizes k.words (views_of k.views) (pass_of s) (view_of s) i.sound (at_view k.views (pass_of s) s.inside) i.long _ first.0 c.args.deed.now (links_of c.args.unlinked.now) _ c.args.obsolete first.1 pins first.2 c.requires.may c.requires.inside)
+
+pub returns-clause-row : goal.returns-clause-row
+returns-clause-row c h holds = rw (sym c.spent-leaf.ensures) (c.put.ensures.row h (rw c.spend-cell.ensures holds))
