@@ -1,5 +1,5 @@
 //! Keys: the bytes that spell a tuple under a schema.
-ghost use Rattle.std.specs.Prelude.{◌≡◌, ◌≤◌, All, length, List, None, Some, IfSome, IfNone, IfOk, IfErr, OnOk};
+ghost use Rattle.std.specs.Prelude.{◌≡◌, ◌≤◌, All, length, List, [], None, Some, IfSome, IfNone, IfOk, IfErr, OnOk, if◌then◌else◌, is_some, unwrap_or};
 ghost use Rattle.std.specs.Option.{option_map};
 ghost use Rattle.art_model.specs.declared.values.Value.{Value};
 ghost use Rattle.art_key.specs.Columns.{IsColumn, total_width, first_fault, tuple_fault};
@@ -47,21 +47,43 @@ pub fn decode(schema: &Schema, bytes: &[u8]) -> Option<Tuple>
     ensures found { IfSome result (λ t. IsSpelling schema.now t.items bytes.now) }
     ensures none { IfNone result ((t : List Value) → IsSpelling schema.now t bytes.now → ⊥) }
 {
-    read(schema.columns(), bytes)
+    let mut tuple = Tuple::new();
+    if decode_into(schema, bytes, &mut tuple) {
+        Some(tuple)
+    } else {
+        None
+    }
 }
 
-/// The values that the bytes spell, one for each column, and no bytes are left.
-fn read(columns: &[Column], bytes: &[u8]) -> Option<Tuple>
+/// Puts the tuple that the bytes spell, all of the bytes, into this one's place, where it need not be moved. Where they spell none, the
+/// answer is false, and no values stand there.
+#[inline]
+pub fn decode_into(schema: &Schema, bytes: &[u8], tuple: &mut Tuple) -> bool
+    ensures known { result ≡ is_some (tuple_spelled schema.now bytes.now) }
+    ensures read { tuple.new.items ≡ unwrap_or (tuple_spelled schema.now bytes.now) [] }
+{
+    tuple.clear();
+    let known = read(schema.columns(), bytes, tuple);
+    if !known {
+        tuple.clear();
+    }
+    known
+}
+
+/// Whether the bytes spell values, one for each column, and no bytes are left: then the tuple has these values.
+fn read(columns: &[Column], bytes: &[u8], tuple: &mut Tuple) -> bool
     requires known { All IsColumn columns.now }
     requires few { length columns.now ≤ 8 }
-    ensures { option_map (λ t. t.items) result ≡ tuple_spelled columns.now bytes.now }
+    requires empty { tuple.old.items ≡ [] }
+    ensures { (if result then Some tuple.new.items else None) ≡ tuple_spelled columns.now bytes.now }
 {
-    let mut tuple = Tuple::new();
     let mut rest = bytes;
     for column in columns {
-        let (value, after) = column.front(rest)?;
+        let Some((value, after)) = column.front(rest) else {
+            return false;
+        };
         tuple.push(value);
         rest = after;
     }
-    if rest.is_empty() { Some(tuple) } else { None }
+    rest.is_empty()
 }

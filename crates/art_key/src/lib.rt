@@ -21,6 +21,6 @@ pub use bounds::Bound;
 pub use columns::Column;
 pub use events::{Deed, Event, legal};
 pub use faults::{SchemaFault, ValueFault};
-pub use keys::{Key, decode, encode};
+pub use keys::{Key, decode, decode_into, encode};
 pub use laws::{keys_stand_as_tuples, no_key_begins_another, spellings_are_read_back};
 pub use schemas::Schema;
