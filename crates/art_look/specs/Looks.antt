@@ -19,11 +19,13 @@ use Rattle.art_look.specs.Seen.{Stood, look_done, seen_of, with_key}
 use Rattle.art_look.specs.Table.{IsRow}
 use Rattle.art_look.specs.Trails.{HasFirst, HasFirstValue, Leads, SeeksChild, SeeksKeys, SpellsKey, SpellsWords}
 use Rattle.art_look.specs.declared.fronts.Front.{Front}
+use Rattle.std.specs.Option.{option_map}
 use Rattle.art_look.specs.declared.looks.ChildSought.{ChildSought}
 use Rattle.art_look.specs.declared.looks.Look.{Look}
 use Rattle.art_look.specs.declared.looks.LookStage.{LookStage}
 use Rattle.art_look.specs.declared.looks.LookStage.TheVariants.{Start, Anchor, Child, Below, Both, Header, Prefix, Keys, Slot, Value, Length, Bytes, Decided, Ended}
 use Rattle.art_look.specs.declared.looks.Reach.TheVariants.{Past}
+use Rattle.art_look.specs.declared.looks.Reached.{Reached}
 use Rattle.art_look.specs.declared.looks.Seen.{Seen}
 use Rattle.art_look.specs.declared.trails.Trail.{Trail}
 use Rattle.art_node.specs.declared.searches.SoughtFrom.{SoughtFrom}
@@ -65,11 +67,19 @@ has_ended stage = false
 abbrev pub IsSettling : LookStage → Type 0
 IsSettling stage = (x : Stamp) × (asks stage ≡ Some (Settle x))
 
--- what it has seen, where it has come to that
+-- how far it has seen, where it has come to that
+abbrev pub reached_at : LookStage → Option Reached
+reached_at (Decided x r o) = Some (record { reach = r; value = o })
+reached_at (Ended r o) = Some (record { reach = r; value = o })
+reached_at stage = None
+
+-- what it has seen of the range, with the trail's path and key
+abbrev pub seen_to : List ℕ → KeyBound → Trail → Reached → Seen
+seen_to lo hi t r = seen_of lo hi t.path.items t.key.items r.reach r.value
+
+-- the same, where it has come to that
 abbrev pub seen_at : List ℕ → KeyBound → Trail → LookStage → Option Seen
-seen_at lo hi t (Decided x r o) = Some (seen_of lo hi t.path.items t.key.items r o)
-seen_at lo hi t (Ended r o) = Some (seen_of lo hi t.path.items t.key.items r o)
-seen_at lo hi t stage = None
+seen_at lo hi t stage = option_map (seen_to lo hi t) (reached_at stage)
 
 -- the event that it makes there
 abbrev pub deed_at : List ℕ → KeyBound → Trail → LookStage → Deed

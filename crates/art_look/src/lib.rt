@@ -59,6 +59,6 @@ mod trails;
 
 pub use driver::{Looked, look_from, step};
 pub use fronts::Front;
-pub use looks::{ChildSought, Look, LookStage, Reach, Seen};
+pub use looks::{ChildSought, Look, LookStage, Reach, Reached, Seen};
 pub use straight::look_on;
 pub use trails::Trail;

@@ -4,7 +4,7 @@ ghost use Rattle.art_key.specs.Bounds.{is_before};
 ghost use Rattle.art_key.specs.declared.bounds.Bound.{Bound as KeyBound};
 ghost use Rattle.art_key.specs.declared.bounds.Bound.TheVariants.{At as at};
 ghost use Rattle.art_look.specs.Looks.{stage_below};
-ghost use Rattle.art_look.specs.Seen.{bound_at, nearer, row_within, seen_of};
+ghost use Rattle.art_look.specs.Seen.{bound_at, nearer, row_within};
 ghost use Rattle.art_look.specs.Table.{end_at};
 ghost use Rattle.art_step.specs.Deeds.{key_of};
 
@@ -24,6 +24,13 @@ pub enum Reach {
     Past,
     /// Up to the path.
     UpTo,
+}
+
+/// How far a look has seen, and the value of the leaf that it found, if it found one. What was read of both stands in the trail.
+#[derive(Clone, Copy)]
+pub struct Reached {
+    pub reach: Reach,
+    pub value: Option<u64>,
 }
 
 /// The child of a node that is looked for.
@@ -92,7 +99,7 @@ impl Look {
     ghost use Rattle.art_find.specs.Descents.{IsReading};
     ghost use Rattle.art_find.specs.declared.asked.Answer.TheVariants as told;
     ghost use Rattle.art_find.specs.declared.asked.Asked.{Asked as AskedStep};
-    ghost use Rattle.art_look.specs.Looks.{Fits, IsSettling, Settles, asks, deed_at, has_ended, least_steps, most_steps, seen_at};
+    ghost use Rattle.art_look.specs.Looks.{Fits, IsSettling, Settles, asks, deed_at, has_ended, least_steps, most_steps, reached_at, seen_at};
     ghost use Rattle.art_look.specs.declared.trails.Trail.{Trail as Trailed};
     ghost use Rattle.art_step.specs.declared.views.Sizes.{Sizes};
     ghost use Rattle.art_step.specs.declared.views.View.{View};
@@ -150,17 +157,26 @@ impl Look {
         matches!(self.stage, LookStage::Ended(_, _))
     }
 
+    /// How far it has seen: at the step that settles it, and once that is settled.
+    #[inline(always)]
+    pub fn reached(&self) -> Option<Reached>
+        ensures { result ≡ reached_at self.now.stage }
+    {
+        match self.stage {
+            LookStage::Decided(_, reach, value) => Some(Reached { reach, value }),
+            LookStage::Ended(reach, value) => Some(Reached { reach, value }),
+            _ => None,
+        }
+    }
+
     /// What it has seen, of the range from the key on, before the bound: at the step that settles it, and once that is settled.
     #[inline(always)]
     pub fn seen(&self, lo: &[u8], hi: &Bound, trail: &Trail) -> Option<Seen>
         requires { length lo.now ≤ 64 }
         ensures { result ≡ seen_at lo.now hi.now trail.now self.now.stage }
     {
-        match self.stage {
-            LookStage::Decided(_, reach, value) => Some(seen_of(lo, hi, trail, reach, value)),
-            LookStage::Ended(reach, value) => Some(seen_of(lo, hi, trail, reach, value)),
-            _ => None,
-        }
+        let reached = self.reached()?;
+        Some(reached.seen(lo, hi, trail))
     }
 
     /// The step that it asked for was made, with this answer. Whether it goes on: else it begins anew.
@@ -285,16 +301,23 @@ fn below(stamp: Stamp, link: Link) -> LookStage
     }
 }
 
-/// What was seen by a look that ends at the trail's path, and found a leaf with the trail's key and this value, or none.
-#[inline(always)]
-fn seen_of(lo: &[u8], hi: &Bound, trail: &Trail, reach: Reach, value: Option<u64>) -> Seen
-    requires { length lo.now ≤ 64 }
-    ensures { result ≡ seen_of lo.now hi.now trail.now.path.items trail.now.key.items reach value }
-{
-    Seen {
-        lo: copied(lo),
-        hi: nearer(end_at(reach, trail.path.as_slice()), hi),
-        row: value.and_then(|value| row_within(lo, hi, trail.key.as_slice(), value)),
+impl Reached {
+    ghost use Rattle.art_look.specs.Looks.{seen_to};
+
+    /// What was seen of the range from the key on, before the bound, with the trail's path and key. It is made once, where it is wanted:
+    /// it has room for three keys, and is not handed on.
+    #[inline(always)]
+    pub fn seen(self, lo: &[u8], hi: &Bound, trail: &Trail) -> Seen
+        requires { length lo.now ≤ 64 }
+        ensures { result ≡ seen_to lo.now hi.now trail.now self }
+    {
+        Seen {
+            lo: copied(lo),
+            hi: nearer(end_at(self.reach, trail.path.as_slice()), hi),
+            row: self
+                .value
+                .and_then(|value| row_within(lo, hi, trail.key.as_slice(), value)),
+        }
     }
 }
 

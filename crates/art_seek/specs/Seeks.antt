@@ -6,6 +6,7 @@ use Rattle.art_epoch.specs.Pins.{MayPin, Pins}
 use Rattle.art_epoch.specs.declared.asked.Asked.{Asked as FrameAsked}
 use Rattle.art_epoch.specs.declared.asked.Asked.TheVariants.{Store}
 use Rattle.art_key.specs.declared.bounds.Bound.{Bound as KeyBound}
+use Rattle.art_look.specs.declared.looks.Reached.{Reached}
 use Rattle.art_look.specs.declared.looks.Seen.{Seen as SeenOf}
 use Rattle.art_look.specs.declared.trails.Trail.{Trail}
 use Rattle.art_seek.specs.Sought.{HasCounted, HasSpent, IsIdleAgain, UsedTurns}
@@ -49,6 +50,11 @@ outcome_at s o = None
 -- how it ended, if it has
 abbrev pub ended_at : Seek → Option Outcome
 ended_at m = outcome_at m.stage m.outcome
+
+-- how far a look has seen, once it has ended so
+abbrev pub reached_by : Option Outcome → Walk → Option Reached
+reached_by (Some Seen) w = walks.reached_at w
+reached_by o w = None
 
 -- what a look has seen, once it has ended so
 abbrev pub seen_by : Option Outcome → Walk → List ℕ → KeyBound → Trail → Option SeenOf

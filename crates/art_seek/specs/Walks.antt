@@ -10,6 +10,7 @@ use Rattle.art_key.specs.declared.bounds.Bound.{Bound as KeyBound}
 use Rattle.art_look.specs.Driven.{LookFits}
 use Rattle.art_look.specs.Looks as looks
 use Rattle.art_look.specs.Seen.{look_done}
+use Rattle.art_look.specs.declared.looks.Reached.{Reached}
 use Rattle.art_look.specs.declared.looks.Seen.{Seen as SeenOf}
 use Rattle.art_look.specs.declared.trails.Trail.{Trail}
 use Rattle.art_seek.specs.declared.walks.Aim.{Aim}
@@ -43,6 +44,11 @@ of_value None = Absent
 abbrev pub ended_at : Walk → Option Outcome
 ended_at (Key m) = option_map of_value (descents.ended_at m.stage)
 ended_at (Range m) = if looks.has_ended m.stage then Some Seen else None
+
+-- how far a look has seen, where it has come to that
+abbrev pub reached_at : Walk → Option Reached
+reached_at (Key m) = None
+reached_at (Range m) = looks.reached_at m.stage
 
 -- what a look has seen, where it has come to that
 abbrev pub seen_at : Walk → List ℕ → KeyBound → Trail → Option SeenOf

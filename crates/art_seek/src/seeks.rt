@@ -11,7 +11,7 @@ ghost use Rattle.art_key.specs.declared.bounds.Bound.{Bound as KeyBound};
 ghost use Rattle.art_look.specs.Driven.{IsSeen};
 ghost use Rattle.art_look.specs.declared.trails.Trail.{Trail as Trailed};
 ghost use Rattle.art_seek.specs.Asking.{Answers, restarts_told};
-ghost use Rattle.art_seek.specs.Seeks.{Fits, HasSought, IsPinning, IsWalking, WillBeBusy, asks, ended_at, left_at, seen_at, steps_left, turns_used};
+ghost use Rattle.art_seek.specs.Seeks.{Fits, HasSought, IsPinning, IsWalking, WillBeBusy, asks, ended_at, left_at, reached_by, seen_at, steps_left, turns_used};
 ghost use Rattle.art_seek.specs.Walks as walks;
 ghost use Rattle.art_seek.specs.Walks.{IsEnd, Settles, aim_of, deed_at};
 ghost use Rattle.art_seek.specs.declared.asked.Asked.{Asked as AskedStep};
@@ -28,7 +28,7 @@ use crate::{Aim, Answer, Asked, Outcome};
 use art_epoch::{Asked as FrameStep, Pinning};
 use art_find::Answer as CellAnswer;
 use art_key::Bound;
-use art_look::{Seen, Trail};
+use art_look::{Reached, Seen, Trail};
 
 /// Where a seek stands between two of its steps.
 #[derive(Clone, Copy)]
@@ -180,8 +180,17 @@ impl Seek {
         ensures stood { IfSome result (λ seen. (z : Sizes) (u v : View) → Fits z lo.now hi.now u self.now trail.now v →
             IsSeen z lo.now hi.now seen) }
     {
+        let reached = self.reached()?;
+        Some(reached.seen(lo, hi, trail))
+    }
+
+    /// How far a look has seen, once it has ended as `Seen`.
+    #[inline(always)]
+    fn reached(&self) -> Option<Reached>
+        ensures { result ≡ reached_by (ended_at self.now) self.now.walk }
+    {
         match self.ended() {
-            Some(Outcome::Seen) => self.walk.seen(lo, hi, trail),
+            Some(Outcome::Seen) => self.walk.reached(),
             _ => None,
         }
     }

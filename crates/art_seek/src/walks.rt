@@ -7,14 +7,14 @@ ghost use Rattle.art_find.specs.declared.asked.Asked.TheVariants.{Settle as sett
 ghost use Rattle.art_key.specs.declared.bounds.Bound.{Bound as KeyBound};
 ghost use Rattle.art_look.specs.Looks as looks;
 ghost use Rattle.art_look.specs.declared.trails.Trail.{Trail as Trailed};
-ghost use Rattle.art_seek.specs.Walks.{Fits, HasTurns, IsAtStart, Settles, aim_of, asks, deed_at, ended_at, of_value, seen_at};
+ghost use Rattle.art_seek.specs.Walks.{Fits, HasTurns, IsAtStart, Settles, aim_of, asks, deed_at, ended_at, of_value, reached_at};
 ghost use Rattle.art_step.specs.declared.views.Sizes.{Sizes};
 ghost use Rattle.art_step.specs.declared.views.Stamp.{Stamp};
 ghost use Rattle.art_step.specs.declared.views.View.{View};
 
 use art_find::{Answer, Asked, Descent, Tally, go_down};
 use art_key::{Bound, Key};
-use art_look::{Look, Seen, Trail, look_on};
+use art_look::{Look, Reached, Trail, look_on};
 use art_model::Answer as Reply;
 use art_step::{Act, Deed, Steps};
 
@@ -136,15 +136,14 @@ impl Walk {
         }
     }
 
-    /// What a look has seen: at the step that settles it, and once that is settled.
+    /// How far a look has seen: at the step that settles it, and once that is settled.
     #[inline(always)]
-    pub(crate) fn seen(&self, lo: &[u8], hi: &Bound, trail: &Trail) -> Option<Seen>
-        requires { length lo.now ≤ 64 }
-        ensures { result ≡ seen_at self.now lo.now hi.now trail.now }
+    pub(crate) fn reached(&self) -> Option<Reached>
+        ensures { result ≡ reached_at self.now }
     {
         match self {
             Walk::Key(_) => None,
-            Walk::Range(look) => look.seen(lo, hi, trail),
+            Walk::Range(look) => look.reached(),
         }
     }
 
@@ -203,8 +202,9 @@ fn look_done(look: &Look, lo: &[u8], hi: &Bound, trail: &Trail) -> Deed
     requires settles { (x : Stamp) × (looks.asks look.now.stage ≡ Some (settle_asked x)) }
     ensures { result ≡ looks.deed_at lo.now hi.now trail.now look.now.stage }
 {
-    let Some(seen) = look.seen(lo, hi, trail) else {
+    let Some(reached) = look.reached() else {
         unreachable!()
     };
+    let seen = reached.seen(lo, hi, trail);
     Deed::Look(seen.lo, seen.hi, seen.row)
 }

@@ -1,4 +1,4 @@
-use Rattle.std.proofs.Common.{◌≡◌, ◌+◌, ◌≤◌, ◌<◌, ◌∙◌, ℕ, List, Some, sym, ap, subst, arith}
+use Rattle.std.proofs.Common.{◌≡◌, ◌+◌, ◌≤◌, ◌<◌, ℕ, List, Some, sym, ap, subst, arith}
 use Rattle.art_epoch.proofs.Counting.{answers_count}
 use Rattle.art_epoch.proofs.Pinned.{may_store}
 use Rattle.art_epoch.specs.Asking.{Answers as FrameAnswers}
