@@ -9,7 +9,7 @@ use Rattle.art_model.specs.declared.commands.Command.TheVariants.{Insert, Remove
 use Rattle.art_model.specs.declared.rows.Row.{Row}
 use Rattle.art_scan.specs.Scans.{HasTiled, Scans, scan_fault}
 use Rattle.art_scan.specs.Tiles.{EndsRange, Tile, rows_of}
-use Rattle.art_scan.specs.Tilings.{IsScanning, with_found}
+use Rattle.art_scan.specs.Tilings.{IsScanning}
 use Rattle.art_scan.specs.declared.faults.ScanFault.{ScanFault}
 use Rattle.art_scan.specs.declared.looking.Looking.{Looking}
 use Rattle.art_scan.specs.declared.running.Running.{Running}
@@ -22,6 +22,7 @@ use Rattle.art_table.specs.Attempts.{HasStopped, answer_of}
 use Rattle.art_table.specs.Calls.{IsAttempt, Sees}
 use Rattle.art_table.specs.Steps as steps
 use Rattle.art_table.specs.Steps.{HoldsOrTold}
+use Rattle.art_table.specs.Looks.{with_found}
 use Rattle.art_table.specs.Tables.{IsPassOf, caller_of, schema_in, view_of}
 use Rattle.art_table.specs.declared.faults.Fault.{Fault}
 use Rattle.art_table.specs.declared.jobs.Job.TheVariants as job

@@ -1,5 +1,5 @@
 -- What is known of a scan between two of its looks.
-use Rattle.std.specs.Prelude.{◌≡◌, ◌⊎◌, ℕ, ◌+◌, ◌*◌, ◌≤◌, true, List, [], ◌∷◌, ◌++◌, length, Option, Some, None}
+use Rattle.std.specs.Prelude.{◌≡◌, ◌⊎◌, ℕ, ◌+◌, ◌*◌, ◌≤◌, true, List, [], length, None}
 use Rattle.art_key.specs.Bounds.{is_before}
 use Rattle.art_key.specs.Histories.{StandsIn, bound_at}
 use Rattle.art_key.specs.declared.bounds.Bound.{Bound}
@@ -11,11 +11,6 @@ use Rattle.art_scan.specs.declared.tilings.Tiling.{Tiling}
 use Rattle.art_table.specs.Tables.{schema_in, view_of}
 use Rattle.art_table.specs.declared.passes.Pass.{Pass}
 use Rattle.art_table.specs.declared.tables.Table.{Table}
-
--- what a look adds to what is listed
-abbrev pub with_found : List Row → Option Row → List Row
-with_found rows (Some row) = rows ++ row ∷ []
-with_found rows None = rows
 
 -- the pass was p and is q: it tiled the range as far as the scan has come, the rows that it found are
 -- listed, and so many turns are left

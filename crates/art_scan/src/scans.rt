@@ -61,11 +61,18 @@ pub(crate) fn look_to_the_end(
 {
     let mut tiling = tiling;
     while tiling.goes_on(out.len()) {
-        let Ok(seen) = look(table, pass, &tiling.from, &tiling.end, tiling.turns) else {
+        let Ok(()) = look(
+            table,
+            pass,
+            &mut tiling.from,
+            &tiling.end,
+            tiling.turns,
+            out,
+        ) else {
             out.clear();
             return Err(ScanFault::Busy);
         };
-        tiling.told(seen, pass.turns_left(), out);
+        tiling.turns = pass.turns_left();
     }
     Ok(tiling.more(out.len()))
 }

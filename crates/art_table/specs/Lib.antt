@@ -2,6 +2,7 @@ pub mod Attempts
 pub mod Calls
 pub mod Closing
 pub mod Jobs
+pub mod Looks
 pub mod Marks
 pub mod Opening
 pub mod Sizes

@@ -1,21 +1,24 @@
 //! The calls on a table.
-ghost use Rattle.std.specs.Prelude.{◌≡◌, ◌≢◌, ℕ, List, None, true};
-ghost use Rattle.arrayvec.specs.ArrayVec.{ArrayVec};
+ghost use Rattle.std.specs.Prelude.{◌≡◌, ◌≢◌, ◌<◌, ℕ, List, None, Err, IfErr, OnOk, length, true};
+ghost use Rattle.std.specs.Option.{option_map};
+ghost use Rattle.arrayvec.specs.ArrayVec.{ArrayVec as KeyOf};
 ghost use Rattle.art_call.specs.Calls.{Insert as insert_wish, Remove as remove_wish, may_end};
 ghost use Rattle.art_call.specs.Outcomes.{of_seek, of_write};
 ghost use Rattle.art_key.specs.Bounds.{is_before};
 ghost use Rattle.art_key.specs.declared.columns.Column.{Column};
 ghost use Rattle.art_table.specs.Calls.{Ends};
 ghost use Rattle.art_table.specs.Jobs.{of_got, of_inserted, of_removed, result_of, with_result};
+ghost use Rattle.art_table.specs.Looks.{Advances, IsRefused, with_found};
 ghost use Rattle.art_table.specs.Tables.{IsPassOf};
 ghost use Rattle.art_table.specs.declared.jobs.Job.TheVariants as jobs;
-ghost use Rattle.art_table.specs.declared.jobs.Outcome.TheVariants.{Seen as saw};
+ghost use Rattle.art_typed.specs.Typed.{row_of};
 
-use crate::jobs::seen_of;
-use crate::{Fault, Pass, Seen, Table};
+use crate::{Fault, Pass, Table};
+use arrayvec::ArrayVec;
 use art_call::WriteOutcome;
-use art_key::{Bound, encode};
-use art_model::Tuple;
+use art_key::{Bound, Key, Schema, decode_into, encode};
+use art_look::Seen;
+use art_model::{Row, Tuple};
 use art_seek::Outcome as SeekOutcome;
 
 /// What an insert did.
@@ -71,30 +74,58 @@ pub fn get(table: &Table, pass: &mut Pass, tuple: &Tuple, turns: u32) -> Result<
     got_of(pass.caller.get(&mut stepper, &key, turns))
 }
 
-/// The first row from `lo` on, before `hi`, as far as one look sees.
-pub fn look(
+/// Looks on from `from`, before `end`, as far as one look sees: the row that it found, if it found one, is added to the list, and `from`
+/// is where it came to. After a refusal both are as they were.
+pub fn look<const CAP: usize>(
     table: &Table,
     pass: &mut Pass,
-    lo: &Bound,
-    hi: &Bound,
+    from: &mut Bound,
+    end: &Bound,
     turns: u32,
-) -> Result<Seen, Fault>
+    rows: &mut ArrayVec<Row, CAP>,
+) -> Result<(), Fault>
     requires pass { IsPassOf table.now pass.old }
-    requires range { is_before lo.now hi.now ≡ true }
+    requires range { is_before from.old end.now ≡ true }
+    requires room { length rows.old.items < CAP }
     ensures pass { IsPassOf table.now pass.new }
-    ensures ends { Ends table.now (jobs.Look lo.now hi.now) turns pass.old (with_result saw result) pass.new }
+    ensures answered { OnOk result (Advances table.now from.old end.now turns pass.old rows.old.items pass.new from.new rows.new.items) }
+    ensures refused { IfErr result (λ f. IsRefused table.now from.old end.now turns pass.old rows.old.items f pass.new from.new
+        rows.new.items) }
 {
-    let Bound::At(key) = lo else { unreachable!() };
+    let Bound::At(key) = &*from else {
+        unreachable!()
+    };
     let mut stepper = table.shared.at(&mut pass.seat);
-    match pass.caller.look(&mut stepper, key, hi, turns) {
-        Some(seen) => Ok(seen_of(table.schema(), seen)),
-        None => Err(Fault::Busy),
-    }
+    let Some(seen) = pass.caller.look(&mut stepper, key, end, turns) else {
+        return Err(Fault::Busy);
+    };
+    list(table.schema(), &seen.row, rows);
+    let Seen { hi, .. } = seen;
+    *from = hi;
+    Ok(())
+}
+
+/// Adds the row of a key and its value, if there is one, to the list. Each key of a table spells a tuple, which is read in its place
+/// there: it has room for eight columns, and is dear to move.
+#[inline(always)]
+fn list<const CAP: usize>(schema: &Schema, row: &Option<(Key, u64)>, rows: &mut ArrayVec<Row, CAP>)
+    requires { length rows.old.items < CAP }
+    ensures { rows.new.items ≡ with_found rows.old.items (option_map (row_of schema.now) row.now) }
+{
+    let Some((key, value)) = row else {
+        return;
+    };
+    rows.push(Row::default());
+    let Some(last) = rows.as_mut_slice().last_mut() else {
+        unreachable!()
+    };
+    let _ = decode_into(schema, key.as_slice(), &mut last.tuple);
+    last.value = *value;
 }
 
 /// What an insert answers that ended so, or why it is refused.
 fn inserted_of(outcome: WriteOutcome) -> Result<Inserted, Fault>
-    requires may { (k : ArrayVec ℕ) × (value : ℕ) × (may_end (insert_wish k value) (of_write outcome) ≡ true) }
+    requires may { (k : KeyOf ℕ) × (value : ℕ) × (may_end (insert_wish k value) (of_write outcome) ≡ true) }
     requires apart { outcome ≢ WriteOutcome.Overlaps }
     ensures { (schema : List Column) → with_result of_inserted result ≡ result_of schema (of_write outcome) }
 {
@@ -111,7 +142,7 @@ fn inserted_of(outcome: WriteOutcome) -> Result<Inserted, Fault>
 
 /// What a removal answers that ended so, or why it is refused.
 fn removed_of(outcome: WriteOutcome) -> Result<Option<u64>, Fault>
-    requires may { (k : ArrayVec ℕ) × (may_end (remove_wish k) (of_write outcome) ≡ true) }
+    requires may { (k : KeyOf ℕ) × (may_end (remove_wish k) (of_write outcome) ≡ true) }
     ensures { (schema : List Column) → with_result of_removed result ≡ result_of schema (of_write outcome) }
 {
     match outcome {

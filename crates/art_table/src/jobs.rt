@@ -69,7 +69,7 @@ pub(crate) fn result_of(schema: &Schema, outcome: art_call::Outcome) -> Result<O
 }
 
 /// What a look has seen, as typed rows. Each key of a table spells a tuple.
-pub(crate) fn seen_of(schema: &Schema, seen: KeySeen) -> Seen
+fn seen_of(schema: &Schema, seen: KeySeen) -> Seen
     ensures { result ≡ seen_of schema.now seen }
 {
     Seen {

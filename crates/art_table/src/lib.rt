@@ -24,6 +24,9 @@
 //!   [ .. .. .. .. .. ..  |  .. .. .. .. .. .. .. ..  |  insert [5], 9: new ]   seen at exit
 //! ```
 //!
+//! A look goes on from a bound of the caller's, which it leaves where its range ended, and adds the row that it found to the caller's
+//! list. So looks one after another list a range.
+//!
 //! # One step at a time
 //!
 //! A call is an attempt that is run to its end. `start` begins one, which owns its pass; `step` makes one step and says which kind it

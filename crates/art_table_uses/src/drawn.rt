@@ -3,6 +3,7 @@ ghost use Rattle.art_table.specs.Tables.{IsPassOf};
 
 use crate::replies::{reply, reply_of_get, reply_of_insert, reply_of_remove};
 use crate::tables::{TURNS, alone, closed_alone};
+use arrayvec::ArrayVec;
 use art_key::{Bound, Schema, encode};
 use art_model::{Command, Reply, Row, SortedRows, Text, Tuple, Value};
 use art_table::{Config, Fault, Pass, Table, get, insert, look, remove};
@@ -143,11 +144,12 @@ fn looks(rt: &impl Abort, table: &Table, pass: &mut Pass, rows: &mut SortedRows,
     requires { IsPassOf table.now pass.old }
     ensures { IsPassOf table.now pass.new }
 {
-    let lo = Bound::At(encode(table.schema(), &tuple).expect(rt, "a tuple of the schema"));
-    let seen = look(table, pass, &lo, &Bound::End, TURNS).expect(rt, "an answer");
-    assert_eq!(rt; seen.lo, lo);
-    let only = seen.row.as_ref();
-    assert!(rt; is_only_row(rt, table.schema(), rows.rows(), &seen.lo, &seen.hi, only));
+    let mut from = Bound::At(encode(table.schema(), &tuple).expect(rt, "a tuple of the schema"));
+    let lo = from.clone().expect(rt, "memory");
+    let mut found = ArrayVec::<Row, 1>::new();
+    look(table, pass, &mut from, &Bound::End, TURNS, &mut found).expect(rt, "an answer");
+    let only = found.as_slice().first();
+    assert!(rt; is_only_row(rt, table.schema(), rows.rows(), &lo, &from, only));
 }
 
 /// A drawn call, an insert half of the time: whether it was refused.

@@ -6,6 +6,7 @@ use crate::tables::{
     SIZES, TURNS, alone, check_find, check_put, check_take, closed, closed_alone, last_of, opened,
     row_of, tuple_of, with_last,
 };
+use arrayvec::ArrayVec;
 use art_key::{Bound, ValueFault, encode};
 use art_model::{Row, Tuple, Value};
 use art_table::{
@@ -117,14 +118,20 @@ fn at(rt: &impl Abort, table: &Table, number: u64) -> Bound {
     Bound::At(key.expect(rt, "a number of the column"))
 }
 
-/// A look from the one number on, before the other.
+/// A look from the one number on, before the other: what it has seen.
 fn sees(rt: &impl Abort, table: &Table, pass: &mut Pass, lo: u64, hi: u64) -> Result<Seen, Fault>
     requires { IsPassOf table.now pass.old }
     ensures { IsPassOf table.now pass.new }
 {
-    let (lo, hi) = (at(rt, table, lo), at(rt, table, hi));
-    assert!(rt; lo.before(&hi));
-    look(table, pass, &lo, &hi, TURNS)
+    let (mut from, end) = (at(rt, table, lo), at(rt, table, hi));
+    assert!(rt; from.before(&end));
+    let mut rows = ArrayVec::<Row, 1>::new();
+    look(table, pass, &mut from, &end, TURNS, &mut rows)?;
+    Ok(Seen {
+        lo: at(rt, table, lo),
+        hi: from,
+        row: rows.pop(),
+    })
 }
 
 /// A look from the one number on, before 10, sees the range from there to the key of `end`, with this row.

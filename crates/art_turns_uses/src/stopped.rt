@@ -12,10 +12,11 @@ use crate::tables::{
     SIZES, TURNS, closed, empties, fills, finds, last_of, opened, puts, schema_of, takes, tuple_of,
     with_last,
 };
+use arrayvec::ArrayVec;
 use art_key::{Bound, Deed, Event, encode};
-use art_model::{Command, NoMemory, Reply};
+use art_model::{Command, NoMemory, Reply, Row};
 use art_step::StepKind;
-use art_table::{Attempt, Fault, Job, Pass, Progress, Table, look};
+use art_table::{Attempt, Fault, Job, Pass, Progress, Seen, Table, look};
 use std::alloc::Global;
 use std::process::Abort;
 use std::test::*;
@@ -142,6 +143,22 @@ fn notes<A>(rt: &impl Abort, told: Result<A, Fault>, held: u32) -> Option<A> {
     }
 }
 
+/// A look from the number on: what it has seen.
+fn sees(rt: &impl Abort, table: &Table, pass: &mut Pass, number: u64) -> Result<Seen, Fault>
+    requires { IsPassOf table.now pass.old }
+    ensures { IsPassOf table.now pass.new }
+{
+    let mut from = at(rt, table, number);
+    assert!(rt; from.before(&Bound::End));
+    let mut rows = ArrayVec::<Row, 1>::new();
+    look(table, pass, &mut from, &Bound::End, TURNS, &mut rows)?;
+    Ok(Seen {
+        lo: at(rt, table, number),
+        hi: from,
+        row: rows.pop(),
+    })
+}
+
 /// Each of the four calls, while another pass holds so many cells: what they did.
 fn all_calls(rt: &impl Abort, table: &Table, pass: &mut Pass, log: &mut Vec<Event>, held: u32)
     requires { IsPassOf table.now pass.old }
@@ -160,9 +177,7 @@ fn all_calls(rt: &impl Abort, table: &Table, pass: &mut Pass, log: &mut Vec<Even
         let event = done(1, Command::Get(tuple_of(4)), reply_of_get(told));
         log.push(event).expect(rt, "memory");
     }
-    let lo = at(rt, table, 3);
-    assert!(rt; lo.before(&Bound::End));
-    if let Some(seen) = notes(rt, look(table, pass, &lo, &Bound::End, TURNS), held) {
+    if let Some(seen) = notes(rt, sees(rt, table, pass, 3), held) {
         let what = deed_of_look(seen);
         log.push(Event { pass: 1, what }).expect(rt, "memory");
     }

@@ -1,48 +1,65 @@
-use Rattle.std.proofs.Common.{◌≡◌, ◌∙◌, List, Option, Some, ap, refl, sym}
+use Rattle.std.proofs.Common.{◌≡◌, ◌∙◌, ℕ, List, Option, ap, refl, subst, sym}
+use Rattle.std.specs.Option.{option_map}
 use Rattle.std.specs.Prelude.{Ok, Err}
 use Rattle.art_call.specs.Calls as calls
 use Rattle.art_call.specs.Outcomes.{of_look}
 use Rattle.art_key.specs.declared.bounds.Bound.{Bound}
 use Rattle.art_key.specs.declared.columns.Column.{Column}
 use Rattle.art_look.specs.declared.looks.Seen.{Seen as KeySeen}
+use Rattle.art_model.specs.declared.rows.Row.{Row}
 use Rattle.art_table.proofs.AtOnce.{lent_caller, made_ends}
 use Rattle.art_table.proofs.calls.look.Goals as goal
-use Rattle.art_table.specs.Jobs.{key_at, result_of, seen_of, with_result}
+use Rattle.art_table.specs.Calls.{Ends}
+use Rattle.art_table.specs.Jobs.{Within, key_at, result_of, seen_of, with_result}
+use Rattle.art_table.specs.Looks.{Advances, with_found}
 use Rattle.art_table.specs.Tables.{schema_in}
 use Rattle.art_table.specs.declared.faults.Fault.TheVariants.{Busy}
 use Rattle.art_table.specs.declared.jobs.Job.TheVariants.{Look}
 use Rattle.art_table.specs.declared.jobs.Outcome.TheVariants.{Seen as saw}
 use Rattle.art_table.specs.declared.jobs.Seen.{Seen}
+use Rattle.art_table.specs.declared.passes.Pass.{Pass}
+use Rattle.art_table.specs.declared.tables.Table.{Table}
+use Rattle.art_typed.specs.Typed.{row_of}
 
--- what was seen of keys, as rows
-as_rows : (schema : List Column) (o : Option KeySeen) (k : KeySeen) (s : Seen) → o ≡ Some k → s ≡ seen_of schema k → with_result saw (Ok s) ≡ result_of schema (of_look o)
-as_rows schema o k s is same = ap (λ (x : Seen). with_result saw (Ok x)) same ∙ ap (λ (p : Option KeySeen). result_of schema (of_look p)) (sym is)
+-- it has seen this of keys, from where it began, and the row is listed
+advances : (t : Table) (from end : Bound) (turns : ℕ) (p : Pass) (rows : List Row) (q : Pass) (k : KeySeen) (listed : List Row) → Ends t (Look from end) turns p (Ok (saw (seen_of (schema_in t) k))) q
+    → listed ≡ with_found rows (option_map (row_of (schema_in t)) k.row) → Advances t from end turns p rows q k.hi listed
+advances t from end turns p rows q k listed e adds =
+    let range : Within from end (seen_of (schema_in t) k) = (e.called refl).range in
+    record {
+      row = option_map (row_of (schema_in t)) k.row;
+      ends = subst (λ (b : Bound). Ends t (Look from end) turns p (Ok (saw (record { lo = b; hi = k.hi; row = option_map (row_of (schema_in t)) k.row }))) q) range.begins e;
+      adds = adds;
+    }
 
 pub look-requires-clause-caller : goal.look-requires-clause-caller
-look-requires-clause-caller c =
+look-requires-clause-caller g c =
     let at = c.at-stepper.ensures in
     lent_caller c.args.table.now c.args.pass.now c.at-stepper.result c.deref_mut.result.now c.deref_mut.ensures.value at.pass at.basis c.requires.pass
 
-pub returns-in-Some : goal.returns-in-Some
-returns-in-Some c =
+pub returns : goal.returns
+returns g c =
     let t = c.args.table.now in
     let p = c.args.pass.now in
-    let hi = c.args.hi.now in
+    let from = c.args.from.now in
+    let end = c.args.end.now in
     let at = c.at-stepper.ensures in
-    let schema = c.schema.ensures in
+    let k = c.in-Some.seen in
     let back = made_ends t p c.at-stepper.result c.deref_mut.result.now c.deref_mut.ensures.value at.pass at.basis c.requires.pass
-    c.look.new.steps c.look.new.self c.look.ensures.only (Look c.args.lo.now hi) c.args.turns (calls.Look c.in-At.key hi) (ap (λ (b : Bound). calls.Look (key_at b) hi) (sym c.in-At.is)) refl c.requires.range
-    (of_look c.look.result) c.look.ensures.called (with_result saw (Ok c.seen_of.result))
-    (as_rows (schema_in t) c.look.result c.in-Some.seen c.seen_of.result c.in-Some.is (c.seen_of.ensures ∙ ap (λ (x : List Column). seen_of x c.in-Some.seen) schema)) in
-    record { pass = back.0; ends = back.1 }
+    c.look.new.steps c.look.new.self c.look.ensures.only (Look from end) c.args.turns (calls.Look c.in-At.key end) (ap (λ (b : Bound). calls.Look (key_at b) end) (sym c.in-At.is)) refl c.requires.range
+    (of_look c.look.result) c.look.ensures.called (Ok (saw (seen_of (schema_in t) k))) (ap (λ (o : Option KeySeen). result_of (schema_in t) (of_look o)) (sym c.in-Some.is)) in
+    let rows = c.args.rows.now.items in
+    let adds = c.list.ensures ∙ ap (λ (x : List Column). with_found rows (option_map (row_of x) k.row)) c.schema.ensures in
+    record { pass = back.0; answered = advances t from end c.args.turns p rows _ k c.list.new.rows.items back.1 adds; refused = tt }
 
-pub returns-in-None : goal.returns-in-None
-returns-in-None c =
+pub returns-in_default-look : goal.returns-in_default-look
+returns-in_default-look g c =
     let t = c.args.table.now in
     let p = c.args.pass.now in
-    let hi = c.args.hi.now in
+    let from = c.args.from.now in
+    let end = c.args.end.now in
     let at = c.at-stepper.ensures in
     let back = made_ends t p c.at-stepper.result c.deref_mut.result.now c.deref_mut.ensures.value at.pass at.basis c.requires.pass
-    c.look.new.steps c.look.new.self c.look.ensures.only (Look c.args.lo.now hi) c.args.turns (calls.Look c.in-At.key hi) (ap (λ (b : Bound). calls.Look (key_at b) hi) (sym c.in-At.is)) refl c.requires.range
-    (of_look c.look.result) c.look.ensures.called (with_result {A = Seen} saw (Err Busy)) (ap (λ (o : Option KeySeen). result_of (schema_in t) (of_look o)) (sym c.in-None.is)) in
-    record { pass = back.0; ends = back.1 }
+    c.look.new.steps c.look.new.self c.look.ensures.only (Look from end) c.args.turns (calls.Look c.in-At.key end) (ap (λ (b : Bound). calls.Look (key_at b) end) (sym c.in-At.is)) refl c.requires.range
+    (of_look c.look.result) c.look.ensures.called (with_result {A = Seen} saw (Err Busy)) (ap (λ (o : Option KeySeen). result_of (schema_in t) (of_look o)) (sym c.in_default-look.is)) in
+    record { pass = back.0; answered = tt; refused = record { ends = back.1; stays = refl; same = refl } }
