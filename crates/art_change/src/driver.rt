@@ -95,12 +95,7 @@ pub fn step<S: EpochSteps>(
 }
 
 /// Makes all steps that are left of a write.
-pub fn finish<S: EpochSteps>(
-    steps: &mut S,
-    write: &mut Write,
-    room: &mut Room,
-    limbo: &mut Limbo,
-)
+pub fn finish<S: EpochSteps>(steps: &mut S, write: &mut Write, room: &mut Room, limbo: &mut Limbo)
     requires admitted { S.admits steps.old (key_of write.old.job room.old).items }
     requires fits { (u : View) × (ps : List Place) ×
         Fits (S.sizes steps.old) u ps write.old room.old (places_of limbo.old) (S.view steps.old) }
