@@ -116,6 +116,29 @@ fn tuple_of(key: u64) -> Tuple {
     tuple
 }
 
+/// What is kept from call to call, as whoever makes many calls would keep it.
+struct Kept {
+    tuple: Tuple,
+    rows: ArrayVec<Row, 100>,
+}
+
+impl Kept {
+    fn new() -> Kept {
+        Kept {
+            tuple: tuple_of(0),
+            rows: ArrayVec::new(),
+        }
+    }
+
+    /// The tuple of the key, where the one before stood.
+    fn tuple_of(&mut self, key: u64) -> &Tuple {
+        if let Some(value) = self.tuple.first_mut() {
+            *value = Value::Int(i128::from(key));
+        }
+        &self.tuple
+    }
+}
+
 /// How many calls ended how.
 #[derive(Clone, Copy)]
 struct Counts {
@@ -222,13 +245,14 @@ fn entered(table: &Table, pass: &mut Pass, key: u64) -> Result<bool, Fault>
     requires { IsPassOf table.now pass.old }
     ensures { IsPassOf table.now pass.new }
 {
+    let tuple = tuple_of(key);
     for _ in 0..TRIES {
-        match inserted(table, pass, key) {
+        match inserted(table, pass, &tuple, key) {
             Err(Fault::Crowded(_)) => {}
             outcome => return outcome,
         }
     }
-    inserted(table, pass, key)
+    inserted(table, pass, &tuple, key)
 }
 
 /// The calls of the pass are made.
@@ -238,11 +262,10 @@ fn made(table: &Table, pass: &mut Pass, plan: Plan) -> Counts
 {
     let mut counts = Counts::new();
     let own = u64::from(pass.number());
-    // kept from call to call, as whoever scans would keep it
-    let mut rows = ArrayVec::new();
+    let mut kept = Kept::new();
     for number in 0..plan.calls {
         if modulo(number, plan.threads) == own {
-            counts.add(called(table, pass, plan, number, &mut rows));
+            counts.add(called(table, pass, plan, number, &mut kept));
         }
     }
     counts
@@ -254,7 +277,7 @@ fn called(
     pass: &mut Pass,
     plan: Plan,
     number: u64,
-    rows: &mut ArrayVec<Row, 100>,
+    kept: &mut Kept,
 ) -> Result<bool, Fault>
     requires { IsPassOf table.now pass.old }
     ensures { IsPassOf table.now pass.new }
@@ -262,34 +285,40 @@ fn called(
     match plan.case {
         Case::Gets => {
             let key = plan.drawn(number);
-            Ok(get(table, pass, &tuple_of(key), TURNS)? == Some(key))
+            Ok(get(table, pass, kept.tuple_of(key), TURNS)? == Some(key))
         }
-        Case::Adds => inserted(table, pass, key_of(number, plan.children)),
-        Case::Removes => removed(table, pass, key_of(number, plan.children.wrapping_sub(1))),
+        Case::Adds => {
+            let key = key_of(number, plan.children);
+            inserted(table, pass, kept.tuple_of(key), key)
+        }
+        Case::Removes => {
+            let key = key_of(number, plan.children.wrapping_sub(1));
+            removed(table, pass, kept.tuple_of(key), key)
+        }
         Case::Renews => {
             let key = plan.drawn(number / 64 * 32 + number % 32);
             if number / 32 % 2 == 0 {
-                removed(table, pass, key)
+                removed(table, pass, kept.tuple_of(key), key)
             } else {
-                inserted(table, pass, key)
+                inserted(table, pass, kept.tuple_of(key), key)
             }
         }
-        Case::Scans => listed(table, pass, number, rows),
+        Case::Scans => listed(table, pass, number, &mut kept.rows),
     }
 }
 
-fn inserted(table: &Table, pass: &mut Pass, key: u64) -> Result<bool, Fault>
+fn inserted(table: &Table, pass: &mut Pass, tuple: &Tuple, value: u64) -> Result<bool, Fault>
     requires { IsPassOf table.now pass.old }
     ensures { IsPassOf table.now pass.new }
 {
-    Ok(insert(table, pass, &tuple_of(key), key, TURNS)? == Inserted::New)
+    Ok(insert(table, pass, tuple, value, TURNS)? == Inserted::New)
 }
 
-fn removed(table: &Table, pass: &mut Pass, key: u64) -> Result<bool, Fault>
+fn removed(table: &Table, pass: &mut Pass, tuple: &Tuple, value: u64) -> Result<bool, Fault>
     requires { IsPassOf table.now pass.old }
     ensures { IsPassOf table.now pass.new }
 {
-    Ok(remove(table, pass, &tuple_of(key), TURNS)? == Some(key))
+    Ok(remove(table, pass, tuple, TURNS)? == Some(value))
 }
 
 fn listed(

@@ -1,0 +1,11 @@
+use Rattle.art_call.specs.Calls.{Insert}
+use Rattle.art_runs_uses.proofs.benches.begun.Goals as goal
+
+pub returns-in-Insert : goal.returns-in-Insert
+returns-in-Insert g c = λ z u is. record {
+  wish = Insert c.key_of.result c.in-Insert.value;
+  given = 1000;
+  turns = 1000;
+  began = u;
+  calling = c.insert.ensures z u is;
+}
