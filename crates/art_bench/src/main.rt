@@ -117,6 +117,7 @@ fn tuple_of(key: u64) -> Tuple {
 }
 
 /// What is kept from call to call, as whoever makes many calls would keep it.
+#[derive(Drop)]
 struct Kept {
     tuple: Tuple,
     rows: ArrayVec<Row, 100>,
