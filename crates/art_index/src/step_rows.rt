@@ -56,15 +56,16 @@ fn a_reader_survives_a_split(rt: HostRuntime) {
     }
 }
 
-/// A get finds the node locked each time, until its turns are used; once the insert has ended it finds its row.
+/// A get finds the node locked each time, until its turns are used; one whose tuple is refused then never began anew; once the insert has
+/// ended the first finds its row.
 #[test]
 fn a_get_is_busy_while_its_node_is_locked(rt: HostRuntime) {
     let input = b"A start 1000 [\"insert\",[1],1]\nA end\nA start 1000 [\"insert\",[5],5]\nA end\n\
         A start 1000 [\"insert\",[3],3]\nA until upgrade\nB start 50 [\"get\",[5]]\nB end\n\
-        A end\nB start 50 [\"get\",[5]]\nB end\n";
+        B start 50 [\"get\",[300]]\nB end\nA end\nB start 50 [\"get\",[5]]\nB end\n";
     let expected = b"A [\"inserted\"] restarts 0\nA [\"inserted\"] restarts 0\nA at upgrade\n\
-        B [\"refused\",10,\"Busy\"] restarts 12\nA [\"inserted\"] restarts 0\n\
-        B [\"found\",5] restarts 0\n";
+        B [\"refused\",10,\"Busy\"] restarts 12\nB [\"refused\",6,\"OutOfRange\"] restarts 0\n\
+        A [\"inserted\"] restarts 0\nB [\"found\",5] restarts 0\n";
     check_steps(&rt, rt.alloc(), "u8", input, expected);
 }
 

@@ -11,14 +11,13 @@ use Rattle.art_key.specs.declared.events.Deed.TheVariants.{Look as looked}
 use Rattle.art_key.specs.declared.events.Event.{Event}
 use Rattle.art_model.specs.declared.rows.Row.{Row}
 use Rattle.art_scan.specs.Scans.{HasTiled, MakesLooks, UsedTurns}
-use Rattle.art_scan.specs.Tiles.{AreTiles, IsTile, Tile, rows_of}
+use Rattle.art_scan.specs.Tiles.{AreTiles, IsTile, Tile, rows_of, with_found}
 use Rattle.art_scan.specs.Tilings.{IsTiling}
 use Rattle.art_scan.specs.declared.tilings.Tiling.{Tiling}
 use Rattle.art_shared.specs.SamePass.{SamePass}
 use Rattle.art_shared.specs.declared.pass.Pass.{Pass as Seat}
 use Rattle.art_table.specs.Calls.{HasEnded, LeavesTurns, Makes}
 use Rattle.art_table.specs.Jobs.{Within}
-use Rattle.art_table.specs.Looks.{with_found}
 use Rattle.art_table.specs.Tables.{IsPassOf, number_of, own_of, schema_in, seen_by, turns_left_by, view_of}
 use Rattle.art_table.specs.declared.faults.Fault.{Fault}
 use Rattle.art_table.specs.declared.jobs.Job.TheVariants.{Look}

@@ -15,14 +15,13 @@ use Rattle.art_scan.proofs.Between.{answered, begun, refused, used_up}
 use Rattle.art_scan.proofs.Keys.{after_ends_range}
 use Rattle.art_scan.proofs.Tiled.{looks_that_tile_are_scans}
 use Rattle.art_scan.specs.Scans.{HasListed, Scans, more_at, scan_fault}
-use Rattle.art_scan.specs.Tiles.{MayStop, states_of}
+use Rattle.art_scan.specs.Tiles.{MayStop, states_of, with_found}
 use Rattle.art_scan.specs.Tilings.{IsScanning, IsTiling}
 use Rattle.art_scan.specs.declared.faults.ScanFault.TheVariants.{Busy}
 use Rattle.art_scan.specs.declared.scans.More.{More}
 use Rattle.art_scan.specs.declared.tilings.Tiling.{Tiling}
 use Rattle.art_step.specs.Deeds.{bound_of}
 use Rattle.art_table.specs.Calls.{HasEnded, LeavesTurns}
-use Rattle.art_table.specs.Looks.{with_found}
 use Rattle.art_table.specs.Tables.{IsPassOf, schema_in, turns_left_by, view_of}
 use Rattle.art_table.specs.declared.faults.Fault.{Fault}
 use Rattle.art_table.specs.declared.jobs.Job.TheVariants.{Look}

@@ -8,5 +8,6 @@ pub mod Found
 pub mod Keys
 pub mod Listed
 pub mod LooksOn
+pub mod Over
 pub mod Replays
 pub mod Tiled

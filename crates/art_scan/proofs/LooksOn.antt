@@ -8,7 +8,7 @@ use Rattle.art_model.specs.declared.rows.Row.{Row}
 use Rattle.art_scan.proofs.Between.{looks_still, refused, same_then}
 use Rattle.art_scan.proofs.Ended.{goes_on, is_wanted, refused_scans}
 use Rattle.art_scan.specs.Running.{IsLooking, LeavesScan, wants_look}
-use Rattle.art_scan.specs.Tiles.{EndsRange, rows_of}
+use Rattle.art_scan.specs.Tiles.{EndsRange, rows_of, with_found}
 use Rattle.std.proofs.lemmas.Bool.{and_parts}
 use Rattle.art_scan.specs.Scans.{Scans}
 use Rattle.art_scan.specs.Tilings.{IsScanning}
@@ -20,7 +20,6 @@ use Rattle.art_table.specs.Attempts as attempts
 use Rattle.art_key.specs.declared.bounds.Bound.{Bound}
 use Rattle.art_table.specs.Calls.{Ends, IsAttempt, LeavesTurns}
 use Rattle.art_table.specs.Jobs.{IsOf}
-use Rattle.art_table.specs.Looks.{with_found}
 use Rattle.art_table.specs.Tables.{number_of, own_of, schema_in, seen_by, turns_left_by}
 use Rattle.art_table.specs.declared.attempts.Attempt.{Attempt}
 use Rattle.art_table.specs.declared.faults.Fault.{Fault}

@@ -8,7 +8,7 @@ use Rattle.art_model.specs.declared.commands.Command.{Command}
 use Rattle.art_model.specs.declared.commands.Command.TheVariants.{Insert, Remove, Get, Scan}
 use Rattle.art_model.specs.declared.rows.Row.{Row}
 use Rattle.art_scan.specs.Scans.{HasTiled, Scans, scan_fault}
-use Rattle.art_scan.specs.Tiles.{EndsRange, Tile, rows_of}
+use Rattle.art_scan.specs.Tiles.{EndsRange, Tile, rows_of, with_found}
 use Rattle.art_scan.specs.Tilings.{IsScanning}
 use Rattle.art_scan.specs.declared.faults.ScanFault.{ScanFault}
 use Rattle.art_scan.specs.declared.looking.Looking.{Looking}
@@ -18,12 +18,10 @@ use Rattle.art_scan.specs.declared.running.Stage.TheVariants as stage
 use Rattle.art_scan.specs.declared.scans.More.{More}
 use Rattle.art_scan.specs.declared.tilings.Tiling.{Tiling}
 use Rattle.art_step.specs.declared.views.View.{View}
-use Rattle.art_table.specs.Attempts.{HasStopped, answer_of}
+use Rattle.art_table.specs.Attempts.{HasStopped, answer_of, restarts_of}
 use Rattle.art_table.specs.Calls.{IsAttempt, Sees}
-use Rattle.art_table.specs.Steps as steps
 use Rattle.art_table.specs.Steps.{HoldsOrTold}
-use Rattle.art_table.specs.Looks.{with_found}
-use Rattle.art_table.specs.Tables.{IsPassOf, caller_of, schema_in, view_of}
+use Rattle.art_table.specs.Tables.{IsPassOf, schema_in, view_of}
 use Rattle.art_table.specs.declared.faults.Fault.{Fault}
 use Rattle.art_table.specs.declared.jobs.Job.TheVariants as job
 use Rattle.art_table.specs.declared.jobs.Outcome.{Outcome}
@@ -133,10 +131,10 @@ HasDecided p r = DecidedAt p r.stage
 
 -- together, up to the most that 64 bits hold
 abbrev pub restarts_of_looks : Looking → ℕ
-restarts_of_looks l = min (l.restarts + steps.restarts_in (caller_of l.attempt.pass)) (2 ^ 64 - 1)
+restarts_of_looks l = min (l.restarts + restarts_of l.attempt) (2 ^ 64 - 1)
 
 abbrev pub restarts_at : Stage → ℕ
-restarts_at (stage.Call a) = steps.restarts_in (caller_of a.pass)
+restarts_at (stage.Call a) = restarts_of a
 restarts_at (stage.Look l) = restarts_of_looks l
 restarts_at (stage.Over q r n) = n
 

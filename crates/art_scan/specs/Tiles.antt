@@ -1,5 +1,5 @@
 -- Looks that tile a range: each begins where the one before ended.
-use Rattle.std.specs.Prelude.{◌≡◌, ◌⊎◌, ℕ, ◌≤◌, List, [], ◌∷◌, length, map, Option, true, false}
+use Rattle.std.specs.Prelude.{◌≡◌, ◌⊎◌, ℕ, ◌≤◌, List, [], ◌∷◌, ◌++◌, length, map, Option, Some, None, true, false}
 use Rattle.std.specs.List.{filter_map}
 use Rattle.std.specs.Ordering.{is_le}
 use Rattle.art_key.specs.declared.bounds.Bound.{Bound}
@@ -34,6 +34,11 @@ AreTiles schema from to (tile ∷ tiles) = IsTile schema from tile × AreTiles s
 -- the rows that were found, in order
 abbrev pub rows_of : List Tile → List Row
 rows_of tiles = filter_map (λ tile. tile.row) tiles
+
+-- what a look adds to what is listed
+abbrev pub with_found : List Row → Option Row → List Row
+with_found rows (Some row) = rows ++ row ∷ []
+with_found rows None = rows
 
 -- the rows that stood at each look
 abbrev pub states_of : List Tile → List (List Row)

@@ -132,7 +132,8 @@ impl Looking {
             return (pass, Err(ScanFault::Busy));
         };
         tiling.told(seen_in(outcome), pass.turns_left(), rows);
-        let result = look_to_the_end(table, &mut pass, tiling, rows);
+        let listed = rows.len();
+        let result = look_to_the_end(table, &mut pass, tiling, listed, rows);
         (pass, result)
     }
 

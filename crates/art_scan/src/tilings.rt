@@ -6,8 +6,8 @@ ghost use Rattle.art_key.specs.Histories.{StandsIn, bound_at};
 ghost use Rattle.art_key.specs.Spelling.{spelling};
 ghost use Rattle.art_scan.specs.Running.{wants_look};
 ghost use Rattle.art_scan.specs.Scans.{more_at, scan_fault};
+ghost use Rattle.art_scan.specs.Tiles.{with_found};
 ghost use Rattle.art_step.specs.Deeds.{bound_of};
-ghost use Rattle.art_table.specs.Looks.{with_found};
 ghost use Rattle.art_tree.specs.Looks.{after};
 
 use crate::{More, ScanFault};

@@ -1,7 +1,7 @@
 -- A step of an attempt.
 use Rattle.std.specs.Option.{option_map}
 use Rattle.std.specs.Prelude.{◌≡◌, ◌⊎◌, ℕ, ◌+◌, ◌≤◌, List, Option, Some, None, Result, Err}
-use Rattle.art_call.specs.Calls.{outcome_at}
+use Rattle.art_call.specs.Calls.{outcome_at, restarts_in}
 use Rattle.art_call.specs.Made.{MakesStep}
 use Rattle.art_call.specs.declared.outcomes.Outcome.{Outcome}
 use Rattle.art_key.specs.declared.columns.Column.{Column}
@@ -37,6 +37,14 @@ answer_after schema p None = option_map (jobs.result_of schema) (outcome_at (cal
 -- how it ended, if no step is left
 abbrev pub answer_of : Table → Attempt → Option (Result Answer Fault)
 answer_of t a = answer_after (schema_in t) a.pass a.refused
+
+abbrev pub restarts_after : Pass → Option ValueFault → ℕ
+restarts_after p (Some fault) = 0
+restarts_after p None = restarts_in (caller_of p)
+
+-- how often it began anew: never, where its tuple was refused, as no step was made
+abbrev pub restarts_of : Attempt → ℕ
+restarts_of a = restarts_after a.pass a.refused
 
 -- the call of the pass p was given up, in so many turns: the pass is q then, with nothing told
 pub record IsGivenUp (t : Table) (turns : ℕ) (p q : Pass) : Type 0 where

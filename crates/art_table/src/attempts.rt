@@ -1,12 +1,12 @@
 //! Calls that are made step by step.
 ghost use Rattle.std.specs.Prelude.{◌≡◌, ◌⊎◌, ℕ, ◌≤◌, IfErr, IfOk, IfSome, OnOk, OnSome, Option, None, Some, true};
-ghost use Rattle.art_call.specs.Calls.{HoldsOrTold, restarts_in};
+ghost use Rattle.art_call.specs.Calls.{HoldsOrTold};
 ghost use Rattle.art_call.specs.Made.{MakesStep};
 ghost use Rattle.art_key.specs.Bounds.{is_before};
-ghost use Rattle.art_table.specs.Attempts.{HasStopped, IsGivenUp, Progresses, answer_of};
+ghost use Rattle.art_table.specs.Attempts.{HasStopped, IsGivenUp, Progresses, answer_of, restarts_of};
 ghost use Rattle.art_table.specs.Calls.{Ends, IsAttempt};
 ghost use Rattle.art_table.specs.Jobs.{IsRange};
-ghost use Rattle.art_table.specs.Tables.{IsPassOf, caller_of, sizes_in, turns_left_by, view_of};
+ghost use Rattle.art_table.specs.Tables.{IsPassOf, sizes_in, turns_left_by, view_of};
 ghost use Rattle.art_table.specs.declared.jobs.Job.{Job as JobOf};
 ghost use Rattle.art_table.specs.declared.jobs.Job.TheVariants.{Look as look_job};
 ghost use Rattle.art_table.specs.declared.passes.Pass.{Pass as PassOf};
@@ -145,10 +145,13 @@ impl Attempt {
         self.pass.turns_left()
     }
 
-    /// How often it began anew.
+    /// How often it began anew: never, where its tuple was refused.
     pub fn restarts(&self) -> u64
-        ensures { result ≡ restarts_in (caller_of self.now.pass) }
+        ensures { result ≡ restarts_of self.now }
     {
-        self.pass.caller.restarts()
+        match self.refused {
+            Some(_) => 0,
+            None => self.pass.caller.restarts(),
+        }
     }
 }

@@ -1,5 +1,5 @@
 //! The calls on a table.
-ghost use Rattle.std.specs.Prelude.{◌≡◌, ◌≢◌, ◌<◌, ℕ, List, None, Err, IfErr, OnOk, length, true};
+ghost use Rattle.std.specs.Prelude.{◌≡◌, ◌≢◌, ℕ, List, None, Err, IfErr, IfOk, true, false};
 ghost use Rattle.std.specs.Option.{option_map};
 ghost use Rattle.arrayvec.specs.ArrayVec.{ArrayVec as KeyOf};
 ghost use Rattle.art_call.specs.Calls.{Insert as insert_wish, Remove as remove_wish, may_end};
@@ -8,13 +8,12 @@ ghost use Rattle.art_key.specs.Bounds.{is_before};
 ghost use Rattle.art_key.specs.declared.columns.Column.{Column};
 ghost use Rattle.art_table.specs.Calls.{Ends};
 ghost use Rattle.art_table.specs.Jobs.{of_got, of_inserted, of_removed, result_of, with_result};
-ghost use Rattle.art_table.specs.Looks.{Advances, IsRefused, with_found};
+ghost use Rattle.art_table.specs.Looks.{Advances, IsRefused, found_row};
 ghost use Rattle.art_table.specs.Tables.{IsPassOf};
 ghost use Rattle.art_table.specs.declared.jobs.Job.TheVariants as jobs;
 ghost use Rattle.art_typed.specs.Typed.{row_of};
 
 use crate::{Fault, Pass, Table};
-use arrayvec::ArrayVec;
 use art_call::WriteOutcome;
 use art_key::{Bound, Key, Schema, decode_into, encode};
 use art_look::Seen;
@@ -74,23 +73,21 @@ pub fn get(table: &Table, pass: &mut Pass, tuple: &Tuple, turns: u32) -> Result<
     got_of(pass.caller.get(&mut stepper, &key, turns))
 }
 
-/// Looks on from `from`, before `end`, as far as one look sees: the row that it found, if it found one, is added to the list, and `from`
-/// is where it came to. After a refusal both are as they were.
-pub fn look<const CAP: usize>(
+/// Looks on from `from`, before `end`, as far as one look sees, and answers whether it found a row: that is written over `row` then, and
+/// `from` is where it came to. After a refusal both are as they were.
+pub fn look(
     table: &Table,
     pass: &mut Pass,
     from: &mut Bound,
     end: &Bound,
     turns: u32,
-    rows: &mut ArrayVec<Row, CAP>,
-) -> Result<(), Fault>
+    row: &mut Row,
+) -> Result<bool, Fault>
     requires pass { IsPassOf table.now pass.old }
     requires range { is_before from.old end.now ≡ true }
-    requires room { length rows.old.items < CAP }
     ensures pass { IsPassOf table.now pass.new }
-    ensures answered { OnOk result (Advances table.now from.old end.now turns pass.old rows.old.items pass.new from.new rows.new.items) }
-    ensures refused { IfErr result (λ f. IsRefused table.now from.old end.now turns pass.old rows.old.items f pass.new from.new
-        rows.new.items) }
+    ensures answered { IfOk result (λ found. Advances table.now from.old end.now turns pass.old row.old pass.new from.new found row.new) }
+    ensures refused { IfErr result (λ f. IsRefused table.now from.old end.now turns pass.old row.old f pass.new from.new row.new) }
 {
     let Bound::At(key) = &*from else {
         unreachable!()
@@ -99,28 +96,25 @@ pub fn look<const CAP: usize>(
     let Some(seen) = pass.caller.look(&mut stepper, key, end, turns) else {
         return Err(Fault::Busy);
     };
-    list(table.schema(), &seen.row, rows);
+    let found = read_row(table.schema(), &seen.row, row);
     let Seen { hi, .. } = seen;
     *from = hi;
-    Ok(())
+    Ok(found)
 }
 
-/// Adds the row of a key and its value, if there is one, to the list. Each key of a table spells a tuple, which is read in its place
-/// there: it has room for eight columns, and is dear to move.
+/// Reads the row of a key and its value, if there is one, over the row that stands, and answers whether there was. Each key of a table
+/// spells a tuple, which is read in its place there: it has room for eight columns, and is dear to make and to move.
 #[inline(always)]
-fn list<const CAP: usize>(schema: &Schema, row: &Option<(Key, u64)>, rows: &mut ArrayVec<Row, CAP>)
-    requires { length rows.old.items < CAP }
-    ensures { rows.new.items ≡ with_found rows.old.items (option_map (row_of schema.now) row.now) }
+fn read_row(schema: &Schema, found: &Option<(Key, u64)>, row: &mut Row) -> bool
+    ensures found { found_row result row.new ≡ option_map (row_of schema.now) found.now }
+    ensures kept { result ≡ false → row.new ≡ row.old }
 {
-    let Some((key, value)) = row else {
-        return;
+    let Some((key, value)) = found else {
+        return false;
     };
-    rows.push(Row::default());
-    let Some(last) = rows.as_mut_slice().last_mut() else {
-        unreachable!()
-    };
-    let _ = decode_into(schema, key.as_slice(), &mut last.tuple);
-    last.value = *value;
+    let _ = decode_into(schema, key.as_slice(), &mut row.tuple);
+    row.value = *value;
+    true
 }
 
 /// What an insert answers that ended so, or why it is refused.

@@ -24,8 +24,8 @@
 //!   [ .. .. .. .. .. ..  |  .. .. .. .. .. .. .. ..  |  insert [5], 9: new ]   seen at exit
 //! ```
 //!
-//! A look goes on from a bound of the caller's, which it leaves where its range ended, and adds the row that it found to the caller's
-//! list. So looks one after another list a range.
+//! A look goes on from a bound of the caller's, which it leaves where its range ended, and writes the row that it found over a row of the
+//! caller's. So looks one after another read a range, each row where it is wanted.
 //!
 //! # One step at a time
 //!

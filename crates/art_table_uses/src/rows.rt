@@ -125,12 +125,12 @@ fn sees(rt: &impl Abort, table: &Table, pass: &mut Pass, lo: u64, hi: u64) -> Re
 {
     let (mut from, end) = (at(rt, table, lo), at(rt, table, hi));
     assert!(rt; from.before(&end));
-    let mut rows = ArrayVec::<Row, 1>::new();
-    look(table, pass, &mut from, &end, TURNS, &mut rows)?;
+    let mut row = Row::default();
+    let found = look(table, pass, &mut from, &end, TURNS, &mut row)?;
     Ok(Seen {
         lo: at(rt, table, lo),
         hi: from,
-        row: rows.pop(),
+        row: if found { Some(row) } else { None },
     })
 }
 

@@ -1,21 +1,22 @@
+use Rattle.std.proofs.Common.{refl, take}
 use Rattle.art_scan.proofs.Ended.{scanning}
 use Rattle.art_scan.proofs.scans.scan.Goals as goal
 
-pub look_to_the_end-requires : goal.look_to_the_end-requires
-look_to_the_end-requires c =
-    let e = c.in_ok-tiling.ensures in (
+pub look_to_the_end-requires-clause-scanning : goal.look_to_the_end-requires-clause-scanning
+look_to_the_end-requires-clause-scanning c =
+    let e = c.in-Ok.ensures in (
       c.args.lo.now,
       c.args.hi.now,
       c.args.limit,
       c.args.turns,
       c.args.pass.now,
-      scanning c.args.table.now c.args.lo.now c.args.hi.now c.args.limit c.args.turns c.schema.result.now c.schema.ensures c.in_ok-tiling.tiling e.none e.stands e.range e.limit e.turns c.args.pass.now
-          c.clear.new.self.items c.requires c.clear.ensures,
+      scanning c.args.table.now c.args.lo.now c.args.hi.now c.args.limit c.args.turns c.schema.result.now c.schema.ensures c.in-Ok.tiling e.none e.stands e.range e.limit e.turns c.args.pass.now
+          (take 0 c.args.out.now.items) c.requires refl,
     )
 
-pub returns-clause-scans : goal.returns-clause-scans
-returns-clause-scans c =
-    let e = c.in_ok-tiling.ensures in
+pub returns-in-Ok-clause-scans : goal.returns-in-Ok-clause-scans
+returns-in-Ok-clause-scans c =
+    let e = c.in-Ok.ensures in
     c.look_to_the_end.ensures.scans c.args.lo.now c.args.hi.now c.args.limit c.args.turns c.args.pass.now
-    (scanning c.args.table.now c.args.lo.now c.args.hi.now c.args.limit c.args.turns c.schema.result.now c.schema.ensures c.in_ok-tiling.tiling e.none e.stands e.range e.limit e.turns c.args.pass.now
-    c.clear.new.self.items c.requires c.clear.ensures)
+    (scanning c.args.table.now c.args.lo.now c.args.hi.now c.args.limit c.args.turns c.schema.result.now c.schema.ensures c.in-Ok.tiling e.none e.stands e.range e.limit e.turns c.args.pass.now
+    (take 0 c.args.out.now.items) c.requires refl)

@@ -1,4 +1,4 @@
-use Rattle.std.proofs.Common.{◌≡◌, ◌∙◌, ℕ, List, Option, ap, refl, subst, sym}
+use Rattle.std.proofs.Common.{◌≡◌, ◌∙◌, ℕ, Bool, false, List, Option, ap, refl, subst, sym}
 use Rattle.std.specs.Option.{option_map}
 use Rattle.std.specs.Prelude.{Ok, Err}
 use Rattle.art_call.specs.Calls as calls
@@ -11,7 +11,7 @@ use Rattle.art_table.proofs.AtOnce.{lent_caller, made_ends}
 use Rattle.art_table.proofs.calls.look.Goals as goal
 use Rattle.art_table.specs.Calls.{Ends}
 use Rattle.art_table.specs.Jobs.{Within, key_at, result_of, seen_of, with_result}
-use Rattle.art_table.specs.Looks.{Advances, with_found}
+use Rattle.art_table.specs.Looks.{Advances, found_row}
 use Rattle.art_table.specs.Tables.{schema_in}
 use Rattle.art_table.specs.declared.faults.Fault.TheVariants.{Busy}
 use Rattle.art_table.specs.declared.jobs.Job.TheVariants.{Look}
@@ -21,24 +21,25 @@ use Rattle.art_table.specs.declared.passes.Pass.{Pass}
 use Rattle.art_table.specs.declared.tables.Table.{Table}
 use Rattle.art_typed.specs.Typed.{row_of}
 
--- it has seen this of keys, from where it began, and the row is listed
-advances : (t : Table) (from end : Bound) (turns : ℕ) (p : Pass) (rows : List Row) (q : Pass) (k : KeySeen) (listed : List Row) → Ends t (Look from end) turns p (Ok (saw (seen_of (schema_in t) k))) q
-    → listed ≡ with_found rows (option_map (row_of (schema_in t)) k.row) → Advances t from end turns p rows q k.hi listed
-advances t from end turns p rows q k listed e adds =
+-- it has seen this of keys, from where it began, and that is the row, or there is none
+advances : (t : Table) (from end : Bound) (turns : ℕ) (p : Pass) (given : Row) (q : Pass) (k : KeySeen) (found : Bool) (row : Row)
+    → Ends t (Look from end) turns p (Ok (saw (seen_of (schema_in t) k))) q → found_row found row ≡ option_map (row_of (schema_in t)) k.row → (found ≡ false → row ≡ given)
+    → Advances t from end turns p given q k.hi found row
+advances t from end turns p given q k found row e is kept =
     let range : Within from end (seen_of (schema_in t) k) = (e.called refl).range in
     record {
-      row = option_map (row_of (schema_in t)) k.row;
-      ends = subst (λ (b : Bound). Ends t (Look from end) turns p (Ok (saw (record { lo = b; hi = k.hi; row = option_map (row_of (schema_in t)) k.row }))) q) range.begins e;
-      adds = adds;
+      ends = subst (λ (o : Option Row). Ends t (Look from end) turns p (Ok (saw (record { lo = from; hi = k.hi; row = o }))) q) (sym is)
+          (subst (λ (b : Bound). Ends t (Look from end) turns p (Ok (saw (record { lo = b; hi = k.hi; row = option_map (row_of (schema_in t)) k.row }))) q) range.begins e);
+      kept = kept;
     }
 
 pub look-requires-clause-caller : goal.look-requires-clause-caller
-look-requires-clause-caller g c =
+look-requires-clause-caller c =
     let at = c.at-stepper.ensures in
     lent_caller c.args.table.now c.args.pass.now c.at-stepper.result c.deref_mut.result.now c.deref_mut.ensures.value at.pass at.basis c.requires.pass
 
 pub returns : goal.returns
-returns g c =
+returns c =
     let t = c.args.table.now in
     let p = c.args.pass.now in
     let from = c.args.from.now in
@@ -48,12 +49,15 @@ returns g c =
     let back = made_ends t p c.at-stepper.result c.deref_mut.result.now c.deref_mut.ensures.value at.pass at.basis c.requires.pass
     c.look.new.steps c.look.new.self c.look.ensures.only (Look from end) c.args.turns (calls.Look c.in-At.key end) (ap (λ (b : Bound). calls.Look (key_at b) end) (sym c.in-At.is)) refl c.requires.range
     (of_look c.look.result) c.look.ensures.called (Ok (saw (seen_of (schema_in t) k))) (ap (λ (o : Option KeySeen). result_of (schema_in t) (of_look o)) (sym c.in-Some.is)) in
-    let rows = c.args.rows.now.items in
-    let adds = c.list.ensures ∙ ap (λ (x : List Column). with_found rows (option_map (row_of x) k.row)) c.schema.ensures in
-    record { pass = back.0; answered = advances t from end c.args.turns p rows _ k c.list.new.rows.items back.1 adds; refused = tt }
+    let is = c.read_row-found.ensures.found ∙ ap (λ (x : List Column). option_map (row_of x) k.row) c.schema.ensures in
+    record {
+      pass = back.0;
+      answered = advances t from end c.args.turns p c.args.row.now _ k c.read_row-found.result c.read_row-found.new.row back.1 is c.read_row-found.ensures.kept;
+      refused = tt;
+    }
 
 pub returns-in_default-look : goal.returns-in_default-look
-returns-in_default-look g c =
+returns-in_default-look c =
     let t = c.args.table.now in
     let p = c.args.pass.now in
     let from = c.args.from.now in

@@ -1,6 +1,7 @@
 use Rattle.std.proofs.Common.{◌∙◌, sym, subst}
 use Rattle.std.specs.Prelude.{Result, Err}
 use Rattle.art_scan.proofs.LooksOn.{answer_seen, answered_as, look_refused, looked}
+use Rattle.art_scan.proofs.Over.{scanning_all}
 use Rattle.art_scan.proofs.looking.Looking.finish.Goals as goal
 use Rattle.art_table.specs.Calls.{Ends}
 use Rattle.art_table.specs.declared.faults.Fault.{Fault}
@@ -29,8 +30,8 @@ seen_in-requires c =
     answer_seen c.args.table.now r.0 r.1 r.2 r.3 r.4 c.args.rows.now.items l on c.in-Ok.outcome c.finish-pass.result.1 c.finish-pass.result.0 c.in-Ok.is
     (c.finish-pass.ensures.ends (Look l.tiling.from l.tiling.end) l.tiling.turns on.began on.look)
 
-pub look_to_the_end-result-requires : goal.look_to_the_end-result-requires
-look_to_the_end-result-requires c =
+pub look_to_the_end-result-requires-clause-scanning : goal.look_to_the_end-result-requires-clause-scanning
+look_to_the_end-result-requires-clause-scanning c =
     let t = c.args.table.now in
     let l = c.args.self in
     let r = c.requires in
@@ -44,7 +45,8 @@ look_to_the_end-result-requires c =
       r.2,
       r.3,
       r.4,
-      looked t r.0 r.1 r.2 r.3 r.4 rows l on c.finish-pass.result.0 c.seen_in.result e c.told.new.self c.told.new.out.items told.from (told.turns ∙ c.turns_left.ensures) told.same told.rows,
+      scanning_all t r.0 r.1 r.2 r.3 r.4 c.finish-pass.result.0 c.told.new.out.items c.told.new.self c.len-listed.result c.len-listed.ensures.value
+          (looked t r.0 r.1 r.2 r.3 r.4 rows l on c.finish-pass.result.0 c.seen_in.result e c.told.new.self c.told.new.out.items told.from (told.turns ∙ c.turns_left.ensures) told.same told.rows),
     )
 
 pub returns-clause-scans : goal.returns-clause-scans
@@ -56,4 +58,5 @@ returns-clause-scans c lo hi limit turns p on =
     let e = answered_as t lo hi limit turns p rows l on c.in-Ok.outcome c.seen_in.result c.finish-pass.result.1 c.finish-pass.result.0 c.in-Ok.is c.seen_in.ensures
     (c.finish-pass.ensures.ends (Look l.tiling.from l.tiling.end) l.tiling.turns on.began on.look) in
     c.look_to_the_end-result.ensures.scans lo hi limit turns p
-    (looked t lo hi limit turns p rows l on c.finish-pass.result.0 c.seen_in.result e c.told.new.self c.told.new.out.items told.from (told.turns ∙ c.turns_left.ensures) told.same told.rows)
+    (scanning_all t lo hi limit turns p c.finish-pass.result.0 c.told.new.out.items c.told.new.self c.len-listed.result c.len-listed.ensures.value
+    (looked t lo hi limit turns p rows l on c.finish-pass.result.0 c.seen_in.result e c.told.new.self c.told.new.out.items told.from (told.turns ∙ c.turns_left.ensures) told.same told.rows))
