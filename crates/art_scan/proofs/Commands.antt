@@ -26,7 +26,7 @@ use Rattle.art_scan.specs.declared.tilings.Tiling.{Tiling}
 use Rattle.art_shared.specs.SamePass.{SamePass}
 use Rattle.art_table.specs.Attempts as attempts
 use Rattle.art_table.specs.Calls.{Ends, IsAttempt}
-use Rattle.art_table.specs.Tables.{IsPassOf, own_of, schema_in, seen_by}
+use Rattle.art_table.specs.Tables.{IsPassOf, own_of, schema_in, seen_by, view_of}
 use Rattle.art_table.specs.declared.attempts.Attempt.{Attempt}
 use Rattle.art_table.specs.declared.faults.Fault.{Fault}
 use Rattle.art_table.specs.declared.jobs.Job.{Job}
@@ -62,10 +62,10 @@ call_ends t a r q ends (Scan lo hi limit) turns p rows rows' on = absurd on
 
 -- it is given up as its attempt is
 pub call_given : (t : Table) (a : Attempt) (q : Pass) → ((j : Job) (turns : ℕ) (p : Pass) → IsAttempt t j turns p a → attempts.IsGivenUp t turns p q)
-    → (c : Command) (turns : ℕ) (p : Pass) (rows : List Row) → GoesOn t c turns p (stage.Call a) rows → IsGivenUp t c p q
-call_given t a q given (Insert tuple value) turns p rows on = let g = given (job.Insert tuple value) turns p on in (g.pass, g.sees)
-call_given t a q given (Remove tuple) turns p rows on = let g = given (job.Remove tuple) turns p on in (g.pass, g.sees)
-call_given t a q given (Get tuple) turns p rows on = let g = given (job.Get tuple) turns p on in (g.pass, g.sees)
+    → (c : Command) (turns : ℕ) (p : Pass) (rows : List Row) → GoesOn t c turns p (stage.Call a) rows → IsGivenUp t c turns p q
+call_given t a q given (Insert tuple value) turns p rows on = given (job.Insert tuple value) turns p on
+call_given t a q given (Remove tuple) turns p rows on = given (job.Remove tuple) turns p on
+call_given t a q given (Get tuple) turns p rows on = given (job.Get tuple) turns p on
 call_given t a q given (Scan lo hi limit) turns p rows on = absurd on
 
 -- ---- by a look
@@ -96,8 +96,8 @@ module _ (t : Table) (l : Looking) (rows rows' : List Row) where
   look_ends r q ends (Get tuple) turns p on = absurd on
   look_ends r q ends (Scan lo hi limit) turns p on = ends lo hi limit turns p on
 
-  pub look_given : (q : Pass) → ((lo hi : Tuple) (limit turns : ℕ) (p : Pass) → IsLooking t lo hi limit turns p rows l → IsGivenUp t (Scan lo hi limit) p q)
-      → (c : Command) (turns : ℕ) (p : Pass) → GoesOn t c turns p (stage.Look l) rows → IsGivenUp t c p q
+  pub look_given : (q : Pass) → ((lo hi : Tuple) (limit turns : ℕ) (p : Pass) → IsLooking t lo hi limit turns p rows l → IsGivenUp t (Scan lo hi limit) turns p q)
+      → (c : Command) (turns : ℕ) (p : Pass) → GoesOn t c turns p (stage.Look l) rows → IsGivenUp t c turns p q
   look_given q given (Insert tuple value) turns p on = absurd on
   look_given q given (Remove tuple) turns p on = absurd on
   look_given q given (Get tuple) turns p on = absurd on
@@ -173,7 +173,7 @@ no_looks t lo p q is same = record {
 }
 
 pub over_given : (t : Table) (c : Command) (turns : ℕ) (p q : Pass) (f : ScanFault) (n : ℕ) (rows : List Row) → GoesOn t c turns p (stage.Over q (Err f) n) rows
-    → IsGivenUp t c p q
+    → IsGivenUp t c turns p q
 over_given t (Insert tuple value) turns p q f n rows on = absurd on
 over_given t (Remove tuple) turns p q f n rows on = absurd on
 over_given t (Get tuple) turns p q f n rows on = absurd on
@@ -185,4 +185,5 @@ over_given t (Scan lo hi limit) turns p q f n rows on =
       tiles = [];
       tiled = no_looks t (bound_at (schema_in t) lo) p q on.pass same;
       left = λ none. absurd (some_not_none (scan_fault (schema_in t) lo hi limit) f none some);
+      steps = let still = ap (λ (x : Pass). (view_of x).steps) same in omega (arith, still);
     }

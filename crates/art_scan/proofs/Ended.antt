@@ -89,7 +89,7 @@ module _ (t : Table) (lo hi : Tuple) (limit turns : ℕ) (p q : Pass) (rows : Li
     on = answered t (bound_at (schema_in t) lo) s.end limit turns p q rows g s.on q' seen (is_wanted test) e g' rows' from_is turns_is same.0 same.1 rows_is;
   }
 
-  few_steps : (view_of q).steps ≤ (view_of p).steps + 2 * turns + 1000
+  pub few_steps : (view_of q).steps ≤ (view_of p).steps + 2 * turns + 1000
   few_steps = let used = on.used in let some = on.some in omega (arith, used, some)
 
   -- ---- with nothing left, or at its limit

@@ -1,12 +1,12 @@
 -- A scan that goes on by a look: what is known when the look has ended.
-use Rattle.std.proofs.Common.{◌≡◌, ◌∙◌, ◌<◌, ◌&&◌, ℕ, true, length, nat_lt, Some, refl, sym, ap, subst, arith}
+use Rattle.std.proofs.Common.{◌≡◌, ◌∙◌, ◌+◌, ◌*◌, ◌<◌, ◌≤◌, ◌&&◌, ℕ, true, length, nat_lt, Some, refl, sym, ap, subst, arith}
 use Rattle.std.specs.Prelude.{List, [], Result, Ok, Err}
 use Rattle.art_key.specs.Bounds.{is_before}
 use Rattle.art_key.specs.Histories.{bound_at}
 use Rattle.art_model.specs.Rows.{Tuple}
 use Rattle.art_model.specs.declared.rows.Row.{Row}
 use Rattle.art_scan.proofs.Between.{looks_still, refused, same_then}
-use Rattle.art_scan.proofs.Ended.{goes_on, is_wanted, refused_scans}
+use Rattle.art_scan.proofs.Ended.{few_steps, goes_on, is_wanted, refused_scans}
 use Rattle.art_scan.specs.Running.{IsLooking, LeavesScan, wants_look}
 use Rattle.art_scan.specs.Tiles.{EndsRange, rows_of, with_found}
 use Rattle.std.proofs.lemmas.Bool.{and_parts}
@@ -20,7 +20,7 @@ use Rattle.art_table.specs.Attempts as attempts
 use Rattle.art_key.specs.declared.bounds.Bound.{Bound}
 use Rattle.art_table.specs.Calls.{Ends, IsAttempt, LeavesTurns}
 use Rattle.art_table.specs.Jobs.{IsOf}
-use Rattle.art_table.specs.Tables.{number_of, own_of, schema_in, seen_by, turns_left_by}
+use Rattle.art_table.specs.Tables.{number_of, own_of, schema_in, seen_by, turns_left_by, view_of}
 use Rattle.art_table.specs.declared.attempts.Attempt.{Attempt}
 use Rattle.art_table.specs.declared.faults.Fault.{Fault}
 use Rattle.art_table.specs.declared.jobs.Job.TheVariants.{Look}
@@ -106,15 +106,20 @@ module _ (t : Table) (lo hi : Tuple) (limit turns : ℕ) (p : Pass) (rows : List
         subst (λ (xs : List Row). length xs < limit) on.scan.on.rows_are room,
       )
 
-  pub refused_tiled : (q : Pass) (f : Fault) → Ends t (Look l.tiling.from l.tiling.end) l.tiling.turns on.began (Err f) q → LeavesScan t lo hi limit p q
+  -- the look takes no more steps than turns are left, and a thousand
+  few_more : (q : Pass) → (view_of q).steps ≤ (view_of on.began).steps + l.tiling.turns + 1000 → (view_of q).steps ≤ (view_of p).steps + 2 * turns + 1000
+  few_more q steps = let used = on.scan.on.used in let some = on.scan.on.some in omega (arith, steps, used, some)
+
+  pub refused_tiled : (q : Pass) (f : Fault) → Ends t (Look l.tiling.from l.tiling.end) l.tiling.turns on.began (Err f) q → LeavesScan t lo hi limit turns p q
   refused_tiled q f e = record {
     reached = l.tiling.from;
     tiles = on.scan.on.tiles;
     tiled = refused t (bound_at (schema_in t) lo) on.scan.end limit turns p on.began rows l.tiling on.scan.on q f (e.called refl);
     left = λ none. left_before;
+    steps = few_more q (e.called refl).steps;
   }
 
-  pub given_tiled : (q : Pass) → attempts.IsGivenUp t l.tiling.turns on.began q → LeavesScan t lo hi limit p q
+  pub given_tiled : (q : Pass) → attempts.IsGivenUp t l.tiling.turns on.began q → LeavesScan t lo hi limit turns p q
   given_tiled q g =
       let tiled = on.scan.on.tiled in
       record {
@@ -127,11 +132,12 @@ module _ (t : Table) (lo hi : Tuple) (limit turns : ℕ) (p : Pass) (rows : List
           tiles_are = tiled.tiles_are;
         };
         left = λ none. left_before;
+        steps = few_more q g.steps;
       }
 
 -- a scan that goes on, and is given up between two looks
 pub between_looks : (t : Table) (lo hi : Tuple) (limit turns : ℕ) (p q : Pass) (rows : List Row) (g : Tiling) → (s : IsScanning t lo hi limit turns p q rows g)
-    → (nat_lt (length rows) g.limit && is_before g.from g.end) ≡ true → LeavesScan t lo hi limit p q
+    → (nat_lt (length rows) g.limit && is_before g.from g.end) ≡ true → LeavesScan t lo hi limit turns p q
 between_looks t lo hi limit turns p q rows g s test =
     let both = and_parts (nat_lt (length rows) g.limit) (is_before g.from g.end) test in
     let room = is_wanted t lo hi limit turns p q rows g s test in
@@ -145,4 +151,5 @@ between_looks t lo hi limit turns p q rows g s test =
         subst (λ (b : Bound). is_before g.from b ≡ true) s.on.end_is both.1,
         subst (λ (xs : List Row). length xs < limit) s.on.rows_are room,
       );
+      steps = few_steps t lo hi limit turns p q rows g s;
     }

@@ -1,5 +1,5 @@
 -- Commands that are made step by step.
-use Rattle.std.specs.Prelude.{◌≡◌, ℕ, ◌+◌, ◌-◌, ◌^◌, ◌<◌, ◌&&◌, Bool, true, false, List, length, min, nat_lt, Option, Some, None, Result, Ok, Err, ⊤}
+use Rattle.std.specs.Prelude.{◌≡◌, ℕ, ◌+◌, ◌-◌, ◌*◌, ◌^◌, ◌<◌, ◌≤◌, ◌&&◌, Bool, true, false, List, length, min, nat_lt, Option, Some, None, Result, Ok, Err, ⊤}
 use Rattle.art_key.specs.Bounds.{is_before}
 use Rattle.art_key.specs.Histories.{bound_at}
 use Rattle.art_key.specs.declared.bounds.Bound.{Bound}
@@ -18,8 +18,9 @@ use Rattle.art_scan.specs.declared.running.Stage.TheVariants as stage
 use Rattle.art_scan.specs.declared.scans.More.{More}
 use Rattle.art_scan.specs.declared.tilings.Tiling.{Tiling}
 use Rattle.art_step.specs.declared.views.View.{View}
+use Rattle.art_table.specs.Attempts as attempts
 use Rattle.art_table.specs.Attempts.{HasStopped, answer_of, restarts_of}
-use Rattle.art_table.specs.Calls.{IsAttempt, Sees}
+use Rattle.art_table.specs.Calls.{IsAttempt}
 use Rattle.art_table.specs.Steps.{HoldsOrTold}
 use Rattle.art_table.specs.Tables.{IsPassOf, schema_in, view_of}
 use Rattle.art_table.specs.declared.faults.Fault.{Fault}
@@ -97,17 +98,18 @@ HasNoStep t r rows = NoStepAt t rows r.stage
 
 -- Looks were made, and nothing else: the pass p is q then. Unless the scan was refused for what it says, another look was wanted: the
 -- limit is not met, and something of the range is left.
-pub record LeavesScan (t : Table) (lo hi : Tuple) (limit : ℕ) (p q : Pass) : Type 0 where
+pub record LeavesScan (t : Table) (lo hi : Tuple) (limit turns : ℕ) (p q : Pass) : Type 0 where
   pub reached : Bound
   pub tiles : List Tile
   pub tiled : HasTiled t (bound_at (schema_in t) lo) reached tiles p q
   pub left : scan_fault (schema_in t) lo hi limit ≡ None
       → (end : Bound) × EndsRange (schema_in t) hi end × (is_before reached end ≡ true) × (length (rows_of tiles) < limit)
+  pub steps : (view_of q).steps ≤ (view_of p).steps + 2 * turns + 1000
 
--- the pass p is q then: nothing was told but looks of a scan that is not decided
-abbrev pub IsGivenUp : Table → Command → Pass → Pass → Type 0
-IsGivenUp t (Scan lo hi limit) p q = LeavesScan t lo hi limit p q
-IsGivenUp t c p q = IsPassOf t q × Sees t p q None
+-- the pass p is q then, the same one: nothing was told but looks of a scan that is not decided, in few steps beside the turns
+abbrev pub IsGivenUp : Table → Command → ℕ → Pass → Pass → Type 0
+IsGivenUp t (Scan lo hi limit) turns p q = LeavesScan t lo hi limit turns p q
+IsGivenUp t c turns p q = attempts.IsGivenUp t turns p q
 
 abbrev pub FreeAt : Pass → Stage → Type 0
 FreeAt p (stage.Call a) = ¬ (HoldsOrTold (view_of p) (view_of a.pass))

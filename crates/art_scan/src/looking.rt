@@ -147,7 +147,7 @@ impl Looking {
         requires { (lo : TupleOf) × (hi : TupleOf) × (limit : ℕ) × (turns : ℕ) × (p : PassOf) ×
             IsLooking table.now lo hi limit turns p rows.old.items self }
         ensures given { IfOk result (λ q. (lo hi : TupleOf) (limit turns : ℕ) (p : PassOf) →
-            IsLooking table.now lo hi limit turns p rows.old.items self → IsGivenUp table.now (Scan lo hi limit) p q) }
+            IsLooking table.now lo hi limit turns p rows.old.items self → IsGivenUp table.now (Scan lo hi limit) turns p q) }
         ensures cleared { OnOk result (rows.new.items ≡ []) }
         ensures over { IfErr result (λ r. (lo hi : TupleOf) (limit turns : ℕ) (p : PassOf) →
             IsLooking table.now lo hi limit turns p rows.old.items self → IsRunning table.now (Scan lo hi limit) turns p r rows.new.items) }

@@ -113,7 +113,7 @@ impl Running {
     pub fn abandon(self, table: &Table, rows: &mut ArrayVec<Row, 100>) -> Result<Pass, Running>
         requires { (c : CommandOf) × (turns : ℕ) × (p : PassOf) × IsRunning table.now c turns p self rows.old.items }
         ensures given { IfOk result (λ q. (c : CommandOf) (turns : ℕ) (p : PassOf) → IsRunning table.now c turns p self rows.old.items →
-            IsGivenUp table.now c p q) }
+            IsGivenUp table.now c turns p q) }
         ensures cleared { OnOk result (rows.new.items ≡ []) }
         ensures free { OnOk result ((c : CommandOf) (turns : ℕ) (p : PassOf) → IsRunning table.now c turns p self rows.old.items →
             IsFree p self) }

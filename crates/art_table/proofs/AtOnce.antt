@@ -1,14 +1,21 @@
 -- A call that was made at once: its pass comes back, and it ends so.
-use Rattle.std.proofs.Common.{◌≡◌, ◌∙◌, ℕ, List, None, Result, sym, ap, subst}
+use Rattle.std.proofs.Common.{◌≡◌, ◌∙◌, ℕ, List, Option, Some, None, Result, refl, sym, ap, subst}
 use Rattle.std.specs.Box.{with_value}
 use Rattle.arrayvec.specs.ArrayVec.{ArrayVec}
 use Rattle.art_call.specs.Calls.{HasCalled, IsCaller, Wish}
 use Rattle.art_call.specs.declared.callers.Caller.{Caller}
+use Rattle.art_call.specs.Outcomes.{of_look, of_seek, of_write}
 use Rattle.art_call.specs.declared.outcomes.Outcome.{Outcome as CallOutcome}
+use Rattle.art_call.specs.declared.outcomes.Outcome.TheVariants as outcome
+use Rattle.art_change.specs.declared.writes.Outcome.{Outcome as WriteOutcome}
+use Rattle.art_change.specs.declared.writes.Outcome.TheVariants as write
 use Rattle.art_key.specs.Columns.{tuple_fault}
 use Rattle.art_key.specs.Spelling.{IsKeyOf, IsSpelling}
 use Rattle.art_key.specs.declared.columns.Column.{Column}
+use Rattle.art_look.specs.declared.looks.Seen.{Seen as KeySeen}
 use Rattle.art_model.specs.Rows.{Tuple}
+use Rattle.art_seek.specs.declared.walks.Outcome.{Outcome as SeekOutcome}
+use Rattle.art_seek.specs.declared.walks.Outcome.TheVariants as seek
 use Rattle.art_shared.proofs.Lent.{lent_passes_stay}
 use Rattle.art_shared.specs.SamePass.{SamePass}
 use Rattle.art_shared.specs.Stepper.{OnlyStepped, basis_of, pass_of, schema_of, sizes_of}
@@ -30,6 +37,31 @@ use Rattle.art_table.specs.declared.jobs.Outcome.{Outcome}
 use Rattle.art_table.specs.declared.passes.Pass.{Pass}
 use Rattle.art_table.specs.declared.tables.Table.{Table}
 
+-- ---- no call says that a key overlaps where its machine does not
+
+pub write_apart : (o : WriteOutcome) → (o ≡ write.Overlaps → ⊥) → of_write o ≡ outcome.Overlaps → ⊥
+write_apart write.Overlaps apart = λ is. apart refl
+write_apart write.New apart = λ is. cc
+write_apart (write.Present value) apart = λ is. cc
+write_apart (write.Gone value) apart = λ is. cc
+write_apart write.Absent apart = λ is. cc
+write_apart (write.Full pool) apart = λ is. cc
+write_apart (write.Exhausted cell) apart = λ is. cc
+write_apart write.Busy apart = λ is. cc
+write_apart (write.Crowded blocker) apart = λ is. cc
+
+pub get_apart : (o : SeekOutcome) → of_seek o None ≡ outcome.Overlaps → ⊥
+get_apart (seek.Found value) = λ is. cc
+get_apart seek.Absent = λ is. cc
+get_apart seek.Seen = λ is. cc
+get_apart seek.Busy = λ is. cc
+
+pub look_apart : (seen : Option KeySeen) → of_look seen ≡ outcome.Overlaps → ⊥
+look_apart (Some seen) = λ is. cc
+look_apart None = λ is. cc
+
+-- ---- a call
+
 module _ (t : Table) (a : Pass) (s : Stepper) (old : Caller) (same : old ≡ caller_of a) (lent : pass_of s ≡ a.seat) (basis : basis_of s ≡ basis_in t.shared) (is : IsPassOf t a) where
   sizes_are : sizes_of s ≡ sizes_in t
   sizes_are = ap (λ (x : Basis). x.sizes) basis
@@ -47,16 +79,16 @@ module _ (t : Table) (a : Pass) (s : Stepper) (old : Caller) (same : old ≡ cal
 
     pub made_ends : (j : Job) (turns : ℕ) (wish : Wish) → wish ≡ wish_of (schema_in t) j → job_fault (schema_in t) j ≡ None → IsRange j
         → (o : CallOutcome) → (restarts : ℕ) × HasCalled (sizes_of s) wish turns turns restarts (stepper.view_of s) new o (stepper.view_of b)
-        → (r : Result Outcome Fault) → r ≡ result_of (schema_in t) o
+        → (o ≡ outcome.Overlaps → ⊥) → (r : Result Outcome Fault) → r ≡ result_of (schema_in t) o
         → IsPassOf t (record { seat = pass_of b; caller = with_value a.caller new }) × Ends t j turns a r (record { seat = pass_of b; caller = with_value a.caller new })
     unfolding back
-    made_ends j turns wish wish_is stands range o called r r_is =
+    made_ends j turns wish wish_is stands range o called apart r r_is =
         let as_seat = subst (λ (x : Seat). HasCalled (sizes_of s) wish turns turns called.0 (view_of_pass x) new o (stepper.view_of b)) lent called.1 in
         let as_wish = subst (λ (w : Wish). HasCalled (sizes_of s) w turns turns called.0 (view_of a) new o (stepper.view_of b)) wish_is as_seat in
         let as_sizes = subst (λ (z : Sizes). HasCalled z (wish_of (schema_in t) j) turns turns called.0 (view_of a) new o (stepper.view_of b)) sizes_are as_wish in
         let of = lent_passes_stay t.shared a.seat s b is.of lent basis only in
         let seats = subst (λ (x : Seat). SamePass x (pass_of b)) lent only.pass in
-        let e = has_ended t j turns turns called.0 a back o is stands range of seats as_sizes in
+        let e = has_ended t j turns turns called.0 a back o is stands range of seats as_sizes apart in
         (e.pass, ends t j turns a r back stands (subst (λ (x : Result Outcome Fault). HasEnded t j turns turns a x back) (sym r_is) e))
 
 -- ---- a call of one tuple
@@ -73,7 +105,7 @@ module _ (t : Table) (a : Pass) (s : Stepper) (old : Caller) (same : old ≡ cal
   pub tuple_ends : (b : Stepper) (new : Caller) → OnlyStepped s b → (j : Job) (turns : ℕ) (wish : ArrayVec ℕ → Wish) → wish (key_of (schema_in t) tuple) ≡ wish_of (schema_in t) j
       → job_fault (schema_in t) j ≡ tuple_fault (schema_in t) tuple.items → IsRange j
       → (o : CallOutcome) → (restarts : ℕ) × HasCalled (sizes_of s) (wish k) turns turns restarts (stepper.view_of s) new o (stepper.view_of b)
-      → (r : Result Outcome Fault) → r ≡ result_of (schema_in t) o
+      → (o ≡ outcome.Overlaps → ⊥) → (r : Result Outcome Fault) → r ≡ result_of (schema_in t) o
       → IsPassOf t (record { seat = pass_of b; caller = with_value a.caller new }) × Ends t j turns a r (record { seat = pass_of b; caller = with_value a.caller new })
-  tuple_ends b new only j turns wish wish_is fault range o called r r_is =
-      made_ends t a s old same lent basis is b new only j turns (wish k) (ap wish (spelled (schema_in t) tuple k here) ∙ wish_is) (fault ∙ here.stands) range o called r r_is
+  tuple_ends b new only j turns wish wish_is fault range o called apart r r_is =
+      made_ends t a s old same lent basis is b new only j turns (wish k) (ap wish (spelled (schema_in t) tuple k here) ∙ wish_is) (fault ∙ here.stands) range o called apart r r_is

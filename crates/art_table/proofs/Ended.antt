@@ -109,13 +109,14 @@ same_then a b c x y = record {
 }
 
 module _ (t : Table) (j : Job) (given turns restarts : ℕ) (p q : Pass) (o : CallOutcome) (began : IsPassOf t p) (stands : job_fault (schema_in t) j ≡ None) (range : IsRange j)
-    (of : shared.IsPassOf t.shared q.seat) (same : SamePass p.seat q.seat) (called : HasCalled (sizes_in t) (wish_of (schema_in t) j) given turns restarts (view_of p) (caller_of q) o (view_of q)) where
+    (of : shared.IsPassOf t.shared q.seat) (same : SamePass p.seat q.seat) (called : HasCalled (sizes_in t) (wish_of (schema_in t) j) given turns restarts (view_of p) (caller_of q) o (view_of q)) (apart : o ≡ outcome.Overlaps → ⊥) where
   pass_is : number_of q ≡ number_of p
   pass_is = sym q.seat.own ∙ (same.number ∙ p.seat.own)
 
   is_pass : IsPassOf t q
   is_pass = record {
     of = of;
+    limited = began.limited;
     caller = called.caller;
     legal = seen_legal (view_of p) (view_of q) (calls.told_by (wish_of (schema_in t) j) o) called.tells began.legal;
     all = seen_all (view_of p) (view_of q) (calls.told_by (wish_of (schema_in t) j) o) called.tells pass_is began.all;
@@ -131,6 +132,7 @@ module _ (t : Table) (j : Job) (given turns restarts : ℕ) (p q : Pass) (o : Ca
     left = turns_left (schema_in t) j turns p q o called.may called.left;
     steps = called.steps;
     outcome = o;
+    apart = apart;
     restarts = restarts;
     answered = refl;
     grounds = called;
@@ -138,5 +140,5 @@ module _ (t : Table) (j : Job) (given turns restarts : ℕ) (p q : Pass) (o : Ca
 
 -- a call that was under way, and has ended so
 pub has_ended_here : (t : Table) (j : Job) (given turns restarts : ℕ) (p a : Pass) (o : CallOutcome) → IsUnderWay t j given turns p a
-    → HasCalled (sizes_in t) (wish_of (schema_in t) j) given turns restarts (view_of p) (caller_of a) o (view_of a) → HasEnded t j given turns p (result_of (schema_in t) o) a
-has_ended_here t j given turns restarts p a o way called = has_ended t j given turns restarts p a o way.began way.stands way.range way.of way.same called
+    → HasCalled (sizes_in t) (wish_of (schema_in t) j) given turns restarts (view_of p) (caller_of a) o (view_of a) → (o ≡ outcome.Overlaps → ⊥) → HasEnded t j given turns p (result_of (schema_in t) o) a
+has_ended_here t j given turns restarts p a o way called apart = has_ended t j given turns restarts p a o way.began way.stands way.range way.of way.same called apart

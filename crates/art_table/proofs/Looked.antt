@@ -49,6 +49,7 @@ module _ (t : Table) (p q : Pass) (is : IsPassOf t p) (of : shared.IsPassOf t.sh
   is_pass : IsPassOf t q
   is_pass = record {
     of = of;
+    limited = is.limited;
     caller = looked_caller;
     legal = legal;
     all = ap (λ (i : ℕ). places i (view_of q).seen) (ap (λ (v : View). v.pass) same) ∙ (own ∙ sym (ap (λ (v : View). v.own) same));

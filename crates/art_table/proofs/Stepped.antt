@@ -4,6 +4,7 @@ use Rattle.std.specs.Box.{with_value}
 use Rattle.art_call.specs.Calls.{HasCalled, IsCalling, StaysApart, Wish}
 use Rattle.art_call.specs.declared.callers.Caller.{Caller}
 use Rattle.art_call.specs.declared.outcomes.Outcome.{Outcome as CallOutcome}
+use Rattle.art_call.specs.declared.outcomes.Outcome.TheVariants.{Overlaps}
 use Rattle.art_shared.proofs.Lent.{lent_passes_stay}
 use Rattle.art_shared.specs.SamePass.{SamePass}
 use Rattle.art_shared.specs.Stepper.{OnlyStepped, basis_of, pass_of, sizes_of}
@@ -57,7 +58,7 @@ module _ (t : Table) (a : Pass) (s b : Stepper) (old new : Caller) (same : old �
     }
 
     pub ended : (restarts : ℕ) (o : CallOutcome) → HasCalled (sizes_of s) (wish_of (schema_in t) j) given turns restarts (view_of p) new o (stepper.view_of b)
-        → HasEnded t j given turns p (result_of (schema_in t) o) (record { seat = pass_of b; caller = with_value a.caller new })
-    ended restarts o called =
+        → (o ≡ Overlaps → ⊥) → HasEnded t j given turns p (result_of (schema_in t) o) (record { seat = pass_of b; caller = with_value a.caller new })
+    ended restarts o called apart =
         has_ended t j given turns restarts p (record { seat = pass_of b; caller = with_value a.caller new }) o way.began way.stands way.range of seats
-        (subst (λ (z : Sizes). HasCalled z (wish_of (schema_in t) j) given turns restarts (view_of p) new o (stepper.view_of b)) sizes_are called)
+        (subst (λ (z : Sizes). HasCalled z (wish_of (schema_in t) j) given turns restarts (view_of p) new o (stepper.view_of b)) sizes_are called) apart

@@ -1,7 +1,8 @@
 -- What a call does, as its pass has seen it.
-use Rattle.std.specs.Prelude.{◌≡◌, ℕ, ◌+◌, ◌≤◌, List, [], ◌∷◌, ◌++◌, length, Option, Some, None, Result, Ok, Err, ⊤}
+use Rattle.std.specs.Prelude.{◌≡◌, ◌≢◌, ℕ, ◌+◌, ◌≤◌, List, [], ◌∷◌, ◌++◌, length, Option, Some, None, Result, Ok, Err, ⊤}
 use Rattle.art_call.specs.Calls.{HasCalled, IsCalling, StaysApart}
 use Rattle.art_call.specs.declared.outcomes.Outcome.{Outcome as CallOutcome}
+use Rattle.art_call.specs.declared.outcomes.Outcome.TheVariants.{Overlaps}
 use Rattle.art_key.specs.Histories.{IsLegal}
 use Rattle.art_key.specs.declared.events.Deed.{Deed}
 use Rattle.art_key.specs.declared.events.Event.{Event}
@@ -55,6 +56,7 @@ pub record HasEnded (t : Table) (j : Job) (given turns : ℕ) (p : Pass) (r : Re
   pub left : HasTurnsLeft j turns p r q
   pub steps : (view_of q).steps ≤ (view_of p).steps + given + 1000
   pub outcome : CallOutcome
+  pub apart : outcome ≢ Overlaps
   pub restarts : ℕ
   pub answered : r ≡ result_of (schema_in t) outcome
   pub grounds : HasCalled (sizes_in t) (wish_of (schema_in t) j) given turns restarts (view_of p) (caller_of q) outcome (view_of q)

@@ -1,5 +1,6 @@
 -- What contracts see of a table, and of a pass.
 use Rattle.std.specs.Prelude.{◌≡◌, ℕ, List}
+use Rattle.art_attempt.specs.Trying.{IsLimited}
 use Rattle.art_call.specs.Calls.{IsCaller, turns_left_in}
 use Rattle.art_call.specs.declared.callers.Caller.{Caller}
 use Rattle.art_key.specs.declared.columns.Column.{Column}
@@ -43,10 +44,11 @@ seen_by t p = typed (schema_in t) (view_of p).seen
 abbrev pub own_of : Pass → List ℕ
 own_of p = (view_of p).own
 
--- the pass is one of the table, by the table's identity; it is idle, holds nothing and has nothing in hand; what it has seen is a legal
--- history of keys that spell tuples, with its own events at their places
+-- the pass is one of the table, by the table's identity, whose pools are no larger than a table's may be; it is idle, holds nothing and has
+-- nothing in hand; what it has seen is a legal history of keys that spell tuples, with its own events at their places
 pub record IsPassOf (t : Table) (p : Pass) : Type 0 where
   pub of : shared.IsPassOf t.shared p.seat
+  pub limited : IsLimited (sizes_in t)
   pub caller : IsCaller (sizes_in t) (view_of p) (caller_of p)
   pub legal : IsLegal (view_of p).seen
   pub all : places (number_of p) (view_of p).seen ≡ own_of p

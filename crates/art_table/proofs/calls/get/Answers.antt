@@ -1,7 +1,7 @@
 use Rattle.std.proofs.Common.{None, refl}
 use Rattle.art_call.specs.Calls as calls
 use Rattle.art_call.specs.Outcomes.{of_seek}
-use Rattle.art_table.proofs.AtOnce.{key_admitted, lent_caller, tuple_ends}
+use Rattle.art_table.proofs.AtOnce.{get_apart, key_admitted, lent_caller, tuple_ends}
 use Rattle.art_table.proofs.calls.get.Goals as goal
 use Rattle.art_table.specs.Jobs.{of_got, with_result}
 use Rattle.art_table.specs.Tables.{schema_in}
@@ -31,5 +31,5 @@ returns c =
     let at = c.at-stepper.ensures in
     let back = tuple_ends t p s c.deref_mut.result.now c.deref_mut.ensures.value at.pass at.basis c.requires c.args.tuple.now c.in_ok-key.key c.schema.result.now c.schema.ensures c.in_ok-key.ensures.key
     c.get.new.steps c.get.new.self c.get.ensures.only (Get c.args.tuple.now) c.args.turns calls.Get refl refl tt
-    (of_seek c.get.result None) c.get.ensures.called (with_result of_got c.got_of.result) (c.got_of.ensures (schema_in t)) in
+    (of_seek c.get.result None) c.get.ensures.called (get_apart c.get.result) (with_result of_got c.got_of.result) (c.got_of.ensures (schema_in t)) in
     record { pass = back.0; ends = back.1 }

@@ -2,7 +2,7 @@ use Rattle.std.proofs.Common.{refl}
 use Rattle.art_call.specs.Calls as calls
 use Rattle.art_call.specs.Outcomes.{of_write}
 use Rattle.art_shared.specs.Stepper.{schema_of}
-use Rattle.art_table.proofs.AtOnce.{key_admitted, lent_caller, tuple_ends}
+use Rattle.art_table.proofs.AtOnce.{key_admitted, lent_caller, tuple_ends, write_apart}
 use Rattle.art_table.proofs.Begun.{keys_apart}
 use Rattle.art_table.proofs.calls.insert.Goals as goal
 use Rattle.art_table.specs.Jobs.{of_inserted, with_result}
@@ -39,5 +39,5 @@ returns c =
     let at = c.at-stepper.ensures in
     let back = tuple_ends t p s c.deref_mut.result.now c.deref_mut.ensures.value at.pass at.basis c.requires c.args.tuple.now c.in_ok-key.key c.schema.result.now c.schema.ensures c.in_ok-key.ensures.key
     c.insert.new.steps c.insert.new.self c.insert.ensures.only (Insert c.args.tuple.now c.args.value) c.args.turns (λ (k : _). calls.Insert k c.args.value) refl refl tt
-    (of_write c.insert.result) c.insert.ensures.called (with_result of_inserted c.inserted_of.result) (c.inserted_of.ensures (schema_in t)) in
+    (of_write c.insert.result) c.insert.ensures.called (write_apart c.insert.result (c.insert.ensures.apart (keys_apart (schema_of s)))) (with_result of_inserted c.inserted_of.result) (c.inserted_of.ensures (schema_in t)) in
     record { pass = back.0; ends = back.1 }

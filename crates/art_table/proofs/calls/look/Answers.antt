@@ -7,7 +7,7 @@ use Rattle.art_key.specs.declared.bounds.Bound.{Bound}
 use Rattle.art_key.specs.declared.columns.Column.{Column}
 use Rattle.art_look.specs.declared.looks.Seen.{Seen as KeySeen}
 use Rattle.art_model.specs.declared.rows.Row.{Row}
-use Rattle.art_table.proofs.AtOnce.{lent_caller, made_ends}
+use Rattle.art_table.proofs.AtOnce.{lent_caller, look_apart, made_ends}
 use Rattle.art_table.proofs.calls.look.Goals as goal
 use Rattle.art_table.specs.Calls.{Ends}
 use Rattle.art_table.specs.Jobs.{Within, key_at, result_of, seen_of, with_result}
@@ -48,7 +48,7 @@ returns c =
     let k = c.in-Some.seen in
     let back = made_ends t p c.at-stepper.result c.deref_mut.result.now c.deref_mut.ensures.value at.pass at.basis c.requires.pass
     c.look.new.steps c.look.new.self c.look.ensures.only (Look from end) c.args.turns (calls.Look c.in-At.key end) (ap (λ (b : Bound). calls.Look (key_at b) end) (sym c.in-At.is)) refl c.requires.range
-    (of_look c.look.result) c.look.ensures.called (Ok (saw (seen_of (schema_in t) k))) (ap (λ (o : Option KeySeen). result_of (schema_in t) (of_look o)) (sym c.in-Some.is)) in
+    (of_look c.look.result) c.look.ensures.called (look_apart c.look.result) (Ok (saw (seen_of (schema_in t) k))) (ap (λ (o : Option KeySeen). result_of (schema_in t) (of_look o)) (sym c.in-Some.is)) in
     let is = c.read_row-found.ensures.found ∙ ap (λ (x : List Column). option_map (row_of x) k.row) c.schema.ensures in
     record {
       pass = back.0;
@@ -65,5 +65,5 @@ returns-in_default-look c =
     let at = c.at-stepper.ensures in
     let back = made_ends t p c.at-stepper.result c.deref_mut.result.now c.deref_mut.ensures.value at.pass at.basis c.requires.pass
     c.look.new.steps c.look.new.self c.look.ensures.only (Look from end) c.args.turns (calls.Look c.in-At.key end) (ap (λ (b : Bound). calls.Look (key_at b) end) (sym c.in-At.is)) refl c.requires.range
-    (of_look c.look.result) c.look.ensures.called (with_result {A = Seen} saw (Err Busy)) (ap (λ (o : Option KeySeen). result_of (schema_in t) (of_look o)) (sym c.in_default-look.is)) in
+    (of_look c.look.result) c.look.ensures.called (look_apart c.look.result) (with_result {A = Seen} saw (Err Busy)) (ap (λ (o : Option KeySeen). result_of (schema_in t) (of_look o)) (sym c.in_default-look.is)) in
     record { pass = back.0; answered = tt; refused = record { ends = back.1; stays = refl; same = refl } }

@@ -1,7 +1,9 @@
 use Rattle.std.proofs.Common.{refl}
 use Rattle.art_call.specs.Calls as calls
 use Rattle.art_call.specs.Outcomes.{of_write}
-use Rattle.art_table.proofs.AtOnce.{key_admitted, lent_caller, tuple_ends}
+use Rattle.art_shared.specs.Stepper.{schema_of}
+use Rattle.art_table.proofs.AtOnce.{key_admitted, lent_caller, tuple_ends, write_apart}
+use Rattle.art_table.proofs.Begun.{keys_apart}
 use Rattle.art_table.proofs.calls.remove.Goals as goal
 use Rattle.art_table.specs.Jobs.{of_removed, with_result}
 use Rattle.art_table.specs.Tables.{schema_in}
@@ -34,5 +36,5 @@ returns c =
     let at = c.at-stepper.ensures in
     let back = tuple_ends t p s c.deref_mut.result.now c.deref_mut.ensures.value at.pass at.basis c.requires c.args.tuple.now c.in_ok-key.key c.schema.result.now c.schema.ensures c.in_ok-key.ensures.key
     c.remove.new.steps c.remove.new.self c.remove.ensures.only (Remove c.args.tuple.now) c.args.turns calls.Remove refl refl tt
-    (of_write c.remove.result) c.remove.ensures.called (with_result of_removed c.removed_of.result) (c.removed_of.ensures (schema_in t)) in
+    (of_write c.remove.result) c.remove.ensures.called (write_apart c.remove.result (c.remove.ensures.apart (keys_apart (schema_of s)))) (with_result of_removed c.removed_of.result) (c.removed_of.ensures (schema_in t)) in
     record { pass = back.0; ends = back.1 }

@@ -37,4 +37,4 @@ returns c =
     let i = c.loop-seat.invariant in
     let none : c.loop-seat.seats.items ≡ [] = no_items c.loop-seat.seats.items (search rules) in
     let same : seats_of c.loop-seat.passes.items ≡ c.in_ok-shared.seats.items = sym (ap (λ (l : List Seat). l ++ seats_of c.loop-seat.passes.items) none) ∙ i.all in
-    opens c.args.schema c.args.config.now c.sizes_of-sizes.result c.in_ok-shared.shared c.in_ok-shared.seats.items c.loop-seat.passes.items c.sizes_of-sizes.ensures c.in_ok-shared.ensures same i.has
+    opens c.args.schema c.args.config.now c.sizes_of-sizes.result c.in_ok-shared.shared c.in_ok-shared.seats.items c.loop-seat.passes.items c.sizes_of-sizes.ensures c.requires c.in_ok-shared.ensures same i.has

@@ -1,6 +1,6 @@
 use Rattle.std.proofs.Common.{◌≡◌, ◌∙◌, ap, subst, sym}
 use Rattle.std.specs.Prelude.{Result}
-use Rattle.art_call.specs.Calls.{HasCalled, IsCalling, restarts_in}
+use Rattle.art_call.specs.Calls.{HasCalled, IsCalling, StaysApart, restarts_in}
 use Rattle.art_call.specs.declared.callers.Caller.{Caller}
 use Rattle.art_table.proofs.Ended.{has_ended_here}
 use Rattle.art_table.proofs.passes.Pass.ended.Goals as goal
@@ -23,4 +23,4 @@ returns-clause-ended c j given turns p way =
     let here = subst (λ (k : Caller). HasCalled z w given turns (restarts_in k) (view_of p) k o (view_of a)) same called in
     let answered = c.result_of.ensures ∙ ap (λ (x : _). result_of x o) c.schema.ensures in
     subst (λ (r : Result Outcome Fault). HasEnded t j given turns p r a) (sym answered)
-    (has_ended_here t j given turns (restarts_in (caller_of a)) p a o way here)
+    (has_ended_here t j given turns (restarts_in (caller_of a)) p a o way here (c.in_ok-outcome.ensures.apart (subst StaysApart (sym same) way.apart)))

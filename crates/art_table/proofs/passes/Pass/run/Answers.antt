@@ -35,4 +35,5 @@ returns-clause-ended c j given turns p way =
     let called = e.called (wish_of (schema_in t) j) given turns (view_of p) calling in
     let answered = c.result_of.ensures ∙ ap (λ (x : _). result_of x c.run-outcome.result) c.schema.ensures in
     subst (λ (r : Result Outcome Fault). HasEnded t j given turns p r (record { seat = b.pass.now; caller = with_value a.caller new })) (sym answered)
-    (ended t a s b old new c.deref_mut.ensures.value at.pass at.basis e.only j given turns p way (restarts_in new) c.run-outcome.result called)
+    (ended t a s b old new c.deref_mut.ensures.value at.pass at.basis e.only j given turns p way (restarts_in new) c.run-outcome.result called
+    (e.apart (keys_apart (schema_of s)) (lent_apart t a s b old new c.deref_mut.ensures.value at.pass at.basis e.only way.apart)))
