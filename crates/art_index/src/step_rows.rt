@@ -81,6 +81,19 @@ fn rows_go_and_come_while_a_scan_is_under_way(rt: HostRuntime) {
     check_steps(&rt, rt.alloc(), "u8", input, expected);
 }
 
+/// The first look of a scan finds the node locked at its sixth step and again at its tenth, two of which pin it; none of its other looks
+/// begins anew, and the scan tells both restarts.
+#[test]
+fn restarts_of_a_scan_are_those_of_all_its_looks(rt: HostRuntime) {
+    let input = b"A start 1000 [\"insert\",[1],1]\nA end\nA start 1000 [\"insert\",[5],5]\nA end\n\
+        A start 1000 [\"insert\",[3],3]\nA until upgrade\nB start 1000 [\"scan\",[0],[9],100]\n\
+        B step 10\nA end\nB end\n";
+    let expected =
+        b"A [\"inserted\"] restarts 0\nA [\"inserted\"] restarts 0\nA at upgrade\nB stepped\n\
+        A [\"inserted\"] restarts 0\nB [\"rows\",[[[1],1],[[3],3],[[5],5]],false] restarts 2\n";
+    check_steps(&rt, rt.alloc(), "u8", input, expected);
+}
+
 #[test]
 fn small_schedules(rt: HostRuntime) {
     for (input, expected) in [
