@@ -12,7 +12,6 @@ use crate::tables::{
     SIZES, TURNS, closed, empties, fills, finds, last_of, opened, puts, schema_of, takes, tuple_of,
     with_last,
 };
-use arrayvec::ArrayVec;
 use art_key::{Bound, Deed, Event, encode};
 use art_model::{Command, NoMemory, Reply, Row};
 use art_step::StepKind;
@@ -150,12 +149,12 @@ fn sees(rt: &impl Abort, table: &Table, pass: &mut Pass, number: u64) -> Result<
 {
     let mut from = at(rt, table, number);
     assert!(rt; from.before(&Bound::End));
-    let mut rows = ArrayVec::<Row, 1>::new();
-    look(table, pass, &mut from, &Bound::End, TURNS, &mut rows)?;
+    let mut row = Row::default();
+    let found = look(table, pass, &mut from, &Bound::End, TURNS, &mut row)?;
     Ok(Seen {
         lo: at(rt, table, number),
         hi: from,
-        row: rows.pop(),
+        row: if found { Some(row) } else { None },
     })
 }
 
