@@ -99,9 +99,9 @@ fn an_anchor_at_the_end_of_its_counter_is_not_changed(rt: HostRuntime) {
     check_run(&rt, rt.alloc(), options, input, expected);
 }
 
-/// Where the counter of a node is at its end, the node is not changed any more; its rows are read as ever.
+/// An anchor that was locked once, and is at its end, is not changed any more; its row is read as ever.
 #[test]
-fn a_node_at_the_end_of_its_counter_is_read_and_not_changed(rt: HostRuntime) {
+fn an_anchor_at_its_end_after_one_row_is_read_and_not_changed(rt: HostRuntime) {
     let input = b"[\"insert\",[1],1]\n[\"insert\",[2],2]\n[\"insert\",[1],5]\n\
         [\"remove\",[1]]\n[\"get\",[1]]\n";
     let expected = b"[\"inserted\"]\n[\"refused\",13,\"Exhausted\"]\n[\"present\",1]\n\
@@ -110,19 +110,19 @@ fn a_node_at_the_end_of_its_counter_is_read_and_not_changed(rt: HostRuntime) {
     check_run(&rt, rt.alloc(), options, input, expected);
 }
 
-/// How many changes are left below a shared prefix before a counter is at its end.
+/// A node begins its counter anew, and the anchor's counts each of its locks: three, or two before it is at its end.
 #[test]
 fn a_prefix_is_split_while_a_counter_is_left(rt: HostRuntime) {
     let input = b"[\"insert\",[257],1]\n[\"insert\",[258],1]\n[\"insert\",[259],1]\n\
         [\"insert\",[260],1]\n[\"insert\",[515],1]\n[\"get\",[260]]\n";
+    let five = b"[\"inserted\"]\n[\"inserted\"]\n[\"inserted\"]\n[\"inserted\"]\n\
+        [\"inserted\"]\n[\"found\",1]\n";
     let four = b"[\"inserted\"]\n[\"inserted\"]\n[\"inserted\"]\n[\"inserted\"]\n\
         [\"refused\",13,\"Exhausted\"]\n[\"found\",1]\n";
-    let three = b"[\"inserted\"]\n[\"inserted\"]\n[\"inserted\"]\n\
-        [\"refused\",13,\"Exhausted\"]\n[\"refused\",13,\"Exhausted\"]\n[\"absent\"]\n";
     let options = ["--schema=u16", "--counter-start=4611686018427387893"];
-    check_run(&rt, rt.alloc(), options, input, four);
+    check_run(&rt, rt.alloc(), options, input, five);
     let options = ["--schema=u16", "--counter-start=4611686018427387894"];
-    check_run(&rt, rt.alloc(), options, input, three);
+    check_run(&rt, rt.alloc(), options, input, four);
 }
 
 /// The one node of 4 children grows to the one of 16, and is free for a prefix; a second prefix finds none. Removals want no number that is

@@ -137,12 +137,13 @@ fn small_pools_are_full_and_the_history_stays_legal(rt: HostRuntime) -> Result<(
     Ok(())
 }
 
-/// The same where all counters begin near their end, so that cells can be locked no more.
+/// The same where the anchor can be locked twice: for the first row, and for the node above the first two. Then no change of that node
+/// which wants the anchor is made any more.
 #[test]
 fn a_counter_near_its_end_is_exhausted_and_the_history_stays_legal(
     rt: HostRuntime,
 ) -> Result<(), Fail> {
-    let tally = have_one_history(&rt, rt.alloc(), &LARGE, LAST - 6, 1)?;
+    let tally = have_one_history(&rt, rt.alloc(), &LARGE, LAST - 2, 1)?;
     assert!(rt; tally.exhausted > 0);
     assert_eq!(rt; tally.full, 0);
     Ok(())

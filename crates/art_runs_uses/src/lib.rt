@@ -12,6 +12,8 @@ mod clients;
 #[cfg(test)]
 mod commands;
 #[cfg(test)]
+mod counters;
+#[cfg(test)]
 mod drawn;
 #[cfg(test)]
 mod events;

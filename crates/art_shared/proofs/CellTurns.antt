@@ -20,7 +20,7 @@ use Rattle.art_step.specs.declared.views.View.{View}
 use Rattle.art_step.specs.declared.views.Event.{Event}
 use Rattle.art_step.specs.Deeds.{IsAdmitted}
 use Rattle.art_step.specs.Histories.{StartsWith}
-use Rattle.art_step.specs.Effects.{FindsUnchanged, FindsVersion, FindsWord, Instant, LocksClaimed, LocksStamped, PutsWord, Unlocks, released_word}
+use Rattle.art_step.specs.Effects.{FindsUnchanged, FindsVersion, FindsWord, Instant, LocksClaimed, LocksStamped, PutsWord, Unlocks, claimed_word, released_word}
 use Rattle.art_step.specs.Steps.Begin as begin
 use Rattle.art_step.specs.Steps.Check as check
 use Rattle.art_step.specs.Steps.Claim as claim
@@ -32,7 +32,7 @@ use Rattle.art_step.specs.Steps.Write as write
 use Rattle.art_step.specs.Views.{IsChildPlace, IsChildWord, IsHolding, IsInHand, Member, Views, size_of}
 use Rattle.art_step.specs.WordPlaces.{HasVersion, IsInside, first_place, place_of, word_count}
 use Rattle.art_step.specs.WordRows.{memory_of, version_in, word_in}
-use Rattle.art_step.proofs.Changing.{claim_fits, first_low, held_plain, moves_claims, moves_commits, moves_releases, moves_upgrades, moves_writes, moves_writes_leaf, released_fits}
+use Rattle.art_step.proofs.Changing.{first_low, held_plain, moves_claims, moves_commits, moves_releases, moves_upgrades, moves_writes, moves_writes_leaf, released_fits}
 use Rattle.art_step.proofs.Moves.{Moves, moves_begins, moves_fails, moves_passes, moves_reads, moves_reads_leaf, moves_sees}
 use Rattle.art_step.proofs.WordRows.{inside_of, plain_of, version_below, version_found, word_found}
 use Rattle.art_shared.specs.declared.law.Basis.{Basis}
@@ -164,15 +164,9 @@ module _ (basis : Basis) (me : Known) where
   }
 
   pub turns_claim : (a : Node) (at : ℕ) → at ≡ place_of z (cell.Node a) → IsInside z (cell.Node a) → claim.May v a
-      → MayTurn basis me at (λ n. (n + 1) % 2 ^ 64) (λ n v w. claim.Outcome v w a) (λ n. LocksClaimed a)
+      → MayTurn basis me at (λ _. claimed_word) (λ _ v w. claim.Outcome v w a) (λ _. LocksClaimed a)
   turns_claim a at is inside may = record {
-    moves = λ ws f s low.
-        let n : ℕ = get_or ws at 0 in
-        let found = found_version z ws (cell.Node a) at is inside in
-        let fits = claim_fits z ws f v.pass v s.sound s.here s.long a may in
-        let up : version_in z ws (cell.Node a) + 1 ≡ (n + 1) % 2 ^ 64 = ap (λ (x : ℕ). x + 1) (sym found) ∙ sym (mod-eq_of_lt (subst (λ (x : ℕ). x + 1 < 2 ^ 64) (sym found) fits)) in
-        subst (λ (y : ℕ). Moves z ws f v.pass v (slice_set ws at y) (λ v w. claim.Outcome v w a) (LocksClaimed a)) up
-        (rw is (moves_claims z ws f v.pass v s.sound s.here s.long a inside may));
+    moves = λ ws f s low. rw is (moves_claims z ws f v.pass v s.sound s.here s.long a inside may);
     adds = λ n w row. quiet basis.schema v w (ap (λ (u : View). u.own) row.is);
   }
 

@@ -1,10 +1,10 @@
 -- The kinds of steps of numbers and epochs, as steps on a word of the table: the pass makes each whatever the table is.
 use Rattle.std.proofs.Common.{◌≡◌, ◌≢◌, ◌⊎◌, ℕ, ◌+◌, ◌-◌, ◌*◌, ◌%◌, ◌^◌, ◌<◌, List, slice_set, get_or, ⊎_elim, sym, ap, ◌∙◌, subst, arith, eq-eqb, ne_eqb}
-use Rattle.std.proofs.lemmas.Bool.{cases_eq}
-use Rattle.std.proofs.lemmas.Nat.{and-not, and_comm, pow_below}
+use Rattle.std.proofs.lemmas.Bool.{cases_eq, eqb-false}
+use Rattle.std.proofs.lemmas.Nat.{and-not, and_comm, or_disjoint, pow_below}
 use Rattle.std.proofs.lemmas.Nat.Bits.{and_pow}
 use Rattle.std.proofs.Math.Nat.{mod-eq_of_lt}
-use Rattle.std.specs.Prelude.{None, Some, bit_and}
+use Rattle.std.specs.Prelude.{◌==◌, None, Some, bit_and, bit_or}
 use Rattle.art_cell.specs.declared.cells.Link.{Link}
 use Rattle.art_cell.specs.declared.layouts.Pool.{Pool}
 use Rattle.art_step.specs.declared.views.Sizes.{Sizes}
@@ -22,7 +22,7 @@ use Rattle.art_step.specs.WordPlaces.{HasFreeWord, epoch_place, first_free_word,
 use Rattle.art_step.specs.WordRows.{free_word_in, memory_of}
 use Rattle.art_step.proofs.EpochMoves.{epoch_fits, moves_advances, moves_notes, moves_pins, moves_watches}
 use Rattle.art_step.proofs.Moves.{Moves}
-use Rattle.art_step.proofs.NumberMoves.{bit_room, in_use, keeps_free_word, moves_sets, moves_takes, puts_free_word}
+use Rattle.art_step.proofs.NumberMoves.{in_use, keeps_free_word, moves_sets, moves_takes, puts_free_word}
 use Rattle.art_step.proofs.WordPlaces.{free_below, has_free_word}
 use Rattle.art_step.proofs.WordRows.{free_word_found, pass_word_found, sets_epoch, sets_pass_word}
 use Rattle.art_shared.specs.declared.law.Basis.{Basis}
@@ -45,6 +45,10 @@ masked n k low few =
     (λ (is : bit_of n k ≡ 1). rw (eq-eqb (bit_of n k) 1 is) (let b : bit_and (2 ^ k) n ≡ 2 ^ k = bit ∙ (ap (λ (x : ℕ). x * 2 ^ k) is ∙ omega arith) in omega (arith, rest, b, mask)))
     (λ (other : bit_of n k ≢ 1). rw (ne_eqb (bit_of n k) 1 other) (let z : bit_of n k ≡ 0 = omega arith in let b : bit_and (2 ^ k) n ≡ 0 = bit ∙ (ap (λ (x : ℕ). x * 2 ^ k) z ∙ omega arith) in omega (arith, rest, b, mask)))
     (cases_eq (bit_of n k) 1)
+
+-- a word that has not the bit, with it: or adds it
+pub gains : (n k : ℕ) → bit_of n k ≢ 1 → bit_or n (2 ^ k) ≡ n + 2 ^ k
+gains n k clear = let z : bit_of n k ≡ 0 = omega arith in or_disjoint n (2 ^ k) (and_pow n k ∙ (ap (λ (x : ℕ). x * 2 ^ k) z ∙ omega arith))
 
 -- a word of free numbers is one of the table
 pub free_low : (z : Sizes) (pool : Pool) (i : ℕ) → HasFreeWord z pool i → first_free_word z pool + i < word_count z
@@ -90,7 +94,7 @@ module _ (basis : Basis) (me : Known) where
   }
 
   pub turns_give : (d : Link) (bit at : ℕ) → bit ≡ 2 ^ free_bit d → at ≡ first_free_word z (pool_of d) + free_index d → give.May v d ⊎ give.MayFree z v d
-      → MayTurn basis me at (λ n. (n + bit) % 2 ^ 64) (λ n v w. Frees z d v w) (λ n. SetsBit d)
+      → MayTurn basis me at (λ n. bit_or n bit) (λ n v w. Frees z d v w) (λ n. SetsBit d)
   turns_give d bit at up is may = record {
     moves = λ ws f s low.
         let n : ℕ = get_or ws at 0 in
@@ -98,10 +102,10 @@ module _ (basis : Basis) (me : Known) where
         let used = in_use z ws f v.pass v s.sound s.here s.long d may in
         let has = has_free_word z d used.0 in
         let found : n ≡ m.free_word (pool_of d) (free_index d) = found_free ws (pool_of d) (free_index d) at is has in
-        let room = bit_room m d n found used.1 low in
-        let sum : (n + bit) % 2 ^ 64 ≡ m.free_word (pool_of d) (free_index d) + 2 ^ free_bit d = ap (λ (b : ℕ). (n + b) % 2 ^ 64) up ∙ (mod-eq_of_lt room ∙ ap (λ (x : ℕ). x + 2 ^ free_bit d) found) in
-        moves_sets z ws f v.pass v s.sound s.here s.long (slice_set ws at ((n + bit) % 2 ^ 64)) d may
-        (λ g. puts_free_word z ws s.long (pool_of d) (free_index d) has at ((n + bit) % 2 ^ 64) (m.free_word (pool_of d) (free_index d) + 2 ^ free_bit d) is sum);
+        let clear : bit_of n (free_bit d) ≢ 1 = eqb-false _ 1 (ap (λ (w : ℕ). bit_of w (free_bit d) == 1) found ∙ used.1) in
+        let sum : bit_or n bit ≡ m.free_word (pool_of d) (free_index d) + 2 ^ free_bit d = ap (bit_or n) up ∙ (gains n (free_bit d) clear ∙ ap (λ (x : ℕ). x + 2 ^ free_bit d) found) in
+        moves_sets z ws f v.pass v s.sound s.here s.long (slice_set ws at (bit_or n bit)) d may
+        (λ g. puts_free_word z ws s.long (pool_of d) (free_index d) has at (bit_or n bit) (m.free_word (pool_of d) (free_index d) + 2 ^ free_bit d) is sum);
     adds = λ n w row. quiet basis.schema v w (⊎_elim
         (λ (m : give.May v d). ap (λ (u : View). u.own) (row.0 m).is)
         (λ (m : give.MayFree z v d). ap (λ (u : View). u.own) (row.1 m).is)

@@ -1,5 +1,6 @@
 pub mod CellTurns
 pub mod Closed
+pub mod Counters
 pub mod Ending
 pub mod EpochTurns
 pub mod Lent

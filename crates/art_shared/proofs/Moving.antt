@@ -6,6 +6,7 @@ use mathlib.Core.Option.{some, some-injective, some-ne-none}
 use mathlib.Core.Logic.{dite}
 use native.Mathlib.Decide.{ℕ_discrete}
 use lib.ListN.{get_elem?}
+use Rattle.art_cell.specs.declared.cells.Cell.TheVariants as cell
 use Rattle.art_step.specs.declared.views.View.{View}
 use Rattle.art_step.specs.Sound.{IsSound}
 use Rattle.art_step.specs.Views.{Member, Views}
@@ -19,7 +20,7 @@ use Rattle.art_step.proofs.SetsView.{member_append}
 use Rattle.art_shared.specs.declared.law.Basis.{Basis}
 use Rattle.art_shared.specs.declared.law.Known.{Known}
 use Rattle.art_shared.specs.Passes.{glued, nobody}
-use Rattle.art_shared.specs.Rule.{Apart, Kept, Words, all_told, all_views, find, joined, passes_of, seated}
+use Rattle.art_shared.specs.Rule.{Apart, BeginsAt, Kept, Words, all_told, all_views, find, joined, passes_of, seated}
 use Rattle.art_shared.proofs.Lists.{joined_append, joined_here, joined_set}
 use Rattle.art_shared.proofs.Seated.{members}
 
@@ -140,7 +141,14 @@ kept_again : (b : Basis) (s : Words) (ks : List Known) (k : Kept b s) → seated
     → Kept b record { words = s.words; homes = s.homes; views = ks }
 kept_again b s ks k same apart told =
     let both = subst (λ (f : Views). (r : IsSound b.sizes (memory_of b.sizes s.words) f) × ((h : List Event) → Member h (all_told ks) → StartsWith r.log h) × AreAdmitted (IsKeyOf b.schema) r.log) (sym same) (k.sound, told, k.typed) in
-    record { long = k.long; sound = both.0; apart = apart; told = both.1; typed = both.2 }
+    record {
+      long = k.long;
+      sound = both.0;
+      apart = apart;
+      told = both.1;
+      typed = both.2;
+      begins = subst (BeginsAt b.counter_start ((memory_of b.sizes s.words).version cell.Anchor)) (sym same) k.begins;
+    }
 
 -- what one seat knows
 abbrev pub views_in : Known → List View

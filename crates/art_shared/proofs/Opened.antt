@@ -1,19 +1,19 @@
 -- The rule of the table at its opening.
 use Rattle.art_key.specs.Spelling.{IsKeyOf}
 use Rattle.art_step.specs.Histories.{AreAdmitted}
-use Rattle.std.proofs.Common.{◌≡◌, ℕ, zero, suc, ◌+◌, ◌-◌, ◌<◌, ◌≤◌, List, [], ◌∷◌, ◌++◌, length, Some, ⊎_elim, sym, refl, ap, ap₂, ◌∙◌, subst, arith, append-nil}
+use Rattle.std.proofs.Common.{◌≡◌, ℕ, zero, suc, ◌+◌, ◌-◌, ◌*◌, ◌<◌, ◌≤◌, List, [], ◌∷◌, ◌++◌, length, Some, ⊎_elim, sym, refl, ap, ap₂, ◌∙◌, subst, arith, append-nil}
 use Rattle.atomic_table.specs.Table.{Me, opening}
+use Rattle.art_cell.specs.declared.cells.Cell.TheVariants as cell
 use Rattle.art_step.specs.declared.views.Sizes.{Sizes}
 use Rattle.art_step.specs.declared.views.View.{View}
 use Rattle.art_step.specs.OpeningWords.{opening_words}
 use Rattle.art_step.specs.Opening.{Opens, newcomer}
 use Rattle.art_step.specs.Sound.{IsSound}
 use Rattle.art_step.specs.Views.{Member, Views, last_counter}
-use Rattle.art_step.specs.WordRows.{memory_of, newcomers}
+use Rattle.art_step.specs.WordRows.{memory_of, newcomers, version_in}
 use Rattle.art_step.proofs.Determined.{whole}
-use Rattle.art_step.proofs.OpeningWords.{length-opening_words, opens}
+use Rattle.art_step.proofs.OpeningWords.{anchor_version, length-opening_words, opens}
 use Rattle.art_step.proofs.StepOpens.{open_law}
-use Rattle.art_shared.specs.declared.law.Basis.{Basis}
 use Rattle.art_shared.specs.declared.law.Basis.{Basis}
 use Rattle.art_shared.specs.declared.law.Known.{Known}
 use Rattle.art_shared.specs.Passes.{first_alone, head_of, newcomers_known, tail_of, without_first}
@@ -35,9 +35,10 @@ apart_newcomers : (k n : ℕ) → Apart (passes_of (newcomers k n))
 apart_newcomers k zero = tt
 apart_newcomers k (suc n) = (λ i. let low = pass_in (suc k) n k i in omega arith, apart_newcomers (suc k) n)
 
-pub opened : (basis : Basis) (k : ℕ) (ws : List ℕ) → k ≤ last_counter → ws ≡ opening_words basis.sizes k → Kept basis (opening ws [] (newcomers_known basis))
-opened basis k ws low is =
+pub opened : (basis : Basis) (ws : List ℕ) → basis.counter_start ≤ last_counter → ws ≡ opening_words basis.sizes basis.counter_start → Kept basis (opening ws [] (newcomers_known basis))
+opened basis ws low is =
     let z : Sizes = basis.sizes in
+    let k : ℕ = basis.counter_start in
     let all : newcomers 0 z.passes ++ [] ≡ newcomers 0 z.passes = append-nil (newcomers 0 z.passes) in
     let o = opens z k low in
     let mine : Opens z (memory_of z (opening_words z k)) (seated (newcomers_known basis ∷ [])) = record {
@@ -64,7 +65,21 @@ opened basis k ws low is =
           (λ (none : sound.log ≡ []). none)
           (λ (o : (q : ℕ) × (u : View) × (f q ≡ Some u) × (u.seen ≡ sound.log)). sym o.3 ∙ ap (λ (u : View). u.seen) (mine.views o.0 o.1 o.2).1)
           (whole f sound.log sound.history))) (λ e i. absurd i);
+      begins =
+          let anchor : version_in z ws cell.Anchor ≡ 4 * k = ap (λ (us : List ℕ). version_in z us cell.Anchor) is ∙ anchor_version z k in
+          record { least = omega (arith, anchor); exactly = λ idle. anchor };
     }
+
+-- of words that begin at another counter, a lower one or a higher, the rule does not hold then
+pub opened_alone : (basis : Basis) (k : ℕ) (ws : List ℕ) → ws ≡ opening_words basis.sizes k → Kept basis (opening ws [] (newcomers_known basis)) → k ≡ basis.counter_start
+opened_alone basis k ws is kept =
+    let z : Sizes = basis.sizes in
+    let all : newcomers 0 z.passes ++ [] ≡ newcomers 0 z.passes = append-nil (newcomers 0 z.passes) in
+    let anchor : version_in z ws cell.Anchor ≡ 4 * k = ap (λ (us : List ℕ). version_in z us cell.Anchor) is ∙ anchor_version z k in
+    let start : version_in z ws cell.Anchor ≡ 4 * basis.counter_start = kept.begins.exactly (λ p v e.
+    let at = found_member (newcomers 0 z.passes ++ []) p v e in
+    ap (λ (u : View). u.steps) (newcomer_in 0 z.passes v (subst (Member v) all at.0)).0) in
+    omega (arith, anchor, start)
 
 -- the first of some newcomers
 pub newcomers_more : (k n : ℕ) → 0 < n → newcomers k n ≡ newcomer k ∷ newcomers (suc k) (n - 1)

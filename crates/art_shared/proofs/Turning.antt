@@ -29,6 +29,7 @@ use Rattle.art_shared.specs.declared.law.Known.{Known}
 use Rattle.art_shared.specs.Passes.{all_placed, are_numbers, has_numbers, head_of, view_in}
 use Rattle.art_shared.specs.Rule.{Apart, Kept, Words, all_told, all_views, joined, passes_of, seated}
 use Rattle.art_shared.specs.Turns.{AddsTyped, MayTurn, Stands, Turn}
+use Rattle.art_shared.proofs.Counters.{still_begun}
 use Rattle.art_shared.proofs.Lists.{joined_here}
 use Rattle.art_shared.proofs.Moving.{told_in, views_in}
 use Rattle.art_shared.proofs.Seated.{at_member, members, passes_set, standing, turns_member}
@@ -132,6 +133,7 @@ module _ (basis : Basis) (id place : ℕ) (me : Me (Unit {0}) Known) (single : l
           apart = subst Apart (sym (same_passes w t.pass)) k.apart;
           told = λ h i. starts_then _ _ h (history_grows z v.pass _ _ _ _ step k.sound sound) (k.told h (subst (Member h) (same_told w) i));
           typed = still_typed basis.schema z v.pass v w _ _ _ _ step k.sound sound mine turn k.typed adds;
+          begins = still_begun basis.counter_start z v.pass v w _ _ _ _ step mine turn k.begins;
         } in
         record {
           known = after w;

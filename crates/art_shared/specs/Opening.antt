@@ -7,7 +7,8 @@ use Rattle.art_shared.specs.declared.shared.Shared.{Shared}
 use Rattle.art_shared.specs.Passes.{newcomer_known}
 use Rattle.art_shared.specs.Tables.{IsPassOf, basis_in, known_to}
 
--- a table with this basis, and its passes, each of which knows nothing
+-- a table with this basis, and its passes, each of which knows nothing. By the rule of such a table the anchor's counter is just that of
+-- the basis until one of them makes a step
 pub record OpensWith (b : Basis) (t : Shared) (passes : List Pass) : Type 0 where
   pub basis : basis_in t ≡ b
   pub count : length passes ≡ b.sizes.passes

@@ -66,7 +66,7 @@ marked k = record { basis = k.basis; views = []; told = (view_in k).seen ∷ [] 
 
 -- a seat with no pass, and one that takes in what another knows
 abbrev pub no_basis : Basis
-no_basis = record { sizes = record { leaves = 0; n4 = 0; n16 = 0; n48 = 0; n256 = 0; passes = 0 }; schema = [] }
+no_basis = record { sizes = record { leaves = 0; n4 = 0; n16 = 0; n48 = 0; n256 = 0; passes = 0 }; schema = []; counter_start = 0 }
 
 abbrev pub nobody : Known
 nobody = record { basis = no_basis; views = []; told = [] }

@@ -1,9 +1,11 @@
 -- The rule of a table: its words, and the views that its seats have, are a world in which the invariant holds. The views are those of
--- passes apart, wherever each of them stands; what a seat was told is a beginning of the one history; and all commands of it have keys of
--- the schema.
+-- passes apart, wherever each of them stands; what a seat was told is a beginning of the one history; all commands of it have keys of
+-- the schema; and the anchor's counter is never below the one at which the table was opened, and is just that one until some pass makes
+-- a step.
 use Rattle.art_key.specs.Spelling.{IsKeyOf}
-use Rattle.std.specs.Prelude.{◌≡◌, ℕ, List, [], ◌∷◌, ◌++◌, map, length, ◌==◌, if◌then◌else◌, Option, Some, None, ⊤}
+use Rattle.std.specs.Prelude.{◌≡◌, ◌*◌, ◌≤◌, ℕ, List, [], ◌∷◌, ◌++◌, map, length, ◌==◌, if◌then◌else◌, Option, Some, None, ⊤}
 use Rattle.atomic_table.specs.Table.{State}
+use Rattle.art_cell.specs.declared.cells.Cell.TheVariants as cell
 use Rattle.art_step.specs.declared.views.Event.{Event}
 use Rattle.art_step.specs.declared.views.View.{View}
 use Rattle.art_step.specs.Histories.{AreAdmitted, StartsWith}
@@ -47,6 +49,13 @@ abbrev pub Apart : {A : Type 0} → List A → Type 0
 Apart [] = ⊤
 Apart (x ∷ xs) = (Member x xs → ⊥) × Apart xs
 
+-- the version word of the anchor shows that its counter began at start: the counter, which is all but the word's two lowest bits, is
+-- start or more; and as long as no pass has made any step, the word is just that of start, neither locked nor obsolete. So words that
+-- begin at a lower counter break the first, and words that begin at a higher one the second
+pub record BeginsAt (start : ℕ) (word : ℕ) (f : Views) : Type 0 where
+  pub least : 4 * start ≤ word
+  pub exactly : ((p : ℕ) (v : View) → f p ≡ Some v → v.steps ≡ 0) → word ≡ 4 * start
+
 -- the rule of the table
 pub record Kept (b : Basis) (s : Words) : Type 0 where
   pub long : length s.words ≡ word_count b.sizes
@@ -54,3 +63,4 @@ pub record Kept (b : Basis) (s : Words) : Type 0 where
   pub apart : Apart (passes_of (all_views s.views))
   pub told : (h : List Event) → Member h (all_told s.views) → StartsWith sound.log h
   pub typed : AreAdmitted (IsKeyOf b.schema) sound.log
+  pub begins : BeginsAt b.counter_start ((memory_of b.sizes s.words).version cell.Anchor) (seated s.views)

@@ -1,7 +1,7 @@
 -- What contracts see of a table, and of a pass.
 use Rattle.art_key.specs.Spelling.{IsKeyOf}
 use Rattle.art_step.specs.Histories.{AreAdmitted}
-use Rattle.std.specs.Prelude.{◌≡◌, List}
+use Rattle.std.specs.Prelude.{◌≡◌, ℕ, List}
 use Rattle.art_key.specs.declared.columns.Column.{Column}
 use Rattle.art_step.specs.declared.views.Sizes.{Sizes}
 use Rattle.art_step.specs.declared.views.View.{View}
@@ -11,7 +11,7 @@ use Rattle.art_shared.specs.declared.pass.Pass.{Pass}
 use Rattle.art_shared.specs.declared.shared.Shared.{Shared}
 use Rattle.art_shared.specs.Passes.{view_in}
 
--- what the table was opened with: how many cells it has, and what spells its keys
+-- what the table was opened with: how many cells it has, what spells its keys, and at which counter its anchor began
 abbrev pub basis_in : Shared → Basis
 basis_in t = t.basis
 
@@ -20,6 +20,10 @@ sizes_in t = (basis_in t).sizes
 
 abbrev pub schema_in : Shared → List Column
 schema_in t = (basis_in t).schema
+
+-- the counter at which the anchor's version word began
+abbrev pub counter_in : Shared → ℕ
+counter_in t = (basis_in t).counter_start
 
 -- what the seat of the pass knows, and what the pass knows
 abbrev pub known_to : Pass → Known

@@ -40,7 +40,8 @@ impl EpochSteps for Stepper<'_> {
         let bit = 1 << (number.number() % 64);
         let at = word_at(self.shared.basis.sizes, first, index);
         let freed = number.spend();
-        self.pass.add::<Brand, Link>(self.shared, at, bit, &freed);
+        self.pass
+            .set_bits::<Brand, Link>(self.shared, at, bit, &freed);
     }
 
     fn epoch(&mut self) -> u64 {

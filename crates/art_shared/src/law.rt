@@ -4,11 +4,13 @@ use art_step::{Event, Sizes, View};
 use atomic_table::TableRule;
 use std::collections::LinkedList;
 
-/// What a table is opened with: how many cells there are, and the schema that spells all keys.
+/// What a table is opened with: how many cells there are, the schema that spells all keys, and the counter at which the anchor's
+/// version word begins.
 #[derive(Drop)]
 pub struct Basis {
     pub sizes: Sizes,
     pub schema: Schema,
+    pub counter_start: u64,
 }
 
 /// What a seat of the table knows: the table's basis, the views of its passes, and histories that it was told. No value of it is

@@ -16,28 +16,34 @@
 //! # Steps
 //!
 //! A pass is lent to the table (`Shared::at`), and makes its steps on the `Stepper`, by the traits of `art_step`: a machine
-//! that runs on a world of one thread runs here unchanged. Each call makes one atomic operation on one word, and no other:
+//! that runs on a world of one thread runs here unchanged. Seen from the code, each call makes one atomic operation on one word, and
+//! no other. Its contract says that it makes one step; that it makes no second load beside it, no clause says:
 //!
 //! | call | operation |
 //! |---|---|
 //! | `begin`, `read`, `read_leaf`, `check` | load |
 //! | `upgrade` | compare and exchange: the stamped version word becomes a locked one, or nothing is written |
-//! | `claim`, `commit`, `release` | add, to a version word that nobody else writes |
+//! | `claim` | store, of a locked word whose counter is 0, to a version word that nobody else writes |
+//! | `commit`, `release` | add, to a version word that nobody else writes |
 //! | `write`, `write_leaf` | store, to a word that nobody else writes |
 //! | `bits_clear` | load where no bit is named, else and, with a mask of all other bits |
-//! | `bits_set` | add of the bit, which is not set |
+//! | `bits_set` | or, with the bit, which is not set |
 //! | `epoch`, `pass_load` | load |
 //! | `epoch_add` | add |
 //! | `pass_store` | store, to the pass's own word |
 //!
 //! All operations are sequentially consistent. There is no lock round the table, and no call waits for another thread.
 //!
+//! A word of free numbers that is only looked at is loaded. Other designs of this kind look by an and with all ones: that finds the
+//! same word and leaves it as it was too, but takes the word's cache line from all other threads.
+//!
 //! # The rule
 //!
 //! Between any two steps of any threads the table keeps one rule (`Kept` in `specs/Rule.antt`): its words, and the views that all
 //! seats have, are a world in which the invariant of `art_step` holds; each pass stands in one seat; what a seat was told is a
-//! beginning of the one history; and all commands of that have keys of the schema. Each step of a thread has to keep it, whatever the
-//! table is then, and is shown to by the law of its kind: no step rests on what other threads do or leave undone.
+//! beginning of the one history; all commands of that have keys of the schema; and the anchor's counter is never below the one at which
+//! the table was opened, and is just that one until some pass makes a step (`BeginsAt`). Each step of a thread has to keep it, whatever
+//! the table is then, and is shown to by the law of its kind: no step rests on what other threads do or leave undone.
 //!
 //! # What a step tells
 //!

@@ -26,7 +26,8 @@ impl Split<Known> for Cut {
 
 impl Shared {
     /// A table for these cells, with keys of the schema, and its passes in the order of their numbers. The anchor names no root,
-    /// its counter and those of all nodes begin at `counter_start`, all numbers are free, and each pass is idle and knows nothing.
+    /// its counter begins at `counter_start`, all numbers are free, and each pass is idle and knows nothing. The counter of a node
+    /// begins at 0 whenever its number is claimed.
     pub fn open(
         alloc: Global,
         schema: Schema,
@@ -34,11 +35,16 @@ impl Shared {
         counter_start: u64,
     ) -> Result<(Shared, Vec<Pass>), NoMemory>
         requires { counter_start ≤ last_counter }
-        ensures { IfOk result (λ r. OpensWith (record { sizes = sizes.now; schema = schema }) r.0 r.1.items) }
+        ensures { IfOk result (λ r. OpensWith (record { sizes = sizes.now; schema = schema; counter_start = counter_start })
+            r.0 r.1.items) }
     {
         let sizes = *sizes;
         let words = opening_words(alloc, sizes, counter_start)?;
-        let basis = Basis { sizes, schema };
+        let basis = Basis {
+            sizes,
+            schema,
+            counter_start,
+        };
         let (table, mut rest) = Table::<(), Known, Basis, Law, Global>::of_words(
             alloc,
             words.as_slice(),

@@ -104,7 +104,8 @@ impl Steps for Stepper<'_> {
         };
         let cell = Cell::Node(node);
         let place = self.shared.place_of(cell);
-        self.pass.add::<Brand, Node>(self.shared, place, 1, &node);
+        self.pass
+            .store::<Brand, Node>(self.shared, place, Version::claimed().word, &node);
         Held::of(cell)
     }
 

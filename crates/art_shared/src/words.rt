@@ -1,5 +1,5 @@
 //! Atomic steps on one word of the table. Each is a step of the pass, and changes its view: both happen here alone.
-ghost use Rattle.std.specs.Prelude.{◌≡◌, ◌+◌, ◌%◌, ◌^◌, ◌<◌, ◌==◌, bit_and};
+ghost use Rattle.std.specs.Prelude.{◌≡◌, ◌+◌, ◌%◌, ◌^◌, ◌<◌, ◌==◌, bit_and, bit_or};
 ghost use prog.Atomic.{either};
 ghost use Rattle.art_step.specs.WordPlaces.{word_count};
 ghost use Rattle.art_shared.specs.SamePass.{SamePass};
@@ -99,5 +99,26 @@ impl Pass {
             .table
             .shared
             .fetch_and::<Told<K>>(&mut self.seat, place, mask)
+    }
+
+    /// It is found, and gains the bits of another.
+    pub(crate) fn set_bits<K: Shows, A>(
+        &mut self,
+        shared: &Shared,
+        place: usize,
+        bits: u64,
+        _about: &A,
+    ) -> u64
+        requires table { self.old.seat.table_id ≡ shared.now.table.shared.table_id }
+        requires basis { self.old.seat.me.0.basis ≡ shared.now.basis }
+        requires place { place < word_count shared.now.basis.sizes }
+        requires may { MayTurn shared.now.basis self.old.seat.me.0 place (λ n. bit_or n bits) K.shown K.happens }
+        ensures same { SamePass self.old self.new }
+        ensures turn { Turn shared.now.basis self.old.seat.me.0 self.new.seat.me.0 (K.happens result) (K.shown result) }
+    {
+        shared
+            .table
+            .shared
+            .fetch_or::<Told<K>>(&mut self.seat, place, bits)
     }
 }

@@ -5,7 +5,7 @@ ghost use Rattle.art_step.specs.Views.{last_counter};
 
 use crate::clients::{asks, finds, key_of, last_of, puts, takes, two_bytes, writer_of};
 use crate::closing::ended;
-use art_cell::{Cell, Layout, Node, Pool};
+use art_cell::{Cell, Pool};
 use art_change::{Outcome, Writer};
 use art_find::Got;
 use art_model::NoMemory;
@@ -198,11 +198,5 @@ fn a_refused_insert_leaves_all_as_it_was(rt: HostRuntime) -> Result<(), Fail> {
     );
     let anchor = Outcome::Exhausted(Cell::Anchor);
     assert_eq!(rt; next_row(&rt, rt.alloc(), &ONE_PASS, LAST, 0)?, anchor);
-    let root = Node {
-        layout: Layout::Node4,
-        number: 0,
-    };
-    let node = Outcome::Exhausted(Cell::Node(root));
-    assert_eq!(rt; next_row(&rt, rt.alloc(), &ONE_PASS, LAST - 2, 3)?, node);
     Ok(())
 }

@@ -1,5 +1,5 @@
 -- The steps of a pass that change a word: one lemma for each kind, whatever function the views are.
-use Rattle.std.proofs.Common.{◌≡◌, ◌≢◌, ◌⊎◌, ℕ, ◌+◌, ◌%◌, ◌^◌, ◌<◌, ◌≤◌, Bool, true, false, if◌then◌else◌, List, [], ◌∷◌, ◌++◌, length, map, set, inl, inr, ⊎_elim, sym, refl, ap, ◌∙◌, subst, arith}
+use Rattle.std.proofs.Common.{◌≡◌, ◌≢◌, ◌⊎◌, ℕ, ◌+◌, ◌%◌, ◌<◌, ◌≤◌, Bool, true, false, if◌then◌else◌, List, [], ◌∷◌, ◌++◌, length, map, set, inl, inr, ⊎_elim, sym, refl, ap, ◌∙◌, subst, arith}
 use Rattle.std.proofs.lemmas.Bool.{cases_eq}
 use Rattle.std.specs.FinMap.{empty}
 use Rattle.std.specs.Prelude.{Option, Some}
@@ -19,7 +19,7 @@ use Rattle.art_step.specs.declared.views.View.{View}
 use Rattle.art_step.specs.declared.deeds.Deed.{Deed}
 use Rattle.art_tree.specs.Heaps.{Cells}
 use Rattle.art_step.specs.Histories.{event, IsAnswered, becomes, run, replay, IsLegalFrom, IsLegal}
-use Rattle.art_step.specs.Effects.{LocksClaimed, LocksStamped, PutsWord, Unlocks, SetsVersion, SetsWord, released_word}
+use Rattle.art_step.specs.Effects.{LocksClaimed, LocksStamped, PutsWord, Unlocks, SetsVersion, SetsWord, claimed_word, released_word}
 use Rattle.art_tree.specs.Rows.{ByteMap}
 use Rattle.art_step.specs.Views.{IsChildPlace, IsChildWord, IsHolding, IsInHand, note_of, IsNotHeld, SetsView}
 use Rattle.art_step.specs.Steps.Upgrade as upgrade
@@ -42,7 +42,7 @@ use Rattle.art_step.proofs.SoundParts.{one_entry}
 use Rattle.art_step.proofs.Gathered.{left_over, put, same_keys, sifted, swap}
 use Rattle.art_tree.proofs.Places.{same_cell, same_link}
 use Rattle.art_step.proofs.StepCommits.{either_member, retired_of}
-use Rattle.art_step.proofs.StepLocks.{no_leaf, unclaimed_law}
+use Rattle.art_step.proofs.StepLocks.{no_leaf}
 use Rattle.art_step.proofs.SetsView.{member_append, one_view}
 use Rattle.art_step.proofs.WordRows.{IsNoLeaf, sets_version, sets_word, copy_of, is_copy, copy_version}
 use Rattle.art_step.proofs.Moves.{Moves, makes, moved, with_view, with_turned}
@@ -175,21 +175,14 @@ module _ (z : Sizes) (ws : List ℕ) (f : Views) (p : ℕ) (v : View) (r : IsSou
       (λ g t. IsUpgrade record { stamp = x; copy = words; may = may; copied = copy; locks = record { found = sym stays; sets = sets }; view = t })
       (λ g t. record { found = sym stays; sets = sets })
 
-  -- a node's number in hand is one whose word may go up
-  pub claim_fits : (n : Node) → claim.May v n → m.version (cell.Node n) + 1 < 2 ^ 64
-  claim_fits n may =
-      let obsolete = unclaimed_law z p v m f n at r may in
-      let small = (r.formed.versions (cell.Node n)).obsolete obsolete in
-      omega arith
-
   -- a node in hand is locked
-  pub moves_claims : (n : Node) → IsInside z (cell.Node n) → claim.May v n → Moves z ws f p v (set ws (place_of z (cell.Node n)) (m.version (cell.Node n) + 1)) (λ v w. claim.Outcome v w n) (LocksClaimed n)
+  pub moves_claims : (n : Node) → IsInside z (cell.Node n) → claim.May v n → Moves z ws f p v (set ws (place_of z (cell.Node n)) claimed_word) (λ v w. claim.Outcome v w n) (LocksClaimed n)
   moves_claims n there may =
       let c : Cell = cell.Node n in
       let copy = is_copy z ws c in
       let words : List ℕ = copy_of z ws c in
-      let us : List ℕ = set ws (place_of z c) (m.version c + 1) in
-      let sets : SetsVersion m c (m.version c + 1) (memory_of z us) = sets_version z ws c (m.version c + 1) there (λ l e. cc) long in
+      let us : List ℕ = set ws (place_of z c) claimed_word in
+      let sets : SetsVersion m c claimed_word (memory_of z us) = sets_version z ws c claimed_word there (λ l e. cc) long in
       moved z ws f p v r at long us (λ v w. claim.Outcome v w n) (LocksClaimed n) (claim.view_after v n words) refl
       record { words = words; long = copy.long; version = copy_version z ws c (λ l e. cc); apart = hand_apart (node n) may.hand; is = refl }
       (λ g t. IsClaim record { node = n; copy = words; may = may; copied = copy; locks = sets; view = t })

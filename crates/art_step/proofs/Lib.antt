@@ -13,6 +13,7 @@ pub mod LimboWaits
 pub mod Moves
 pub mod NumberMoves
 pub mod OpeningWords
+pub mod PinsStay
 pub mod SetsView
 pub mod Shows
 pub mod SoundParts

@@ -33,7 +33,7 @@ use Rattle.art_step.proofs.Facts.{SameLeafWords, holds_on}
 use Rattle.art_step.proofs.Histories.{replay_more, history_grows}
 use Rattle.art_step.proofs.SoundParts.{formed_turn, holder_turn, apart_turn}
 use Rattle.art_tree.proofs.Places.{same_cell, same_link}
-use Rattle.art_step.proofs.StepLocks.{Raises, stamp_on, stayed, keeps_on, unlocked_not_held, no_leaf, released_raises, released_unlocked, released_clear, released_version}
+use Rattle.art_step.proofs.StepLocks.{Outgrows, stamp_on, stayed, keeps_on, unlocked_not_held, no_leaf, released_raises, released_unlocked, released_clear, released_version}
 use Rattle.art_step.proofs.SetsView.{one_view, either_view, stranger_before, each_view, member_append, member_front, member_back}
 
 -- ---- the words after all held cells have their new ones
@@ -200,8 +200,8 @@ module _ (z : Sizes) (m : Memory) (f : Views) (p : ℕ) (v : View) (is-v : f p �
 
   -- ---- versions
 
-  raises : Raises m m' h₀.cell
-  raises = let k = released_raises m m' h₀.cell b sets in record { above = k.above; there = k.there }
+  raises : Outgrows m m' f h₀.cell
+  raises = let k = released_raises z m m' f h₀.cell b r sets in record { past = k.past; there = k.there }
 
   -- a cell whose word is clear is no leaf, and the pass does not hold it
   clear_no_leaf : (c : Cell) → IsClear (m.version c) → IsNoLeaf c
@@ -210,11 +210,11 @@ module _ (z : Sizes) (m : Memory) (f : Views) (p : ℕ) (v : View) (is-v : f p �
   clear_not_held : (c : Cell) → IsClear (m.version c) → IsNotHeld v.held c
   clear_not_held c clear = unlocked_not_held m s v c mine (λ locked. omega (arith, clear, locked))
 
-  note_on : (y : Note) → Vouches m s y → Vouches m' s' y
-  note_on y k = record {
-    stamp = stamp_on m m' h₀.cell raises y.stamp k.stamp;
+  note_on : (q : ℕ) (u : View) → f q ≡ Some u → (y : Note) → Member y.stamp u.stamps → Vouches m s y → Vouches m' s' y
+  note_on q u is y i k = record {
+    stamp = stamp_on m m' f h₀.cell raises q u is y.stamp i k.stamp;
     same = λ e.
-        let was = (stayed m m' h₀.cell raises y.stamp k.stamp e).1 in
+        let was = (stayed m m' f h₀.cell raises q u is y.stamp i e).1 in
         let clear : IsClear (m.version y.stamp.cell) = subst IsClear (sym was) k.stamp.clear in
         facts y.stamp.cell y.fact (clear_no_leaf y.stamp.cell clear) (clear_not_held y.stamp.cell clear) (k.same was);
   }
@@ -240,12 +240,12 @@ module _ (z : Sizes) (m : Memory) (f : Views) (p : ℕ) (v : View) (is-v : f p �
   keeps_other q u other is h i =
       let k = (r.holder.holds q u is).keeps h i in
       let free = free_of q u other is h i in
-      keeps_on m m' h₀.cell raises s s' u.committed u.committed h (λ e. free h₀ first.held (sym e)) (same_words h.cell) (turns.there h.cell free ∙ k.logical) k
+      keeps_on m m' f h₀.cell raises s s' u.committed u.committed h (λ e. free h₀ first.held (sym e)) (same_words h.cell) (turns.there h.cell free ∙ k.logical) k
 
   keeps_mine : (h : Holding) → Member h hs → Keeps m' s' true h
   keeps_mine h i =
       let j = drops.was h i in
-      keeps_on m m' h₀.cell raises s s' v.committed true h j.1 (same_words h.cell) (turns.here h j.0) (mine.keeps h j.0)
+      keeps_on m m' f h₀.cell raises s s' v.committed true h j.1 (same_words h.cell) (turns.here h j.0) (mine.keeps h j.0)
 
   at_rest : (c : Cell) → (IsLocked (m'.version c) → ⊥) → s' c ≡ m'.words c
   at_rest c rest = ⊎_elim
@@ -269,11 +269,16 @@ module _ (z : Sizes) (m : Memory) (f : Views) (p : ℕ) (v : View) (is-v : f p �
 
   vouch : StampsVouch m' g s'
   vouch = each_view f g p w t (λ q u. Vouched m' s' u)
-      (record { stamps = λ x i. stamp_on m m' h₀.cell raises x (vouched.stamps x i); noted = vouched.noted; notes = λ y i. note_on y (vouched.notes y i); kept = λ e. absurd (cc) })
+      (record {
+        stamps = λ x i. stamp_on m m' f h₀.cell raises p v is-v x i (vouched.stamps x i);
+        noted = vouched.noted;
+        notes = λ y i. note_on p v is-v y (vouched.noted y i) (vouched.notes y i);
+        kept = λ e. absurd (cc);
+      })
       (λ q u other is. let k = r.vouch q u is in record {
-        stamps = λ x i. stamp_on m m' h₀.cell raises x (k.stamps x i);
+        stamps = λ x i. stamp_on m m' f h₀.cell raises q u is x i (k.stamps x i);
         noted = k.noted;
-        notes = λ y i. note_on y (k.notes y i);
+        notes = λ y i. note_on q u is y (k.noted y i) (k.notes y i);
         kept = λ e h y i j a st.
             let lock = ((r.holder.holds q u is).keeps h i).locked in
             facts h.cell y.fact (no_leaf z m f h.cell r.formed (λ old. omega (arith, lock, old))) (free_of q u other is h i) (k.kept e h y i j a st);

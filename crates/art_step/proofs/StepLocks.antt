@@ -8,22 +8,23 @@ use Rattle.art_cell.specs.declared.cells.Link.{Link}
 use Rattle.art_cell.specs.declared.cells.Link.TheVariants.{Leaf as leaf, Node as node}
 use Rattle.art_step.specs.declared.views.Found.{Found}
 use Rattle.art_step.specs.declared.views.Holding.{Holding}
+use Rattle.art_step.specs.declared.views.InHand.{InHand}
 use Rattle.art_step.specs.declared.views.Note.{Note}
 use Rattle.art_step.specs.declared.views.Sizes.{Sizes}
 use Rattle.art_step.specs.declared.views.Stamp.{Stamp}
 use Rattle.art_step.specs.declared.views.View.{View}
 use Rattle.art_tree.specs.Heaps.{Cells}
 use Rattle.art_step.specs.Knowledge.{Holds}
-use Rattle.art_step.specs.Sound.{Keeps, HoldsEach, OneHolder, Holder, IsStampOf, Vouched, Whereabouts, InTree, InHandOf, InLimboOf, HeldAt, Accounts, WordsFormed, IsSound}
+use Rattle.art_step.specs.Sound.{Keeps, HoldsEach, OneHolder, Holder, IsStampOf, Vouched, Whereabouts, InTree, IsFree, InHandOf, InLimboOf, HeldAt, Accounts, WordsFormed, IsSound}
 use Rattle.art_step.specs.Steps.Upgrade as upgrade
 use Rattle.art_step.specs.Steps.Claim as claim
-use Rattle.art_step.specs.Steps.Claim.{UnclaimedLaw}
+use Rattle.art_step.specs.Steps.Claim.{LinkedLaw, LinkedSincePin, StillLinked, UnclaimedLaw, UnstampedLaw, WasLinked}
 use Rattle.art_step.specs.Steps.Release as release
-use Rattle.art_step.specs.Effects.{SetsVersion, released_word}
+use Rattle.art_step.specs.Effects.{SetsVersion, claimed_word, released_word}
 use Rattle.art_step.specs.Views.{IsNotHeld, MayLock, found_version, IsInLimbo, SetsView}
 use Rattle.art_step.specs.Steps.Upgrade.{IsCopy, HasClaimedNone}
 use Rattle.art_step.specs.Steps.Release.{IsNodeAmong}
-use Rattle.art_step.specs.Views.{Member, Memory, words_in, IsClear, IsLocked, IsObsolete, last_counter, IsVersion, cell_named, Views, SetsView}
+use Rattle.art_step.specs.Views.{Member, Memory, words_in, IsClear, IsLocked, IsObsolete, last_counter, IsVersion, cell_named, is_free, Views, SetsView}
 use Rattle.art_tree.proofs.Places.{same_cell}
 use Rattle.art_step.proofs.Histories.{history_stays}
 use Rattle.art_step.proofs.SoundParts.{numbers_turn, unstamped_turn, formed_turn, holder_turn, apart_turn}
@@ -41,12 +42,22 @@ set_version_sound z m m' c x g k =
     let e : with_versions m m'.version ≡ m' = (λ i. record { version = m'.version; words = sym k.words i; free_word = sym k.free i; epoch = sym k.epoch i; pass_word = sym k.pass_word i }) in
     subst (λ (y : Memory). IsSound z y g) e
 
--- the version word of the cell c goes up, and those of the others stay
-pub record Raises (m m' : Memory) (c : Cell) : Type 0 where
-  pub above : m.version c < m'.version c
+-- the version word of the cell c changes to one that is above each that a view has stamped it with, and those of the others stay
+pub record Outgrows (m m' : Memory) (f : Views) (c : Cell) : Type 0 where
+  pub past : (q : ℕ) (u : View) → f q ≡ Some u → (x : Stamp) → Member x u.stamps → x.cell ≡ c → x.version < m'.version c
   pub there : (d : Cell) → d ≢ c → m'.version d ≡ m.version d
 
-module _ (m m' : Memory) (c : Cell) (k : Raises m m' c) where
+-- so it is where the word goes up
+pub outgrows_up : (z : Sizes) (m m' : Memory) (f : Views) (c : Cell) → IsSound z m f → m.version c < m'.version c
+    → ((d : Cell) → d ≢ c → m'.version d ≡ m.version d) → Outgrows m m' f c
+outgrows_up z m m' f c r up there = record {
+  past = λ q u at x i is.
+      let low : x.version ≤ m.version c = subst (λ (d : Cell). x.version ≤ m.version d) is ((r.vouch q u at).stamps x i).below in
+      omega arith;
+  there = there;
+}
+
+module _ (m m' : Memory) (f : Views) (c : Cell) (k : Outgrows m m' f c) where
   -- what holds of the new word, and of the old words of the others, holds of each word
   pub each_word : (P : Cell → ℕ → Type 0) → P c (m'.version c) → ((d : Cell) → d ≢ c → P d (m.version d)) → (d : Cell) → P d (m'.version d)
   each_word P here there d = ⊎_elim
@@ -54,29 +65,37 @@ module _ (m m' : Memory) (c : Cell) (k : Raises m m' c) where
       (λ (other : d ≢ c). subst (P d) (sym (k.there d other)) (there d other))
       (same_cell d c)
 
-  -- a stamp stays one
-  pub stamp_on : (x : Stamp) → IsStampOf m x → IsStampOf m' x
-  stamp_on x i =
-      let up : m.version x.cell ≤ m'.version x.cell = each_word (λ (d : Cell) (y : ℕ). m.version d ≤ y) (let a = k.above in omega arith) (λ d other. omega arith) x.cell in
-      let low = i.below in
-      record { clear = i.clear; below = omega arith }
+  -- a stamp of a view stays one
+  pub stamp_on : (q : ℕ) (u : View) → f q ≡ Some u → (x : Stamp) → Member x u.stamps → IsStampOf m x → IsStampOf m' x
+  stamp_on q u at x i o = ⊎_elim
+      (λ (is : x.cell ≡ c).
+      let past = k.past q u at x i is in
+      let same : m'.version x.cell ≡ m'.version c = ap m'.version is in
+      record { clear = o.clear; below = omega arith })
+      (λ (other : x.cell ≢ c).
+      let same = k.there x.cell other in
+      let low = o.below in
+      record { clear = o.clear; below = omega arith })
+      (same_cell x.cell c)
 
   -- the new word is none that was stamped, so a word that is the stamped one is another cell's, and stayed
-  pub stayed : (x : Stamp) → IsStampOf m x → m'.version x.cell ≡ x.version → (x.cell ≢ c) × (m.version x.cell ≡ x.version)
-  stayed x i e =
+  pub stayed : (q : ℕ) (u : View) → f q ≡ Some u → (x : Stamp) → Member x u.stamps → m'.version x.cell ≡ x.version → (x.cell ≢ c) × (m.version x.cell ≡ x.version)
+  stayed q u at x i e =
       let other : x.cell ≢ c = (λ is.
       let a : m'.version c ≡ x.version = sym (ap m'.version is) ∙ e in
-      let low : x.version ≤ m.version c = subst (λ (d : Cell). x.version ≤ m.version d) is i.below in
-      let up = k.above in
+      let past = k.past q u at x i is in
       omega arith) in
       (other, sym (k.there x.cell other) ∙ e)
 
   -- where the logical words stay, a view's stamps vouch as before
-  pub vouched_on : (s : Cells) (u : View) → Vouched m s u → Vouched m' s u
-  vouched_on s u o = record {
-    stamps = λ x i. stamp_on x (o.stamps x i);
+  pub vouched_on : (s : Cells) (q : ℕ) (u : View) → f q ≡ Some u → Vouched m s u → Vouched m' s u
+  vouched_on s q u at o = record {
+    stamps = λ x i. stamp_on q u at x i (o.stamps x i);
     noted = o.noted;
-    notes = λ y i. let n = o.notes y i in record { stamp = stamp_on y.stamp n.stamp; same = λ e. n.same (stayed y.stamp n.stamp e).1 };
+    notes = λ y i.
+        let n = o.notes y i in
+        let has = o.noted y i in
+        record { stamp = stamp_on q u at y.stamp has n.stamp; same = λ e. n.same (stayed q u at y.stamp has e).1 };
     kept = o.kept;
   }
 
@@ -151,11 +170,12 @@ released_version m s a h false k o upgraded =
     let small = o.locked k.locked in
     record { form = inl (omega arith); clear = λ e. omega arith; locked = λ e. absurd (omega arith); obsolete = λ e. absurd (omega arith) }
 
--- so the version words go up by a release
-pub released_raises : (m m' : Memory) (c : Cell) (b : Bool) → SetsVersion m c (released_word (m.version c) b) m' → Raises m (with_versions m m'.version) c
-released_raises m m' c b k = record { above = subst (λ (x : ℕ). m.version c < x) (sym k.here) (released_above (m.version c) b); there = k.there }
+-- so the version word goes up by a release
+pub released_raises : (z : Sizes) (m m' : Memory) (f : Views) (c : Cell) (b : Bool) → IsSound z m f → SetsVersion m c (released_word (m.version c) b) m'
+    → Outgrows m (with_versions m m'.version) f c
+released_raises z m m' f c b r k = outgrows_up z m (with_versions m m'.version) f c r (subst (λ (x : ℕ). m.version c < x) (sym k.here) (released_above (m.version c) b)) k.there
 
--- ---- one cell's version word goes up, and what the pass holds changes by that cell
+-- ---- one cell's version word changes, and what the pass holds changes by that cell
 
 -- the pass holds these cells now
 abbrev locking : View → List Holding → Bool → List Found → View
@@ -176,7 +196,7 @@ module _ (z : Sizes) (m : Memory) (versions : Cell → ℕ) (f : Views) (p : ℕ
 
   -- of the cell's new word, and what is held now
   record Shift : Type 0 where
-    raises : Raises m n c
+    raises : Outgrows m n f c
     formed : IsVersion (versions c)
     leaf : (l : ℕ) → c ≢ cell.Leaf l
     -- a clear word is that of a cell of the tree, a cell whose word is not locked has its logical words, and one whose word is, is held
@@ -199,13 +219,13 @@ module _ (z : Sizes) (m : Memory) (versions : Cell → ℕ) (f : Views) (p : ℕ
     flagged h i = ⊎_elim (λ (e : v.committed ≡ b). e) (λ (e : v.held ≡ []). absurd (subst (λ (l : List Holding). Member h l) e i)) k.flag
 
     words_on : (P : Cell → ℕ → Type 0) → P c (versions c) → ((d : Cell) → d ≢ c → P d (m.version d)) → (d : Cell) → P d (versions d)
-    words_on = each_word m n c k.raises
+    words_on = each_word m n f c k.raises
 
     holds_now : HoldsEach n r.logical w
     holds_now = record {
       keeps = λ h i. ⊎_elim
           (λ (j : (h.cell ≢ c) × Member h v.held). let o = (r.holder.holds p v is).keeps h j.1 in
-          keeps_on m n c k.raises r.logical r.logical v.committed b h j.0 refl (subst (λ (a : Bool). r.logical h.cell ≡ words_in (if a then h.new else h.old)) (flagged h j.1) o.logical) o)
+          keeps_on m n f c k.raises r.logical r.logical v.committed b h j.0 refl (subst (λ (a : Bool). r.logical h.cell ≡ words_in (if a then h.new else h.old)) (flagged h j.1) o.logical) o)
           (λ (j : IsNew h). j.keeps) (k.each h i);
       single = k.single;
     }
@@ -217,7 +237,7 @@ module _ (z : Sizes) (m : Memory) (versions : Cell → ℕ) (f : Views) (p : ℕ
           (λ locked. let o = k.holder locked in record { pass = p; view = w; is = t.here; holding = o.0; holds = o.1; cell = o.2 })
           (λ d other locked. holder_turn f g p v w d t is (λ h i e. (h, k.stays h i (λ a. other (sym e ∙ a)), e)) (r.holder.holder d locked));
       holds = each_view f g p w t (λ q u. HoldsEach n r.logical u) holds_now (λ q u other e. let o = r.holder.holds q u e in record {
-        keeps = λ h i. let a = o.keeps h i in keeps_on m n c k.raises r.logical r.logical u.committed u.committed h (k.others q u other e h i) refl a.logical a;
+        keeps = λ h i. let a = o.keeps h i in keeps_on m n f c k.raises r.logical r.logical u.committed u.committed h (k.others q u other e h i) refl a.logical a;
         single = o.single;
       });
       apart = apart_turn f g p w t
@@ -228,7 +248,7 @@ module _ (z : Sizes) (m : Memory) (versions : Cell → ℕ) (f : Views) (p : ℕ
     }
 
     vouched_now : Vouched n r.logical w
-    vouched_now = let o = vouched_on m n c k.raises r.logical v (r.vouch p v is) in record {
+    vouched_now = let o = vouched_on m n f c k.raises r.logical p v is (r.vouch p v is) in record {
       stamps = o.stamps;
       noted = o.noted;
       notes = o.notes;
@@ -260,7 +280,7 @@ module _ (z : Sizes) (m : Memory) (versions : Cell → ℕ) (f : Views) (p : ℕ
       history = history_stays f g p v w t is r.log r.history refl refl refl;
       shows = r.shows;
       holder = holders;
-      vouch = each_view f g p w t (λ q u. Vouched n r.logical u) vouched_now (λ q u other e. vouched_on m n c k.raises r.logical u (r.vouch q u e));
+      vouch = each_view f g p w t (λ q u. Vouched n r.logical u) vouched_now (λ q u other e. vouched_on m n f c k.raises r.logical q u e (r.vouch q u e));
       numbers = numbers_turn z m n f g p w r.logical r.logical r.at t r.numbers r.numbers refl (λ l. refl) accounts_now;
       unstamped = unstamped_turn z m n f g p v w r.logical r.at t is r.numbers r.unstamped refl refl
           (λ d. words_on (λ (e : Cell) (x : ℕ). (d : Link) → e ≡ cell_named d → IsClear x → r.at d ≡ InTree) k.clear
@@ -285,7 +305,7 @@ module _ (z : Sizes) (m : Memory) (versions : Cell → ℕ) (f : Views) (p : ℕ
 
   -- of the cell, which was not locked and is now
   record Locks : Type 0 where
-    raises : Raises m (with_versions m versions) c
+    raises : Outgrows m (with_versions m versions) f c
     unlocked : IsLocked (m.version c) → ⊥
     locked : IsLocked (versions c)
     small : versions c ≤ 4 * last_counter + 2
@@ -350,7 +370,7 @@ upgrade_law z p v m f m' g is r row =
     let limit = may.limit in
     set_version_sound z m m' x.cell (x.version + 2) g sets
     (locks z m m'.version f p v r is x.cell (Some x.version) row.copy (found_version v x.cell x.version) record {
-      raises = record { above = omega arith; there = sets.there };
+      raises = outgrows_up z m (with_versions m m'.version) f x.cell r (omega arith) sets.there;
       unlocked = λ l. omega arith;
       locked = omega arith;
       small = omega arith;
@@ -382,6 +402,40 @@ unclaimed_law z p v m f n is r may =
     (λ (obsolete : IsObsolete (m.version c)). obsolete) a)
     (r.formed.versions c).form
 
+-- a node's number that is free, or in a hand, is in no stamp of any view: a stamp is of what is in the tree, or in a limbo
+pub unstamped_law : UnstampedLaw
+unstamped_law z m f a r place q u at stamped = ⊎_elim
+    (λ (tree : r.at (node a) ≡ InTree). ⊎_elim
+    (λ (free : is_free m (node a) ≡ true). let e : IsFree ≡ InTree = sym ((r.numbers.free (node a)).1 free) ∙ tree in absurd (cc))
+    (λ (hand : (p : ℕ) × (v : View) × (f p ≡ Some v) × ((x : InHand) × Member x v.hand × (x.link ≡ node a))).
+    let e : InHandOf hand.0 ≡ InTree = sym (in_hand hand.0 hand.1 hand.2 hand.3) ∙ tree in absurd (cc)) place)
+    (λ (limbo : (o : ℕ) × (r.at (node a) ≡ InLimboOf o)). ⊎_elim
+    (λ (free : is_free m (node a) ≡ true). let e : IsFree ≡ InLimboOf limbo.0 = sym ((r.numbers.free (node a)).1 free) ∙ limbo.1 in absurd (cc))
+    (λ (hand : (p : ℕ) × (v : View) × (f p ≡ Some v) × ((x : InHand) × Member x v.hand × (x.link ≡ node a))).
+    let e : InHandOf hand.0 ≡ InLimboOf limbo.0 = sym (in_hand hand.0 hand.1 hand.2 hand.3) ∙ limbo.1 in absurd (cc)) place)
+    ((r.unstamped.pinned q u at).stamped a stamped)
+  where
+    in_hand : (p : ℕ) (v : View) → f p ≡ Some v → ((x : InHand) × Member x v.hand × (x.link ≡ node a)) → r.at (node a) ≡ InHandOf p
+    in_hand p v is x = ap r.at (sym x.2) ∙ (r.numbers.accounts p v is).hand x.0 x.1
+
+-- and what is in a limbo is there under a pin that stands
+pub linked_law : LinkedLaw
+linked_law z m f a r q u at stamped = ⊎_elim
+    (λ (tree : r.at (node a) ≡ InTree). let o = (r.numbers.tree (node a)).0 tree in StillLinked o.0 o.1)
+    (λ (limbo : (o : ℕ) × (r.at (node a) ≡ InLimboOf o)).
+    let o = limbo.0 in
+    ⊎_elim
+    (λ (k : (w : View) × (f o ≡ Some w)).
+    let e = (r.numbers.accounts o k.0 k.1).in_limbo (node a) limbo.1 in
+    LinkedSincePin o k.0 e.0 k.1 e.1 e.2 ((r.unstamped.awaits q o u k.0 e.0 at k.1 e.1).stamped a e.2 stamped))
+    (λ (none : f o ≡ None). absurd ((r.numbers.strangers o (node a) none).1 limbo.1))
+    (some_view (f o)))
+    ((r.unstamped.pinned q u at).stamped a stamped)
+  where
+    some_view : (k : Option View) → ((w : View) × (k ≡ Some w)) ⊎ (k ≡ None)
+    some_view (Some w) = inl (w, refl)
+    some_view None = inr refl
+
 -- a node's number in hand is locked and held
 pub claim_law : claim.Law
 claim_law z p v m f m' g is r row =
@@ -389,11 +443,10 @@ claim_law z p v m f m' g is r row =
     let may = row.may in
     let sets = row.locks in
     let obsolete = unclaimed_law z p v m f n is r may in
-    let small = (r.formed.versions (cell.Node n)).obsolete obsolete in
     let here = sets.here in
-    set_version_sound z m m' (cell.Node n) (m.version (cell.Node n) + 1) g sets
+    set_version_sound z m m' (cell.Node n) claimed_word g sets
     (locks z m m'.version f p v r is (cell.Node n) None row.copy v.found record {
-      raises = record { above = omega arith; there = sets.there };
+      raises = record { past = λ q u at x i e. absurd (unstamped_law z m f n r (inr (p, v, is, may.hand)) q u at (x, i, e)); there = sets.there };
       unlocked = λ l. omega arith;
       locked = omega arith;
       small = omega arith;
@@ -467,7 +520,7 @@ release_law z p v m f m' g is r row =
     let held = mine.keeps h may.0 in
     set_version_sound z m m' c (released_word x obsolete) g sets
     (shifts z m m'.version f p v r is c hs v.committed v.found record {
-      raises = released_raises m m' c obsolete sets;
+      raises = released_raises z m m' f c obsolete r sets;
       formed = subst IsVersion (sym sets.here) (released_version m r.logical v.committed h obsolete held (r.formed.versions c) (upgraded_before z m f p v is r h obsolete may));
       leaf = is_no_leaf z m f p v is r h obsolete may;
       clear = λ d same clear. clear_in_tree z m f p v is r h obsolete may d same (subst IsClear sets.here clear);

@@ -103,9 +103,13 @@ pub record LocksStamped (x : Stamp) (m : Memory) (f : Views) (m' : Memory) (f' :
   pub found : x.version ≡ m.version x.cell
   pub sets : SetsVersion m x.cell (x.version + 2) m'
 
--- the version word of the node's cell goes up by 1
+-- what a claim stores, whatever the word was: locked, with the counter 0, at which each life of a node's number begins
+abbrev pub claimed_word : ℕ
+claimed_word = 2
+
+-- the version word of the node's cell becomes that
 abbrev pub LocksClaimed : Node → Instant
-LocksClaimed a m f m' f' = SetsVersion m (cell.Node a) (m.version (cell.Node a) + 1) m'
+LocksClaimed a m f m' f' = SetsVersion m (cell.Node a) claimed_word m'
 
 -- the word at the place of the cell becomes x
 abbrev pub PutsWord : Cell → ℕ → ℕ → Instant

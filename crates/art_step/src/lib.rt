@@ -17,12 +17,15 @@
 //!
 //!     clear ──+2──► locked                    locked ──+3──► obsolete
 //!       ▲             │                         ▲               │
-//!       └─────+2──────┘                         └──────+1───────┘
+//!       └─────+2──────┘                         └── becomes 2 ──┘
 //!   upgrade         release                claim              release as obsolete
 //! ```
 //!
-//! So the word of a cell only goes up, and no clear word comes twice: a reader that finds the word that it noted knows that
-//! nobody held the cell in between. A leaf has no version word. It does not change while it is linked, and counts as obsolete.
+//! So the word of a cell only goes up while it is in the tree. A claim begins the counter of a node at 0 again, so that no
+//! number wears out, and a clear word may come twice, in two lives of a number; but never while a pass has it in a stamp, since
+//! a stamped node is in the tree or in a limbo, and what is claimed is in hand (`UnstampedLaw`). A reader that finds the word
+//! that it noted knows that nobody held the cell in between. A leaf has no version word. It does not change while it is
+//! linked, and counts as obsolete.
 //!
 //! # Stamps and notes
 //!
@@ -84,7 +87,7 @@
 //! | `IsOneHistory` | there is one legal history of events; each pass has seen a beginning of it, with all events of its own |
 //! | `ShowsReplay` | the logical words mean a tree, whose rows are those that the history leaves |
 //! | `OneHolder` | a cell is locked exactly where one pass holds it |
-//! | `StampsVouch` | while a version word is the stamped one, what was noted under the stamp holds |
+//! | `StampsVouch` | no stamp is above its cell's version word; while that is the stamped one, what was noted under the stamp holds |
 //! | `NumbersAccounted` | each number is in exactly one place, and free exactly where its bit is set |
 //! | `MarkedUnstamped` | only a pinned pass has stamps; a number in limbo that is marked for a pass is in no stamp of it |
 //! | `WordsFormed` | version words have their forms, child words name cells that there are, the epoch stays below its bound |

@@ -1,6 +1,6 @@
 //! One law for each kind of step: what is sound before it is sound after it. Each is the contract of a function with
 //! nothing to do.
-ghost use Rattle.art_step.specs.Determined.{CountLaw, HistoryGrows, HistoryLaw, LimboLaw, LogicalLaw, PassLaw, SeenLaw};
+ghost use Rattle.art_step.specs.Determined.{CountLaw, HistoryGrows, HistoryLaw, LimboLaw, LogicalLaw, MarkedLaw, PassLaw, PinsLaw, SeenLaw};
 ghost use Rattle.art_step.specs.Steps.Advance as advance;
 ghost use Rattle.art_step.specs.Steps.Anchor as anchor;
 ghost use Rattle.art_step.specs.Steps.Begin as begin;
@@ -15,7 +15,7 @@ ghost use Rattle.art_step.specs.Steps.Read as read;
 ghost use Rattle.art_step.specs.Steps.Release as release;
 ghost use Rattle.art_step.specs.Steps.{StepLaw};
 ghost use Rattle.art_step.specs.Steps.Take as take_free;
-ghost use Rattle.art_step.specs.Steps.Claim.{UnclaimedLaw};
+ghost use Rattle.art_step.specs.Steps.Claim.{LinkedLaw, UnclaimedLaw, UnstampedLaw};
 ghost use Rattle.art_step.specs.Steps.Upgrade as upgrade;
 ghost use Rattle.art_step.specs.Steps.Check.{VouchLaw};
 ghost use Rattle.art_step.specs.Steps.Watch as watch;
@@ -50,10 +50,12 @@ pub fn upgrading_is_sound()
     ensures { upgrade.Law }
 {}
 
-/// A node's number in hand is locked and held: until then it is obsolete.
+/// A node's number in hand is locked and held: until then it is obsolete, and no view has a stamp of it.
 pub fn claiming_is_sound()
     ensures claimed { claim.Law }
     ensures unclaimed { UnclaimedLaw }
+    ensures unstamped { UnstampedLaw }
+    ensures linked { LinkedLaw }
 {}
 
 /// A word is written to a held cell before the commit, or to a leaf in hand.
@@ -130,7 +132,10 @@ pub fn steps_keep_their_pass()
     ensures seen { SeenLaw }
 {}
 
-/// A number stays in limbo while a pass is under a pin that its place holds, whatever the passes do.
+/// A number stays in limbo while a pass is under a pin that its place holds, whatever the passes do. Its place keeps its pins
+/// until then, and what is marked for a pass is in no stamp of it.
 pub fn limbo_waits_for_pins()
-    ensures { LimboLaw }
+    ensures waits { LimboLaw }
+    ensures pins { PinsLaw }
+    ensures marked { MarkedLaw }
 {}

@@ -1,6 +1,6 @@
 //! Version words.
 ghost use Rattle.std.specs.Prelude.{◌≡◌, ◌+◌, ◌*◌, ◌^◌, ◌<◌, ◌≤◌, ◌↔◌, IsTrue};
-ghost use Rattle.art_step.specs.Effects.{released_word};
+ghost use Rattle.art_step.specs.Effects.{claimed_word, released_word};
 ghost use Rattle.art_step.specs.Views.{IsClear, last_counter};
 
 /// The version word of the anchor or of a node (DaMoN 2016): bit 0 says obsolete, bit 1 locked, and the others are a counter.
@@ -37,14 +37,11 @@ impl Version {
         }
     }
 
-    /// What a claim makes of an obsolete word.
-    pub fn claimed(self) -> Version
-        requires { self.word + 1 < 2 ^ 64 }
-        ensures { result.word ≡ self.word + 1 }
+    /// What a claim stores, whatever the word was: locked, with the counter 0.
+    pub fn claimed() -> Version
+        ensures { result.word ≡ claimed_word }
     {
-        Version {
-            word: self.word + 1,
-        }
+        Version { word: 2 }
     }
 
     /// What a release makes of a locked word.

@@ -3,7 +3,6 @@ ghost use Rattle.art_table.specs.Tables.{IsPassOf};
 
 use crate::replies::{reply, reply_of_get, reply_of_insert, reply_of_remove};
 use crate::tables::{TURNS, alone, closed_alone};
-use arrayvec::ArrayVec;
 use art_key::{Bound, Schema, encode};
 use art_model::{Command, Reply, Row, SortedRows, Text, Tuple, Value};
 use art_table::{Config, Fault, Pass, Table, get, insert, look, remove};

@@ -1,10 +1,13 @@
 //! Worked rows of small pools, and of counters at their end.
+ghost use Rattle.art_table.specs.Tables.{IsPassOf};
+
 use crate::tables::{
-    SIZES, alone, check_find, check_put, check_take, closed_alone, fills, last_of, opened, puts,
-    row_of,
+    SIZES, alone, check_find, check_put, check_take, closed_alone, fills, last_of, opened, row_of,
 };
-use art_cell::{Cell, Layout, Node, Pool};
-use art_table::{Config, Fault, Inserted};
+use art_cell::{Cell, Pool};
+use art_table::{Config, Fault, Inserted, Pass, Table};
+use std::alloc::Global;
+use std::process::Abort;
 use std::test::*;
 
 const TWO_PASSES: Config = Config { passes: 2, ..SIZES };
@@ -68,20 +71,25 @@ fn an_anchor_is_locked_once_before_its_counter_ends(rt: HostRuntime) -> Result<(
     Ok(())
 }
 
-/// The fifth insert locks the anchor first, and releases it unchanged, since the counter of the node below is at its end.
-#[test]
-fn what_was_locked_above_a_refused_cell_is_released(rt: HostRuntime) -> Result<(), Fail> {
+/// A table of rows of two bytes whose anchor may be locked so often, with four rows that share their first byte.
+fn four_rows(rt: &impl Abort, alloc: Global, locks: u64) -> (Table, Pass)
+    ensures { IsPassOf result.0 result.1 }
+{
     let config = Config {
-        counter_start: (1 << 62) - 11,
+        counter_start: ((1 << 62) - 8_u64).saturating_sub(locks),
         ..SIZES
     };
-    let (table, mut pass) = alone(&rt, rt.alloc(), "u16", config);
-    fills(&rt, &table, &mut pass, 257, 261);
-    let root = Node {
-        layout: Layout::Node4,
-        number: 0,
-    };
-    let exhausted = Err(Fault::Exhausted(Cell::Node(root)));
+    let (table, mut pass) = alone(rt, alloc, "u16", config);
+    fills(rt, &table, &mut pass, 257, 261);
+    (table, pass)
+}
+
+/// A node begins its counter anew: four rows stand below an anchor that was locked twice, and is at its end. The fifth wants it, since it
+/// splits the prefix of the node.
+#[test]
+fn a_node_below_an_anchor_at_its_end_is_changed(rt: HostRuntime) -> Result<(), Fail> {
+    let (table, mut pass) = four_rows(&rt, rt.alloc(), 2);
+    let exhausted = Err(Fault::Exhausted(Cell::Anchor));
     check_put(&rt, &table, &mut pass, 515, 1, exhausted);
     check_find(&rt, &table, &mut pass, 260, Ok(Some(260)));
     let end = closed_alone(&rt, rt.alloc(), table, pass);
@@ -90,19 +98,11 @@ fn what_was_locked_above_a_refused_cell_is_released(rt: HostRuntime) -> Result<(
     Ok(())
 }
 
-/// The third row goes in although the anchor is at its end; then the node is at its end too.
+/// With one lock more the fifth row goes in.
 #[test]
-fn a_node_is_locked_below_an_anchor_at_its_end(rt: HostRuntime) -> Result<(), Fail> {
-    let config = Config {
-        counter_start: (1 << 62) - 10,
-        ..SIZES
-    };
-    let (table, mut pass) = alone(&rt, rt.alloc(), "u16", config);
-    fills(&rt, &table, &mut pass, 257, 260);
-    let fourth = puts(&table, &mut pass, 260, 1);
-    assert!(rt; matches!(fourth, Err(Fault::Exhausted(Cell::Node(_)))));
-    let other = puts(&table, &mut pass, 515, 1);
-    assert_eq!(rt; other, Err(Fault::Exhausted(Cell::Anchor)));
-    check_find(&rt, &table, &mut pass, 260, Ok(None));
+fn an_anchor_is_locked_three_times_before_its_counter_ends(rt: HostRuntime) -> Result<(), Fail> {
+    let (table, mut pass) = four_rows(&rt, rt.alloc(), 3);
+    check_put(&rt, &table, &mut pass, 515, 1, Ok(Inserted::New));
+    check_find(&rt, &table, &mut pass, 515, Ok(Some(1)));
     Ok(())
 }

@@ -6,7 +6,6 @@ use crate::tables::{
     SIZES, TURNS, alone, check_find, check_put, check_take, closed, closed_alone, last_of, opened,
     row_of, tuple_of, with_last,
 };
-use arrayvec::ArrayVec;
 use art_key::{Bound, ValueFault, encode};
 use art_model::{Row, Tuple, Value};
 use art_table::{

@@ -19,7 +19,7 @@ use Rattle.art_step.specs.declared.views.Retired.{Retired}
 use Rattle.art_step.specs.declared.views.Sizes.{Sizes}
 use Rattle.art_step.specs.declared.views.View.{View}
 use Rattle.art_step.specs.declared.views.Word.{Word}
-use Rattle.art_step.specs.Effects.{SetsFreeWord, SetsVersion, released_word}
+use Rattle.art_step.specs.Effects.{claimed_word, SetsFreeWord, SetsVersion, released_word}
 use Rattle.art_step.specs.Opening.{Opens}
 use Rattle.art_step.specs.Sound.{InHandOf, InLimboOf, InTree, IsFree, IsSound}
 use Rattle.art_step.specs.Steps.{OfAKind, OneStep, IsBegin, IsRead, IsReadLeaf, IsUnchanged, IsChanged, IsUpgrade, IsClaim, IsCommit, IsRelease, IsWrite, IsWriteLeaf, IsTake, IsGive, IsFreed, IsEpoch, IsPin, IsAdvance, IsWatch, IsAnchor}
@@ -43,7 +43,6 @@ use Rattle.art_step.proofs.FreeBits.{SetsFree, frees_number, takes_bit}
 use Rattle.art_step.proofs.Gathered.{member_key}
 use Rattle.art_step.proofs.SetsView.{each_view, member_back, member_front}
 use Rattle.art_step.proofs.StepCommits.{either_member}
-use Rattle.art_step.proofs.StepLocks.{unclaimed_law}
 use Rattle.art_step.proofs.StepNumbers.{not_free}
 use Rattle.art_step.proofs.WordPlaces.{same_pool}
 use Rattle.art_world.specs.Lasting.{IsLasting, IsTimely}
@@ -253,9 +252,8 @@ module _ (z : Sizes) (p : ℕ) (v : View) (m : Memory) (f : Views) (m' : Memory)
 
   claims : claim.Step z p v m f m' g → Turns
   claims k =
-      let obsolete = unclaimed_law z p v m f k.node at r k.may in
       quiet z p v m f m' g _ k.view (refl, refl, same_found v) k.locks.free
-      (set_words z p v m f m' g (claim.view_after v k.node k.copy) (cell.Node k.node) (m.version (cell.Node k.node) + 1) k.locks (λ o. absurd (omega (arith, obsolete, o))))
+      (set_words z p v m f m' g (claim.view_after v k.node k.copy) (cell.Node k.node) claimed_word k.locks (λ o. absurd (omega (arith, o))))
 
   releases : release.Step z p v m f m' g → Turns
   releases k =

@@ -1,15 +1,18 @@
--- Claim: a node whose number is in hand is locked and held.
-use Rattle.std.specs.Prelude.{◌≡◌, List, ℕ, ◌+◌, None, ◌∷◌, false, length, Some}
+-- Claim: a node whose number is in hand is locked and held, and its counter begins at 0 again. No view has a stamp of it.
+use Rattle.std.specs.Prelude.{◌≡◌, ◌⊎◌, List, ℕ, ◌+◌, None, ◌∷◌, false, true, length, Some}
 use Rattle.art_cell.specs.declared.cells.Cell.TheVariants as cell
 use Rattle.art_cell.specs.declared.cells.Link.TheVariants.{Node as node}
 use Rattle.art_cell.specs.declared.cells.Node.{Node}
 use Rattle.art_step.specs.Effects.{LocksClaimed}
-use Rattle.art_step.specs.Sound.{KeepsSound, IsSound}
+use Rattle.art_step.specs.Sound.{KeepsSound, IsSound, IsStamped, IsUnder}
 use Rattle.art_step.specs.Steps.Upgrade.{IsCopy}
-use Rattle.art_step.specs.Views.{IsInLimbo, Member, IsNotHeld, MayLock, Memory, Views, SetsView, size_of, words_in, IsObsolete}
+use Rattle.art_step.specs.Views.{IsInLimbo, Member, IsNotHeld, MayLock, Memory, Views, SetsView, size_of, words_in, IsObsolete, is_free}
 use Rattle.art_step.specs.declared.views.InHand.{InHand}
+use Rattle.art_step.specs.declared.views.Retired.{Retired}
 use Rattle.art_step.specs.declared.views.Sizes.{Sizes}
 use Rattle.art_step.specs.declared.views.View.{View}
+use Rattle.art_tree.specs.Heaps.{Cells, heap_of}
+use Rattle.art_tree.specs.Tree.{StandsAt}
 
 pub record May (v : View) (n : Node) : Type 0 where
   pub hand : (x : InHand) × Member x v.hand × (x.link ≡ node n)
@@ -46,3 +49,19 @@ Law = KeepsSound Step
 abbrev pub UnclaimedLaw : Type 0
 UnclaimedLaw = (z : Sizes) (p : ℕ) (v : View) (m : Memory) (f : Views) (a : Node) → f p ≡ Some v → IsSound z m f → May v a →
     IsObsolete (m.version (cell.Node a))
+
+-- a node's number that is free, or in the hand of a pass, is in no stamp of any view: so a claim may begin its counter again, and no
+-- word that some view has stamped comes back
+abbrev pub UnstampedLaw : Type 0
+UnstampedLaw = (z : Sizes) (m : Memory) (f : Views) (a : Node) → IsSound z m f →
+    ((is_free m (node a) ≡ true) ⊎ ((p : ℕ) × (v : View) × (f p ≡ Some v) × ((x : InHand) × Member x v.hand × (x.link ≡ node a)))) →
+    (q : ℕ) (u : View) → f q ≡ Some u → IsStamped u a → ⊥
+
+-- a node that a view has stamped is in the tree, or it is in a limbo and left the tree since the view's pass was pinned
+pub data WasLinked (f : Views) (s : Cells) (q : ℕ) (u : View) (a : Node) : Type 0 where
+  StillLinked : (r : List ℕ) → StandsAt (heap_of s) (node a) r → WasLinked f s q u a
+  LinkedSincePin : (o : ℕ) (w : View) (e : Retired) → f o ≡ Some w → Member e w.limbo → e.link ≡ node a → IsUnder q u e → WasLinked f s q u a
+
+abbrev pub LinkedLaw : Type 0
+LinkedLaw = (z : Sizes) (m : Memory) (f : Views) (a : Node) (r : IsSound z m f) (q : ℕ) (u : View) → f q ≡ Some u → IsStamped u a →
+    WasLinked f r.logical q u a

@@ -111,12 +111,10 @@ impl Steps for Stepper<'_> {
         let Link::Node(node) = number.spend() else {
             unreachable!();
         };
-        self.world.stays_sound();
         let cell = Cell::Node(node);
-        let locked = self.world.version(cell).claimed();
         let place = self.world.sizes().place_of(cell);
         self.world
-            .put::<Brand, Node>(self.pass, place, locked.word, &node);
+            .put::<Brand, Node>(self.pass, place, Version::claimed().word, &node);
         Held::of(cell)
     }
 

@@ -11,11 +11,11 @@ use Rattle.art_shared.proofs.Opened.{cut_is, newcomers_more, next_alone, opened,
 use Rattle.art_shared.proofs.shared.Shared.open.Goals as goal
 
 -- what the table stands on
-abbrev of : Sizes → List Column → Basis
-of z columns = record { sizes = z; schema = columns }
+abbrev of : Sizes → List Column → ℕ → Basis
+of z columns start = record { sizes = z; schema = columns; counter_start = start }
 
 pub of_words-requires : goal.of_words-requires
-of_words-requires c = opened (of c.args.sizes.now c.args.schema) c.args.counter_start c.as_slice.result.now c.requires (search rules)
+of_words-requires c = opened (of c.args.sizes.now c.args.schema c.args.counter_start) c.as_slice.result.now c.requires (search rules)
 
 pub split_seat-seat-requires : goal.split_seat-seat-requires
 split_seat-seat-requires c =
@@ -23,12 +23,12 @@ split_seat-seat-requires c =
     let me = c.loop-number.rest.me in
     let more = newcomers_more c.loop-number.number (c.args.sizes.now.passes - c.loop-number.number) (omega arith) in
     let whole = ap (λ m. m.0.views) i.me ∙ more in
-    (i.table, rw c.in_ok-table.ensures.0 (let long = (opened (of c.args.sizes.now c.args.schema) c.args.counter_start c.as_slice.result.now c.requires (search rules)).long in omega (arith, long)), splits c.in_ok-table.table.shared.key c.loop-number.rest.id me.0 (without_first me.0) (first_alone me.0) (cut_is me.0.views _ _ whole) refl (λ s k at h i. absurd i))
+    (i.table, rw c.in_ok-table.ensures.0 (let long = (opened (of c.args.sizes.now c.args.schema c.args.counter_start) c.as_slice.result.now c.requires (search rules)).long in omega (arith, long)), splits c.in_ok-table.table.shared.key c.loop-number.rest.id me.0 (without_first me.0) (first_alone me.0) (cut_is me.0.views _ _ whole) refl (λ s k at h i. absurd i))
 
 pub invariant_of-push : goal.invariant_of-push
 invariant_of-push c =
     let low = c.loop-number-test.true in
-    let is = c.split_seat-seat.ensures.4 ∙ next_alone (of c.args.sizes.now c.args.schema) c.loop-number.number c.loop-number.rest.me (omega arith) c.loop-number.invariant.me in
+    let is = c.split_seat-seat.ensures.4 ∙ next_alone (of c.args.sizes.now c.args.schema c.args.counter_start) c.loop-number.number c.loop-number.rest.me (omega arith) c.loop-number.invariant.me in
     record {
       one = ap (λ m. length m.0.views) is;
       empty = ap (λ m. length m.1) is;
@@ -42,7 +42,7 @@ pub loop-number-preserved : goal.loop-number-preserved
 loop-number-preserved c =
     let i = c.loop-number.invariant in
     let p : ℕ = c.loop-number.number in
-    let b : Basis = of c.args.sizes.now c.args.schema in
+    let b : Basis = of c.args.sizes.now c.args.schema c.args.counter_start in
     let cut = c.split_seat-seat.ensures in
     let items = c.in_ok-push.ensures.items in
     let low = c.loop-number-test.true in
@@ -60,4 +60,4 @@ loop-number-preserved c =
 pub invariant_of-shared : goal.invariant_of-shared
 invariant_of-shared c =
     let t = c.in_ok-table.ensures in
-    record { key = t.5; wide = t.0 ∙ (opened (of c.args.sizes.now c.args.schema) c.args.counter_start c.as_slice.result.now c.requires (search rules)).long; plain = t.1; nodes = c.first_nodes.ensures; epoch = c.epoch_place.ensures }
+    record { key = t.5; wide = t.0 ∙ (opened (of c.args.sizes.now c.args.schema c.args.counter_start) c.as_slice.result.now c.requires (search rules)).long; plain = t.1; nodes = c.first_nodes.ensures; epoch = c.epoch_place.ensures }

@@ -3,5 +3,5 @@ use Rattle.art_step.specs.Effects.{LocksClaimed}
 use Rattle.art_step.specs.Steps.Claim as claim
 use Rattle.art_shared.proofs.steps.StepperSteps.claim.Given as goal
 
-abbrev pub ghosts-add : goal.ghosts-add
-ghosts-add a = record { shown = λ n v w. claim.Outcome v w a._about.now; happens = λ n. LocksClaimed a._about.now }
+abbrev pub ghosts-store : goal.ghosts-store
+ghosts-store a = record { shown = λ n v w. claim.Outcome v w a._about.now; happens = λ n. LocksClaimed a._about.now }
