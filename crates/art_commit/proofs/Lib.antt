@@ -7,5 +7,8 @@ pub mod ChangeRows
 pub mod ChangeShapes
 pub mod ChangeWays
 pub mod Members
+pub mod Renewals
+pub mod RenewedAndForked
+pub mod SaysAnother
 pub mod TwoChanges
 pub mod TwoParts

@@ -1,3 +1,5 @@
 pub mod AnyChange
 pub mod CommitLaws
+pub mod OtherDeeds
+pub mod Renewals
 pub mod TwoChanges

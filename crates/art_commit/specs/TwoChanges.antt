@@ -1,5 +1,5 @@
 -- Two changes at once, one after the other in the words that they write.
-use Rattle.std.specs.Prelude.{◌≡◌, ◌⊎◌, ◌↔◌, List, [], ◌∷◌, ◌++◌, None, ℕ}
+use Rattle.std.specs.Prelude.{◌≡◌, ◌⊎◌, ◌↔◌, List, [], ◌∷◌, ◌++◌, Option, None, ℕ}
 use Rattle.art_cell.specs.declared.cells.Node.{Node}
 use Rattle.art_cell.specs.declared.cells.Cell.{Cell}
 use Rattle.art_cell.specs.declared.cells.Cell.TheVariants as cell
@@ -56,33 +56,35 @@ abbrev pub held_until : (Cell → List ℕ) → List Holding → List Holding
 held_until mid [] = []
 held_until mid (h ∷ hs) = record h { new = mid h.cell } ∷ held_until mid hs
 
-abbrev pub held_from : (Cell → List ℕ) → List Holding → List Holding
-held_from mid [] = []
-held_from mid (h ∷ hs) = record h { old = mid h.cell } ∷ held_from mid hs
+-- st says with which version word a cell counts as stamped for the second change: one that the first claims may have any
+abbrev pub held_from : (Cell → List ℕ) → (Cell → Option ℕ → Option ℕ) → List Holding → List Holding
+held_from mid st [] = []
+held_from mid st (h ∷ hs) = record h { old = mid h.cell; stamped = st h.cell h.stamped } ∷ held_from mid st hs
 
 -- the view as it stands for the first change, which writes the cells of hs, and for the second, which writes those of hs with the
 -- numbers of xs in hand; that change is not known by notes
 abbrev pub for_first : View → (Cell → List ℕ) → List Holding → View
 for_first v mid hs = record v { held = held_until mid hs }
 
-abbrev pub for_second : View → (Cell → List ℕ) → List Holding → List InHand → View
-for_second v mid hs xs = record v { held = held_from mid hs; notes = []; hand = xs }
+abbrev pub for_second : View → (Cell → List ℕ) → (Cell → Option ℕ → Option ℕ) → List Holding → List InHand → View
+for_second v mid st hs xs = record v { held = held_from mid st hs; notes = []; hand = xs }
 
 -- the cells that the pass holds are those of hs, for the first change, and those of hs', for the second, and none is a leaf; xs
 -- are in hand. Between the two, a cell that the first alone writes has its new words, and one that the second alone writes its
 -- old ones
-pub record IsInTwo (v : View) (hs hs' : List Holding) (xs : List InHand) (mid : Cell → List ℕ) : Type 0 where
+pub record IsInTwo (v : View) (hs hs' : List Holding) (xs : List InHand) (mid : Cell → List ℕ) (st : Cell → Option ℕ → Option ℕ) : Type 0 where
   pub held : (h : Holding) → Member h v.held ↔ (Member h hs ⊎ Member h hs')
   pub no_leaf : (h : Holding) (l : ℕ) → Member h v.held → h.cell ≡ cell.Leaf l → ⊥
   pub hand : (i : InHand) → Member i xs → Member i v.hand
   pub first_alone : (h : Holding) → Member h hs → IsNotHeld hs' h.cell → mid h.cell ≡ h.new
+  pub claims : (h : Holding) → Member h v.held → h.stamped ≡ None → Member h hs ⊎ (Member h hs' × (st h.cell h.stamped ≡ None))
   pub second_alone : (h : Holding) → Member h hs' → IsNotHeld hs h.cell → mid h.cell ≡ h.old
 
 -- where each is a commit for its own view, whatever words t of the other cells stand between, both are one for the pass's; what
 -- the first links is not in hand for the second
 abbrev pub TwoPartsCommit : Type 0
-TwoPartsCommit = (z : Sizes) (v : View) (s s' : Cells) (hs hs' : List Holding) (xs : List InHand) (mid : Cell → List ℕ) (first second what : Deed) (us ls us' ls' : List Link) →
-    Before z v s s' → IsInTwo v hs hs' xs mid → ((i : InHand) → Member i xs → Member i.link ls → ⊥) → ((d : Link) → Member d us' → IsLinked s d) → SaysBoth s first second what →
+TwoPartsCommit = (z : Sizes) (v : View) (s s' : Cells) (hs hs' : List Holding) (xs : List InHand) (mid : Cell → List ℕ) (st : Cell → Option ℕ → Option ℕ) (first second what : Deed) (us ls us' ls' : List Link) →
+    Before z v s s' → IsInTwo v hs hs' xs mid st → ((i : InHand) → Member i xs → Member i.link ls → ⊥) → ((d : Link) → Member d us' → IsLinked s d) → SaysBoth s first second what →
     ((t : Cells) → Before z (for_first v mid hs) s t → Commits z (for_first v mid hs) first us ls s t) →
-    ((t : Cells) → AllNew (held_until mid hs) s t → Commits z (for_first v mid hs) first us ls s t → Before z (for_second v mid hs' xs) t s' → Commits z (for_second v mid hs' xs) second us' ls' t s') →
+    ((t : Cells) → AllNew (held_until mid hs) s t → Commits z (for_first v mid hs) first us ls s t → Before z (for_second v mid st hs' xs) t s' → Commits z (for_second v mid st hs' xs) second us' ls' t s') →
     Commits z v what (us ++ us') (ls ++ ls') s s'

@@ -20,7 +20,8 @@
 //! for a view that holds what that change needs (`HasBoth`); the change that does nothing to the rows has an event that
 //! says nothing (`empty_look`). `TwoPartsCommit` makes t and both views out of the pass's own: a cell that both write is
 //! held for the first with the words between the two as its new ones, and for the second with these as its old ones.
-//! `proofs/AddedAndRenewed.antt` has it at work, for a leaf that comes while a node gives way to its copy.
+//! `proofs/AddedAndRenewed.antt` has it at work, for a leaf that comes while a node gives way to its copy, and
+//! `proofs/RenewedAndForked.antt` where a new node comes above the copy. `MayRenew` joins a renewal to any change.
 //!
 //! # Letters
 //!
@@ -40,4 +41,7 @@
 
 mod commit_laws;
 
-pub use commit_laws::{changes_commit, two_changes_commit_as_one};
+pub use commit_laws::{
+    a_change_may_renew_a_node, a_commit_serves_another_deed, changes_commit,
+    two_changes_commit_as_one,
+};
