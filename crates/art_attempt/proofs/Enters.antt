@@ -74,7 +74,7 @@ module _ (z : Sizes) (u : View) (m : Inserting) (r : Room) (v : View) (h : HasSu
   supplies_later = record { steps = h.fits.only.later; failures = h.fits.only.failures }
 
   -- with the numbers few steps were made
-  pub supplies_spent : HasSpent z u 24800 v
+  pub supplies_spent : HasSpent z u 21700 v
   supplies_spent limited =
       let spent = h.spent limited in
       let counted = h.fits.counted in
@@ -161,7 +161,7 @@ module _ (z : Sizes) (u : View) (m : Inserting) (r : Room) (v : View) (h : HasVo
   vouched_reads : (e : Vouched) → vouching.ended_at m.vouching ≡ Some e → StageOf (vouches.Ended e)
   vouched_reads e is = subst StageOf (vouched_as m.vouching e is) h.fits.stage
 
-  pub vouched_spent : HasSpent z u 25400 v
+  pub vouched_spent : HasSpent z u 22300 v
   vouched_spent limited =
       let spent = h.spent limited in
       let steps = h.fits.steps in
@@ -219,7 +219,7 @@ module _ (z : Sizes) (u : View) (m : Inserting) (r : Room) (v : View) (h : HasMa
     over : IsOver h.early r.change made v
     over = (ends_as z h.early v r.change m.making made h.fits is).0
 
-    made_spent : HasSpent z u 25800 v
+    made_spent : HasSpent z u 22700 v
     made_spent limited =
         let spent = h.spent limited in
         let steps = (ends_as z h.early v r.change m.making made h.fits is).1 in

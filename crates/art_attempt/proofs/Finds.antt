@@ -348,7 +348,7 @@ told_nothing z d Torn x v w comes p = absurd comes
 told_nothing z d Absent x v w comes p = absurd comes
 
 -- until a place is settled few steps were made
-finding_few : (z : Sizes) (u : View) (m : Inserting) (r : Room) (v : View) → length r.row.key.items ≤ 64 → IsFinding z u m r v → HasSpent z u 4300 v
+finding_few : (z : Sizes) (u : View) (m : Inserting) (r : Room) (v : View) → length r.row.key.items ≤ 64 → IsFinding z u m r v → HasSpent z u 1200 v
 finding_few z u m r v short f limited =
     let few = few_steps z r.row.key.items (present_of r.row) m.finding.descent.depth m.finding.descent.stage f.early v short f.going f.fits.descent in
     let spent = f.spent limited in
@@ -358,7 +358,7 @@ module _ (z : Sizes) (u : View) (m : Inserting) (r : Room) (v w : View) (short :
   past : IsLater f.early w
   past = later_then f.early v w f.later later
 
-  pub finding_spent : HasSpent z u 4301 w
+  pub finding_spent : HasSpent z u 1201 w
   finding_spent limited =
       let spent = finding_few z u m r v short f limited in
       let more = later.failures in

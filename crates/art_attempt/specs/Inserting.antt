@@ -161,7 +161,7 @@ pub record IsFinding (z : Sizes) (u : View) (m : Inserting) (r : Room) (v : View
 pub record HasSupplies (z : Sizes) (u : View) (m : Inserting) (r : Room) (v : View) : Type 0 where
   pub early : View
   pub base : StillTries u early
-  pub spent : HasSpent z u 4301 early
+  pub spent : HasSpent z u 1201 early
   pub place : HasPlace z u m.stand r early
   pub fits : supplying.Fits z (wants_of z m.stand.verdict) r.row.key.items r.row.value m.supplying r.stock early v
 
@@ -170,7 +170,7 @@ pub record HasVouched (z : Sizes) (u : View) (m : Inserting) (r : Room) (v : Vie
   pub early : View
   pub base : StillTries u early
   pub later : IsLater early v
-  pub spent : HasSpent z u 24800 early
+  pub spent : HasSpent z u 21700 early
   pub has : HasStock z r.row.key.items r.row.value early r.stock
   pub all : HasAll (wants_of z m.stand.verdict) r.stock
   pub comes : Comes m.stand.verdict
@@ -186,7 +186,7 @@ pub record HasMade (z : Sizes) (u : View) (m : Inserting) (r : Room) (v : View) 
   pub early : View
   pub base : StillTries u early
   pub later : IsLater early v
-  pub spent : HasSpent z u 25400 early
+  pub spent : HasSpent z u 22300 early
   pub locks : HasLocks z u m.stand r early
   pub has : HasStock z r.row.key.items r.row.value early r.stock
   pub leaf : r.change.leaf ≡ r.stock.leaf
@@ -250,7 +250,7 @@ entered_so (Err e) = given_up e
 -- but for steps, which are few, what is in hand and what reading changes, the pass is as it was
 pub record EndsSo (z : Sizes) (u : View) (r : Room) (v : View) : Type 0 where
   pub still : StillTries u v
-  pub spent : HasSpent z u 25800 v
+  pub spent : HasSpent z u 22700 v
   pub has : HasStock z r.row.key.items r.row.value v r.stock
 
 -- the leaf is in the tree: one event; what the change unlinked is in limbo, what it linked left the hand

@@ -538,7 +538,7 @@ impl Inserting {
         ensures not_anew { ended_at self.new ≢ Some anew }
         ensures not_overlaps { ended_at self.new ≢ Some overlaps }
         ensures free { is_free self.new ≡ true }
-        ensures fits { (z : Sizes) (u v : View) → IsRoom z room.old → StillTries u v → HasSpent z u 4301 v →
+        ensures fits { (z : Sizes) (u v : View) → IsRoom z room.old → StillTries u v → HasSpent z u 1201 v →
             HasPlace z u self.old.stand room.old v → HasStock z room.old.row.key.items room.old.row.value v room.old.stock →
             Fits z u self.new room.new v }
     {

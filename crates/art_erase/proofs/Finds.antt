@@ -55,8 +55,8 @@ within_more z u n more r v fewer so = record {
   has = so.has;
 }
 
-pub within_so : (z : Sizes) (u : View) (n : ℕ) (r : Room) (v : View) → n ≤ 25800 → EndsWithin z u n r v → EndsSo z u r v
-within_so z u n r v fewer so = within_more z u n 25800 r v fewer so
+pub within_so : (z : Sizes) (u : View) (n : ℕ) (r : Room) (v : View) → n ≤ 22700 → EndsWithin z u n r v → EndsSo z u r v
+within_so z u n r v fewer so = within_more z u n 22700 r v fewer so
 
 -- ---- the place is checked
 
@@ -108,7 +108,7 @@ place_off z d Torn t r v w row is = settle_off z d t.stamp r v w row is
 place_off z d Absent t r v w row is = settle_off z d t.stamp r v w row is
 
 -- until a place is settled few steps were made
-finding_few : (z : Sizes) (u : View) (m : Erasing) (r : Room) (v : View) → length r.gone.key.items ≤ 64 → IsFinding z u m r v → HasSpent z u 4300 v
+finding_few : (z : Sizes) (u : View) (m : Erasing) (r : Room) (v : View) → length r.gone.key.items ≤ 64 → IsFinding z u m r v → HasSpent z u 1200 v
 finding_few z u m r v short f limited =
     let few = few_steps z r.gone.key.items (absent_of r.gone) m.finding.descent.depth m.finding.descent.stage f.early v short f.going f.fits.descent in
     let spent = f.spent limited in
@@ -118,14 +118,14 @@ module _ (z : Sizes) (u : View) (m : Erasing) (r : Room) (v w : View) (short : l
   past : IsLater f.early w
   past = later_then f.early v w f.later later
 
-  finding_spent : HasSpent z u 4301 w
+  finding_spent : HasSpent z u 1201 w
   finding_spent limited =
       let spent = finding_few z u m r v short f limited in
       let more = later.failures in
       omega (arith, spent, one, more)
 
   -- the attempt ends, and nothing was told
-  pub ends_reading : OnlyReads f.early w → EndsWithin z u 4301 r w
+  pub ends_reading : OnlyReads f.early w → EndsWithin z u 1201 r w
   ends_reading only = record {
     still = still_reads u f.early f.base w past only;
     spent = finding_spent;
@@ -143,7 +143,7 @@ module _ (z : Sizes) (u : View) (m : Erasing) (r : Room) (v w : View) (short : l
     fails_there off =
         let more = cell_fails z (absent r.gone) (check_of t) a v w row (not_on off) in
         let before = (still_later u f.early f.base v f.later).failures in
-        (within_so z u 4301 r w (omega arith) (ends_reading (only_then (place_failed z (absent r.gone) t.verdict t a v w row off))), omega (arith, more, before))
+        (within_so z u 1201 r w (omega arith) (ends_reading (only_then (place_failed z (absent r.gone) t.verdict t a v w row off))), omega (arith, more, before))
 
     module _ (on : passed a ≡ true) where
       unchanged : check.Unchanged z v w t.stamp (told_by t.verdict (absent r.gone))
@@ -163,7 +163,7 @@ module _ (z : Sizes) (u : View) (m : Erasing) (r : Room) (v w : View) (short : l
           }
 
       -- a leaf has it
-      pub found_there : told_by t.verdict (absent r.gone) ≡ None → EndsWithin z u 4301 r w
+      pub found_there : told_by t.verdict (absent r.gone) ≡ None → EndsWithin z u 1201 r w
       found_there is = ends_reading (only_then (passed_rest z v w t.stamp (subst (λ (o : Option Deed). check.Unchanged z v w t.stamp o) is unchanged)))
 
       pub stands_still : IsStanding z r.gone.key.items t r.desk w

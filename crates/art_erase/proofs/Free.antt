@@ -35,10 +35,10 @@ module _ (z : Sizes) (u : View) (m : Erasing) (r : Room) (v : View) where
   finding_so : length r.gone.key.items ≤ 64 → IsFinding z u m r v → EndsSo z u r v
   finding_so short f =
       let reads = still_reading z r.gone.key.items _ m.finding.descent.depth m.finding.descent.stage f.early v f.going f.fits.descent in
-      within_so z u 4301 r v (omega arith) (ends_reading z u m r v v short f (later_first v) (omega arith) reads.only)
+      within_so z u 1201 r v (omega arith) (ends_reading z u m r v v short f (later_first v) (omega arith) reads.only)
 
   vouching_so : HasVouched z u m r v → vouching.ended_at m.vouching ≡ None → EndsSo z u r v
-  vouching_so h going = within_so z u 25400 r v (omega arith) (vouched_ends z u m r v h (vouching_goes z r m m.vouching h.early v going h.fits.stage).reads)
+  vouching_so h going = within_so z u 22300 r v (omega arith) (vouched_ends z u m r v h (vouching_goes z r m m.vouching h.early v going h.fits.stage).reads)
 
   making_so : HasMade z u m r v → is_begun m.making ≡ true → EndsSo z u r v
   making_so h is =
@@ -64,13 +64,13 @@ module _ (z : Sizes) (u : View) (m : Erasing) (r : Room) (v : View) where
       }
 
   reading_ends : (q : Rereading) → IsReadingOn z u m q r v → EndsSo z u r v
-  reading_ends q f = reading_so z u f.early f.base r v f.later f.has f.reads.reads 25800 (λ limited. let spent = f.spent limited in omega (arith, spent))
+  reading_ends q f = reading_so z u f.early f.base r v f.later f.has f.reads.reads 22700 (λ limited. let spent = f.spent limited in omega (arith, spent))
 
   pub free_so : length r.gone.key.items ≤ 64 → (s : Stage) → free_at s m.making ≡ true → erased_at s ≡ None → StageFits z u s m r v → EndsSo z u r v
   free_so short stage.Finding is going fits = finding_so short fits
-  free_so short (stage.Supplying layout) is going fits = within_so z u 24800 r v (omega arith) (supplies_so z u layout m r v fits.0)
+  free_so short (stage.Supplying layout) is going fits = within_so z u 21700 r v (omega arith) (supplies_so z u layout m r v fits.0)
   free_so short (stage.Reading q) is going fits = reading_ends q fits.0
   free_so short stage.Vouching is going fits = vouching_so fits.0 fits.1
-  free_so short stage.Lowering is going fits = within_so z u 25400 r v (omega arith) (lower_so z u m r v fits.0)
+  free_so short stage.Lowering is going fits = within_so z u 22300 r v (omega arith) (lower_so z u m r v fits.0)
   free_so short stage.Making is going fits = making_so fits.0 is
   free_so short (stage.Ended e) is going fits = cc

@@ -40,7 +40,7 @@ module _ (z : Sizes) (u : View) (m : Erasing) (r : Room) (v w : View) (room : Is
       let fits = heard.fits what f.early f.fits in
       let going = zero_going n.descent.depth n.descent.stage (heard.anew off) in
       let reads = still_reading z r.gone.key.items what n.descent.depth n.descent.stage f.early w going fits.descent in
-      let so = within_so z u 4301 r w (omega arith) (ends_reading z u m r v w room.key.short f (cell_later z d asked answer v w one_more) (cell_step z d asked answer v w one_more) reads.only) in
+      let so = within_so z u 1201 r w (omega arith) (ends_reading z u m r v w room.key.short f (cell_later z d asked answer v w one_more) (cell_step z d asked answer v w one_more) reads.only) in
       let more = cell_fails z d asked answer v w one_more off in
       let before = (still_later u f.early f.base v f.later).failures in
       record { room = same_room; stage = (record { still = so.still; spent = so.spent; has = so.has }, omega (arith, more, before)) }

@@ -84,7 +84,7 @@ begins_vouching z u n t r v so lost = record {
 
 -- while a number was sought nothing was read
 module _ (z : Sizes) (u : View) (layout : Layout) (m : Erasing) (r : Room) (v : View) (h : HasSupplies z u layout m r v) where
-  pub supplies_so : EndsWithin z u 24800 r v
+  pub supplies_so : EndsWithin z u 21700 r v
   supplies_so = record {
     still = still_takes u h.early h.base v (record { steps = h.fits.only.later; failures = h.fits.only.failures }) h.fits.only.only;
     spent = λ limited. (let spent = h.spent limited in let counted = h.fits.counted in let few = few_looks z (wants_of z layout) limited in omega (arith, spent, counted, few));
@@ -125,18 +125,18 @@ module _ (z : Sizes) (u : View) (m : Erasing) (r : Room) (v : View) (h : HasVouc
   vouched_reads : (e : Vouched) → vouching.ended_at m.vouching ≡ Some e → StageOf (vouches.Ended e)
   vouched_reads e is = subst StageOf (vouched_as m.vouching e is) h.fits.stage
 
-  pub vouched_ends : IsReading h.early v → EndsWithin z u 25400 r v
-  vouched_ends reads = reading_so z u h.early h.base r v h.later h.has reads 25400
+  pub vouched_ends : IsReading h.early v → EndsWithin z u 22300 r v
+  vouched_ends reads = reading_so z u h.early h.base r v h.later h.has reads 22300
       (λ limited. let spent = h.spent limited in let steps = h.fits.steps in let more = h.later.failures in omega (arith, spent, steps, more))
 
   pub vouched_changed : vouching.ended_at m.vouching ≡ Some Changed → EndsSo z u r v × (u.failures < v.failures)
   vouched_changed is =
       let more = h.fits.failures ∙ ap (λ (s : Vouching). vouching.failures_of s h.early.failures) (vouched_as m.vouching Changed is) in
       let before = h.base.later.failures in
-      (within_so z u 25400 r v (omega arith) (vouched_ends (vouched_reads Changed is)), omega (arith, more, before))
+      (within_so z u 22300 r v (omega arith) (vouched_ends (vouched_reads Changed is)), omega (arith, more, before))
 
   module _ (is : vouching.ended_at m.vouching ≡ Some Unchanged) where
-    pub vouched_so : EndsWithin z u 25400 r v
+    pub vouched_so : EndsWithin z u 22300 r v
     vouched_so = vouched_ends (vouched_reads Unchanged is).0.reads
 
     pub vouched_standing : IsStanding z r.gone.key.items m.stand r.desk v
@@ -202,16 +202,16 @@ lowering_reads z k t n (lowers.CheckLower x) desk lower u v fits = fits.0.vouchi
 lowering_reads z k t n (lowers.Ended (lowered.Unchanged x)) desk lower u v fits = fits.0.vouching.reads
 lowering_reads z k t n (lowers.Ended lowered.Changed) desk lower u v fits = fits
 
-pub lower_so : (z : Sizes) (u : View) (m : Erasing) (r : Room) (v : View) → HasLower z u m r v → EndsWithin z u 25400 r v
+pub lower_so : (z : Sizes) (u : View) (m : Erasing) (r : Room) (v : View) → HasLower z u m r v → EndsWithin z u 22300 r v
 lower_so z u m r v h =
-    reading_so z u h.early h.base r v h.later h.has (lowering_reads z r.gone.key.items m.stand h.lower m.lowering r.desk r.lower h.early v h.fits.stage) 25400
+    reading_so z u h.early h.base r v h.later h.has (lowering_reads z r.gone.key.items m.stand h.lower m.lowering r.desk r.lower h.early v h.fits.stage) 22300
     (λ limited. let spent = h.spent limited in let steps = h.fits.steps in let more = h.later.failures in omega (arith, spent, steps, more))
 
 pub lower_changed : (z : Sizes) (u : View) (m : Erasing) (r : Room) (v : View) → HasLower z u m r v → lowering.ended_at m.lowering ≡ Some lowered.Changed → EndsSo z u r v × (u.failures < v.failures)
 lower_changed z u m r v h is =
     let more = h.fits.failures ∙ ap (λ (s : Lowering). lowering.failures_of s h.early.failures) (lowered_as m.lowering lowered.Changed is) in
     let before = h.base.later.failures in
-    (within_so z u 25400 r v (omega arith) (lower_so z u m r v h), omega (arith, more, before))
+    (within_so z u 22300 r v (omega arith) (lower_so z u m r v h), omega (arith, more, before))
 
 -- a lowering that has not ended met no failure
 lower_failures : (t : Stand) (m : Lowering) (a : Asked) (n : ℕ) → lowering.asks t m ≡ Some a → lowering.failures_of m n ≡ n

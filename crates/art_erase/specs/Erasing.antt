@@ -203,7 +203,7 @@ pub record EndsWithin (z : Sizes) (u : View) (n : ℕ) (r : Room) (v : View) : T
 
 -- so an attempt ends, with few steps
 abbrev pub EndsSo : Sizes → View → Room → View → Type 0
-EndsSo z u r v = EndsWithin z u 25800 r v
+EndsSo z u r v = EndsWithin z u 22700 r v
 
 -- since the view u, and not after v, a check of the lower node succeeded, with the words as they are now
 pub record HasCheckedLower (z : Sizes) (u : View) (k : List ℕ) (t : Stand) (desk : Desk) (reads : List (Option ℕ)) (x : Stamp) (v : View)
@@ -237,14 +237,14 @@ pub record IsFinding (z : Sizes) (u : View) (m : Erasing) (r : Room) (v : View) 
 pub record HasSupplies (z : Sizes) (u : View) (layout : Layout) (m : Erasing) (r : Room) (v : View) : Type 0 where
   pub early : View
   pub base : StillTries u early
-  pub spent : HasSpent z u 4301 early
+  pub spent : HasSpent z u 1201 early
   pub lost : IsLost z m.stand r early
   pub shrinks : loss_at m.stand r.desk ≡ loss.Shrinks layout
   pub fits : supplying.Fits z (wants_of z layout) r.gone.key.items 0 m.supplying r.stock early v
 
 -- at most so many steps were made, with one for each word of the node before this place
 abbrev pub reading_most : Rereading → ℕ
-reading_most q = 4567 - (266 - q.place)
+reading_most q = 1467 - (266 - q.place)
 
 -- the words of the node are read, or all are known
 pub record IsReadingOn (z : Sizes) (u : View) (m : Erasing) (q : Rereading) (r : Room) (v : View) : Type 0 where
@@ -262,7 +262,7 @@ pub record HasVouched (z : Sizes) (u : View) (m : Erasing) (r : Room) (v : View)
   pub early : View
   pub base : StillTries u early
   pub later : IsLater early v
-  pub spent : HasSpent z u 24800 early
+  pub spent : HasSpent z u 21700 early
   pub has : HasNumbers z early r
   pub found : HasFound m.stand r.gone
   pub chosen : IsChosen z m.way m.stand r.desk r.gone r.stock u early
@@ -273,7 +273,7 @@ pub record HasLower (z : Sizes) (u : View) (m : Erasing) (r : Room) (v : View) :
   pub early : View
   pub base : StillTries u early
   pub later : IsLater early v
-  pub spent : HasSpent z u 24800 early
+  pub spent : HasSpent z u 21700 early
   pub has : HasNumbers z early r
   pub found : HasFound m.stand r.gone
   pub byte : ℕ
@@ -298,7 +298,7 @@ pub record HasMade (z : Sizes) (u : View) (m : Erasing) (r : Room) (v : View) : 
   pub early : View
   pub base : StillTries u early
   pub later : IsLater early v
-  pub spent : HasSpent z u 25400 early
+  pub spent : HasSpent z u 22300 early
   pub locks : HasLocks z u m r early
   pub has : HasNumbers z early r
   pub leaf : r.change.leaf ≡ None

@@ -326,12 +326,12 @@ impl Erasing {
 
     /// The leaf is there, and its place was checked: what goes with it says what comes next.
     fn choose(&mut self, room: &mut Room)
-        requires { (z : SizesOf) × (u : View) × (v : View) × IsRoom z room.old × EndsWithin z u 4301 room.old v ×
+        requires { (z : SizesOf) × (u : View) × (v : View) × IsRoom z room.old × EndsWithin z u 1201 room.old v ×
             IsLost z self.old.stand room.old v }
         ensures kept { IsKept room.old room.new }
         ensures not_anew { ended_at self.new ≢ Some anew }
         ensures free { is_free self.new ≡ true }
-        ensures fits { (z : SizesOf) (u v : View) → IsRoom z room.old → EndsWithin z u 4301 room.old v →
+        ensures fits { (z : SizesOf) (u v : View) → IsRoom z room.old → EndsWithin z u 1201 room.old v →
             IsLost z self.old.stand room.old v → Fits z u self.new room.new v }
     {
         match self.loss(&room.desk) {
@@ -350,11 +350,11 @@ impl Erasing {
 
     /// A smaller node would do: its number is sought.
     fn supply(&mut self, room: &mut Room, layout: Layout)
-        requires { (z : SizesOf) × (u : View) × (v : View) × IsRoom z room.old × EndsWithin z u 4301 room.old v }
+        requires { (z : SizesOf) × (u : View) × (v : View) × IsRoom z room.old × EndsWithin z u 1201 room.old v }
         ensures kept { IsKept room.old room.new }
         ensures not_anew { ended_at self.new ≢ Some anew }
         ensures free { is_free self.new ≡ true }
-        ensures fits { (z : SizesOf) (u v : View) → IsRoom z room.old → EndsWithin z u 4301 room.old v →
+        ensures fits { (z : SizesOf) (u v : View) → IsRoom z room.old → EndsWithin z u 1201 room.old v →
             IsLost z self.old.stand room.old v → loss_at self.old.stand room.old.desk ≡ losses.Shrinks layout →
             Fits z u self.new room.new v }
     {
@@ -427,7 +427,7 @@ impl Erasing {
         requires { HasFound self.old.stand room.now.gone }
         ensures not_anew { ended_at self.new ≢ Some anew }
         ensures free { is_free self.new ≡ true }
-        ensures fits { (z : SizesOf) (u v : View) → IsRoom z room.now → EndsWithin z u 24800 room.now v →
+        ensures fits { (z : SizesOf) (u v : View) → IsRoom z room.now → EndsWithin z u 21700 room.now v →
             IsLost z self.old.stand room.now v → KnowsHere self.old.stand room.now.desk → Fits z u self.new room.now v }
     {
         match self.loss(&room.desk) {
@@ -441,7 +441,7 @@ impl Erasing {
         requires { HasFound self.old.stand room.now.gone }
         ensures not_anew { ended_at self.new ≢ Some anew }
         ensures free { is_free self.new ≡ true }
-        ensures fits { (z : SizesOf) (u v : View) → IsRoom z room.now → EndsWithin z u 24800 room.now v →
+        ensures fits { (z : SizesOf) (u v : View) → IsRoom z room.now → EndsWithin z u 21700 room.now v →
             IsLost z self.old.stand room.now v → KnowsHere self.old.stand room.now.desk →
             loss_at self.old.stand room.now.desk ≡ losses.Merges → Fits z u self.new room.now v }
     {
@@ -459,7 +459,7 @@ impl Erasing {
     fn vouch(&mut self, room: &Room, way: Way)
         ensures not_anew { ended_at self.new ≢ Some anew }
         ensures free { is_free self.new ≡ true }
-        ensures fits { (z : SizesOf) (u v : View) → IsRoom z room.now → EndsWithin z u 24800 room.now v →
+        ensures fits { (z : SizesOf) (u v : View) → IsRoom z room.now → EndsWithin z u 21700 room.now v →
             IsLost z self.old.stand room.now v → IsChosen z way self.old.stand room.now.desk room.now.gone room.now.stock u v →
             Fits z u self.new room.now v }
     {
@@ -472,7 +472,7 @@ impl Erasing {
     fn lower(&mut self, byte: u8, node: Node)
         ensures not_anew { ended_at self.new ≢ Some anew }
         ensures free { is_free self.new ≡ true }
-        ensures fits { (z : SizesOf) (u v : View) (r : RoomOf) → IsRoom z r → EndsWithin z u 24800 r v → IsLost z self.old.stand r v →
+        ensures fits { (z : SizesOf) (u v : View) (r : RoomOf) → IsRoom z r → EndsWithin z u 21700 r v → IsLost z self.old.stand r v →
             KnowsHere self.old.stand r.desk → loss_at self.old.stand r.desk ≡ losses.Merges →
             NamesChild self.old.stand r.desk (node_link node) → LeavesOther z self.old.stand r.desk r.gone byte (node_link node) →
             Fits z u self.new r v }

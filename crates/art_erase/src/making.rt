@@ -200,7 +200,7 @@ impl Erasing {
         requires { 0 < targets room.now.change }
         ensures not_anew { ended_at self.new ≢ Some anew }
         ensures free { is_free self.new ≡ true }
-        ensures fits { (z : Sizes) (u v : View) → IsRoom z room.now → EndsWithin z u 25400 room.now v →
+        ensures fits { (z : Sizes) (u v : View) → IsRoom z room.now → EndsWithin z u 22300 room.now v →
             IsRemoval z room.now v → LocksOnly (IsLockedBy self.old.way self.old.stand self.old.lowering) room.now.change →
             ((x : StampOf) → IsLockedBy self.old.way self.old.stand self.old.lowering x → IsChecked z u self.old.stand room.now x v) →
             Fits z u self.new room.now v }

@@ -1,12 +1,12 @@
 -- Each step counts, one that fails counts as a failure, and a descent makes few steps.
-use Rattle.std.proofs.Common.{◌≡◌, ℕ, ◌+◌, ◌*◌, ◌%◌, ◌<◌, ◌≤◌, ◌==◌, Bool, true, false, if◌then◌else◌, List, length, Option, Some, None, refl, ap, ◌∙◌, arith}
+use Rattle.std.proofs.Common.{◌≡◌, ℕ, zero, suc, ◌+◌, ◌*◌, ◌%◌, ◌<◌, ◌≤◌, ◌==◌, Bool, true, false, if◌then◌else◌, List, length, Option, Some, None, refl, ap, ◌∙◌, arith}
 use Rattle.std.proofs.lemmas.Bool.{eq-eqb, ne_eqb}
 use Rattle.std.specs.Prelude.{Result, Ok, Err}
 use Rattle.art_cell.specs.declared.cells.Cell.{Cell}
 use Rattle.art_cell.specs.declared.cells.Link.{Link}
 use Rattle.art_cell.specs.declared.cells.Link.TheVariants.{Leaf as leaf, Node as node}
 use Rattle.art_find.specs.Asking.{Answers, goes_on}
-use Rattle.art_find.specs.Descents.{StageFits, ended_at, most_steps, stage_below, staged}
+use Rattle.art_find.specs.Descents.{StageFits, ended_at, later_key, most_steps, stage_below, staged}
 use Rattle.art_find.specs.Driven.{Counts, restarts_after}
 use Rattle.art_find.specs.declared.asked.Answer.{Answer}
 use Rattle.art_find.specs.declared.asked.Answer.TheVariants.{Begun, Word, Checked}
@@ -63,8 +63,18 @@ answers_count z d (Check x) (Word a) v w row = absurd row
 answers_count z d (Settle x) (Begun r) v w row = absurd row
 answers_count z d (Settle x) (Word a) v w row = absurd row
 
--- until it has ended, a descent made at most 4,300 steps since it last began
-pub few_steps : (z : Sizes) (k : List ℕ) (what : Option ℕ → Deed) (depth : ℕ) (stage : Stage) (u v : View) → length k ≤ 64 → ended_at stage ≡ None → StageFits z k what depth stage u v → most_steps depth stage ≤ 4300
+-- of the words of keys one counts, at most
+pub few_keys : (i : ℕ) → later_key i ≤ 1
+few_keys zero = omega arith
+few_keys (suc i) = omega arith
+
+key_later : (number i : ℕ) → number < i → i < 2 → later_key number < later_key i
+key_later zero zero later few = absurd (omega (arith, later))
+key_later zero (suc i) later few = omega arith
+key_later (suc number) i later few = absurd (omega (arith, later, few))
+
+-- until it has ended, a descent made at most 1,200 steps since it last began
+pub few_steps : (z : Sizes) (k : List ℕ) (what : Option ℕ → Deed) (depth : ℕ) (stage : Stage) (u v : View) → length k ≤ 64 → ended_at stage ≡ None → StageFits z k what depth stage u v → most_steps depth stage ≤ 1200
 few_steps z k what depth Start u v short going fits = omega arith
 few_steps z k what depth (Anchor x) u v short going fits = omega arith
 few_steps z k what depth (Child x d) u v short going fits = let deep = fits.1.deep in omega (arith, deep, short)
@@ -72,7 +82,7 @@ few_steps z k what depth (Below x n) u v short going fits = let deep = fits.1.de
 few_steps z k what depth (Both x y n) u v short going fits = let deep = fits.1.deep in omega (arith, deep, short)
 few_steps z k what depth (Header y n) u v short going fits = let deep = fits.1 in omega (arith, deep, short)
 few_steps z k what depth (Prefix seen i r) u v short going fits = let deep = fits.1.short in let more = fits.1.more in omega (arith, deep, more)
-few_steps z k what depth (Keys seen i) u v short going fits = let deep = fits.1.deep in let few = fits.1.few in omega (arith, deep, few, short)
+few_steps z k what depth (Keys seen i) u v short going fits = let deep = fits.1.deep in let few = few_keys i in omega (arith, deep, few, short)
 few_steps z k what depth (Slot seen place) u v short going fits = let deep = fits.1.deep in omega (arith, deep, short)
 few_steps z k what depth (Value x l) u v short going fits = let deep = fits.1.deep in omega (arith, deep, short)
 few_steps z k what depth (Length x l value) u v short going fits = let deep = fits.1 in omega (arith, deep, short)
@@ -81,12 +91,12 @@ few_steps z k what depth (Decided x found) u v short going fits = let deep = fit
 few_steps z k what depth (Ended o) u v short going fits = cc
 
 -- after a search the descent has come further
-pub staged_later : (depth number : ℕ) (r : Sought) (seen : NodeSeen) → number < 32 → AsksLater number r → 64 * depth + 14 + number < most_steps depth (staged r seen)
-staged_later depth number (sought.Keys i) seen few later = omega arith
-staged_later depth number (sought.Child p) seen few later = omega arith
-staged_later depth number sought.Nothing seen few later = omega arith
+pub staged_later : (depth number : ℕ) (r : Sought) (seen : NodeSeen) → number < 32 → AsksLater number r → 18 * depth + 14 + later_key number < most_steps depth (staged r seen)
+staged_later depth number (sought.Keys i) seen few later = let more = key_later number i later.0 later.1 in omega (arith, more)
+staged_later depth number (sought.Child p) seen few later = let low = few_keys number in omega (arith, low)
+staged_later depth number sought.Nothing seen few later = let low = few_keys number in omega (arith, low)
 
-pub staged_first : (depth : ℕ) (r : Sought) (seen : NodeSeen) → 64 * depth + 5 < most_steps depth (staged r seen)
+pub staged_first : (depth : ℕ) (r : Sought) (seen : NodeSeen) → 18 * depth + 5 < most_steps depth (staged r seen)
 staged_first depth (sought.Keys i) seen = omega arith
 staged_first depth (sought.Child p) seen = omega arith
 staged_first depth sought.Nothing seen = omega arith
@@ -98,7 +108,7 @@ staged_going (sought.Child p) seen = refl
 staged_going sought.Nothing seen = refl
 
 -- after the check of the cell that names a link
-pub below_later : (depth : ℕ) (x : Stamp) (d : Link) → 64 * depth + 2 < most_steps depth (stage_below x d)
+pub below_later : (depth : ℕ) (x : Stamp) (d : Link) → 18 * depth + 2 < most_steps depth (stage_below x d)
 below_later depth x (leaf l) = omega arith
 below_later depth x (node n) = omega arith
 

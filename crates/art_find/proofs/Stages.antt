@@ -14,7 +14,6 @@ use Rattle.art_find.specs.Asking.{Answers, WantsCheck, WantsVersion, WantsWord, 
 use Rattle.art_find.specs.Compares.{ComparesWord, HasByte, IsBeside, IsWithin, TellsBeside, at_first}
 use Rattle.art_find.specs.declared.compares.Beside.{Beside}
 use Rattle.art_find.specs.Descents.{IsAbove, IsChild, IsOn, IsReading, StageFits, WasNamed, WasNoted, answer_at, asks, ended_at, stage_below, staged}
-use Rattle.art_find.specs.declared.descents.Descent.{Descent}
 use Rattle.art_step.specs.Events.{MakesEvent}
 use Rattle.art_find.specs.Verdicts.{Says, value_of}
 use Rattle.art_find.specs.Ways.{HasHeader, IsAtLeaf, IsAtSlot, IsInKey, IsInPrefix, IsPassed, IsPastPrefix, count_in}

@@ -1,5 +1,5 @@
 -- What a descent by a key knows between two of its steps.
-use Rattle.std.specs.Prelude.{◌≡◌, ◌≢◌, ℕ, ◌+◌, ◌*◌, ◌<◌, ◌≤◌, List, [], length, take, Option, Some, None, Ok, Err, ⊤}
+use Rattle.std.specs.Prelude.{◌≡◌, ◌≢◌, ℕ, zero, suc, ◌+◌, ◌*◌, ◌<◌, ◌≤◌, List, [], length, take, Option, Some, None, Ok, Err, ⊤}
 use Rattle.art_cell.specs.declared.cells.Cell.TheVariants as cell
 use Rattle.art_cell.specs.declared.cells.Link.{Link}
 use Rattle.art_cell.specs.declared.cells.Link.TheVariants.{Leaf as leaf, Node as node}
@@ -120,22 +120,27 @@ staged sought.Nothing seen = Decided seen.stamp (verdict.Free seen.node seen.hea
 
 -- ---- how far it has come
 
+-- of the words of keys in a node at most two are read, and the first of those is any
+abbrev pub later_key : ℕ → ℕ
+later_key zero = 0
+later_key (suc i) = 1
+
 -- at most so many steps were made since the descent last began
 abbrev pub most_steps : ℕ → Stage → ℕ
 most_steps depth Start = 0
 most_steps depth (Anchor x) = 1
-most_steps depth (Child x d) = 64 * depth + 2
-most_steps depth (Below x n) = 64 * depth + 3
-most_steps depth (Both x y n) = 64 * depth + 4
-most_steps depth (Header y n) = 64 * depth + 5
-most_steps depth (Prefix seen i r) = 64 * depth + 6 + i
-most_steps depth (Keys seen i) = 64 * depth + 14 + i
-most_steps depth (Slot seen place) = 64 * depth + 46
-most_steps depth (Value x l) = 64 * depth + 3
-most_steps depth (Length x l value) = 64 * depth + 4
-most_steps depth (Bytes seen i r) = 64 * depth + 5 + i
-most_steps depth (Decided x found) = 64 * depth + 47
-most_steps depth (Ended o) = 64 * depth + 48
+most_steps depth (Child x d) = 18 * depth + 2
+most_steps depth (Below x n) = 18 * depth + 3
+most_steps depth (Both x y n) = 18 * depth + 4
+most_steps depth (Header y n) = 18 * depth + 5
+most_steps depth (Prefix seen i r) = 18 * depth + 6 + i
+most_steps depth (Keys seen i) = 18 * depth + 14 + later_key i
+most_steps depth (Slot seen place) = 18 * depth + 16
+most_steps depth (Value x l) = 18 * depth + 3
+most_steps depth (Length x l value) = 18 * depth + 4
+most_steps depth (Bytes seen i r) = 18 * depth + 5 + i
+most_steps depth (Decided x found) = 18 * depth + 17
+most_steps depth (Ended o) = 18 * depth + 18
 
 -- ---- what it knows
 

@@ -1,5 +1,5 @@
 -- How a get ends that is driven to its end.
-use Rattle.std.specs.Prelude.{◌≡◌, ℕ, ◌+◌, ◌*◌, ◌≤◌, Bool, if◌then◌else◌, List, Option, Some, None}
+use Rattle.std.specs.Prelude.{◌≡◌, ℕ, ◌+◌, ◌*◌, ◌≤◌, Bool, if◌then◌else◌, List, Option}
 use Rattle.art_find.specs.Descents.{Fits, most_steps}
 use Rattle.art_find.specs.declared.descents.Descent.{Descent}
 use Rattle.art_model.specs.declared.commands.Answer.TheVariants as reply

@@ -65,8 +65,8 @@
 //!
 //! # How many steps
 //!
-//! Each step comes further (`most_steps`), so that a descent that meets no failure ends within 4,300 steps: a byte of the key
-//! costs at most 64. A failure begins the count anew. So a get that used all its turns met many failures, or had few turns.
+//! Each step comes further (`most_steps`), so that a descent that meets no failure ends within 1,200 steps: a byte of the key
+//! costs at most 18. A failure begins the count anew. So a get that used all its turns met many failures, or had few turns.
 #![tactic(auto)]
 
 mod asked;

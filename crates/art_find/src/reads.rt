@@ -14,7 +14,7 @@ impl Descent {
     ghost use Rattle.art_find.specs.Asking.{Answers, WantsWord};
     ghost use Rattle.art_find.specs.Compares.{IsWithin};
     ghost use Rattle.art_find.specs.Descents.{Fits, IsAbove, IsExact, IsOn, IsReading, WasNoted};
-    ghost use Rattle.art_find.specs.Descents.{answer_at, asks, ended_at, most_steps, stands_on};
+    ghost use Rattle.art_find.specs.Descents.{answer_at, asks, ended_at, later_key, most_steps, stands_on};
     ghost use Rattle.art_find.specs.Ways.{HasHeader, IsAtKeys, IsAtLeaf, IsAtSlot, IsInKey, IsInPrefix, IsOnNode, IsPassed, count_in};
     ghost use Rattle.art_find.specs.declared.asked.Answer.TheVariants as told;
     ghost use Rattle.art_find.specs.declared.asked.Asked.{Asked as AskedStep};
@@ -100,7 +100,7 @@ impl Descent {
     fn see_header(&mut self, key: &[u8], seen: NodeSeen)
         requires few { length key.now ≤ 64 }
         requires deep { self.old.depth ≤ length key.now }
-        ensures steps { 64 * self.old.depth + 5 < most_steps self.new.depth self.new.stage }
+        ensures steps { 18 * self.old.depth + 5 < most_steps self.new.depth self.new.stage }
         ensures going { ended_at self.new.stage ≡ None }
         ensures stays { stands_on self.new.stage ≡ Some seen.stamp }
         ensures exact { IsExact self.new.stage }
@@ -125,7 +125,7 @@ impl Descent {
         requires more { 8 * number < count_in seen.header }
         requires short { self.old.depth + count_in seen.header < 64 }
         requires within { IsWithin key.now self.old.depth (8 * number) before }
-        ensures steps { 64 * self.old.depth + 6 + number < most_steps self.new.depth self.new.stage }
+        ensures steps { 18 * self.old.depth + 6 + number < most_steps self.new.depth self.new.stage }
         ensures going { ended_at self.new.stage ≡ None }
         ensures stays { stands_on self.new.stage ≡ Some seen.stamp }
         ensures exact { IsExact self.new.stage }
@@ -157,7 +157,7 @@ impl Descent {
     fn pass(&mut self, key: &[u8], seen: NodeSeen)
         requires deep { self.old.depth ≤ length key.now }
         requires short { self.old.depth + count_in seen.header < 64 }
-        ensures steps { 64 * self.old.depth + 13 < most_steps self.new.depth self.new.stage }
+        ensures steps { 18 * self.old.depth + 13 < most_steps self.new.depth self.new.stage }
         ensures going { ended_at self.new.stage ≡ None }
         ensures stays { stands_on self.new.stage ≡ Some seen.stamp }
         ensures exact { IsExact self.new.stage }
@@ -178,7 +178,7 @@ impl Descent {
     fn see_keys(&mut self, key: &[u8], seen: NodeSeen, number: u8, word: u64)
         requires deep { self.old.depth < length key.now }
         requires number { number < 32 }
-        ensures steps { 64 * self.old.depth + 14 + number < most_steps self.new.depth self.new.stage }
+        ensures steps { 18 * self.old.depth + 14 + later_key number < most_steps self.new.depth self.new.stage }
         ensures going { ended_at self.new.stage ≡ None }
         ensures stays { stands_on self.new.stage ≡ Some seen.stamp }
         ensures exact { IsExact self.new.stage }
@@ -197,7 +197,7 @@ impl Descent {
     #[inline(always)]
     fn see_slot(&mut self, key: &[u8], seen: NodeSeen, place: usize, word: u64)
         requires deep { self.old.depth < length key.now }
-        ensures steps { 64 * self.old.depth + 46 < most_steps self.new.depth self.new.stage }
+        ensures steps { 18 * self.old.depth + 16 < most_steps self.new.depth self.new.stage }
         ensures going { ended_at self.new.stage ≡ None }
         ensures stays { stands_on self.new.stage ≡ Some seen.stamp }
         ensures exact { IsExact self.new.stage }
@@ -223,7 +223,7 @@ impl Descent {
     #[inline(always)]
     fn see_length(&mut self, key: &[u8], stamp: Stamp, leaf: u32, value: u64, bytes: u64)
         requires deep { self.old.depth ≤ length key.now }
-        ensures steps { 64 * self.old.depth + 4 < most_steps self.new.depth self.new.stage }
+        ensures steps { 18 * self.old.depth + 4 < most_steps self.new.depth self.new.stage }
         ensures going { ended_at self.new.stage ≡ None }
         ensures stays { stands_on self.new.stage ≡ Some stamp }
         ensures exact { IsExact self.new.stage }
@@ -262,7 +262,7 @@ impl Descent {
         requires more { 8 * number < seen.count }
         requires few { seen.count ≤ 64 }
         requires within { IsWithin key.now 0 (8 * number) before.compared }
-        ensures steps { 64 * self.old.depth + 5 + number < most_steps self.new.depth self.new.stage }
+        ensures steps { 18 * self.old.depth + 5 + number < most_steps self.new.depth self.new.stage }
         ensures going { ended_at self.new.stage ≡ None }
         ensures stays { stands_on self.new.stage ≡ Some seen.stamp }
         ensures exact { IsExact self.new.stage }

@@ -12,7 +12,7 @@ pub returns-in-Merges-clause-fits : goal.returns-in-Merges-clause-fits
 returns-in-Merges-clause-fits c z u v room so lost =
     let m = c.args.self.now in
     let r = c.args.room.now in
-    let p = begins_vouching z u 4301 m.stand r v so lost in
+    let p = begins_vouching z u 1201 m.stand r v so lost in
     c.read_on.ensures.fits z u v room (record {
       early = v;
       base = so.still;
@@ -28,4 +28,4 @@ pub returns-in-Leaf-clause-fits : goal.returns-in-Leaf-clause-fits
 returns-in-Leaf-clause-fits c z u v room so lost =
     let m = c.args.self.now in
     let r = c.args.room.now in
-    c.vouch.ensures.fits z u v room (within_more z u 4301 24800 r v (omega arith) so) lost (inl (sym c.loss.ensures ∙ c.in-Leaf.is))
+    c.vouch.ensures.fits z u v room (within_more z u 1201 21700 r v (omega arith) so) lost (inl (sym c.loss.ensures ∙ c.in-Leaf.is))

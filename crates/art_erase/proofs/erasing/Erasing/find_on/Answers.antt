@@ -24,7 +24,7 @@ returns-then-not-on-clause-fits c z u v w asked room f is row =
     let now = c.told-on.new.self.descent in
     let going = zero_going now.depth now.stage (c.told-on.ensures.anew c.if-not-on.true) in
     let reads = still_reading z c.as_slice.result.now what now.depth now.stage f.early w going fits.descent in
-    let so = within_so z u 4301 r w (omega arith) (ends_reading z u m r v w room.key.short f (cell_later z d asked c.args.answer v w row) (cell_step z d asked c.args.answer v w row) reads.only) in
+    let so = within_so z u 1201 r w (omega arith) (ends_reading z u m r v w room.key.short f (cell_later z d asked c.args.answer v w row) (cell_step z d asked c.args.answer v w row) reads.only) in
     let more = cell_fails z d asked c.args.answer v w row (sym c.told-on.ensures.on ∙ c.if-not-on.true) in
     let before = (still_later u f.early f.base v f.later).failures in
     record { room = record { sizes = room.sizes; key = room.key }; stage = (record { still = so.still; spent = so.spent; has = so.has }, omega (arith, more, before)) }

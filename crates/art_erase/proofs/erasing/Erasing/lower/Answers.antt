@@ -23,7 +23,7 @@ returns-clause-fits c z u v r room so lost known merges named leaves =
           is = refl;
           leaves = leaves;
           fits = c.new-self.ensures.fits z r.gone.key.items m.stand r.desk r.lower v
-              (record { vouching = begins_vouching z u 24800 m.stand r v so lost; whole = known; here = at.0; is = at.1; named = named });
+              (record { vouching = begins_vouching z u 21700 m.stand r v so lost; whole = known; here = at.0; is = at.1; named = named });
         },
         c.new-self.ensures.going,
       );

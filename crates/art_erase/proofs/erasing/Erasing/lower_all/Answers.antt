@@ -25,7 +25,7 @@ look-requires g c =
 pub returns-in_default-look-clause-fits : goal.returns-in_default-look-clause-fits
 returns-in_default-look-clause-fits g c u fits =
     let z = g.S.Steps.sizes c.args.steps.now in
-    subst (λ (v : View). Fits z u c.loop-left.self c.loop-left.room v) (sym c.in_default-look.ensures.none) (c.loop-left.invariant.fits u fits)
+    subst (λ (v : View). Fits z u c.loop-left.self c.loop-left.room v) (sym c.in_default-look.ensures.none.1) (c.loop-left.invariant.fits u fits)
 
 pub lower_told-requires-clause-told : goal.lower_told-requires-clause-told
 lower_told-requires-clause-told g c =

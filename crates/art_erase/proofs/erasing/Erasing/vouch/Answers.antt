@@ -8,7 +8,7 @@ pub returns-clause-fits : goal.returns-clause-fits
 returns-clause-fits c z u v room so lost chosen =
     let m = c.args.self.now in
     let r = c.args.room.now in
-    let fits = c.new-self.ensures.fits z r.gone.key.items v (begins_vouching z u 24800 m.stand r v so lost) in
+    let fits = c.new-self.ensures.fits z r.gone.key.items v (begins_vouching z u 21700 m.stand r v so lost) in
     record {
       room = room;
       stage = (

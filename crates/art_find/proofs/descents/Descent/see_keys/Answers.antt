@@ -1,5 +1,5 @@
 use Rattle.std.proofs.Common.{◌<◌, ◌+◌, ◌*◌, get_or, sym, subst, arith}
-use Rattle.art_find.specs.Descents.{StageFits, most_steps}
+use Rattle.art_find.specs.Descents.{StageFits, later_key, most_steps}
 use Rattle.art_find.specs.declared.descents.Stage.{Stage}
 use Rattle.art_find.proofs.Stages.{staged_fits}
 use Rattle.art_find.proofs.Counting.{staged_later}
@@ -9,7 +9,7 @@ use Rattle.art_find.proofs.descents.Descent.see_keys.Goals as goal
 pub returns-clause-steps : goal.returns-clause-steps
 returns-clause-steps c =
     let m = c.args.self.now in
-    subst (λ (t : Stage). 64 * m.depth + 14 + c.args.number < most_steps m.depth t) (sym c.staged-self.ensures)
+    subst (λ (t : Stage). 18 * m.depth + 14 + later_key c.args.number < most_steps m.depth t) (sym c.staged-self.ensures)
     (staged_later m.depth c.args.number c.next_word.result c.args.seen c.requires.number c.next_word.ensures.later)
 
 pub returns-clause-fits : goal.returns-clause-fits
