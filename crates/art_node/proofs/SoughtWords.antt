@@ -73,6 +73,11 @@ pub below_known_from : (s : Sorted) (low : ℕ) (w : Words) (i : ℕ) → BelowA
 below_known_from Four low w i below = below
 below_known_from Sixteen low w i below = below
 
+-- and there are two of them at most
+pub keys_few : (s : Sorted) (i : ℕ) → 8 * i < places (layout_of s) → i < 2
+keys_few Four i inside = omega (arith, inside)
+keys_few Sixteen i inside = omega (arith, inside)
+
 -- a word of key bytes is one of the cell
 pub keys_inside : (s : Sorted) (i : ℕ) → 8 * i < places (layout_of s) → (i < 32) × (10 + i < size (layout_of s))
 keys_inside Four i low = (omega arith, omega arith)

@@ -1,5 +1,5 @@
 -- What one word after another tells of the child of a byte, and of the least child from a byte on.
-use Rattle.std.specs.Prelude.{◌≡◌, ℕ, ◌+◌, ◌*◌, ◌/◌, ◌<◌, ◌≤◌, Option, Some, None, ⊤}
+use Rattle.std.specs.Prelude.{◌≡◌, ℕ, ◌+◌, ◌*◌, ◌/◌, ◌%◌, ◌<◌, ◌≤◌, Option, Some, None, ⊤}
 use Rattle.art_cell.specs.declared.layouts.Layout.{Layout}
 use Rattle.art_cell.specs.declared.layouts.Layout.TheVariants.{Node4, Node16, Node48, Node256}
 use Rattle.art_cell.specs.Bodies.{IsBody}
@@ -39,11 +39,23 @@ SoughtTells k b so (sought.Keys i) = (i < 32) × (10 + i < size k) × ((w : Word
 SoughtTells k b so (sought.Child p) = (0 < p) × (p < size k) × ((w : Words) → IsBody k w → so w → child_of k w b ≡ nonzero (w p))
 SoughtTells k b so sought.Nothing = (w : Words) → IsBody k w → so w → child_of k w b ≡ None
 
--- a word of keys that has to be read next comes after that with a number
+-- a word of keys that has to be read next comes after that with a number, and is the second
 abbrev pub AsksLater : ℕ → Sought → Type 0
-AsksLater number (sought.Keys i) = number < i
+AsksLater number (sought.Keys i) = (number < i) × (i < 2)
 AsksLater number (sought.Child p) = ⊤
 AsksLater number sought.Nothing = ⊤
+
+-- a word of sorted key bytes is asked for only where the header says that there are more bytes than stand before it
+abbrev pub IsCounted : Layout → ℕ → ℕ → Type 0
+IsCounted Node4 header i = 8 * i < header % 512
+IsCounted Node16 header i = 8 * i < header % 512
+IsCounted Node48 header i = ⊤
+IsCounted Node256 header i = ⊤
+
+abbrev pub AsksCounted : Layout → ℕ → Sought → Type 0
+AsksCounted k header (sought.Keys i) = IsCounted k header i
+AsksCounted k header (sought.Child p) = ⊤
+AsksCounted k header sought.Nothing = ⊤
 
 -- ---- the least child from a byte on
 
@@ -80,7 +92,18 @@ AsksLaterFrom number (from.Keys i) = number < i
 AsksLaterFrom number (from.Child p b) = ⊤
 AsksLaterFrom number from.Nothing = ⊤
 
+abbrev pub AsksCountedFrom : Layout → ℕ → SoughtFrom → Type 0
+AsksCountedFrom k header (from.Keys i) = IsCounted k header i
+AsksCountedFrom k header (from.Child p b) = ⊤
+AsksCountedFrom k header from.Nothing = ⊤
+
 -- ---- in one word
+
+-- the next word is read only where the header says that there are bytes in it
+abbrev pub GoesOnCounted : ℕ → ℕ → KeySearch → Type 0
+GoesOnCounted header number (key.At i found) = ⊤
+GoesOnCounted header number key.Later = 8 * (number + 1) < header % 512
+GoesOnCounted header number key.Nothing = ⊤
 
 -- the header and a word of key bytes, before which all bytes are below one
 pub record IsKeyWord (b header number word : ℕ) (w : Words) : Type 0 where

@@ -5,6 +5,7 @@ ghost use Rattle.std.specs.Prelude.{◌≡◌, ◌<◌, ℕ};
 ghost use Rattle.art_cell.specs.declared.layouts.Layout.TheVariants as layouts;
 ghost use Rattle.art_cell.specs.Words.{byte_of};
 ghost use Rattle.art_sorted.specs.Sorted.{layout_of};
+ghost use Rattle.art_node.specs.Searches.{AsksCounted, AsksCountedFrom, GoesOnCounted};
 ghost use Rattle.art_node.specs.Searches.{AsksLater, AsksLaterFrom, IsHeader, IsNextWord, IsNextWordFrom, SoughtTells, SoughtFromTells};
 ghost use Rattle.art_node.specs.Searches.{IsKeyWord, KeySearchTells, PlaceTells, HasWord, HasWordFrom};
 
@@ -71,6 +72,7 @@ pub fn next_word(layout: Layout, byte: u8, header: u64, number: u8, word: u64) -
     requires { number < 32 }
     ensures tells { SoughtTells layout byte (IsNextWord layout byte header number word) result }
     ensures later { AsksLater number result }
+    ensures counted { AsksCounted layout header result }
 {
     match layout {
         Layout::Node4 => sorted_child(Sorted::Four, byte, header, number, word),
@@ -97,6 +99,7 @@ pub fn next_word_from(layout: Layout, low: u8, header: u64, number: u8, word: u6
     requires { number < 32 }
     ensures tells { SoughtFromTells layout low (IsNextWordFrom layout low header number word) result }
     ensures later { AsksLaterFrom number result }
+    ensures counted { AsksCountedFrom layout header result }
 {
     match layout {
         Layout::Node4 => sorted_child_from(Sorted::Four, low, header, number, word),
@@ -111,6 +114,7 @@ fn sorted_child(sorted: Sorted, byte: u8, header: u64, number: u8, word: u64) ->
     requires { number < 32 }
     ensures tells { SoughtTells (layout_of sorted) byte (IsKeyWord byte header number word) result }
     ensures later { AsksLater number result }
+    ensures counted { AsksCounted (layout_of sorted) header result }
 {
     match first_key(sorted, byte, header, number, word) {
         KeySearch::At(index, found) => {
@@ -130,6 +134,7 @@ fn sorted_child_from(sorted: Sorted, low: u8, header: u64, number: u8, word: u64
     requires { number < 32 }
     ensures tells { SoughtFromTells (layout_of sorted) low (IsKeyWord low header number word) result }
     ensures later { AsksLaterFrom number result }
+    ensures counted { AsksCountedFrom (layout_of sorted) header result }
 {
     match first_key(sorted, low, header, number, word) {
         KeySearch::At(index, found) => SoughtFrom::Child(sorted.first_child() + index, found),
@@ -143,7 +148,8 @@ fn sorted_child_from(sorted: Sorted, low: u8, header: u64, number: u8, word: u64
 /// No more positions are looked at than there are, whatever count was read.
 fn first_key(sorted: Sorted, byte: u8, header: u64, number: u8, word: u64) -> KeySearch
     requires { number < 32 }
-    ensures { KeySearchTells sorted byte number (IsKeyWord byte header number word) result }
+    ensures tells { KeySearchTells sorted byte number (IsKeyWord byte header number word) result }
+    ensures counted { GoesOnCounted header number result }
 {
     let count = ((header % 512) as usize).min(sorted.positions());
     let first = 8 * usize::from(number);

@@ -235,6 +235,15 @@ fn a_node16_asks_for_its_second_word_only_where_it_must(rt: HostRuntime) {
     );
 }
 
+/// Eight children fill the first word of keys: no other is asked for, whatever the byte is.
+#[test]
+fn a_node16_of_eight_children_asks_for_one_word_of_keys(rt: HostRuntime) {
+    let bytes = [80, 10, 20, 70, 30, 40, 60, 50];
+    let words = with_bytes::<Node16>(&rt, Layout::Node16, &bytes).words;
+    check_order(&rt, Layout::Node16, &words, 81, &[0], Sought::Nothing);
+    check_order_from(&rt, Layout::Node16, &words, 81, &[0], SoughtFrom::Nothing);
+}
+
 #[test]
 fn a_node48_asks_for_the_bytes_index_word_and_those_after_it(rt: HostRuntime) {
     let words = with_bytes::<Node48>(&rt, Layout::Node48, &[20, 90, 240]).words;

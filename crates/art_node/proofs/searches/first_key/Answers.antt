@@ -4,8 +4,8 @@ use Rattle.art_sorted.specs.Sorted.{BelowAll}
 use Rattle.art_node.proofs.SoughtWords.{key_in}
 use Rattle.art_node.proofs.searches.first_key.Goals as goal
 
-pub returns-then-found-byte : goal.returns-then-found-byte
-returns-then-found-byte c =
+pub returns-then-found-byte-clause-tells : goal.returns-then-found-byte-clause-tells
+returns-then-found-byte-clause-tells c =
     let index = 8 * c.from-first.result + c.loop-at.at in
     let at : 8 * c.args.number + c.loop-at.at ≡ index = omega (arith, c.from-first.ensures) in (
       omega (arith, c.positions.ensures.value, c.if-at-left.false, c.saturating_sub-left.ensures, c.from-first.ensures, c.min-count.ensures),
