@@ -7,6 +7,8 @@ use Rattle.art_key.specs.declared.bounds.Bound.{Bound as KeyBound}
 use Rattle.art_look.specs.Driven.{LookFits}
 use Rattle.art_look.specs.Looks.{has_ended}
 use Rattle.art_look.specs.declared.looks.Look.{Look}
+use Rattle.art_look.specs.declared.looks.LookStage.{LookStage}
+use Rattle.art_look.specs.declared.looks.LookStage.TheVariants.{Decided}
 use Rattle.art_look.specs.declared.trails.Trail.{Trail}
 use Rattle.art_step.specs.declared.views.Sizes.{Sizes}
 use Rattle.art_step.specs.declared.views.View.{View}
@@ -26,6 +28,11 @@ abbrev pub AsksVersion : Option Asked → Type 0
 AsksVersion (Some (Begin c)) = ⊤
 AsksVersion (Some (Check x)) = ⊤
 AsksVersion asked = ⊥
+
+-- what it has seen is known, and the check that settles it comes next
+abbrev pub IsToSettle : LookStage → Type 0
+IsToSettle (Decided x reach value) = ⊤
+IsToSettle stage = ⊥
 
 -- some look from lo on has come to this
 abbrev pub IsUnderWay : Sizes → List ℕ → View → Look → Trail → Tally → Type 0

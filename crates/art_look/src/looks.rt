@@ -4,6 +4,7 @@ ghost use Rattle.art_key.specs.Bounds.{is_before};
 ghost use Rattle.art_key.specs.declared.bounds.Bound.{Bound as KeyBound};
 ghost use Rattle.art_key.specs.declared.bounds.Bound.TheVariants.{At as at};
 ghost use Rattle.art_look.specs.Looks.{stage_below};
+ghost use Rattle.art_look.specs.declared.looks.LookStage.TheVariants as lookstages;
 ghost use Rattle.art_look.specs.Seen.{bound_at, nearer, row_within};
 ghost use Rattle.art_look.specs.Table.{end_at};
 ghost use Rattle.art_step.specs.Deeds.{key_of};
@@ -282,6 +283,7 @@ impl Look {
     /// A version word was locked, obsolete or changed: the look begins anew.
     #[inline(always)]
     pub fn failed(&mut self)
+        ensures start { self.new ≡ record self.old { stage = lookstages.Start } }
         ensures steps { most_steps self.new.depth self.new.stage ≡ 0 }
         ensures least { least_steps self.new.stage ≡ 0 }
         ensures fits { (z : Sizes) (lo : List ℕ) (hi : KeyBound) (t : Trailed) (u v : View) → IsReading u v → Fits z lo hi self.new t u v }

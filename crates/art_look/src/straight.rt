@@ -3,7 +3,7 @@
 //! It makes the steps of a look in their order. What a step needs is taken out of the stage before it is made, and the look hears what came
 //! of it as the stage that it stood at: memory is read anew behind a step, since other threads write there. The last turn is left to the
 //! machine, and so is the check that settles what was seen.
-ghost use Rattle.std.specs.Prelude.{◌≡◌, ◌+◌, ◌<◌, ◌≤◌, ℕ, List, Some, false};
+ghost use Rattle.std.specs.Prelude.{◌≡◌, ◌+◌, ◌<◌, ◌≤◌, ◌⊎◌, ℕ, List, Some, false};
 ghost use Rattle.art_cell.specs.declared.cells.Cell.{Cell as CellOf};
 ghost use Rattle.art_find.specs.Asking.{Answers, WantsCheck, WantsVersion, WantsWord};
 ghost use Rattle.art_find.specs.Descents.{IsReading};
@@ -13,7 +13,7 @@ ghost use Rattle.art_find.specs.declared.asked.Asked.TheVariants as askeds;
 ghost use Rattle.art_key.specs.declared.bounds.Bound.{Bound as KeyBound};
 ghost use Rattle.art_look.specs.Driven.{LookFits};
 ghost use Rattle.art_look.specs.Looks.{Fits, asks, has_ended, least_steps, most_steps};
-ghost use Rattle.art_look.specs.Straight.{AsksLeaf, AsksVersion, AsksWord, HasGone, HasTurn, IsUnderWay};
+ghost use Rattle.art_look.specs.Straight.{AsksLeaf, AsksVersion, AsksWord, HasGone, HasTurn, IsToSettle, IsUnderWay};
 ghost use Rattle.art_look.specs.declared.trails.Trail.{Trail as Trailed};
 ghost use Rattle.art_step.specs.Steps.Begin.{Outcome as Begun};
 ghost use Rattle.art_step.specs.Steps.Check.{Outcome as WasChecked};
@@ -47,6 +47,7 @@ pub fn look_on<S: Steps>(
     ensures few { tally.new.restarts + tally.new.left ≤ 4294967295 }
     ensures made { (S.view steps.new).steps + tally.new.left ≡ (S.view steps.old).steps + tally.old.left }
     ensures going { has_ended look.new.stage ≡ false }
+    ensures there { IsToSettle look.new.stage ⊎ (tally.new.left ≡ 1) }
     ensures fits { (hi : KeyBound) (u : View) →
         LookFits (S.sizes steps.old) lo.now hi u (S.view steps.old) look.old trail.old tally.old.restarts →
         LookFits (S.sizes steps.old) lo.now hi u (S.view steps.new) look.new trail.new tally.new.restarts }
@@ -56,7 +57,7 @@ pub fn look_on<S: Steps>(
             LookStage::Start
             | LookStage::Below(_, _)
             | LookStage::Child(_, _)
-            | LookStage::Both(_, _, _) => find_version(steps, tally, look),
+            | LookStage::Both(_, _, _) => begin_or_check(steps, tally, look),
             LookStage::Value(_, _) | LookStage::Length(_, _, _) | LookStage::Bytes(_, _) => {
                 read_leaf(steps, tally, look, lo, trail)
             }
@@ -68,7 +69,7 @@ pub fn look_on<S: Steps>(
 
 /// Stamps or checks the cell that comes next, and hears it.
 #[inline(always)]
-fn find_version<S: Steps>(steps: &mut S, tally: &mut Tally, look: &mut Look)
+fn begin_or_check<S: Steps>(steps: &mut S, tally: &mut Tally, look: &mut Look)
     requires turn { HasTurn tally.old }
     requires version { AsksVersion (asks look.old.stage) }
     requires looks { (lo : List ℕ) × (t : Trailed) × IsUnderWay (S.sizes steps.old) lo (S.view steps.old) look.old t tally.old }

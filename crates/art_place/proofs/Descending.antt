@@ -1,5 +1,5 @@
 -- Steps of a finding one after another.
-use Rattle.std.proofs.Common.{◌≡◌, ◌+◌, ℕ, Bool, true, false, List, None, refl, sym, subst, ◌∙◌, arith}
+use Rattle.std.proofs.Common.{◌≡◌, ◌+◌, ℕ, Bool, true, List, None, refl, sym, subst, ◌∙◌, arith}
 use Rattle.art_find.proofs.Counting.{Counted, answers_count}
 use Rattle.art_find.specs.Driven.{get_done}
 use Rattle.art_place.specs.Findings.{LookedOn, WentOn}

@@ -1,5 +1,5 @@
 -- What a finding knows between two of its steps: what its descent does, and of the words that it keeps.
-use Rattle.std.specs.Prelude.{◌≡◌, ◌+◌, ◌<◌, ◌≤◌, ℕ, Bool, true, false, List, Option, Some, None, length, replicate, set, take, ⊤}
+use Rattle.std.specs.Prelude.{◌≡◌, ◌≢◌, ◌+◌, ◌<◌, ◌≤◌, ◌⊎◌, ℕ, Bool, true, false, List, Option, Some, None, length, replicate, set, take, ⊤}
 use Rattle.std.specs.Option.{option_map}
 use Rattle.art_cell.specs.declared.cells.Cell.{Cell}
 use Rattle.art_cell.specs.declared.cells.Cell.TheVariants as cell
@@ -12,7 +12,7 @@ use Rattle.art_find.specs.declared.asked.Answer.{Answer}
 use Rattle.art_find.specs.declared.asked.Answer.TheVariants.{Begun, Checked}
 use Rattle.art_find.specs.declared.asked.Answer.TheVariants as told
 use Rattle.art_find.specs.declared.asked.Asked.{Asked}
-use Rattle.art_find.specs.declared.asked.Asked.TheVariants.{Read, ReadLeaf, Check}
+use Rattle.art_find.specs.declared.asked.Asked.TheVariants.{Read, ReadLeaf, Check, Settle}
 use Rattle.art_find.specs.declared.verdicts.Verdict.{Verdict}
 use Rattle.art_place.specs.Desks.{above_of, node_of}
 use Rattle.art_place.specs.Kept.{HasPath, IsKept}
@@ -83,6 +83,11 @@ abbrev pub AsksPlace : Option Asked → Type 0
 AsksPlace (Some (Read x i)) = i < 266
 AsksPlace asked = ⊤
 
+-- a check is asked for that settles an answer
+abbrev pub IsToSettle : Asked → Type 0
+IsToSettle (Settle x) = ⊤
+IsToSettle asked = ⊥
+
 -- a word of a leaf is asked for
 abbrev pub AsksLeaf : Option Asked → Type 0
 AsksLeaf (Some (ReadLeaf x l i)) = ⊤
@@ -115,6 +120,10 @@ Keeps (Begun r) asked next depth above desk above' desk' = Enters asked next dep
 Keeps (Checked r) asked next depth above desk above' desk' = Enters asked next depth above desk above' desk'
 
 -- ---- a step of a finding
+
+-- it makes no step more: the place of the key is known, or it has ended
+abbrev pub IsThere : Finding → Type 0
+IsThere m = (stand_at m ≢ None) ⊎ (ended_at m.descent.stage ≢ None)
 
 -- the step that it asked for was made and answered so
 pub record WasLooked (z : Sizes) (m : Finding) (asked : Asked) (answer : Answer) (v w : View) : Type 0 where
@@ -151,6 +160,7 @@ pub record CameBack (z : Sizes) (k : List ℕ) (m : Finding) (desk : Desk) (v : 
   pub on : WentOn z k m desk v middle kept view
   pub back : LookedOn z k false middle kept view m' desk' w
 
+-- whether it went on to the last, or came back
 abbrev pub Descends : Sizes → List ℕ → Bool → Finding → Desk → View → Finding → Desk → View → Type 0
 Descends z k true m desk v m' desk' w = WentOn z k m desk v m' desk' w
 Descends z k false m desk v m' desk' w = CameBack z k m desk v m' desk' w

@@ -1,5 +1,5 @@
 -- What is known while all words of a cell are read.
-use Rattle.std.specs.Prelude.{◌≡◌, ◌≤◌, ◌<◌, ℕ, nat_lt, List, Option, Some, None, if◌then◌else◌}
+use Rattle.std.specs.Prelude.{◌≡◌, ◌≤◌, ◌<◌, ◌⊎◌, ℕ, nat_lt, List, Option, Some, None, if◌then◌else◌}
 use Rattle.art_cell.specs.Reads.{word_read}
 use Rattle.art_find.specs.declared.asked.Asked.{Asked}
 use Rattle.art_find.specs.declared.asked.Asked.TheVariants.{Read}
@@ -27,3 +27,7 @@ pub record RereadingFits (z : Sizes) (v : View) (x : Stamp) (m : Rereading) (rea
   pub after : 0 < m.place
   pub known : AreKnown reads 1 m.place
   pub unknown : m.place < 266 → word_read reads m.place ≡ None
+
+-- all words of the cell are known, or one turn is left
+abbrev pub IsWholeOrLast : Stamp → Rereading → ℕ → Type 0
+IsWholeOrLast x m left = (size_of x.cell ≤ m.place) ⊎ (left ≡ 1)

@@ -20,7 +20,7 @@ pub struct Desk {
 impl Desk {
     ghost use Rattle.art_cell.specs.Reads.{word_read};
     ghost use Rattle.art_place.specs.Kept.{StaysRead};
-    ghost use Rattle.art_place.specs.Rereadings.{RereadingFits};
+    ghost use Rattle.art_place.specs.Rereadings.{IsWholeOrLast, RereadingFits};
     ghost use Rattle.art_place.specs.Runs.{HasReadOn};
     ghost use Rattle.art_step.specs.Steps.Read.{Outcome as ReadOutcome};
     ghost use Rattle.art_step.specs.Views.{size_of};
@@ -115,6 +115,7 @@ impl Desk {
         ensures some { 0 < left.new }
         ensures less { left.new ≤ left.old }
         ensures above { above_of self.new ≡ above_of self.old }
+        ensures last { IsWholeOrLast stamp rereading.new left.new }
         ensures read { HasReadOn (S.sizes steps.old) stamp (left.old - left.new) (S.view steps.old) rereading.old (node_of self.old)
             (S.view steps.new) rereading.new (node_of self.new) }
     {
@@ -139,6 +140,7 @@ impl Desk {
         ensures some { 0 < left.new }
         ensures less { left.new ≤ left.old }
         ensures node { node_of self.new ≡ node_of self.old }
+        ensures last { IsWholeOrLast stamp rereading.new left.new }
         ensures read { HasReadOn (S.sizes steps.old) stamp (left.old - left.new) (S.view steps.old) rereading.old (above_of self.old)
             (S.view steps.new) rereading.new (above_of self.new) }
     {

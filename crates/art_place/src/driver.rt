@@ -1,5 +1,6 @@
 //! Makes the steps of a finding.
 ghost use Rattle.std.specs.Prelude.{◌≡◌, ◌≢◌, IfNone, IfSome, ⊤};
+ghost use Rattle.art_place.specs.Findings.{IsToSettle};
 ghost use Rattle.art_find.specs.Asking.{Answers, IsAllowed};
 ghost use Rattle.art_find.specs.declared.asked.Asked.TheVariants.{Settle as settle_asked};
 ghost use Rattle.art_step.specs.declared.deeds.Deed.{Deed};
@@ -15,7 +16,7 @@ pub fn look<S: Steps>(steps: &mut S, asked: Asked) -> Option<Answer>
     ensures only { S.only steps.old steps.new }
     ensures row { IfSome result (λ r. (d : Deed) → Answers (S.sizes steps.old) d asked r (S.view steps.old) (S.view steps.new)) }
     ensures unsettled { IfSome result (λ r. (x : StampOf) → asked ≢ settle_asked x) }
-    ensures none { IfNone result (S.view steps.new ≡ S.view steps.old) }
+    ensures none { IfNone result (IsToSettle asked × (S.view steps.new ≡ S.view steps.old)) }
 {
     match asked {
         Asked::Begin(cell) => Some(Answer::Begun(steps.begin(cell))),

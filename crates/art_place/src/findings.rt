@@ -1,5 +1,5 @@
 //! A descent by a key that keeps what it read.
-ghost use Rattle.std.specs.Prelude.{◌≡◌, ◌+◌, ◌≤◌, ◌<◌, ℕ, List, Option, length, None};
+ghost use Rattle.std.specs.Prelude.{◌≡◌, ◌+◌, ◌≤◌, ◌<◌, ◌⊎◌, ℕ, List, Option, length, None};
 ghost use Rattle.art_place.specs.Findings.{AsksPlace, IsHeard};
 
 use crate::Desk;
@@ -42,7 +42,7 @@ impl Finding {
     ghost use Rattle.art_find.specs.Descents.{answer_at, asks, ended_at, most_steps};
     ghost use Rattle.art_find.specs.declared.asked.Asked.{Asked as AskedStep};
     ghost use Rattle.art_find.specs.declared.asked.Asked.TheVariants.{Begin as begin_asked, Check as check_asked, Read as read_asked};
-    ghost use Rattle.art_place.specs.Findings.{AsksLeaf, Descends, Enters, FindingFits, IsStanding, Keeps, LookedOn, stand_at};
+    ghost use Rattle.art_place.specs.Findings.{AsksLeaf, Descends, Enters, FindingFits, IsStanding, IsThere, Keeps, LookedOn, stand_at};
     ghost use Rattle.art_place.specs.declared.desks.Desk.{Desk as DeskOf};
     ghost use Rattle.art_step.specs.Shows.{HasValue};
     ghost use Rattle.art_step.specs.Steps.Begin.{Outcome as Begun};
@@ -136,6 +136,7 @@ impl Finding {
         ensures turn { 0 < left.new }
         ensures less { left.new ≤ left.old }
         ensures made { (S.view steps.new).steps + left.new ≡ (S.view steps.old).steps + left.old }
+        ensures there { result ≡ true → IsThere self.new ⊎ (left.new ≡ 1) }
         ensures descends { Descends (S.sizes steps.old) key.now result self.old desk.old (S.view steps.old)
             self.new desk.new (S.view steps.new) }
     {
@@ -157,7 +158,7 @@ impl Finding {
         requires fits { (what : Option ℕ → Deed) × (u : View) ×
             FindingFits (S.sizes steps.old) key.now what self.old desk.old u (S.view steps.old) }
         ensures only { S.only steps.old steps.new }
-        ensures none { IfNone result ((self.new ≡ self.old) × (desk.new ≡ desk.old) × (S.view steps.new ≡ S.view steps.old)) }
+        ensures none { IfNone result (IsThere self.old × (self.new ≡ self.old) × (desk.new ≡ desk.old) × (S.view steps.new ≡ S.view steps.old)) }
         ensures looked { IfSome result (λ on. LookedOn (S.sizes steps.old) key.now on self.old desk.old (S.view steps.old)
             self.new desk.new (S.view steps.new)) }
     {

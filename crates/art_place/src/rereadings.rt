@@ -22,7 +22,7 @@ pub struct Rereading {
 impl Rereading {
     ghost use Rattle.art_find.specs.Asking.{IsAllowed};
     ghost use Rattle.art_place.specs.Kept.{IsKept, StaysRead};
-    ghost use Rattle.art_place.specs.Rereadings.{RereadingFits, reads_next};
+    ghost use Rattle.art_place.specs.Rereadings.{IsWholeOrLast, RereadingFits, reads_next};
     ghost use Rattle.art_place.specs.Runs.{HasReadOn};
     ghost use Rattle.art_step.specs.Steps.Read.{Outcome as ReadOutcome};
     ghost use Rattle.art_step.specs.Views.{IsNotHeld};
@@ -88,6 +88,7 @@ impl Rereading {
         ensures only { S.only steps.old steps.new }
         ensures some { 0 < left.new }
         ensures less { left.new ≤ left.old }
+        ensures last { IsWholeOrLast stamp self.new left.new }
         ensures read { HasReadOn (S.sizes steps.old) stamp (left.old - left.new) (S.view steps.old) self.old reads.old
             (S.view steps.new) self.new reads.new }
     {

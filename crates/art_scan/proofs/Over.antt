@@ -14,9 +14,9 @@ use Rattle.art_table.specs.declared.passes.Pass.{Pass}
 use Rattle.art_table.specs.declared.tables.Table.{Table}
 
 -- whether another look is wanted where so many rows are listed
-pub tested : (rows : List Row) (listed limit : ℕ) (b answer : Bool) → listed ≤ length rows → (nat_lt listed limit && b) ≡ answer
+pub wants_by_length : (rows : List Row) (listed limit : ℕ) (b answer : Bool) → listed ≤ length rows → (nat_lt listed limit && b) ≡ answer
     → (nat_lt (length (take listed rows)) limit && b) ≡ answer
-tested rows listed limit b answer few is = ap (λ (n : ℕ). nat_lt n limit && b) (length-take-le listed rows few) ∙ is
+wants_by_length rows listed limit b answer few is = ap (λ (n : ℕ). nat_lt n limit && b) (length-take-le listed rows few) ∙ is
 
 module _ (rows : List Row) (listed : ℕ) (row : Row) (room : listed < length rows) where
   -- what a look found was written behind so many
@@ -42,7 +42,7 @@ module _ (t : Table) (lo hi : Tuple) (limit turns : ℕ) (p q : Pass) (rows : Li
 
   pub has_room : (listed : ℕ) → listed ≤ length rows → IsScanning t lo hi limit turns p q (take listed rows) g → (nat_lt listed g.limit && is_before g.from g.end) ≡ true → listed < 100
   has_room listed few s wanted =
-      let low = is_wanted t lo hi limit turns p q (take listed rows) g s (tested rows listed g.limit (is_before g.from g.end) true few wanted) in
+      let low = is_wanted t lo hi limit turns p q (take listed rows) g s (wants_by_length rows listed g.limit (is_before g.from g.end) true few wanted) in
       let most = s.most in
       let same = length-take-le listed rows few in
       omega (arith, low, most, same)

@@ -1,14 +1,12 @@
 -- A seek that has ended is closed, and what a look has told and seen then.
-use Rattle.std.proofs.Common.{◌≡◌, ℕ, ◌≤◌, List, length, Option, Some, None, refl, subst}
-use Rattle.std.specs.Prelude.{IfSome}
+use Rattle.std.proofs.Common.{◌≡◌, ℕ, ◌≤◌, List, length, Some, None, refl, subst}
 use Rattle.std.specs.Option.{option_map}
 use Rattle.art_key.specs.declared.bounds.Bound.{Bound as KeyBound}
 use Rattle.art_look.proofs.Driven.{ended_with}
 use Rattle.art_look.proofs.Stages.{has_seen, still_reading}
-use Rattle.art_look.specs.Driven.{IsSeen, LookEnds}
+use Rattle.art_look.specs.Driven.{LookEnds}
 use Rattle.art_look.specs.Looks as looks
 use Rattle.art_look.specs.Seen.{look_done}
-use Rattle.art_look.specs.declared.looks.Seen.{Seen as SeenOf}
 use Rattle.art_look.specs.declared.trails.Trail.{Trail}
 use Rattle.art_seek.proofs.Closes.{closed_sought}
 use Rattle.art_seek.proofs.Ends.{range_going, range_not_absent, range_not_found, range_seen}
@@ -60,11 +58,6 @@ module _ (k : List ℕ) (hi : KeyBound) (t : Trail) (left : ℕ) where
   seen_busy (Range m) Absent look ends is = absurd (range_not_absent m left ends)
   seen_busy (Key m) o look ends is = cc
 
-  -- what it saw stood in the table of looks
-  walk_stood : (z : Sizes) (u v : View) (n : ℕ) (w : Walk) (seen : SeenOf) → IsEnd w left Seen → walks.Fits z k hi u w t n v → walks.seen_at w k hi t ≡ Some seen → IsSeen z k hi seen
-  walk_stood z u v n (Range m) seen ends fits is = (ended_with z k hi u v m t n (range_seen m left ends) fits (Some seen) is).2
-  walk_stood z u v n (Key m) seen ends fits is = cc
-
   -- and it ended as a look of its own would have
   pub look_ends : (z : Sizes) (u v : View) (n : ℕ) (w : Walk) (o : Outcome) → aim_of w ≡ aim.Range → IsEnd w left o → walks.Fits z k hi u w t n v → LookEnds z k hi u v (seen_by (Some o) w k hi t)
   look_ends z u v n (Range m) Seen look ends fits = ended_with z k hi u v m t n (range_seen m left ends) fits (looks.seen_at k hi t m.stage) refl
@@ -72,10 +65,3 @@ module _ (k : List ℕ) (hi : KeyBound) (t : Trail) (left : ℕ) where
   look_ends z u v n (Range m) (Found value) look ends fits = absurd (range_not_found m left value ends)
   look_ends z u v n (Range m) Absent look ends fits = absurd (range_not_absent m left ends)
   look_ends z u v n (Key m) o look ends fits = cc
-
-module _ (k : List ℕ) (hi : KeyBound) (m : Seek) (t : Trail) where
-  pub seen_stood : (o : Option SeenOf) → ended_at m ≡ Some Seen → walks.seen_at m.walk k hi t ≡ o → IfSome o (λ seen. (z : Sizes) (u v : View) → Fits z k hi u m t v → IsSeen z k hi seen)
-  seen_stood (Some seen) ended is = λ z u v fits.
-      let c = ended_closed z k hi u m t v Seen ended fits in
-      walk_stood k hi t m.left z c.over.walking.opened c.before m.restarts m.walk seen (ended_end z k hi u m t v Seen ended fits) c.over.walking.walk is
-  seen_stood None ended is = tt

@@ -125,6 +125,7 @@ pub fn step<S: EpochSteps>(
     ensures turns { seek.new.turns ≡ seek.old.turns }
     ensures one { (S.view steps.new).steps ≡ (S.view steps.old).steps + 1 }
     ensures asked { asks seek.old ≡ Some result.asked }
+    ensures allowed { IsAllowed (S.sizes steps.old) (Settles seek.old.walk key.now trail.old) (S.view steps.old) result.asked }
     ensures row { (answer : AnswerOf) × Answers (S.sizes steps.old) (deed_at seek.old.walk key.now hi.now trail.old) result.asked answer
         (S.view steps.old) (S.view steps.new) × (result.stepped ≡ stepped_by result.asked answer) }
     ensures refuses { WillBeBusy seek.old → WillBeBusy seek.new }

@@ -173,5 +173,5 @@ pub ends_alone : EndLaw
 ends_alone z p m f u v wish given turns restarts c d o solo called = record {
   room = λ b is. wish_not_crowded z m u v solo.found turns restarts d b wish
       (subst (λ (e : Outcome). may_end wish e ≡ true) is called.may) (subst (λ (e : Outcome). HasGroundOf z wish turns restarts u d e v) is called.ground);
-  busy = λ is limited. (let few = (called.busy is).few limited in let none = solo.failures in omega (arith, few, none));
+  busy = λ is limited. (let few = (called.busy is).used.few limited in let none = solo.failures in omega (arith, few, none));
 }

@@ -7,28 +7,28 @@ use Rattle.art_look.proofs.straight.look_on.Goals as goal
 
 pub loop-tally-smaller-in-Start : goal.loop-tally-smaller-in-Start
 loop-tally-smaller-in-Start g c =
-    let left = (c.find_version.ensures.gone c.args.lo.now c.loop-tally.trail).left in
+    let left = (c.begin_or_check.ensures.gone c.args.lo.now c.loop-tally.trail).left in
     omega (arith, left)
 
 pub loop-tally-preserved-in-Start : goal.loop-tally-preserved-in-Start
 loop-tally-preserved-in-Start g c =
     let l = c.loop-tally in
     let i = l.invariant in
-    let n = c.find_version.new in
+    let n = c.begin_or_check.new in
     let z = g.S.Steps.sizes c.args.steps.now in
     let v = g.S.Steps.view l.steps in
     let w = g.S.Steps.view n.steps in
     let lo = c.args.lo.now in
     let t = l.trail in
-    let gone = c.find_version.ensures.gone lo t in
+    let gone = c.begin_or_check.ensures.gone lo t in
     let more = c.loop-tally-test.true in
     let left = gone.left in
     let few = gone.few in
     let one = gone.one in
     let same = g.met.S.Steps.only_sizes c.args.steps.now l.steps i.only in
-    let still = g.met.S.Steps.only_sizes l.steps n.steps c.find_version.ensures.only in
+    let still = g.met.S.Steps.only_sizes l.steps n.steps c.begin_or_check.ensures.only in
     record {
-      only = g.met.S.Steps.only_then c.args.steps.now l.steps n.steps i.only c.find_version.ensures.only;
+      only = g.met.S.Steps.only_then c.args.steps.now l.steps n.steps i.only c.begin_or_check.ensures.only;
       some = omega (arith, left, more);
       less = omega (arith, left, i.less);
       few = omega (arith, few, i.few);

@@ -4,7 +4,7 @@ use Rattle.std.specs.Prelude.{Err, Ok}
 use Rattle.art_key.specs.Bounds.{is_before}
 use Rattle.art_model.specs.declared.rows.Row.{Row}
 use Rattle.art_scan.proofs.Ended.{goes_on, listed_scans, refused_scans}
-use Rattle.art_scan.proofs.Over.{has_room, listed_over, one_more, still_few, tested}
+use Rattle.art_scan.proofs.Over.{has_room, listed_over, one_more, still_few, wants_by_length}
 use Rattle.art_scan.proofs.scans.look_to_the_end.Goals as goal
 use Rattle.art_scan.specs.Scans.{Scans, more_at}
 use Rattle.art_scan.specs.Tiles.{with_found}
@@ -53,7 +53,7 @@ loop-out-preserved c =
       still_few room listed row more found n many,
       λ lo hi limit turns p s.
           let on = c.loop-out.invariant.1 lo hi limit turns p s in
-          let test = tested rows listed g.limit (is_before g.from g.end) true c.loop-out.invariant.0 (sym c.goes_on.ensures ∙ c.loop-out-test.true) in
+          let test = wants_by_length rows listed g.limit (is_before g.from g.end) true c.loop-out.invariant.0 (sym c.goes_on.ensures ∙ c.loop-out-test.true) in
           let lists = listed_over room listed row more found n many ∙ ap (λ (l : List Row). with_found l (found_row found row)) c.make_room.ensures.same in
           goes_on t lo hi limit turns p c.loop-out.pass (take listed rows) g on c.look.new.pass (record { lo = g.from; hi = c.look.new.from; row = found_row found row }) test (a.ends.called refl)
           (record g { from = c.look.new.from; turns = c.turns_left.result }) _ refl c.turns_left.ensures (refl, refl) lists,
@@ -70,7 +70,7 @@ returns-clause-scans c lo hi limit turns p s =
     let rows = c.loop-out.out.items in
     let few = c.loop-out.invariant.0 in
     let on = c.loop-out.invariant.1 lo hi limit turns p s in
-    let test = tested rows listed g.limit (is_before g.from g.end) false few (sym c.goes_on.ensures ∙ c.loop-out-test.false) in
+    let test = wants_by_length rows listed g.limit (is_before g.from g.end) false few (sym c.goes_on.ensures ∙ c.loop-out-test.false) in
     let more : c.more.result ≡ more_at (length (take listed rows)) limit =
     c.more.ensures ∙ (ap (λ (n : ℕ). more_at n g.limit) (sym (length-take-le listed rows few)) ∙ ap (λ (n : ℕ). more_at (length (take listed rows)) n) on.on.limit_is) in
     subst (λ (l : List Row). Scans t lo hi limit turns p l (Ok c.more.result) c.loop-out.pass) (sym c.truncate.ensures.items)

@@ -1,11 +1,8 @@
 -- One step more, which goes on or fails.
-use Rattle.std.proofs.Common.{◌≡◌, ◌∙◌, Bool, true, false, refl, sym, subst, arith}
-use Rattle.art_find.proofs.Counting.{answers_count}
-use Rattle.art_find.specs.Asking.{goes_on}
+use Rattle.std.proofs.Common.{◌∙◌, Bool, refl, sym, subst, arith}
 use Rattle.art_place.proofs.Descending.{on_looked, on_still, on_then, one_made}
-use Rattle.art_place.specs.Findings.{Descends, FindingFits, LookedOn, WentOn}
+use Rattle.art_place.specs.Findings.{FindingFits, LookedOn}
 use Rattle.art_step.specs.declared.views.Sizes.{Sizes}
-use Rattle.art_step.specs.declared.views.View.{View}
 use Rattle.art_place.proofs.findings.Finding.descend.Goals as goal
 
 pub loop-left-init : goal.loop-left-init

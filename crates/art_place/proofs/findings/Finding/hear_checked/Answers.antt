@@ -1,6 +1,5 @@
 use Rattle.std.proofs.Common.{◌∙◌, Option, None, true, false, Some, refl, sym, ap, subst}
 use Rattle.std.specs.Prelude.{Result, Ok, Err}
-use Rattle.art_find.specs.Asking.{Answers}
 use Rattle.art_find.specs.Descents.{asks, ended_at}
 use Rattle.art_find.specs.declared.asked.Answer.TheVariants.{Checked}
 use Rattle.art_find.specs.declared.asked.Asked.{Asked}

@@ -4,7 +4,7 @@ use Rattle.art_cell.specs.declared.cells.Cell.TheVariants as cell
 use Rattle.art_find.specs.declared.asked.Asked.TheVariants.{Begin, Check}
 use Rattle.art_look.specs.declared.looks.LookStage.TheVariants.{Start, Below, Child, Both}
 use Rattle.art_look.proofs.Going.{may_go}
-use Rattle.art_look.proofs.straight.find_version.Goals as goal
+use Rattle.art_look.proofs.straight.begin_or_check.Goals as goal
 
 pub begin-begun-requires : goal.begin-begun-requires
 begin-begun-requires g c =
