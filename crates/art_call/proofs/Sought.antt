@@ -2,12 +2,13 @@
 use Rattle.std.proofs.Common.{◌≡◌, ◌+◌, ◌<◌, ◌≤◌, ℕ, true, List, Option, Some, None, get_or, length, refl, sym, ap, ◌∙◌, subst, arith}
 use Rattle.std.specs.Option.{option_map}
 use Rattle.arrayvec.specs.ArrayVec.{ArrayVec}
-use Rattle.art_call.specs.Calls.{GoesOn, Get, HasCalled, HasUsed, Insert, IsCaller, LeavesTurns, Look, Remove, SeesRange, Wish, may_end, told_by, turns_left_in, turns_left_of}
+use Rattle.art_call.specs.Calls.{GoesOn, Get, HasCalled, Insert, IsCaller, LeavesTurns, Look, Remove, SeesRange, Wish, may_end, told_by, turns_left_in, turns_left_of}
 use Rattle.art_call.specs.Outcomes.{of_look, of_seek}
 use Rattle.art_call.specs.declared.callers.Call.TheVariants as call
 use Rattle.art_call.specs.declared.callers.Caller.{Caller}
 use Rattle.art_call.specs.declared.outcomes.Outcome.{Outcome as OutcomeOf}
 use Rattle.art_call.specs.declared.outcomes.Outcome.TheVariants as outcome
+use Rattle.art_change.specs.Writes.{UsedTurns}
 use Rattle.art_epoch.specs.Limbo.{places_of}
 use Rattle.art_key.specs.Bounds.{is_before}
 use Rattle.art_key.specs.declared.bounds.Bound.{Bound}
@@ -148,13 +149,17 @@ module _ (z : Sizes) (u : View) (c : Caller) (m : Seek) (v : View) (o : Outcome)
         none = λ told. sought.none (busy_so told);
       }))
 
-  used : o ≡ Busy → HasUsed z turns u v
+  used : o ≡ Busy → UsedTurns z u turns v
   used busy =
       let all = (sought.busy busy).all in
       let few = (sought.busy busy).few in
       let met = sought.counted.failed in
       let same = turns_are in
       record { counted = omega (arith, all, same); few = λ _. omega (arith, few, met, same) }
+
+  -- and no step more
+  counts : o ≡ Busy → v.steps ≡ u.steps + turns + 3
+  counts busy = subst (λ (n : ℕ). v.steps ≡ u.steps + n + 3) turns_are (sought.busy busy).all
 
   -- a get, whatever a look would have seen
   pub get_called : (given : ℕ) (s : Option SeenOf) → aim_of m.walk ≡ aim.Key → v.steps ≤ u.steps + given + 1000 → HasCalled z (Get k) given turns m.restarts u c (of_seek o s) v
@@ -165,7 +170,7 @@ module _ (z : Sizes) (u : View) (c : Caller) (m : Seek) (v : View) (o : Outcome)
     range = tt;
     ground = tt;
     failed = failed;
-    busy = λ told. used (key_busy k hi c.trail m.left m.walk o s aim ends told);
+    busy = λ told. let busy = key_busy k hi c.trail m.left m.walk o s aim ends told in record { used = used busy; counts = counts busy };
     left = tt;
     steps = few;
   }
@@ -184,7 +189,7 @@ module _ (z : Sizes) (u : View) (c : Caller) (m : Seek) (v : View) (o : Outcome)
         range = seen_range k hi z closed.over.walking.opened closed.before s small before looks;
         ground = tt;
         failed = failed;
-        busy = λ told. used (seen_busy k.items hi c.trail m.left m.walk o aim ends (none_seen s told));
+        busy = λ told. let busy = seen_busy k.items hi c.trail m.left m.walk o aim ends (none_seen s told) in record { used = used busy; counts = counts busy };
         left = leaves called aim (of_look s)
             (λ seen told. has_seen o m.walk k.items hi c.trail seen (some_seen s seen told))
             (λ told. seen_busy k.items hi c.trail m.left m.walk o aim ends (none_seen s told));

@@ -192,7 +192,7 @@ module _ (z : Sizes) (u : View) (c : Caller) (m : Write) (v : View) (o : Outcome
         range = tt;
         ground = g;
         failed = failed job.Insert k value turns on;
-        busy = busy job.Insert k value turns on;
+        busy = λ told. record { used = busy job.Insert k value turns on told; counts = tt };
         left = tt;
         steps = few;
       }
@@ -205,7 +205,7 @@ module _ (z : Sizes) (u : View) (c : Caller) (m : Write) (v : View) (o : Outcome
         range = tt;
         ground = g;
         failed = failed job.Remove k 0 turns on;
-        busy = busy job.Remove k 0 turns on;
+        busy = λ told. record { used = busy job.Remove k 0 turns on told; counts = tt };
         left = tt;
         steps = few;
       }

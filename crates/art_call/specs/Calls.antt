@@ -215,7 +215,8 @@ pub record IsGround (z : Sizes) (j : Job) (turns restarts : ℕ) (u : View) (c :
 abbrev pub HasGroundOf : Sizes → Wish → ℕ → ℕ → View → Caller → Outcome → View → Type 0
 HasGroundOf z (Insert k value) turns restarts u c o v = IsGround z job.Insert turns restarts u c o v
 HasGroundOf z (Remove k) turns restarts u c o v = IsGround z job.Remove turns restarts u c o v
-HasGroundOf z w turns restarts u c o v = ⊤
+HasGroundOf z (Get k) turns restarts u c o v = ⊤
+HasGroundOf z (Look lo hi) turns restarts u c o v = ⊤
 
 -- how many turns of a seek are left
 abbrev pub turns_left_of : Call → ℕ
@@ -233,11 +234,21 @@ pub record LeavesTurns (turns left : ℕ) (u : View) (o : Outcome) (v : View) : 
 
 abbrev pub HasTurnsLeft : Wish → ℕ → View → Caller → Outcome → View → Type 0
 HasTurnsLeft (Look lo hi) turns u c o v = LeavesTurns turns (turns_left_in c) u o v
-HasTurnsLeft w turns u c o v = ⊤
+HasTurnsLeft (Insert k value) turns u c o v = ⊤
+HasTurnsLeft (Remove k) turns u c o v = ⊤
+HasTurnsLeft (Get k) turns u c o v = ⊤
+
+-- of a get and of a look just the turns that were used are counted, and three steps of the pin and the close are not
+abbrev pub CountsTurns : Wish → ℕ → View → View → Type 0
+CountsTurns (Insert k value) turns u v = ⊤
+CountsTurns (Remove k) turns u v = ⊤
+CountsTurns (Get k) turns u v = v.steps ≡ u.steps + turns + 3
+CountsTurns (Look lo hi) turns u v = v.steps ≡ u.steps + turns + 3
 
 -- all turns were used
-abbrev pub HasUsed : Sizes → ℕ → View → View → Type 0
-HasUsed z turns u v = writes.UsedTurns z u turns v
+pub record HasUsed (z : Sizes) (w : Wish) (turns : ℕ) (u v : View) : Type 0 where
+  pub used : writes.UsedTurns z u turns v
+  pub counts : CountsTurns w turns u v
 
 -- it began anew so often; the pass may call again, and made the event of the outcome, or none
 pub record HasCalled (z : Sizes) (w : Wish) (given turns restarts : ℕ) (u : View) (c : Caller) (o : Outcome) (v : View) : Type 0 where
@@ -247,6 +258,6 @@ pub record HasCalled (z : Sizes) (w : Wish) (given turns restarts : ℕ) (u : Vi
   pub range : SeesRange z w o
   pub ground : HasGroundOf z w turns restarts u c o v
   pub failed : u.failures + restarts ≤ v.failures
-  pub busy : o ≡ outcome.Busy → HasUsed z turns u v
+  pub busy : o ≡ outcome.Busy → HasUsed z w turns u v
   pub left : HasTurnsLeft w turns u c o v
   pub steps : v.steps ≤ u.steps + given + 1000

@@ -6,13 +6,15 @@ use Rattle.art_cell.specs.declared.cells.Cell.{Cell}
 use Rattle.art_cell.specs.declared.cells.Link.{Link}
 use Rattle.art_cell.specs.declared.cells.Node.{Node}
 use Rattle.art_cell.specs.declared.layouts.Pool.{Pool}
-use Rattle.art_make.specs.Asking.{Commits, Upgrades}
+use Rattle.art_make.specs.Asking.{Upgrades}
+use Rattle.art_plan.specs.Changes.{leaf_linked, unlinked}
 use Rattle.art_plan.specs.declared.changes.Change.{Change}
 use Rattle.art_step.specs.Steps.Advance as advance
 use Rattle.art_step.specs.Steps.Anchor as anchor
 use Rattle.art_step.specs.Steps.Begin as begin
 use Rattle.art_step.specs.Steps.Check as check
 use Rattle.art_step.specs.Steps.Claim as claim
+use Rattle.art_step.specs.Steps.Commit as commit
 use Rattle.art_step.specs.Steps.Epoch as epoch
 use Rattle.art_step.specs.Steps.Give as give
 use Rattle.art_step.specs.Steps.Pin as pin
@@ -21,7 +23,7 @@ use Rattle.art_step.specs.Steps.Release as release
 use Rattle.art_step.specs.Steps.Take as take_free
 use Rattle.art_step.specs.Steps.Watch as watch
 use Rattle.art_step.specs.Steps.Write as write
-use Rattle.art_step.specs.Views.{IsHolding, IsInHand}
+use Rattle.art_step.specs.Views.{IsHolding, IsInHand, IsInLimbo, IsOnce, links_in_limbo}
 use Rattle.art_step.specs.declared.deeds.Deed.{Deed}
 use Rattle.art_step.specs.declared.faults.Changed.{Changed}
 use Rattle.art_step.specs.declared.faults.Locked.{Locked}
@@ -39,12 +41,23 @@ Reads z v w = ((x : Stamp) × (i : ℕ) × (word : ℕ) × read.Outcome z v w x 
 
 -- a word was written: of a cell that is held, or of a leaf in hand
 abbrev pub Writes : View → View → Type 0
-Writes v w = ((c : Cell) × (i : ℕ) × (word : ℕ) × ((h : Holding) → IsHolding v c h → write.Outcome v w h i word))
-    ⊎ ((d : Link) × (i : ℕ) × (word : ℕ) × ((y : InHand) → IsInHand v d y → write.LeafOutcome v w y i word))
+Writes v w = ((c : Cell) × (h : Holding) × (i : ℕ) × (word : ℕ) × IsHolding v c h × write.Outcome v w h i word)
+    ⊎ ((d : Link) × (y : InHand) × (i : ℕ) × (word : ℕ) × IsInHand v d y × write.LeafOutcome v w y i word)
 
 -- a number went back, that was in hand or in limbo
 abbrev pub Gives : View → View → Type 0
-Gives v w = ((d : Link) × give.Outcome v w d) ⊎ ((d : Link) × give.FreeOutcome v w d)
+Gives v w = ((d : Link) × (y : InHand) × IsInHand v d y × give.Outcome v w d) ⊎ ((d : Link) × IsInLimbo v d × give.FreeOutcome v w d)
+
+-- a cell that is held was released, unchanged
+abbrev pub Releases : View → View → Type 0
+Releases v w = (c : Cell) × (h : Holding) × IsHolding v c h × release.Outcome v w h
+
+-- a change was committed by the release of a cell that is held, and each number waits in limbo once
+pub record CommitsBy (v w : View) (change : Change) (c : Cell) : Type 0 where
+  pub holding : Holding
+  pub held : IsHolding v c holding
+  pub outcome : commit.Outcome v w change.deed (unlinked change) (commit.coming v (leaf_linked change)) holding
+  pub once : IsOnce (links_in_limbo w.limbo)
 
 -- from the view v to w the pass made one step of this kind; an upgrade whose counter is at its end makes none
 abbrev pub IsStep : StepKind → Sizes → View → View → Type 0
@@ -53,8 +66,8 @@ IsStep kind.Read z v w = Reads z v w
 IsStep kind.Check z v w = (x : Stamp) × (o : Option Deed) × (r : Result ⊤ Changed) × check.Outcome z v w x o r
 IsStep kind.Upgrade z v w = (x : Stamp) × (r : Result ⊤ UpgradeFault) × Upgrades v w x r
 IsStep kind.Write z v w = Writes v w
-IsStep kind.Commit z v w = (change : Change) × (c : Cell) × Commits v w change c
-IsStep kind.Release z v w = (c : Cell) × ((h : Holding) → IsHolding v c h → release.Outcome v w h)
+IsStep kind.Commit z v w = (change : Change) × (c : Cell) × CommitsBy v w change c
+IsStep kind.Release z v w = Releases v w
 IsStep kind.Claim z v w = (n : Node) × claim.Outcome v w n
 IsStep kind.Take z v w = (pool : Pool) × (i : ℕ) × (bit : Option ℕ) × (word : ℕ) × take_free.Outcome z v w pool i bit word
 IsStep kind.Give z v w = Gives v w

@@ -12,9 +12,12 @@ ghost use Rattle.art_change.specs.Writes.{IsApart};
 ghost use Rattle.art_change.specs.declared.writes.Outcome.{Outcome as WriteOutcome};
 ghost use Rattle.art_epoch.specs.Limbo.{places_of};
 ghost use Rattle.art_epoch.specs.declared.limbo.Place.{Place};
+ghost use Rattle.art_look.specs.declared.trails.Trail.{Trail as Trailed};
 ghost use Rattle.art_plan.specs.declared.changes.Change.{Change};
-ghost use Rattle.art_seek.specs.Asking.{Answers as SeekAnswers, stepped_by};
+ghost use Rattle.art_seek.specs.Asking.{Answers as SeekAnswers, IsAllowed as MaySeek, stepped_by};
+ghost use Rattle.art_seek.specs.Walks.{Settles};
 ghost use Rattle.art_seek.specs.declared.asked.Answer.{Answer as SeekAnswer};
+ghost use Rattle.art_seek.specs.declared.walks.Walk.{Walk as WalkOf};
 ghost use Rattle.art_step.specs.Histories.{AreApart};
 ghost use Rattle.art_step.specs.declared.deeds.Deed.{Deed};
 ghost use Rattle.art_step.specs.declared.views.Sizes.{Sizes};
@@ -78,7 +81,8 @@ fn made_by_write(stepped: art_change::Stepped) -> Option<Made>
 
 /// The step that a seek made.
 fn made_by_seek(made: art_seek::Made) -> Made
-    ensures { (z : Sizes) (d : Deed) (answer : SeekAnswer) (v w : View) → made.stepped ≡ stepped_by made.asked answer →
+    ensures { (z : Sizes) (d : Deed) (walk : WalkOf) (k : List ℕ) (t : Trailed) (answer : SeekAnswer) (v w : View) →
+        made.stepped ≡ stepped_by made.asked answer → MaySeek z (Settles walk k t) v made.asked →
         SeekAnswers z d made.asked answer v w → MakesStep z v w result }
 {
     let kind = match made.asked {

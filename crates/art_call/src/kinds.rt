@@ -1,13 +1,13 @@
 //! Which kind of step it was that a machine asked for.
 ghost use Rattle.std.specs.Prelude.{◌≡◌, ℕ};
-ghost use Rattle.art_attempt.specs.Asking.{Answers as AttemptAnswers};
+ghost use Rattle.art_attempt.specs.Asking.{Answers as AttemptAnswers, IsAllowed as MayAttempt};
 ghost use Rattle.art_attempt.specs.declared.asked.Answer.{Answer as AttemptAnswer};
 ghost use Rattle.art_call.specs.Kinds.{IsStep};
-ghost use Rattle.art_epoch.specs.Asking.{Answers as FrameAnswers};
+ghost use Rattle.art_epoch.specs.Asking.{Answers as FrameAnswers, IsAllowed as MayFrame};
 ghost use Rattle.art_find.specs.Asking.{Answers as CellAnswers};
 ghost use Rattle.art_find.specs.declared.asked.Answer.{Answer as CellAnswer};
-ghost use Rattle.art_gather.specs.Asking.{Answers as SupplyAnswers};
-ghost use Rattle.art_make.specs.Asking.{Answers as ChangeAnswers};
+ghost use Rattle.art_gather.specs.Asking.{Answers as SupplyAnswers, IsAllowed as MaySupply};
+ghost use Rattle.art_make.specs.Asking.{Answers as ChangeAnswers, IsAllowed as MayChange};
 ghost use Rattle.art_make.specs.declared.asked.Answer.{Answer as ChangeAnswer};
 ghost use Rattle.art_plan.specs.declared.changes.Change.{Change};
 ghost use Rattle.art_step.specs.declared.deeds.Deed.{Deed};
@@ -18,7 +18,7 @@ use art_step::StepKind;
 
 /// The kind of a step of numbers or epochs.
 pub(crate) fn kind_of_frame(asked: art_epoch::Asked) -> StepKind
-    ensures { (z : Sizes) (word : ℕ) (v w : View) → FrameAnswers z asked word v w → IsStep result z v w }
+    ensures { (z : Sizes) (word : ℕ) (v w : View) → MayFrame z v asked → FrameAnswers z asked word v w → IsStep result z v w }
 {
     match asked {
         art_epoch::Asked::Clear(_, _, _) => StepKind::Take,
@@ -43,7 +43,7 @@ pub(crate) fn kind_of_look(asked: art_find::Asked) -> StepKind
 
 /// The kind of a step of a supplying.
 fn kind_of_supply(asked: art_gather::Asked) -> StepKind
-    ensures { (z : Sizes) (word : ℕ) (v w : View) → SupplyAnswers z asked word v w → IsStep result z v w }
+    ensures { (z : Sizes) (word : ℕ) (v w : View) → MaySupply z v asked → SupplyAnswers z asked word v w → IsStep result z v w }
 {
     match asked {
         art_gather::Asked::Number(asked) => kind_of_frame(asked),
@@ -53,7 +53,8 @@ fn kind_of_supply(asked: art_gather::Asked) -> StepKind
 
 /// The kind of a step by which a change is made.
 fn kind_of_change(asked: art_make::Asked) -> StepKind
-    ensures { (z : Sizes) (c : Change) (answer : ChangeAnswer) (v w : View) → ChangeAnswers c asked answer v w → IsStep result z v w }
+    ensures { (z : Sizes) (c : Change) (answer : ChangeAnswer) (v w : View) → MayChange z c v asked → ChangeAnswers c asked answer v w →
+        IsStep result z v w }
 {
     match asked {
         art_make::Asked::Upgrade(_) => StepKind::Upgrade,
@@ -66,8 +67,8 @@ fn kind_of_change(asked: art_make::Asked) -> StepKind
 
 /// The kind of a step of an attempt.
 pub(crate) fn kind_of_attempt(asked: art_attempt::Asked) -> StepKind
-    ensures { (z : Sizes) (d : Deed) (c : Change) (answer : AttemptAnswer) (v w : View) → AttemptAnswers z d c asked answer v w →
-        IsStep result z v w }
+    ensures { (z : Sizes) (d : Deed) (c : Change) (answer : AttemptAnswer) (v w : View) → MayAttempt z d c v asked →
+        AttemptAnswers z d c asked answer v w → IsStep result z v w }
 {
     match asked {
         art_attempt::Asked::Cell(asked) => kind_of_look(asked),

@@ -23,8 +23,8 @@ pub typed_starts : (t : Table) (log seen : List ByteEvent) → bytes.StartsWith 
 typed_starts t log seen s = (typed (schema_in t) s.0, ap (typed (schema_in t)) s.1 ∙ map_both (event_of (schema_in t)) seen s.0)
 
 -- so many steps were made, and another history was seen
-module _ (t : Table) (p q : Pass) (is : IsPassOf t p) (of : shared.IsPassOf t.shared q.seat) (caller : caller_of q ≡ caller_of p) (n : ℕ)
-    (same : view_of q ≡ record (view_of p) { steps = n; seen = (view_of q).seen })
+module _ (t : Table) (p q : Pass) (is : IsPassOf t p) (of : shared.IsPassOf t.shared q.seat) (caller : caller_of q ≡ caller_of p) (looks : ℕ)
+    (same : view_of q ≡ record (view_of p) { steps = (view_of p).steps + looks; seen = (view_of q).seen })
     (grows : bytes.StartsWith (view_of q).seen (view_of p).seen) (legal : IsLegal (view_of q).seen) (own : places (view_of p).pass (view_of q).seen ≡ (view_of p).own) where
   looked_caller : IsCaller (sizes_in t) (view_of q) (caller_of q)
   looked_caller =
@@ -55,9 +55,10 @@ module _ (t : Table) (p q : Pass) (is : IsPassOf t p) (of : shared.IsPassOf t.sh
     all = ap (λ (i : ℕ). places i (view_of q).seen) (ap (λ (v : View). v.pass) same) ∙ (own ∙ sym (ap (λ (v : View). v.own) same));
   }
 
-  pub has_looked : HasLooked t p q
+  pub has_looked : HasLooked t looks p q
   has_looked = record {
     pass = is_pass;
+    only = same;
     number = ap (λ (v : View). v.pass) same;
     grows = typed_starts t (view_of q).seen (view_of p).seen grows;
     legal = typed_legal t q is_pass;
@@ -71,9 +72,9 @@ pub met : (t : Table) (p o : Pass) (q r : Seat) → IsPassOf t p → IsPassOf t 
     → HasMet t p (record { seat = q; caller = p.caller }) o (record { seat = r; caller = o.caller })
 met t p o q r one other m q_is r_is = record {
   one = has_looked t p (record { seat = q; caller = p.caller }) one q_is.1 refl
-      ((view_of p).steps + 2) m.one.is m.one.grows m.one.legal m.one.own;
+      2 m.one.is m.one.grows m.one.legal m.one.own;
   other = has_looked t o (record { seat = r; caller = o.caller }) other r_is.1 refl
-      ((view_of o).steps + 2) m.other.is m.other.grows m.other.legal m.other.own;
+      2 m.other.is m.other.grows m.other.legal m.other.own;
   learns = typed_starts t (view_of_pass q).seen (view_of o).seen m.learns;
   tells = typed_starts t (view_of_pass r).seen (view_of p).seen m.tells;
   begins = typed_starts t (view_of_pass r).seen (view_of_pass q).seen m.begins;

@@ -73,11 +73,12 @@ new_pass t z n p sizes few of known has =
       steps = ap (λ (k : Known). (view_in k).steps) known;
     }
 
-pub opens : (schema : List Column) (config : Config) (z : Sizes) (s : Shared) (seats : List Seat) (passes : List Pass) → z ≡ sizes_of config → IsConfig config → OpensWith (record { sizes = z; schema = schema }) s seats → seats_of passes ≡ seats
+pub opens : (schema : List Column) (config : Config) (z : Sizes) (s : Shared) (seats : List Seat) (passes : List Pass) → z ≡ sizes_of config → IsConfig config → OpensWith (record { sizes = z; schema = schema; counter_start = config.counter_start }) s seats → seats_of passes ≡ seats
     → ((p : Pass) → Member p passes → HasCaller z p) → IsOpened schema config (record { shared = s }) passes
 opens schema config z s seats passes sizes is o same has = record {
   schema_is = ap (λ (b : Basis). b.schema) o.basis;
   sizes_are = ap (λ (b : Basis). b.sizes) o.basis ∙ sizes;
+  counter_is = ap (λ (b : Basis). b.counter_start) o.basis;
   count = sym (as_long (λ (p : Pass). p.seat) passes) ∙ (ap length same ∙ (o.count ∙ ap (λ (y : Sizes). y.passes) sizes));
   each = λ n p e.
       let at = o.each n p.seat (subst (λ (l : List Seat). slice_get l n ≡ Some p.seat) same (get_map passes n p e)) in

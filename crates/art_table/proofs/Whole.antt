@@ -148,6 +148,7 @@ module _ (t : Table) (passes : List Pass) (are : AreOf t passes) (all : AreAllPa
           shows = shows;
           tells = tells_all t passes are all k.sound.log k.history;
           rows = rows_replay (schema_in t) (sizes_in t) k.sound.log k.history.legal k.history.typed e shows c.rows.items here;
+          accounted = k.numbers (all_seats t passes are all) (hold_none t passes are all) (have_none t passes are all);
           counts = λ p. subst (λ (y : Sizes). IsCounted y (memory_in y e) (seats_of passes) p (count_of p c)) z_is (counts p);
         }
 

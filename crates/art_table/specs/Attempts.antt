@@ -38,13 +38,13 @@ answer_after schema p None = option_map (jobs.result_of schema) (outcome_at (cal
 abbrev pub answer_of : Table → Attempt → Option (Result Answer Fault)
 answer_of t a = answer_after (schema_in t) a.pass a.refused
 
-abbrev pub restarts_after : Pass → Option ValueFault → ℕ
-restarts_after p (Some fault) = 0
-restarts_after p None = restarts_in (caller_of p)
+abbrev pub restarts_unless_refused : Pass → Option ValueFault → ℕ
+restarts_unless_refused p (Some fault) = 0
+restarts_unless_refused p None = restarts_in (caller_of p)
 
 -- how often it began anew: never, where its tuple was refused, as no step was made
 abbrev pub restarts_of : Attempt → ℕ
-restarts_of a = restarts_after a.pass a.refused
+restarts_of a = restarts_unless_refused a.pass a.refused
 
 -- the call of the pass p was given up, in so many turns: the pass is q then, with nothing told
 pub record IsGivenUp (t : Table) (turns : ℕ) (p q : Pass) : Type 0 where

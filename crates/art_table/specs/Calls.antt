@@ -16,7 +16,7 @@ use Rattle.art_table.specs.declared.attempts.Attempt.{Attempt}
 use Rattle.art_table.specs.declared.faults.Fault.{Fault}
 use Rattle.art_table.specs.declared.faults.Fault.TheVariants.{Busy, Value}
 use Rattle.art_table.specs.declared.jobs.Job.{Job}
-use Rattle.art_table.specs.declared.jobs.Job.TheVariants.{Look}
+use Rattle.art_table.specs.declared.jobs.Job.TheVariants.{Get, Insert, Look, Remove}
 use Rattle.art_table.specs.declared.jobs.Outcome.{Outcome}
 use Rattle.art_table.specs.declared.passes.Pass.{Pass}
 use Rattle.art_table.specs.declared.tables.Table.{Table}
@@ -44,7 +44,9 @@ pub record LeavesTurns (turns left : ℕ) (p : Pass) (r : Result Outcome Fault) 
 
 abbrev pub HasTurnsLeft : Job → ℕ → Pass → Result Outcome Fault → Pass → Type 0
 HasTurnsLeft (Look lo hi) turns p r q = LeavesTurns turns (turns_left_by q) p r q
-HasTurnsLeft j turns p r q = ⊤
+HasTurnsLeft (Insert t value) turns p r q = ⊤
+HasTurnsLeft (Remove t) turns p r q = ⊤
+HasTurnsLeft (Get t) turns p r q = ⊤
 
 -- a call by the pass p that ended so, in so many turns: the pass is q then
 pub record HasEnded (t : Table) (j : Job) (given turns : ℕ) (p : Pass) (r : Result Outcome Fault) (q : Pass) : Type 0 where

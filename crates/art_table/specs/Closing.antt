@@ -9,6 +9,7 @@ use Rattle.art_epoch.specs.Limbo.{places_of}
 use Rattle.art_epoch.specs.declared.limbo.Place.{Place}
 use Rattle.art_key.specs.Histories.{IsLegal, replay}
 use Rattle.art_key.specs.declared.events.Event.{Event}
+use Rattle.art_shared.specs.Closing.{IsAccounted}
 use Rattle.art_shared.specs.declared.pass.Pass.{Pass as Seat}
 use Rattle.art_step.specs.Sound.{ShowsReplay}
 use Rattle.art_step.specs.Views.{Member, Memory}
@@ -75,12 +76,13 @@ count_of pool.N16 c = c.n16
 count_of pool.N48 c = c.n48
 count_of pool.N256 c = c.n256
 
--- one history of keys, and a tree that shows what it leaves: the rows are those that it leaves as one of typed rows, in order, and of each
--- pool the counts are of this tree, the free numbers beside it, and the limbos
+-- one history of keys, and words that show the tree which it leaves: the rows are those that it leaves as one of typed rows, in order. By
+-- these words each number of each pool has one fate, with the passes' limbos, and the counts are how many have which
 pub record IsClosed (t : Table) (passes : List Pass) (c : Closed) : Type 0 where
   pub log : List ByteEvent
   pub memory : Memory
   pub shows : ShowsReplay (sizes_in t) log memory.words
   pub tells : TellsAll t passes (typed (schema_in t) log)
   pub rows : c.rows.items ≡ replay (typed (schema_in t) log)
+  pub accounted : IsAccounted (sizes_in t) memory (seats_of passes)
   pub counts : (p : Pool) → IsCounted (sizes_in t) memory (seats_of passes) p (count_of p c)

@@ -82,12 +82,15 @@ result_of schema outcome.Overlaps = Err Busy
 abbrev pub told_of : Job → Outcome → Option Deed
 told_of (Insert t value) New = Some (deed.Done (command.Insert t value) reply.Inserted)
 told_of (Insert t value) (Present stands) = Some (deed.Done (command.Insert t value) (reply.Present stands))
+told_of (Insert t value) o = None
 told_of (Remove t) (Removed had) = Some (deed.Done (command.Remove t) (reply.Removed had))
 told_of (Remove t) Absent = Some (deed.Done (command.Remove t) reply.Absent)
+told_of (Remove t) o = None
 told_of (Get t) (Found value) = Some (deed.Done (command.Get t) (reply.Found value))
 told_of (Get t) Absent = Some (deed.Done (command.Get t) reply.Absent)
+told_of (Get t) o = None
 told_of (Look lo hi) (saw s) = Some (deed.Look s.lo s.hi s.row)
-told_of j o = None
+told_of (Look lo hi) o = None
 
 -- and none where it is refused
 abbrev pub told_by : Job → Result Outcome Fault → Option Deed

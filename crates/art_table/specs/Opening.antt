@@ -3,7 +3,7 @@ use Rattle.std.specs.Prelude.{◌≡◌, ℕ, List, [], length, Some}
 use Rattle.std.specs.List.{slice_get}
 use Rattle.art_key.specs.declared.columns.Column.{Column}
 use Rattle.art_step.specs.declared.views.Sizes.{Sizes}
-use Rattle.art_table.specs.Tables.{IsPassOf, number_of, own_of, schema_in, seen_by, sizes_in, view_of}
+use Rattle.art_table.specs.Tables.{IsPassOf, counter_in, number_of, own_of, schema_in, seen_by, sizes_in, view_of}
 use Rattle.art_table.specs.declared.configs.Config.{Config}
 use Rattle.art_table.specs.declared.passes.Pass.{Pass}
 use Rattle.art_table.specs.declared.tables.Table.{Table}
@@ -19,9 +19,10 @@ pub record IsNew (t : Table) (number : ℕ) (p : Pass) : Type 0 where
   pub own : own_of p ≡ []
   pub steps : (view_of p).steps ≡ 0
 
--- of this schema and these sizes, with its passes in the order of their numbers
+-- of this schema and these sizes, its anchor at the counter of the config, with its passes in the order of their numbers
 pub record IsOpened (schema : List Column) (config : Config) (t : Table) (passes : List Pass) : Type 0 where
   pub schema_is : schema_in t ≡ schema
   pub sizes_are : sizes_in t ≡ sizes_of config
+  pub counter_is : counter_in t ≡ config.counter_start
   pub count : length passes ≡ config.passes
   pub each : (n : ℕ) (p : Pass) → slice_get passes n ≡ Some p → IsNew t n p

@@ -21,6 +21,10 @@ schema_in t = shared.schema_in t.shared
 abbrev pub sizes_in : Table → Sizes
 sizes_in t = shared.sizes_in t.shared
 
+-- the counter at which the anchor's version word began
+abbrev pub counter_in : Table → ℕ
+counter_in t = shared.counter_in t.shared
+
 -- what a pass knows of the words
 abbrev pub view_of : Pass → View
 view_of p = view_of_pass p.seat

@@ -2,7 +2,7 @@
 ghost use Rattle.std.specs.Prelude.{◌≤◌, ◌↔◌, IsTrue};
 ghost use Rattle.art_table.specs.Sizes.{IsConfig};
 
-/// The sizes of a table: how many numbers each pool has, how many passes there are, and where version counters start.
+/// The sizes of a table: how many numbers each pool has, how many passes there are, and where the anchor's version counter starts.
 #[derive(Clone, Copy, Debug, PartialEq, Eq)]
 pub struct Config {
     /// 1 to 2^20: at most so many rows stand.

@@ -8,7 +8,7 @@ use crate::{Mark, Pass, Table};
 /// What the pass sees after a look of the anchor, for any pass of the table to learn.
 pub fn mark(table: &Table, pass: &mut Pass) -> Mark
     requires { IsPassOf table.now pass.old }
-    ensures looked { HasLooked table.now pass.old pass.new }
+    ensures looked { HasLooked table.now 1 pass.old pass.new }
     ensures history { history_of table.now result ≡ seen_by table.now pass.new }
     ensures mark { IsMarkOf table.now result }
 {
@@ -21,7 +21,7 @@ pub fn mark(table: &Table, pass: &mut Pass) -> Mark
 pub fn learn(table: &Table, pass: &mut Pass, mark: Mark)
     requires pass { IsPassOf table.now pass.old }
     requires mark { IsMarkOf table.now mark }
-    ensures looked { HasLooked table.now pass.old pass.new }
+    ensures looked { HasLooked table.now 1 pass.old pass.new }
     ensures learnt { StartsWith (seen_by table.now pass.new) (history_of table.now mark) }
 {
     let Mark { mark } = mark;

@@ -18,7 +18,7 @@ returns-else-steps_in-eq0-clause-some c z d change v w may row =
     let same = c.steps_in.ensures in
     let one : steps_in k.told ≡ 1 = ⊎_elim (λ (e : steps_in k.told ≡ 0). absurd (omega (arith, e, some, same))) (λ (e : steps_in k.told ≡ 1). e) (one_or_none k.told) in
     record {
-      kind = c.kind_of_attempt.ensures z d change k.told v w answered;
+      kind = c.kind_of_attempt.ensures z d change k.told v w allowed answered;
       event = subst (λ (b : Bool). MakesAny b v w) (sym c.tells.ensures) (attempt_any z d change v w k.asked k.told allowed answered);
       one = attempt_counts z d change v w k.asked k.told allowed answered ∙ ap (λ (n : ℕ). v.steps + n) one;
     }

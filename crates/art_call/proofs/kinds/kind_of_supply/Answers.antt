@@ -1,9 +1,10 @@
-use Rattle.std.proofs.Common.{inr, subst}
+use Rattle.std.proofs.Common.{subst}
+use Rattle.art_call.proofs.StepKinds.{leaf_written}
 use Rattle.art_call.proofs.kinds.kind_of_supply.Goals as goal
-use Rattle.art_cell.specs.declared.cells.Link.TheVariants.{Leaf as leaf}
-use Rattle.art_gather.specs.Asking.{Answers}
+use Rattle.art_gather.specs.Asking.{Answers, IsAllowed}
 use Rattle.art_gather.specs.declared.asked.Asked.{Asked as AskedStep}
 
 pub returns-in-Leaf : goal.returns-in-Leaf
-returns-in-Leaf c z word v w row =
-    inr (leaf c.in-Leaf.field-0, c.in-Leaf.field-1.place, c.in-Leaf.field-1.word, subst (λ (a : AskedStep). Answers z a word v w) c.in-Leaf.is row)
+returns-in-Leaf c z word v w may row =
+    let k = c.in-Leaf in
+    leaf_written z v w k.field-0 k.field-1 word (subst (IsAllowed z v) k.is may) (subst (λ (a : AskedStep). Answers z a word v w) k.is row)

@@ -25,3 +25,8 @@ returns-then-is_some-clause-none g c =
 pub returns-in-Write-clause-none : goal.returns-in-Write-clause-none
 returns-in-Write-clause-none g c =
     if_none _ _ c.step_of_write.result (λ e. (e.0, (of_write e.1.0, ap (λ (o : Option WriteOutcome). option_map of_write o) e.1.1))) c.step_of_write.ensures.none
+
+pub returns-else-is_some-clause-some : goal.returns-else-is_some-clause-some
+returns-else-is_some-clause-some g c =
+    let row = c.step-made.ensures.row in
+    c.made_by_seek.ensures _ _ c.in-Seek.seek.walk c.as_slice.result.now c.args.self.now.trail row.0 _ _ row.2 c.step-made.ensures.allowed row.1
