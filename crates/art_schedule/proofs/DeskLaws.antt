@@ -6,16 +6,17 @@ use Rattle.std.proofs.lemmas.List.{get_or_default, length-map, set-get_or}
 use Rattle.std.proofs.lemmas.List.Elements.{All-map}
 use Rattle.arrayvec.specs.ArrayVec.{ArrayVec}
 use Rattle.art_model.specs.declared.rows.Row.{Row}
+use Rattle.art_scan.specs.declared.running.Ending.{Ending}
 use Rattle.art_table.specs.Tables.{IsPassOf}
 use Rattle.art_server.specs.Sessions.{IsSamePass}
-use Rattle.art_schedule.specs.Desks.{AreSeated, IsDesk, SettlesAt}
+use Rattle.art_schedule.specs.Desks.{AreSeated, AreSettled, IsDesk, Places, SettlesAt}
 use Rattle.art_schedule.specs.Schedules.{ArePassesOf, ComeBack}
-use Rattle.art_schedule.specs.Seats.{IsSeat, IsIdle}
+use Rattle.art_schedule.specs.Seats.{EndsThere, IsSeat, IsIdle, SettlesTo}
 use Rattle.art_schedule.specs.declared.desks.Desk.{Desk}
 use Rattle.art_table.specs.declared.passes.Pass.{Pass}
 use Rattle.art_table.specs.declared.tables.Table.{Table}
 use Rattle.art_schedule.specs.declared.seats.Seat.{Seat}
-use Rattle.art_schedule.specs.declared.seats.Seat.TheVariants.{Idle}
+use Rattle.art_schedule.specs.declared.seats.Seat.TheVariants.{Idle, Going, Away}
 use Rattle.art_schedule.proofs.Ends.{IsSamePass-refl}
 
 module _ (t : Table) where
@@ -172,28 +173,146 @@ module _ (t : Table) where
 
 -- ---- places that are settled
 
--- a place that is settled stays
-pub SettlesAt-none : (place : ℕ) (seats : List Seat) (seat : Seat) → seat ≡ get_or seats place seat → IsIdle seat → SettlesAt place seats seats
-SettlesAt-none place seats seat at idle = record {
-  seat = seat;
-  idle = idle;
-  changed = sym (ap (set seats place) at ∙ set-get_or seats place seat);
-}
+-- an idle seat has the pass that is idle there
+idle_pass : (seat : Seat) → IsIdle seat → (q : Pass) × (seat ≡ Idle q)
+idle_pass (Idle q) idle = (q, refl)
+idle_pass (Going r) idle = absurd (cc)
+idle_pass Away idle = absurd (cc)
+
+room_at : (rooms : List (ArrayVec Row)) (place : ℕ) → place < length rooms → (room : ArrayVec Row) × (room ≡ get_or rooms place room)
+room_at [] place within = absurd (omega arith)
+room_at (r ∷ rooms) zero within = (r, refl)
+room_at (r ∷ rooms) (suc place) within = room_at rooms place (omega arith)
+
+module _ (t : Table) where
+  -- a place that is settled stays
+  pub SettlesAt-none : (place : ℕ) (places : Places) (seat : Seat) → seat ≡ get_or places.seats place seat → IsIdle seat
+      → place < length places.rooms → SettlesAt t place places places
+  SettlesAt-none place places seat at idle within =
+      let pass = idle_pass seat idle in
+      let room = room_at places.rooms place within in
+      record {
+        seat = seat;
+        room = room.0;
+        back = pass.0;
+        room_after = room.0;
+        seat_is = at;
+        room_is = room.1;
+        settles = subst (λ (s : Seat). SettlesTo t s room.0.items pass.0) (sym pass.1) refl;
+        seats = sym (ap (set places.seats place) (sym pass.1 ∙ at) ∙ set-get_or places.seats place seat);
+        rooms = sym (ap (set places.rooms place) room.1 ∙ set-get_or places.rooms place room.0);
+      }
+
+  -- what is under way at a place was run to its end
+  pub SettlesAt-end : (place : ℕ) (old new : Places) (seat : Seat) (room : ArrayVec Row) (seat_after : Seat) (room_after : ArrayVec Row)
+      (ending : Ending) (restarts : ℕ)
+      → seat ≡ get_or old.seats place seat → room ≡ get_or old.rooms place room
+      → new.seats ≡ set old.seats place seat_after → new.rooms ≡ set old.rooms place room_after
+      → EndsThere t seat room.items seat_after room_after.items ending restarts → SettlesAt t place old new
+  SettlesAt-end place old new seat room seat_after room_after ending restarts seat_is room_is seats rooms ends = record {
+    seat = seat;
+    room = room;
+    back = ends.pass;
+    room_after = room_after;
+    seat_is = seat_is;
+    room_is = room_is;
+    settles =
+        subst (λ (s : Seat). SettlesTo t s room.items ends.pass) (sym ends.was)
+        (record { ending = ending; restarts = restarts; rows_after = room_after.items; finishes = ends.finishes });
+    seats = seats ∙ ap (set old.seats place) ends.now;
+    rooms = rooms;
+  }
+
+  -- ---- one place after another
+
+  -- what is there then is the pass that comes back of the place
+  pub record IsSettled (old : Seat) (rows : List Row) (new : Seat) : Type 0 where
+    pub back : Pass
+    pub now : new ≡ Idle back
+    pub settles : SettlesTo t old rows back
+
+  -- at the first places the pass that comes back is idle, and at the others what was there stays
+  abbrev pub AreSettledUpTo : ℕ → List Seat → List (ArrayVec Row) → List Seat → List (ArrayVec Row) → Type 0
+  AreSettledUpTo zero ss rs ss_after rs_after = (ss_after ≡ ss) × (rs_after ≡ rs)
+  AreSettledUpTo (suc n) (s ∷ ss) (r ∷ rs) (a ∷ ss_after) (b ∷ rs_after) = IsSettled s r.items a × AreSettledUpTo n ss rs ss_after rs_after
+  AreSettledUpTo (suc n) ss rs ss_after rs_after = ⊥
+
+  one_more : (n : ℕ) (ss : List Seat) (rs : List (ArrayVec Row)) (ss_mid : List Seat) (rs_mid : List (ArrayVec Row)) (seat : Seat)
+      (room : ArrayVec Row) (back : Pass) (room_after : ArrayVec Row)
+      → n < length ss_mid → n < length rs_mid → seat ≡ get_or ss_mid n seat → room ≡ get_or rs_mid n room → SettlesTo t seat room.items back
+      → AreSettledUpTo n ss rs ss_mid rs_mid → AreSettledUpTo (suc n) ss rs (set ss_mid n (Idle back)) (set rs_mid n room_after)
+  one_more zero [] rs ss_mid rs_mid seat room back room_after below below_room seat_is room_is settles (same, same_room) =
+      absurd (omega (arith, ap (length {A = Seat}) same))
+  one_more zero (s ∷ ss) [] ss_mid rs_mid seat room back room_after below below_room seat_is room_is settles (same, same_room) =
+      absurd (omega (arith, ap (length {A = ArrayVec Row}) same_room))
+  one_more zero (s ∷ ss) (r ∷ rs) ss_mid rs_mid seat room back room_after below below_room seat_is room_is settles (same, same_room) =
+      let at : seat ≡ s = seat_is ∙ ap (λ (l : List Seat). get_or l 0 seat) same in
+      let there : room ≡ r = room_is ∙ ap (λ (l : List (ArrayVec Row)). get_or l 0 room) same_room in
+      rw (same, same_room) (
+        record {
+          back = back;
+          now = refl;
+          settles =
+              subst (λ (x : Seat). SettlesTo t x r.items back) at (subst (λ (x : ArrayVec Row). SettlesTo t seat x.items back) there settles);
+        },
+        (refl, refl),
+      )
+  one_more (suc n) [] rs ss_mid rs_mid seat room back room_after below below_room seat_is room_is settles so_far = absurd so_far
+  one_more (suc n) (s ∷ ss) [] ss_mid rs_mid seat room back room_after below below_room seat_is room_is settles so_far = absurd so_far
+  one_more (suc n) (s ∷ ss) (r ∷ rs) [] rs_mid seat room back room_after below below_room seat_is room_is settles so_far = absurd so_far
+  one_more (suc n) (s ∷ ss) (r ∷ rs) (a ∷ ss_mid) [] seat room back room_after below below_room seat_is room_is settles so_far = absurd so_far
+  one_more (suc n) (s ∷ ss) (r ∷ rs) (a ∷ ss_mid) (b ∷ rs_mid) seat room back room_after below below_room seat_is room_is settles so_far =
+      (so_far.0, one_more n ss rs ss_mid rs_mid seat room back room_after (omega arith) (omega arith) seat_is room_is settles so_far.1)
+
+  pub AreSettledUpTo-more : (n : ℕ) (start mid new : Places) → n < length mid.seats → n < length mid.rooms
+      → AreSettledUpTo n start.seats start.rooms mid.seats mid.rooms → SettlesAt t n mid new
+      → AreSettledUpTo (n + 1) start.seats start.rooms new.seats new.rooms
+  AreSettledUpTo-more n start mid new below below_room so_far at =
+      let next : suc n ≡ n + 1 = omega arith in
+      subst (λ (k : ℕ). AreSettledUpTo k start.seats start.rooms new.seats new.rooms) next
+      (subst (λ (l : List Seat). AreSettledUpTo (suc n) start.seats start.rooms l new.rooms) (sym at.seats)
+      (subst (λ (l : List (ArrayVec Row)). AreSettledUpTo (suc n) start.seats start.rooms (set mid.seats n (Idle at.back)) l) (sym at.rooms)
+      (one_more n start.seats start.rooms mid.seats mid.rooms at.seat at.room at.back at.room_after below below_room at.seat_is at.room_is
+      at.settles so_far)))
+
+  same_pass : (p q : Pass) → Idle p ≡ Idle q → p ≡ q
+  same_pass p q e = cc
+
+  -- so these passes come back
+  pub AreSettled-all : (n : ℕ) (ss : List Seat) (rs : List (ArrayVec Row)) (ss_after : List Seat) (rs_after : List (ArrayVec Row))
+      (back : List Pass) → length ss ≡ n → length rs ≡ n → map Idle back ≡ ss_after → AreSettledUpTo n ss rs ss_after rs_after
+      → AreSettled t ss rs back
+  AreSettled-all zero [] [] ss_after rs_after [] many many_rooms is up_to = tt
+  AreSettled-all zero [] [] ss_after rs_after (q ∷ back) many many_rooms is (same, same_room) = absurd (let none = is ∙ same in cc)
+  AreSettled-all zero [] (r ∷ rs) ss_after rs_after back many many_rooms is up_to = absurd (omega arith)
+  AreSettled-all zero (s ∷ ss) rs ss_after rs_after back many many_rooms is up_to = absurd (omega arith)
+  AreSettled-all (suc n) [] rs ss_after rs_after back many many_rooms is up_to = absurd (omega arith)
+  AreSettled-all (suc n) (s ∷ ss) [] ss_after rs_after back many many_rooms is up_to = absurd (omega arith)
+  AreSettled-all (suc n) (s ∷ ss) (r ∷ rs) [] rs_after back many many_rooms is up_to = absurd up_to
+  AreSettled-all (suc n) (s ∷ ss) (r ∷ rs) (a ∷ ss_after) [] back many many_rooms is up_to = absurd up_to
+  AreSettled-all (suc n) (s ∷ ss) (r ∷ rs) (a ∷ ss_after) (b ∷ rs_after) [] many many_rooms is up_to = absurd (cc)
+  AreSettled-all (suc n) (s ∷ ss) (r ∷ rs) (a ∷ ss_after) (b ∷ rs_after) (q ∷ back) many many_rooms is (one, others) =
+      let head : Idle q ≡ a = cc in
+      let rest : map Idle back ≡ ss_after = cc in
+      let same : one.back ≡ q = same_pass one.back q (sym one.now ∙ sym head) in (
+        subst (λ (p : Pass). SettlesTo t s r.items p) same one.settles,
+        AreSettled-all n ss rs ss_after rs_after back (omega arith) (omega arith) rest others,
+      )
 
 -- what is read twice is the same
 pub read_twice : (seats : List Seat) (place : ℕ) (a b : Seat) → a ≡ get_or seats place a → b ≡ get_or seats place b → place < length seats → a ≡ b
 read_twice seats place a b one other within = one ∙ get_or_default seats place a b within ∙ sym other
 
 -- another place is idle
-pub idle_more : (place : ℕ) (old new : List Seat) → ((k : ℕ) (d : Seat) → k < place → IsIdle (get_or old k d)) → SettlesAt place old new
-    → place < length old → (k : ℕ) (d : Seat) → k < place + 1 → IsIdle (get_or new k d)
-idle_more place old new before settles within k d less =
-    subst (λ (l : List Seat). IsIdle (get_or l k d)) (sym settles.changed)
+pub idle_more : (place : ℕ) (old new : List Seat) (back : Pass) → ((k : ℕ) (d : Seat) → k < place → IsIdle (get_or old k d))
+    → new ≡ set old place (Idle back) → place < length old → (k : ℕ) (d : Seat) → k < place + 1 → IsIdle (get_or new k d)
+idle_more place old new back before changed within k d less =
+    subst (λ (l : List Seat). IsIdle (get_or l k d)) (sym changed)
     (elim (cases_lt k place) [
       | inl below ↦ (
           let other : k ≢ place = omega arith in
           rw (get_or-set_other) (before k d below))
       | inr at ↦ (
           let same : k ≡ place = omega arith in
-          rw same (rw get_or-set_same settles.idle))
+          rw same (rw get_or-set_same refl))
     ])

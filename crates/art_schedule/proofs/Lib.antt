@@ -4,6 +4,7 @@ pub mod LineLaws
 pub mod StepLaws
 pub mod Ends
 pub mod SeatLaws
+pub mod AdvanceLaws
 pub mod DeskLaws
 pub mod TaskLaws
 pub mod WayLaws

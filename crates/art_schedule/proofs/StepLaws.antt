@@ -36,6 +36,12 @@ MakesSteps-push : (z : Sizes) (v m w : View) (made : List Made) (step : Made) �
 MakesSteps-push z v m w [] step same one = (w, subst (λ (x : View). MakesStep z x w step) same one, refl)
 MakesSteps-push z v m w (first ∷ made) step (next, before, rest) one = (next, before, MakesSteps-push z next m w made step rest one)
 
+pub MakesSteps-append : (z : Sizes) (v m w : View) (before after : List Made) → MakesSteps z v before m → MakesSteps z m after w
+    → MakesSteps z v (before ++ after) w
+MakesSteps-append z v m w [] after same rest = subst (λ (x : View). MakesSteps z x after w) same rest
+MakesSteps-append z v m w (first ∷ before) after (next, one, others) rest =
+    (next, one, MakesSteps-append z next m w before after others rest)
+
 -- each is counted
 steps-MakesSteps : (z : Sizes) (v w : View) (made : List Made) → MakesSteps z v made w → w.steps ≡ v.steps + length made
 steps-MakesSteps z v w [] same = omega (arith, ap (λ (x : View). x.steps) same)

@@ -1,15 +1,15 @@
 -- How a schedule under way goes on byte by byte and read by read, and what it is at its end.
-use Rattle.std.proofs.Common.{◌≡◌, ◌≢◌, ℕ, ◌+◌, ◌*◌, ◌<◌, ◌≤◌, Bool, true, false, List, [], ◌∷◌, ◌++◌, length, get_or, map, take, drop, take-append-drop, Option, Ok, Err, inl, inr, Result, IfErr, refl, sym, ap, subst, ◌∙◌, arith, append_assoc, append-nil, length-append}
+use Rattle.std.proofs.Common.{◌≡◌, ◌≢◌, ℕ, ◌+◌, ◌*◌, ◌<◌, ◌≤◌, Bool, false, List, [], ◌∷◌, ◌++◌, length, get_or, map, take, drop, take-append-drop, Option, Ok, Err, inl, inr, Result, IfErr, refl, sym, ap, subst, ◌∙◌, arith, append_assoc, append-nil, length-append}
 use Rattle.std.specs.Io.KnownBytes.{Appends, Consumes, Keeps}
 use Rattle.std.specs.List.{range_with_len}
 use Rattle.std.proofs.KnownBytes.{Appends-nil, Appends-trans, Consumes-nil, Consumes-trans, Consumes-kept}
 use Rattle.std.proofs.lemmas.List.{length-map, map-append, take_more}
 use Rattle.std.proofs.lemmas.List.Elements.{All-cons, All-nil}
 use Rattle.std.proofs.lemmas.List.FromFn.{length-map-range_with_len, map-range_with_len_more, take-map-range_with_len}
-use Rattle.art_schedule.specs.Desks.{Places}
+use Rattle.art_schedule.specs.Desks.{Places, Settles}
 use Rattle.art_schedule.specs.Lines.{line_order}
 use Rattle.art_schedule.specs.Schedules.{EndsBy, IsStopped, RunsSchedule, end_of, rest_tasks, tasks_of, whole_tasks}
-use Rattle.art_schedule.specs.Tasks.{Does, DoesAll, IsBad, LineCan, StopsFor, Task, end_at, obey}
+use Rattle.art_schedule.specs.Tasks.{Does, DoesAll, IsBad, LineCan, LineIsUntold, StopsFor, Task, end_at, obey}
 use Rattle.art_schedule.specs.Ways.{ComesOfAll, ComesToEnd, EndsUnderWay, IsUnderWay, RunsFrom, StopsAmong, TakesBytes, Tries, TriesAll, TriesRest}
 use Rattle.art_schedule.specs.declared.stops.ScheduleEnd.{ScheduleEnd}
 use Rattle.art_schedule.specs.declared.stops.ScheduleEnd.TheVariants as ends
@@ -65,18 +65,26 @@ module _ (t : Table) where
   IsBad-kept line part old kept (inl none) = inl (same_order line part kept ∙ none)
   IsBad-kept line part old kept (inr bad) = inr (LineCan-kept line part old false kept bad)
 
-  StopsFor-kept : (stop : Stop) (line part : List ℕ) (old : Places) (written : List ℕ) → line ≡ take 4097 part
-      → StopsFor t stop (obey line) old written → StopsFor t stop (obey part) old written
-  StopsFor-kept BadLine line part old written kept (bad, none) = (IsBad-kept line part old kept bad, none)
-  StopsFor-kept WriteFault line part old written kept cut = record {
+  LineIsUntold-kept : (line part : List ℕ) (old new : Places) → line ≡ take 4097 part → LineIsUntold t line old new → LineIsUntold t part old new
+  LineIsUntold-kept line part old new kept it = record {
+    place = it.place;
+    said = it.said;
+    says = same_order line part kept ∙ it.says;
+    can_do = it.can_do;
+    advances = it.advances;
+  }
+
+  StopsFor-kept : (stop : Stop) (line part : List ℕ) (old : Places) (written : List ℕ) (new : Places) → line ≡ take 4097 part
+      → StopsFor t stop (obey line) old written new → StopsFor t stop (obey part) old written new
+  StopsFor-kept BadLine line part old written new kept (bad, none, same) = (IsBad-kept line part old kept bad, none, same)
+  StopsFor-kept WriteFault line part old written new kept cut = record {
     text = cut.text;
     rest = cut.rest;
-    new = cut.new;
-    done = Does-kept line part old cut.text cut.new kept cut.done;
+    done = Does-kept line part old cut.text new kept cut.done;
     some = cut.some;
     whole = cut.whole;
   }
-  StopsFor-kept NoMemory line part old written kept (good, none) = (LineCan-kept line part old true kept good, none)
+  StopsFor-kept NoMemory line part old written new kept (untold, none) = (LineIsUntold-kept line part old new kept untold, none)
 
   -- ---- bytes are taken
 
@@ -167,11 +175,11 @@ module _ (t : Table) where
   -- ---- a line stops it
 
   -- the line that is next among all tasks stops the schedule
-  stopped_next : (taken sent : List ℕ) (start p : Places) (count : ℕ) (line written : List ℕ) (stop : Stop) (extra : List (List ℕ))
-      (all : List ℕ) → IsUnderWay t taken sent start p count line → StopsFor t stop (obey line) p written
+  stopped_next : (taken sent : List ℕ) (start p q : Places) (count : ℕ) (line written : List ℕ) (stop : Stop) (extra : List (List ℕ))
+      (all : List ℕ) → IsUnderWay t taken sent start p count line → StopsFor t stop (obey line) p written q
       → lines_of all ≡ (whole_lines taken ++ last_part taken ∷ []) ++ extra
-      → IsStopped t all start (sent ++ written) (end_of stop (count + 1))
-  stopped_next taken sent start p count line written stop extra all way stops split =
+      → IsStopped t all start (sent ++ written) q (end_of stop (count + 1))
+  stopped_next taken sent start p q count line written stop extra all way stops split =
       let before = whole_lines taken in
       let last = last_part taken in
       let lines : lines_of all ≡ before ++ last ∷ extra = split ∙ append_assoc before (last ∷ []) extra in
@@ -192,7 +200,7 @@ module _ (t : Table) where
           part = written;
           m = p;
           done = way.done;
-          stops = StopsFor-kept stop line last p written way.kept stops;
+          stops = StopsFor-kept stop line last p written q way.kept stops;
           whole = refl;
         };
         end_is = refl;
@@ -203,7 +211,7 @@ module _ (t : Table) where
       (before count : ℕ) (line line_mid : List ℕ) (stop : Stop) (end : ScheduleEnd)
       → i < length bytes → get_or bytes i 0 ≡ 10 → TakesBytes t (take i bytes) held held_mid p m before count line line_mid
       → Tries {A = A} t (obey line_mid) m q held_mid held_after (Err stop) → end ≡ end_of stop (count + 1)
-      → StopsAmong t bytes held held_after p before line end
+      → StopsAmong t bytes held held_after p q before line end
   StopsAmong-at_feed bytes i held held_mid held_after p m q before count line line_mid stop end within feed front tries is = record {
     written = front.written ++ tries.written;
     appends = Appends-trans held held_mid held_after front.written tries.written front.appends tries.appends;
@@ -216,30 +224,30 @@ module _ (t : Table) where
         ap (λ (l : List ℕ). l ++ more) (append_assoc taken (take i bytes) (10 ∷ []))
         ∙ append_assoc taken (take i bytes ++ 10 ∷ []) more
         ∙ ap (λ (l : List ℕ). taken ++ l) (sym (piece_at bytes i 10 within feed)) in
-        let stopped = stopped_next fronts (sent ++ front.written) start m count line_mid tries.written stop lines.0 (fed ++ more)
+        let stopped = stopped_next fronts (sent ++ front.written) start m q count line_mid tries.written stop lines.0 (fed ++ more)
         (front.reaches taken sent start way) tries.comes (lines.1 ∙ ap (λ (l : List (List ℕ)). l ++ lines.0) (lines_fed fronts)) in
-        subst (λ (l : List ℕ). IsStopped t l start (sent ++ (front.written ++ tries.written)) end) read
-        (subst (λ (l : List ℕ). IsStopped t (fed ++ more) start l end) (append_assoc sent front.written tries.written)
-        (subst (IsStopped t (fed ++ more) start ((sent ++ front.written) ++ tries.written)) (sym is) stopped));
+        subst (λ (l : List ℕ). IsStopped t l start (sent ++ (front.written ++ tries.written)) q end) read
+        (subst (λ (l : List ℕ). IsStopped t (fed ++ more) start l q end) (append_assoc sent front.written tries.written)
+        (subst (IsStopped t (fed ++ more) start ((sent ++ front.written) ++ tries.written) q) (sym is) stopped));
   }
 
   -- ---- the end of the input
 
-  stopped_ends : (stop : Stop) (number : ℕ) (read : List ℕ) (start : Places) (written : List ℕ)
-      → IsStopped t read start written (end_of stop number) → EndsBy t read start written (end_of stop number)
-  stopped_ends BadLine number read start written stopped = stopped
-  stopped_ends WriteFault number read start written stopped = stopped
-  stopped_ends NoMemory number read start written stopped = stopped
+  stopped_ends : (stop : Stop) (number : ℕ) (read : List ℕ) (start : Places) (written : List ℕ) (last : Places)
+      → IsStopped t read start written last (end_of stop number) → EndsBy t read start written last (end_of stop number)
+  stopped_ends BadLine number read start written last stopped = stopped
+  stopped_ends WriteFault number read start written last stopped = stopped
+  stopped_ends NoMemory number read start written last stopped = stopped
 
   -- the last line had no line feed, and stops the schedule
   pub TriesRest-stopped : {A B : Type 0} (held held_after : Option (List ℕ)) (p q : Places) (count : ℕ) (line : List ℕ) (stop : Stop)
       → 0 < length line → Tries {A = A} t (obey line) p q held held_after (Err stop)
-      → TriesRest {A = B} t held held_after p count line (Err stop)
+      → TriesRest {A = B} t held held_after p q count line (Err stop)
   TriesRest-stopped held held_after p q count line stop some tries = record {
     written = tries.written;
     appends = tries.appends;
     reaches = λ taken sent start way.
-        stopped_next taken sent start p count line tries.written stop [] taken way tries.comes
+        stopped_next taken sent start p q count line tries.written stop [] taken way tries.comes
         (lines_of-last taken line way.kept some ∙ sym (append-nil (whole_lines taken ++ last_part taken ∷ [])));
   }
 
@@ -279,45 +287,45 @@ module _ (t : Table) where
   -- after all lines, what was under way was run to its end, or one of these ends stops the schedule
   rest_comes : {A : Type 0} (m q : Places) (count : ℕ) (r : Result A Stop) (read sent written : List ℕ) (start : Places)
       → DoesAll t (map obey (lines_of read)) start sent m → ComesOfAll t rest_tasks m q written r → IfErr r (λ stop. stop ≢ BadLine)
-      → ComesToEnd t read start (sent ++ written) count r
+      → ComesToEnd t read start (sent ++ written) q count r
   rest_comes m q count (Ok a) read sent written start lines ends good =
-      record { last = q; done = DoesAll-append t (map obey (lines_of read)) rest_tasks start m q sent written lines ends }
+      DoesAll-append t (map obey (lines_of read)) rest_tasks start m q sent written lines ends
   rest_comes m q count (Err stop) read sent written start lines (k, stops) good =
       let tasks = map obey (lines_of read) in
       record {
         why = stop;
         count = length tasks + k;
-        stops = StopsAt-later t stop tasks rest_tasks start m sent written k lines stops;
+        stops = StopsAt-later t stop tasks rest_tasks start m sent written k q lines stops;
         end_is = same_end stop (count + 1) (length tasks + k + 1) good;
       }
 
   pub TriesRest-ends : {A : Type 0} (held held_mid held_after : Option (List ℕ)) (p m q : Places) (count : ℕ) (line : List ℕ)
       (r : Result A Stop)
       → HasObeyed held held_mid p m line → TriesAll t rest_tasks m q held_mid held_after r → IfErr r (λ stop. stop ≢ BadLine)
-      → TriesRest t held held_after p count line r
+      → TriesRest t held held_after p q count line r
   TriesRest-ends held held_mid held_after p m q count line r has tries good = record {
     written = has.written ++ tries.written;
     appends = Appends-trans held held_mid held_after has.written tries.written has.appends tries.appends;
     reaches = λ taken sent start way.
-        subst (λ (l : List ℕ). ComesToEnd t taken start l count r) (append_assoc sent has.written tries.written)
+        subst (λ (l : List ℕ). ComesToEnd t taken start l q count r) (append_assoc sent has.written tries.written)
         (rest_comes m q count r taken (sent ++ has.written) tries.written start (has.reaches count taken sent start way) tries.comes good);
   }
 
-  pub EndsUnderWay-ended : {A : Type 0} (held held_after : Option (List ℕ)) (p : Places) (count : ℕ) (line : List ℕ) (a : A)
-      → TriesRest t held held_after p count line (Ok a) → EndsUnderWay t held held_after p count line ends.Ended
-  EndsUnderWay-ended held held_after p count line a tries =
+  pub EndsUnderWay-ended : {A : Type 0} (held held_after : Option (List ℕ)) (p q : Places) (count : ℕ) (line : List ℕ) (a : A)
+      → TriesRest t held held_after p q count line (Ok a) → EndsUnderWay t held held_after p q count line ends.Ended
+  EndsUnderWay-ended held held_after p q count line a tries =
       record { written = tries.written; appends = tries.appends; reaches = tries.reaches }
 
-  pub EndsUnderWay-stopped : {A : Type 0} (held held_after : Option (List ℕ)) (p : Places) (count : ℕ) (line : List ℕ) (stop : Stop)
+  pub EndsUnderWay-stopped : {A : Type 0} (held held_after : Option (List ℕ)) (p q : Places) (count : ℕ) (line : List ℕ) (stop : Stop)
       (end : ScheduleEnd)
-      → TriesRest {A = A} t held held_after p count line (Err stop) → end ≡ end_of stop (count + 1)
-      → EndsUnderWay t held held_after p count line end
-  EndsUnderWay-stopped held held_after p count line stop end tries is = record {
+      → TriesRest {A = A} t held held_after p q count line (Err stop) → end ≡ end_of stop (count + 1)
+      → EndsUnderWay t held held_after p q count line end
+  EndsUnderWay-stopped held held_after p q count line stop end tries is = record {
     written = tries.written;
     appends = tries.appends;
     reaches = λ taken sent start way.
-        subst (EndsBy t taken start (sent ++ tries.written)) (sym is)
-        (stopped_ends stop (count + 1) taken start (sent ++ tries.written) (tries.reaches taken sent start way));
+        subst (EndsBy t taken start (sent ++ tries.written) q) (sym is)
+        (stopped_ends stop (count + 1) taken start (sent ++ tries.written) q (tries.reaches taken sent start way));
   }
 
   -- ---- what is under way at the places, one after another
@@ -430,11 +438,11 @@ module _ (t : Table) where
       }
 
   -- the input ended: a read gave no bytes
-  pub RunsFrom-finish : (reads : ℕ) (left left_mid left_after held held_mid held_after : Option (List ℕ)) (start p : Places)
+  pub RunsFrom-finish : (reads : ℕ) (left left_mid left_after held held_mid held_after : Option (List ℕ)) (start p q : Places)
       (count : ℕ) (line piece : List ℕ) (bytes : ℕ) (end : ScheduleEnd)
       → HasRead reads left left_mid held held_mid start p count line → Consumes left_mid left_after (take bytes piece) → bytes ≡ 0
-      → reads ≤ 1000000 → EndsUnderWay t held_mid held_after p count line end → RunsFrom left left_after held held_after t start end
-  RunsFrom-finish reads left left_mid left_after held held_mid held_after start p count line piece bytes end has consumes none bound
+      → reads ≤ 1000000 → EndsUnderWay t held_mid held_after p q count line end → RunsFrom left left_after held held_after t start q end
+  RunsFrom-finish reads left left_mid left_after held held_mid held_after start p q count line piece bytes end has consumes none bound
       finishes =
       let most = has.at_most in
       let no_more = subst (λ (k : ℕ). Consumes left_mid left_after (take k piece)) none consumes in
@@ -450,12 +458,12 @@ module _ (t : Table) where
       }
 
   -- a line stopped it
-  pub RunsFrom-stop : (reads : ℕ) (left left_mid left_after held held_mid held_after : Option (List ℕ)) (start p : Places) (count : ℕ)
+  pub RunsFrom-stop : (reads : ℕ) (left left_mid left_after held held_mid held_after : Option (List ℕ)) (start p q : Places) (count : ℕ)
       (line bytes : List ℕ) (end : ScheduleEnd)
       → HasRead reads left left_mid held held_mid start p count line → Consumes left_mid left_after bytes → reads + 1 ≤ 1000000
-      → length bytes ≤ 4096 → StopsAmong t bytes held_mid held_after p count line end
-      → RunsFrom left left_after held held_after t start end
-  RunsFrom-stop reads left left_mid left_after held held_mid held_after start p count line bytes end has consumes bound few stops =
+      → length bytes ≤ 4096 → StopsAmong t bytes held_mid held_after p q count line end
+      → RunsFrom left left_after held held_after t start q end
+  RunsFrom-stop reads left left_mid left_after held held_mid held_after start p q count line bytes end has consumes bound few stops =
       let most = has.at_most in
       let stopped = stops.reaches has.taken has.sent start has.way in
       record {
@@ -464,9 +472,9 @@ module _ (t : Table) where
         consumes = Consumes-trans left left_mid left_after has.taken bytes has.consumes consumes;
         appends = Appends-trans held held_mid held_after has.sent stops.written has.appends stops.appends;
         ends =
-            subst (EndsBy t (has.taken ++ bytes) start (has.sent ++ stops.written)) (sym stopped.end_is)
-            (stopped_ends stopped.why (stopped.count + 1) (has.taken ++ bytes) start (has.sent ++ stops.written)
-            (subst (IsStopped t (has.taken ++ bytes) start (has.sent ++ stops.written)) stopped.end_is stopped));
+            subst (EndsBy t (has.taken ++ bytes) start (has.sent ++ stops.written) q) (sym stopped.end_is)
+            (stopped_ends stopped.why (stopped.count + 1) (has.taken ++ bytes) start (has.sent ++ stops.written) q
+            (subst (IsStopped t (has.taken ++ bytes) start (has.sent ++ stops.written) q) stopped.end_is stopped));
         most = omega (arith, length-append has.taken bytes);
       }
 
@@ -474,7 +482,7 @@ module _ (t : Table) where
   pub RunsFrom-fault : (reads : ℕ) (left left_mid left_after held held_after : Option (List ℕ)) (start now : Places) (count : ℕ)
       (line : List ℕ)
       → HasRead reads left left_mid held held_after start now count line → Keeps left_mid left_after → reads ≤ 1000000
-      → RunsFrom left left_after held held_after t start ends.ReadFault
+      → RunsFrom left left_after held held_after t start now ends.ReadFault
   RunsFrom-fault reads left left_mid left_after held held_after start now count line has keeps bound =
       let most = has.at_most in
       record {
@@ -482,14 +490,14 @@ module _ (t : Table) where
         written = has.sent;
         consumes = Consumes-kept left left_mid left_after has.taken has.consumes keeps;
         appends = has.appends;
-        ends = record { last = now; done = has.way.done };
+        ends = has.way.done;
         most = omega arith;
       }
 
   -- the reads are used up
   pub RunsFrom-used : (reads : ℕ) (left left_after held held_after : Option (List ℕ)) (start now : Places) (count : ℕ) (line : List ℕ)
       → HasRead reads left left_after held held_after start now count line → 1000000 ≤ reads → reads ≤ 1000000
-      → RunsFrom left left_after held held_after t start ends.ReadsUsed
+      → RunsFrom left left_after held held_after t start now ends.ReadsUsed
   RunsFrom-used reads left left_after held held_after start now count line has used bound =
       let least = has.at_least in
       let most = has.at_most in
@@ -498,24 +506,25 @@ module _ (t : Table) where
         written = has.sent;
         consumes = has.consumes;
         appends = has.appends;
-        ends = (record { last = now; done = has.way.done }, omega arith);
+        ends = (has.way.done, omega arith);
         most = omega arith;
       }
 
   -- ---- the whole
 
-  pub RunsSchedule-from : (left left_after held held_after : Option (List ℕ)) (passes : List Pass) (start : Places) (end : ScheduleEnd)
-      → start.seats ≡ map Idle passes → length start.rooms ≡ length passes → RunsFrom left left_after held held_after t start end
-      → RunsSchedule left left_after held held_after t passes end
-  RunsSchedule-from left left_after held held_after passes start end idle rooms runs = (
+  pub RunsSchedule-from : (left left_after held held_after : Option (List ℕ)) (passes back : List Pass) (start last : Places)
+      (end : ScheduleEnd)
+      → start.seats ≡ map Idle passes → length start.rooms ≡ length passes → RunsFrom left left_after held held_after t start last end
+      → Settles t last back → RunsSchedule left left_after held held_after t passes back end
+  RunsSchedule-from left left_after held held_after passes back start last end idle rooms runs settles = (
     runs.read,
     runs.written,
     runs.consumes,
     runs.appends,
-    inl (record { start = start; idle = idle; rooms = rooms; ends = runs.ends; most = runs.most }),
+    inl (record { start = start; last = last; idle = idle; rooms = rooms; ends = runs.ends; settles = settles; most = runs.most }),
   )
 
   -- there was no memory for the places
-  pub RunsSchedule-none : (left held : Option (List ℕ)) (passes : List Pass) → RunsSchedule left left held held t passes ends.NoMemory
+  pub RunsSchedule-none : (left held : Option (List ℕ)) (passes : List Pass) → RunsSchedule left left held held t passes passes ends.NoMemory
   RunsSchedule-none left held passes =
-      ([], [], Consumes-nil left, Appends-nil held, inr (record { unread = refl; unwritten = refl; end_is = refl }))
+      ([], [], Consumes-nil left, Appends-nil held, inr (record { unread = refl; unwritten = refl; stay = refl; end_is = refl }))

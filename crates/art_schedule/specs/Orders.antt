@@ -2,12 +2,13 @@
 use Rattle.std.specs.Prelude.{◌≡◌, ℕ, ◌++◌, ◌∷◌, [], List, Bool, not, Ok, Err}
 use Rattle.art_model.specs.declared.commands.Command.{Command}
 use Rattle.art_model.specs.declared.rows.Row.{Row}
+use Rattle.arrayvec.specs.ArrayVec.{ArrayVec}
 use Rattle.art_schedule.specs.Lines.{Said, start, until, step, end}
 use Rattle.art_server.specs.Refusals.{line_refusal}
 use Rattle.art_lines.specs.Lines.{line_says}
 use Rattle.art_server.specs.Endings.{reply_of_ending}
 use Rattle.art_server.specs.Replies.{text_of_reply}
-use Rattle.art_schedule.specs.Seats.{BeginsThere, EndsThere, IsIdle, KeepsRunning}
+use Rattle.art_schedule.specs.Seats.{Advances, BeginsThere, EndsThere, IsIdle, KeepsRunning}
 use Rattle.art_schedule.specs.Steps.{MakesFewer, MakesMany, MissesMark, ReachesMark}
 use Rattle.art_scan.specs.declared.running.Ending.{Ending}
 use Rattle.art_lines.specs.declared.lines.LineFault.{LineFault}
@@ -16,6 +17,8 @@ use Rattle.art_table.specs.declared.tables.Table.{Table}
 use Rattle.art_schedule.specs.declared.orders.Told.{Told}
 use Rattle.art_schedule.specs.declared.orders.Told.TheVariants.{Nothing, At, Stepped, Ended}
 use Rattle.art_schedule.specs.declared.seats.Seat.{Seat}
+use Rattle.art_schedule.specs.declared.stops.Stop.{Stop}
+use Rattle.art_schedule.specs.declared.stops.Stop.TheVariants.{BadLine, WriteFault, NoMemory}
 use Rattle.art_schedule.specs.declared.seats.Seat.TheVariants.{Going}
 
 -- a start wants an idle pass, and each other order a command under way
@@ -84,3 +87,10 @@ Obeys t said old rows new rows_after told = ⊥
 abbrev pub EndsWith : Table → Seat → List Row → Seat → List Row → Told → Type 0
 EndsWith t old rows new rows_after (Ended reply restarts) = TellsEnd t old rows new rows_after reply.items restarts
 EndsWith t old rows new rows_after told = ⊥
+
+-- What an order leaves that was not told. One that its pass cannot do leaves all as it was; where there was no memory, what is under way
+-- goes on or was run to its end.
+abbrev pub Leaves : Table → Stop → Seat → ArrayVec Row → Seat → ArrayVec Row → Type 0
+Leaves t BadLine old room new room_after = (new ≡ old) × (room_after ≡ room)
+Leaves t WriteFault old room new room_after = ⊥
+Leaves t NoMemory old room new room_after = Advances t old room.items new room_after.items

@@ -5,7 +5,7 @@ use Rattle.std.specs.List.{range_with_len, slice_get}
 use Rattle.art_table.specs.Tables.{IsPassOf}
 use Rattle.art_server.specs.Sessions.{IsSamePass}
 use Rattle.art_server.specs.Streams.{lines_of, whole_lines}
-use Rattle.art_schedule.specs.Desks.{Places}
+use Rattle.art_schedule.specs.Desks.{Places, Settles}
 use Rattle.art_schedule.specs.Tasks.{DoesAll, StopsAt, Task, end_at, obey}
 use Rattle.art_schedule.specs.declared.seats.Seat.TheVariants.{Idle}
 use Rattle.art_schedule.specs.declared.stops.Stop.{Stop}
@@ -38,11 +38,6 @@ tasks_of read = map obey (lines_of read) ++ rest_tasks
 abbrev pub whole_tasks : List ℕ → List Task
 whole_tasks read = map obey (whole_lines read)
 
--- all of these tasks were done
-pub record DoesTasks (t : Table) (tasks : List Task) (start : Places) (written : List ℕ) : Type 0 where
-  pub last : Places
-  pub done : DoesAll t tasks start written last
-
 -- the end that it is to stop at the line of this number
 abbrev pub end_of : Stop → ℕ → ScheduleEnd
 end_of stop.BadLine number = BadLine number
@@ -50,41 +45,46 @@ end_of stop.WriteFault number = WriteFault
 end_of stop.NoMemory number = NoMemory
 
 -- one of the tasks stopped the schedule; the first line has the number 1
-pub record IsStopped (t : Table) (read : List ℕ) (start : Places) (written : List ℕ) (end : ScheduleEnd) : Type 0 where
+pub record IsStopped (t : Table) (read : List ℕ) (start : Places) (written : List ℕ) (last : Places) (end : ScheduleEnd) : Type 0 where
   pub why : Stop
   pub count : ℕ
-  pub stops : StopsAt t why (tasks_of read) start written count
+  pub stops : StopsAt t why (tasks_of read) start written count last
   pub end_is : end ≡ end_of why (count + 1)
 
--- what was read was done, up to the end
-abbrev pub EndsBy : Table → List ℕ → Places → List ℕ → ScheduleEnd → Type 0
-EndsBy t read start written Ended = DoesTasks t (tasks_of read) start written
-EndsBy t read start written (BadLine number) = IsStopped t read start written (BadLine number)
-EndsBy t read start written ReadFault = DoesTasks t (whole_tasks read) start written
-EndsBy t read start written WriteFault = IsStopped t read start written WriteFault
-EndsBy t read start written NoMemory = IsStopped t read start written NoMemory
-EndsBy t read start written ReadsUsed = DoesTasks t (whole_tasks read) start written × (1000000 ≤ length read)
+-- what was read was done, up to the end, which left these places
+abbrev pub EndsBy : Table → List ℕ → Places → List ℕ → Places → ScheduleEnd → Type 0
+EndsBy t read start written last Ended = DoesAll t (tasks_of read) start written last
+EndsBy t read start written last (BadLine number) = IsStopped t read start written last (BadLine number)
+EndsBy t read start written last ReadFault = DoesAll t (whole_tasks read) start written last
+EndsBy t read start written last WriteFault = IsStopped t read start written last WriteFault
+EndsBy t read start written last NoMemory = IsStopped t read start written last NoMemory
+EndsBy t read start written last ReadsUsed = DoesAll t (whole_tasks read) start written last × (1000000 ≤ length read)
 
--- the schedule that these bytes are, on passes that are idle at first: what was written, and its end
-pub record IsSchedule (t : Table) (passes : List Pass) (read written : List ℕ) (end : ScheduleEnd) : Type 0 where
+-- The schedule that these bytes are, on passes that are idle at first: what was written, its end, and the passes that come back. Where a
+-- command is under way as it ends, that is run to its end.
+pub record IsSchedule (t : Table) (passes back : List Pass) (read written : List ℕ) (end : ScheduleEnd) : Type 0 where
   pub start : Places
+  pub last : Places
   pub idle : start.seats ≡ map Idle passes
   pub rooms : length start.rooms ≡ length passes
-  pub ends : EndsBy t read start written end
+  pub ends : EndsBy t read start written last end
+  pub settles : Settles t last back
   pub most : length read ≤ 1000000 * 4096
 
--- there was no memory for the places: nothing was read, and nothing written
-pub record HasNoPlaces (read written : List ℕ) (end : ScheduleEnd) : Type 0 where
+-- there was no memory for the places: nothing was read, nothing written, and the passes come back as they were
+pub record HasNoPlaces (passes back : List Pass) (read written : List ℕ) (end : ScheduleEnd) : Type 0 where
   pub unread : read ≡ []
   pub unwritten : written ≡ []
+  pub stay : back ≡ passes
   pub end_is : end ≡ NoMemory
 
--- a schedule with the reader, from what it had left to what it has left, and the writer, from what it held to what it holds
-abbrev pub RunsSchedule : (left left_after held held_after : Option (List ℕ)) → Table → List Pass → ScheduleEnd → Type 0
-RunsSchedule left left_after held held_after t passes end =
+-- A schedule with the reader, from what it had left to what it has left, and the writer, from what it held to what it holds: the passes
+-- before it and after it, and its end.
+abbrev pub RunsSchedule : (left left_after held held_after : Option (List ℕ)) → Table → (passes back : List Pass) → ScheduleEnd → Type 0
+RunsSchedule left left_after held held_after t passes back end =
     (read : List ℕ) × (written : List ℕ)
     × Consumes left left_after read × Appends held held_after written
-    × (IsSchedule t passes read written end ⊎ HasNoPlaces read written end)
+    × (IsSchedule t passes back read written end ⊎ HasNoPlaces passes back read written end)
 
 -- ---- for the functions of a schedule
 

@@ -64,7 +64,35 @@ pub record Finishes (t : Table) (r : Running) (rows : List Row) (pass : Pass) (e
   pub keeps : KeepsRunning t r rows last between
   pub none : HasNoStep t last between
   pub restarted : restarts ≡ restarts_in last
+  pub of : IsPassOf t pass
   pub ends : (c : Command) (turns : ℕ) (p : Pass) → IsRunning t c turns p r rows → CommandEnds t c turns p rows_after ending pass
+
+-- the command under way was run to its end, whichever it was: its pass is idle then
+pub record RunsOut (t : Table) (r : Running) (rows : List Row) (pass : Pass) : Type 0 where
+  pub ending : Ending
+  pub restarts : ℕ
+  pub rows_after : List Row
+  pub finishes : Finishes t r rows pass ending restarts rows_after
+
+-- the pass that comes back of a place: the one that is idle there, or the one with which the command under way was run to its end
+abbrev pub SettlesTo : Table → Seat → List Row → Pass → Type 0
+SettlesTo t (Idle q) rows back = back ≡ q
+SettlesTo t (Going r) rows back = RunsOut t r rows back
+SettlesTo t Away rows back = ⊥
+
+-- the command under way made some steps, or none, and goes on: it is the same command
+pub record MakesSome (t : Table) (r : Running) (rows : List Row) (s : Running) (rows_after : List Row) : Type 0 where
+  pub made : List Made
+  pub steps : MakesSteps (sizes_in t) (view_in r) made (view_in s)
+  pub keeps : KeepsRunning t r rows s rows_after
+
+-- what is under way at the place goes on or was run to its end; where nothing is, nothing was done
+abbrev pub Advances : Table → Seat → List Row → Seat → List Row → Type 0
+Advances t (Idle q) rows new rows_after = new ≡ Idle q
+Advances t (Going r) rows (Idle q) rows_after = RunsOut t r rows q
+Advances t (Going r) rows (Going s) rows_after = MakesSome t r rows s rows_after
+Advances t (Going r) rows Away rows_after = ⊥
+Advances t Away rows new rows_after = new ≡ Away
 
 -- what was under way at the place has ended so
 pub record EndsThere (t : Table) (old : Seat) (rows : List Row) (new : Seat) (rows_after : List Row) (ending : Ending) (restarts : ℕ)

@@ -5,7 +5,7 @@ use Rattle.art_model.specs.declared.rows.Row.{Row}
 use Rattle.art_schedule.specs.Desks.{Places}
 use Rattle.art_schedule.specs.Lines.{Said, end, line_order}
 use Rattle.art_schedule.specs.Orders.{Obeys, fits}
-use Rattle.art_schedule.specs.Seats.{IsIdle, is_idle}
+use Rattle.art_schedule.specs.Seats.{Advances, IsIdle, is_idle}
 use Rattle.art_schedule.specs.Tells.{told_text}
 use Rattle.art_schedule.specs.declared.orders.Told.{Told}
 use Rattle.art_schedule.specs.declared.seats.Seat.{Seat}
@@ -81,28 +81,50 @@ abbrev pub IsBad : Task → Places → Type 0
 IsBad (obey line) now = (line_order line ≡ None) ⊎ LineCan line now false
 IsBad (end_at place) now = ⊥
 
--- a line that says an order, and a place with a command under way, can be done
-abbrev pub IsGood : Task → Places → Type 0
-IsGood (obey line) now = LineCan line now true
-IsGood (end_at place) now = CanDo place end now true
+-- what is under way at the place goes on or was run to its end, and at the others what was there stays
+pub record AdvancesAt (t : Table) (place : ℕ) (old new : Places) : Type 0 where
+  pub seat : Seat
+  pub room : ArrayVec Row
+  pub seat_after : Seat
+  pub room_after : ArrayVec Row
+  pub seat_is : seat ≡ slice_index_or old.seats place seat
+  pub room_is : room ≡ slice_index_or old.rooms place room
+  pub seats : new.seats ≡ slice_set old.seats place seat_after
+  pub rooms : new.rooms ≡ slice_set old.rooms place room_after
+  pub advances : Advances t seat room.items seat_after room_after.items
+
+-- the line says an order that its pass can do, of which nothing is told
+pub record LineIsUntold (t : Table) (line : List ℕ) (old new : Places) : Type 0 where
+  pub place : ℕ
+  pub said : Said
+  pub says : line_order line ≡ Some (place, said)
+  pub can_do : CanDo place said old true
+  pub advances : AdvancesAt t place old new
+
+-- a task that can be done, a line or the end of a command under way, of which nothing is told
+abbrev pub IsUntold : Table → Task → Places → Places → Type 0
+IsUntold t (obey line) old new = LineIsUntold t line old new
+IsUntold t (end_at place) old new = CanDo place end old true × AdvancesAt t place old new
 
 -- of what it prints, which is something, a front was written
-pub record IsCut (does : List ℕ → Places → Type 0) (part : List ℕ) : Type 0 where
+pub record IsCut (does : List ℕ → Type 0) (part : List ℕ) : Type 0 where
   pub text : List ℕ
   pub rest : List ℕ
-  pub new : Places
-  pub done : does text new
+  pub done : does text
   pub some : text ≢ []
   pub whole : text ≡ part ++ rest
 
--- why a schedule stops at a task, and what was written of it
-abbrev pub StopsFor : Table → Stop → Task → Places → List ℕ → Type 0
-StopsFor t BadLine task old part = IsBad task old × (part ≡ [])
-StopsFor t WriteFault task old part = IsCut (λ text new. Does t task old text new) part
-StopsFor t NoMemory task old part = IsGood task old × (part ≡ [])
+-- Why a schedule stops at a task, what was written of it, and the places as it left them: a bad line as they were before it, a task whose
+-- text was cut as it does.
+abbrev pub StopsFor : Table → Stop → Task → Places → List ℕ → Places → Type 0
+StopsFor t BadLine task old part new = IsBad task old × (part ≡ []) × (new ≡ old)
+StopsFor t WriteFault task old part new = IsCut (λ text. Does t task old text new) part
+StopsFor t NoMemory task old part new = IsUntold t task old new × (part ≡ [])
 
--- the tasks before the one of this place among them, from 0 on, were done, and that one stopped the schedule: what was written in all
-pub record StopsAt (t : Table) (stop : Stop) (tasks : List Task) (old : Places) (written : List ℕ) (count : ℕ) : Type 0 where
+-- the tasks before the one of this place among them, from 0 on, were done, and that one stopped the schedule: what was written in all, and
+-- the places then
+pub record StopsAt (t : Table) (stop : Stop) (tasks : List Task) (old : Places) (written : List ℕ) (count : ℕ) (new : Places)
+    : Type 0 where
   pub before : List Task
   pub at : Task
   pub after : List Task
@@ -112,5 +134,5 @@ pub record StopsAt (t : Table) (stop : Stop) (tasks : List Task) (old : Places) 
   pub part : List ℕ
   pub m : Places
   pub done : DoesAll t before old text m
-  pub stops : StopsFor t stop at m part
+  pub stops : StopsFor t stop at m part new
   pub whole : written ≡ text ++ part

@@ -18,11 +18,11 @@ told_text place Stepped = name_of place ∷ codes " stepped" ++ 10 ∷ []
 told_text place (Ended reply restarts) =
     name_of place ∷ 32 ∷ [] ++ reply.items ++ codes " restarts " ++ decimal restarts ++ 10 ∷ []
 
--- how much of a text is written where its writing stops: it is some text, or nothing of it was made
+-- how much of a text is written where its writing stops: it is some text, of which a front was written or nothing was made
 abbrev pub CutsFor : Stop → List ℕ → List ℕ → Type 0
 CutsFor BadLine text part = ⊥
 CutsFor WriteFault text part = text ≢ []
-CutsFor NoMemory text part = part ≡ []
+CutsFor NoMemory text part = (text ≢ []) × (part ≡ [])
 
 -- a front of the line was written, and all of it where the result is Ok
 pub record TellsLine {A : Type 0} (place : ℕ) (told : Told) (held held_after : Option (List ℕ)) (result : Result A Stop) : Type 0 where

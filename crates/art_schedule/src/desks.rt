@@ -1,6 +1,6 @@
 //! The places of all passes.
 ghost use Rattle.std.specs.Prelude.{◌≡◌, ◌<◌, All, List, IfErr, IfOk, length, map};
-ghost use Rattle.art_schedule.specs.Desks.{IsDesk, SettlesAt};
+ghost use Rattle.art_schedule.specs.Desks.{IsDesk, Settles, SettlesAt, places_of};
 ghost use Rattle.art_schedule.specs.Schedules.{ArePassesOf, ComeBack};
 ghost use Rattle.art_schedule.specs.Seats.{IsIdle};
 ghost use Rattle.art_table.specs.declared.passes.Pass.{Pass as PassOf};
@@ -97,7 +97,7 @@ fn settle(table: &Table, desk: &mut Desk, place: usize)
     requires desk { (ps : List PassOf) × IsDesk table.now ps desk.old }
     requires place { place < 8 }
     ensures keeps { (ps : List PassOf) → IsDesk table.now ps desk.old → IsDesk table.now ps desk.new }
-    ensures idle { SettlesAt place desk.old.seats.items desk.new.seats.items }
+    ensures settles { SettlesAt table.now place (places_of desk.old) (places_of desk.new) }
 {
     if !desk.seats[place].is_idle() {
         end(table, &mut desk.seats[place], &mut desk.rooms[place]);
@@ -107,7 +107,8 @@ fn settle(table: &Table, desk: &mut Desk, place: usize)
 /// The passes, each idle: what is under way is run to its end.
 pub(crate) fn close(table: &Table, desk: Desk) -> [Pass; 8]
     requires { (ps : List PassOf) × IsDesk table.now ps desk }
-    ensures { (ps : List PassOf) → IsDesk table.now ps desk → ComeBack table.now ps result }
+    ensures come { (ps : List PassOf) → IsDesk table.now ps desk → ComeBack table.now ps result }
+    ensures settles { Settles table.now (places_of desk) result }
 {
     let mut desk = desk;
     for place in 0..8 {

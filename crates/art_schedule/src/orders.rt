@@ -1,7 +1,7 @@
 //! What a pass is told to do, and what is told of it then.
-ghost use Rattle.std.specs.Prelude.{◌≡◌, ◌≢◌, ◌<◌, IfErr, IfOk, OnOk, Err, ◌↔◌, take, ◌-◌, vec_len, false, true};
+ghost use Rattle.std.specs.Prelude.{◌≡◌, ◌<◌, IfErr, IfOk, OnOk, Err, ◌↔◌, take, ◌-◌, vec_len, false, true};
 ghost use Rattle.art_schedule.specs.Lines.{HasTimes, said_by, start as start_order};
-ghost use Rattle.art_schedule.specs.Orders.{EndsWith, GoesOn, Obeys, fits};
+ghost use Rattle.art_schedule.specs.Orders.{EndsWith, GoesOn, Leaves, Obeys, fits};
 ghost use Rattle.art_schedule.specs.Steps.{ReachesOrStops, StepsOrStops};
 ghost use Rattle.art_schedule.specs.Seats.{IsSeat, is_idle};
 ghost use Rattle.art_table.specs.declared.passes.Pass.{Pass as PassOf};
@@ -41,7 +41,7 @@ pub(crate) fn follow(
     ensures keeps { (p : PassOf) → IsSeat table.now p seat.old room.old.items → IsSeat table.now p seat.new room.new.items }
     ensures obeys { IfOk result (Obeys table.now (said_by order.entry) seat.old room.old.items seat.new room.new.items) }
     ensures bad { (result ≡ Err Stop.BadLine) ↔ (fits (said_by order.entry) (is_idle seat.old) ≡ false) }
-    ensures unwritten { IfErr result (λ stop. stop ≢ Stop.WriteFault) }
+    ensures leaves { IfErr result (λ stop. Leaves table.now stop seat.old room.old seat.new room.new) }
 {
     match order {
         Order::Start(turns, text) => start(alloc, table, seat, room, turns, text),
@@ -74,7 +74,7 @@ fn start(
     ensures keeps { (p : PassOf) → IsSeat table.now p seat.old room.old.items → IsSeat table.now p seat.new room.new.items }
     ensures obeys { IfOk result (Obeys table.now (start_order turns text.now) seat.old room.old.items seat.new room.new.items) }
     ensures bad { (result ≡ Err Stop.BadLine) ↔ (is_idle seat.old ≡ false) }
-    ensures unwritten { IfErr result (λ stop. stop ≢ Stop.WriteFault) }
+    ensures leaves { IfErr result (λ stop. Leaves table.now stop seat.old room.old seat.new room.new) }
 {
     if !seat.is_idle() {
         return Err(Stop::BadLine);
@@ -107,7 +107,7 @@ fn until(
     ensures keeps { (p : PassOf) → IsSeat table.now p seat.old room.old.items → IsSeat table.now p seat.new room.new.items }
     ensures obeys { IfOk result (λ all. GoesOn table.now seat.old room.old.items seat.new room.new.items
         (λ r s. ReachesOrStops table.now mark times r s room.new.items all)) }
-    ensures bad { IfErr result (λ stop. (stop ≡ Stop.BadLine) × (is_idle seat.old ≡ true)) }
+    ensures bad { IfErr result (λ stop. (stop ≡ Stop.BadLine) × (is_idle seat.old ≡ true) × (seat.new ≡ seat.old) × (room.new ≡ room.old)) }
     ensures going { OnOk result (is_idle seat.old ≡ false) }
 {
     match seat {
@@ -122,7 +122,7 @@ fn step(table: &Table, seat: &mut Seat, room: &mut Room, count: u32) -> Result<b
     ensures keeps { (p : PassOf) → IsSeat table.now p seat.old room.old.items → IsSeat table.now p seat.new room.new.items }
     ensures obeys { IfOk result (λ all. GoesOn table.now seat.old room.old.items seat.new room.new.items
         (λ r s. StepsOrStops table.now count r s room.new.items all)) }
-    ensures bad { IfErr result (λ stop. (stop ≡ Stop.BadLine) × (is_idle seat.old ≡ true)) }
+    ensures bad { IfErr result (λ stop. (stop ≡ Stop.BadLine) × (is_idle seat.old ≡ true) × (seat.new ≡ seat.old) × (room.new ≡ room.old)) }
     ensures going { OnOk result (is_idle seat.old ≡ false) }
 {
     match seat {
@@ -137,7 +137,7 @@ fn ended(alloc: Global, table: &Table, seat: &mut Seat, room: &mut Room) -> Resu
     ensures keeps { (p : PassOf) → IsSeat table.now p seat.old room.old.items → IsSeat table.now p seat.new room.new.items }
     ensures obeys { IfOk result (EndsWith table.now seat.old room.old.items seat.new room.new.items) }
     ensures bad { (result ≡ Err Stop.BadLine) ↔ (is_idle seat.old ≡ true) }
-    ensures unwritten { IfErr result (λ stop. stop ≢ Stop.WriteFault) }
+    ensures leaves { IfErr result (λ stop. Leaves table.now stop seat.old room.old seat.new room.new) }
 {
     if seat.is_idle() {
         return Err(Stop::BadLine);

@@ -42,7 +42,7 @@ pub fn run_schedule<R: Read, W: Write>(
     requires { ArePassesOf table.now passes }
     ensures passes { ComeBack table.now passes result.0 }
     ensures schedule { RunsSchedule (R.remaining (reader_of reader.old)) (R.remaining (reader_of reader.new))
-        (W.contents writer.old) (W.contents writer.new) table.now passes result.1 }
+        (W.contents writer.old) (W.contents writer.new) table.now passes result.0 result.1 }
     ensures end { result.1 ≡ ScheduleEnd.Ended → IsAtEnd (R.remaining (reader_of reader.new)) }
     ensures reads { AddsReads (reads_of reader.old) (reads_of reader.new) }
     ensures used { result.1 ≡ ScheduleEnd.ReadsUsed → MakesReads (reads_of reader.old) (reads_of reader.new) cause.ReadsUsed }
@@ -68,7 +68,7 @@ fn run_reads<R: Read, W: Write>(
     requires { (ps : List PassOf) × IsDesk table.now ps desk.old }
     ensures keeps { (ps : List PassOf) → IsDesk table.now ps desk.old → IsDesk table.now ps desk.new }
     ensures schedule { RunsFrom (R.remaining (reader_of reader.old)) (R.remaining (reader_of reader.new))
-        (W.contents writer.old) (W.contents writer.new) table.now (places_of desk.old) result }
+        (W.contents writer.old) (W.contents writer.new) table.now (places_of desk.old) (places_of desk.new) result }
     ensures end { result ≡ ScheduleEnd.Ended → IsAtEnd (R.remaining (reader_of reader.new)) }
     ensures reads { AddsReads (reads_of reader.old) (reads_of reader.new) }
     ensures used { result ≡ ScheduleEnd.ReadsUsed → MakesReads (reads_of reader.old) (reads_of reader.new) cause.ReadsUsed }
@@ -105,7 +105,8 @@ fn finish<W: Write>(
     requires desk { (ps : List PassOf) × IsDesk table.now ps desk.old }
     requires room { count + 1 < 2 ^ 64 }
     ensures keeps { (ps : List PassOf) → IsDesk table.now ps desk.old → IsDesk table.now ps desk.new }
-    ensures finishes { EndsUnderWay table.now (W.contents writer.old) (W.contents writer.new) (places_of desk.old) count line.now result }
+    ensures finishes { EndsUnderWay table.now (W.contents writer.old) (W.contents writer.new) (places_of desk.old) (places_of desk.new)
+        count line.now result }
     ensures end { EndsAtInput result }
 {
     match obey_rest(alloc, table, desk, line, writer) {
@@ -125,7 +126,7 @@ fn obey_rest<W: Write>(
     requires { (ps : List PassOf) × IsDesk table.now ps desk.old }
     ensures keeps { (ps : List PassOf) → IsDesk table.now ps desk.old → IsDesk table.now ps desk.new }
     ensures rest { (count : ℕ) → TriesRest table.now (W.contents writer.old) (W.contents writer.new)
-        (places_of desk.old) count line.now result }
+        (places_of desk.old) (places_of desk.new) count line.now result }
 {
     if !line.is_empty() {
         obey_line(alloc, table, desk, line, writer)?;

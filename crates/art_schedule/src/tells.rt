@@ -1,5 +1,5 @@
 //! What a line prints.
-ghost use Rattle.std.specs.Prelude.{◌≡◌, ◌<◌, IfOk};
+ghost use Rattle.std.specs.Prelude.{◌≡◌, ◌≢◌, ◌<◌, [], IfErr, IfOk};
 ghost use Rattle.art_schedule.specs.Tells.{TellsLine, told_text, name_of};
 
 use crate::orders::Told;
@@ -29,7 +29,8 @@ pub(crate) fn tell<W: Write>(
 /// The line that is printed, with its line feed; nothing where nothing is told.
 fn print_told(alloc: Global, place: usize, told: &Told) -> Result<Vec<u8>, NoMemory>
     requires { place < 8 }
-    ensures { IfOk result (λ text. text.items ≡ told_text place told.now) }
+    ensures text { IfOk result (λ text. text.items ≡ told_text place told.now) }
+    ensures some { IfErr result (λ refused. told_text place told.now ≢ []) }
 {
     let mut text = Vec::new(alloc);
     match told {

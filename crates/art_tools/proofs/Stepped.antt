@@ -14,12 +14,14 @@ use Rattle.art_table.specs.declared.faults.OpenFault.{OpenFault}
 use Rattle.art_table.specs.declared.faults.OpenFault.TheVariants as opening
 use Rattle.art_table.specs.declared.passes.Pass.{Pass}
 use Rattle.art_table.specs.declared.tables.Table.{Table}
+use Rattle.art_server.specs.Reads.{MakesReads}
 use Rattle.art_server.specs.Sessions.{RunsSession}
+use Rattle.art_server.specs.declared.sessions.EndCause.TheVariants as cause
 use Rattle.art_server.specs.declared.sessions.SessionEnd.{SessionEnd}
 use Rattle.art_tools.specs.Outputs.{of_one_pass}
 use Rattle.art_tools.specs.Schedules.{Steps, of_eight_passes}
 use Rattle.art_tools.specs.Sessions.{Runs}
-use Rattle.art_tools.specs.Told.{IsClosedBy, IsToldOf, IsUnopened, NothingRead}
+use Rattle.art_tools.specs.Told.{AreReadsTold, IsClosedBy, IsToldOf, IsUnopened, NothingRead}
 use Rattle.art_tools.specs.Statuses.{fault_at, fault_in, schedule_fault, status_after, status_told, unopened}
 use Rattle.art_tools.specs.declared.run_faults.RunFault.{RunFault}
 use Rattle.art_tools.specs.declared.run_faults.RunFault.TheVariants as fault
@@ -58,7 +60,7 @@ same_columns columns schema is = cc
 pub steps_ran : {A B : Type 0} (schema : Result (List Column) SchemaFault) (columns : List Column) (sizes : Config)
     (left left_after held held_after : Option (List ℕ)) (t : Table) (passes back : List Pass) (end : ScheduleEnd) (r : Result A RunFault)
     (closed : Result B RunFault)
-    → schema ≡ Ok columns → IsOpened columns (of_eight_passes sizes) t passes → RunsSchedule left left_after held held_after t passes end
+    → schema ≡ Ok columns → IsOpened columns (of_eight_passes sizes) t passes → RunsSchedule left left_after held held_after t passes back end
     → ComeBack t passes back → OnOk closed ((c : Closed) × IsClosed t back c)
     → fault_in r ≡ option_or (schedule_fault end) (fault_in closed) → IfErr closed (λ why. why ≡ fault.NoMemory)
     → Steps schema sizes left left_after held held_after (fault_in r)
@@ -104,3 +106,14 @@ runs_ran (Err fault) columns sizes left left_after held held_after t p q end r c
 pub status_of_fault : {A : Type 0} (r : Result A RunFault) → status_after r ≡ status_told (fault_in r)
 status_of_fault (Ok a) = refl
 status_of_fault (Err why) = refl
+
+-- what a result tells of the reads
+pub reads_told : {A : Type 0} (r : Result A RunFault) (old new : List (Option ℕ)) → (r ≡ Err fault.ReadFailed → MakesReads old new cause.ReadFault)
+    → (r ≡ Err fault.ReadsUsed → MakesReads old new cause.ReadsUsed) → AreReadsTold (fault_in r) old new
+reads_told (Ok a) old new failed used = tt
+reads_told (Err fault.ReadFailed) old new failed used = failed refl
+reads_told (Err fault.WriteFailed) old new failed used = tt
+reads_told (Err (fault.Refused refusal)) old new failed used = tt
+reads_told (Err fault.NoMemory) old new failed used = tt
+reads_told (Err fault.ReadsUsed) old new failed used = used refl
+reads_told (Err (fault.BadLine line)) old new failed used = tt

@@ -37,7 +37,7 @@ pub record RanSchedule (schema : List Column) (sizes : Config) (left left_after 
   pub back : List Pass
   pub end : ScheduleEnd
   pub opened : IsOpened schema (of_eight_passes sizes) table passes
-  pub runs : RunsSchedule left left_after held held_after table passes end
+  pub runs : RunsSchedule left left_after held held_after table passes back end
   pub come : ComeBack table passes back
   pub told_is : IsToldOf (schedule_fault end) told
   pub closed : IsClosedBy told table back

@@ -1,13 +1,15 @@
 -- Whether there was a table, and what is told at the end.
 use Rattle.std.specs.Prelude.{◌≡◌, ◌⊎◌, ℕ, List, [], Option, Some, None, ⊤}
 use Rattle.std.specs.Io.KnownBytes.{Appends, Consumes}
+use Rattle.art_server.specs.Reads.{MakesReads}
 use Rattle.art_server.specs.declared.refusals.Refusal.{Refusal}
+use Rattle.art_server.specs.declared.sessions.EndCause.TheVariants as end
 use Rattle.art_table.specs.Closing.{IsClosed}
 use Rattle.art_table.specs.declared.closing.Closed.{Closed}
 use Rattle.art_table.specs.declared.passes.Pass.{Pass}
 use Rattle.art_table.specs.declared.tables.Table.{Table}
 use Rattle.art_tools.specs.declared.run_faults.RunFault.{RunFault}
-use Rattle.art_tools.specs.declared.run_faults.RunFault.TheVariants.{NoMemory, Refused}
+use Rattle.art_tools.specs.declared.run_faults.RunFault.TheVariants.{ReadFailed, WriteFailed, Refused, NoMemory, ReadsUsed, BadLine}
 
 -- nothing was read, and nothing written
 pub record NothingRead (left left_after held held_after : Option (List ℕ)) : Type 0 where
@@ -27,3 +29,14 @@ IsClosedBy (Some fault) t passes = ⊤
 -- table
 abbrev pub IsToldOf : Option RunFault → Option RunFault → Type 0
 IsToldOf fault told = (told ≡ fault) ⊎ ((fault ≡ None) × (told ≡ Some NoMemory))
+
+-- what is told of the reads that were made: one failed only where the last did and each before it gave bytes, and they were used up only
+-- where each of 1,000,000 gave bytes
+abbrev pub AreReadsTold : Option RunFault → (old new : List (Option ℕ)) → Type 0
+AreReadsTold None old new = ⊤
+AreReadsTold (Some ReadFailed) old new = MakesReads old new end.ReadFault
+AreReadsTold (Some WriteFailed) old new = ⊤
+AreReadsTold (Some (Refused refusal)) old new = ⊤
+AreReadsTold (Some NoMemory) old new = ⊤
+AreReadsTold (Some ReadsUsed) old new = MakesReads old new end.ReadsUsed
+AreReadsTold (Some (BadLine line)) old new = ⊤

@@ -35,7 +35,7 @@ Numbers, each a row of digits, and what they are where they are left out:
   --n16                      1 to 65536, or 1024: nodes of at most 16 children
   --n48                      1 to 16384, or 512: nodes of at most 48 children
   --n256                     1 to 4096, or 128: nodes of at most 256 children
-  --counter-start            0 to 4611686018427387896, or 0: where version counters start
+  --counter-start            0 to 4611686018427387896, or 0: where the anchor's counter starts
 
 Columns of a schema, one to eight names joined by commas:
   bool                       false, true

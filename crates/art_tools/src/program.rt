@@ -20,6 +20,7 @@ ghost use Rattle.art_tools.specs.Outputs.{Outputs, of_one_pass};
 ghost use Rattle.art_tools.specs.Schedules.{Steps};
 ghost use Rattle.art_tools.specs.Sessions.{Runs};
 ghost use Rattle.art_tools.specs.Statuses.{fault_at, fault_in, status_after, status_told};
+ghost use Rattle.art_tools.specs.Told.{AreReadsTold};
 ghost use Rattle.art_tools.specs.declared.run_faults.RunFault.{RunFault as RunFaultOf};
 ghost use Rattle.art_tools.specs.Settings.{faults_of, AsksFor, AsksToShow, schema_asked, sizes_asked};
 
@@ -62,10 +63,12 @@ pub fn execute<'a, R: Read, W: Write, E: Write>(
         → Outputs (schema_asked words.entry.now) (R.remaining (reader_of reader.old)) (W.contents writer.old) (W.contents writer.new) }
     ensures stepped { faults_of words.entry.now ≡ [] → AsksFor words.entry.now (codes "step") → (told : Option RunFaultOf)
         × Steps (schema_asked words.entry.now) (sizes_asked words.entry.now) (R.remaining (reader_of reader.old))
-        (R.remaining (reader_of reader.new)) (W.contents writer.old) (W.contents writer.new) told × (result ≡ status_told told) }
+        (R.remaining (reader_of reader.new)) (W.contents writer.old) (W.contents writer.new) told × (result ≡ status_told told)
+        × AreReadsTold told (reads_of reader.old) (reads_of reader.new) }
     ensures session { faults_of words.entry.now ≡ [] → AsksFor words.entry.now (codes "run") → (told : Option RunFaultOf)
         × Runs (schema_asked words.entry.now) (sizes_asked words.entry.now) (R.remaining (reader_of reader.old))
-        (R.remaining (reader_of reader.new)) (W.contents writer.old) (W.contents writer.new) told × (result ≡ status_told told) }
+        (R.remaining (reader_of reader.new)) (W.contents writer.old) (W.contents writer.new) told × (result ≡ status_told told)
+        × AreReadsTold told (reads_of reader.old) (reads_of reader.new) }
     ensures reads { AddsReads (reads_of reader.old) (reads_of reader.new) }
     ensures used { result ≡ 5 → MakesReads (reads_of reader.old) (reads_of reader.new) EndCause.ReadsUsed }
     ensures line { result ≡ 6 → (faults_of words.entry.now ≡ []) × AsksFor words.entry.now (codes "step") }

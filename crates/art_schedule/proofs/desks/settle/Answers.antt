@@ -1,5 +1,6 @@
 use Rattle.std.proofs.Common.{◌∙◌, sym, ap, refl, arith}
-use Rattle.art_schedule.proofs.DeskLaws.{IsDesk-at, SettlesAt-none, desk_at, eight_rooms, eight_seats, read_twice}
+use Rattle.art_schedule.proofs.DeskLaws.{IsDesk-at, SettlesAt-end, SettlesAt-none, desk_at, eight_rooms, eight_seats, read_twice}
+use Rattle.art_schedule.specs.Desks.{places_of}
 use Rattle.art_schedule.specs.Seats.{is_idle}
 use Rattle.art_schedule.proofs.desks.settle.Goals as goal
 
@@ -32,9 +33,13 @@ returns-then-not-is_idle-clause-keeps c ps desk =
     IsDesk-at c.args.table.now ps c.args.desk.now _ c.args.place _ _ c.end.new.seat c.end.new.room c.index_mut.ensures.value
     c.index_mut-then-not-is_idle.ensures.value refl refl c.end.ensures.keeps desk
 
-pub returns-then-not-is_idle-clause-idle : goal.returns-then-not-is_idle-clause-idle
-returns-then-not-is_idle-clause-idle c = record { seat = c.end.new.seat; idle = c.end.ensures.idle; changed = refl }
+pub returns-then-not-is_idle-clause-settles : goal.returns-then-not-is_idle-clause-settles
+returns-then-not-is_idle-clause-settles c =
+    SettlesAt-end c.args.table.now c.args.place (places_of c.args.desk.now) _ _ _ c.end.new.seat c.end.new.room _ _ c.index_mut.ensures.value
+    c.index_mut-then-not-is_idle.ensures.value refl refl c.end.ensures.there
 
-pub returns-else-not-is_idle-clause-idle : goal.returns-else-not-is_idle-clause-idle
-returns-else-not-is_idle-clause-idle c =
-    SettlesAt-none c.args.place c.args.desk.now.seats.items c.index.result.now c.index.ensures (sym c.is_idle.ensures ∙ c.if-not-is_idle.false)
+pub returns-else-not-is_idle-clause-settles : goal.returns-else-not-is_idle-clause-settles
+returns-else-not-is_idle-clause-settles c =
+    let (ps, desk) = c.requires.desk in
+    SettlesAt-none c.args.table.now c.args.place (places_of c.args.desk.now) c.index.result.now c.index.ensures
+    (sym c.is_idle.ensures ∙ c.if-not-is_idle.false) (omega (arith, eight_rooms _ ps _ desk))

@@ -23,6 +23,6 @@ returns-in_ok-text-in_default c =
         reply_is = ap (λ (l : List ℕ). l ++ 10 ∷ []) (c.without_feed.ensures ∙ front_of _ text.items front 10 text.ok.0 is);
         none = refl;
       };
-      unwritten = tt;
+      leaves = tt;
       bad = (λ e. cc, λ e. let idle = c.if-not-is_idle.false in let same = c.is_idle.ensures in cc);
     }

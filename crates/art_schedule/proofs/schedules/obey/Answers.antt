@@ -27,8 +27,10 @@ returns-clause-keeps g c ps desk =
 pub returns-in_err-followed-clause-obeys : goal.returns-in_err-followed-clause-obeys
 returns-in_err-followed-clause-obeys g c =
     let is : c.from_residual.result ≡ Err c.in_err-followed.field-0.0 = search rules in
-    rw is (TriesAt-unfollowed c.args.table.now c.args.place _ _ _ _ c.index_mut.result.now c.follow-followed.result _ c.index_mut.ensures.value
-    c.follow-followed.ensures.bad c.follow-followed.ensures.unwritten c.in_err-followed.was)
+    rw is (TriesAt-unfollowed c.args.table.now c.args.place _ _ _ _ c.index_mut.result.now c.index_mut-2.result.now c.follow-followed.new.seat
+    c.follow-followed.new.room c.follow-followed.result _
+    (record { seat_is = c.index_mut.ensures.value; room_is = c.index_mut-2.ensures.value; seats = refl; rooms = refl })
+    c.follow-followed.ensures.bad c.follow-followed.ensures.leaves c.in_err-followed.was)
 
 pub returns-clause-obeys : goal.returns-clause-obeys
 returns-clause-obeys g c =

@@ -18,7 +18,7 @@ finish-requires-clause-room g c =
 
 pub returns-in-Ok-eq0-clause-schedule : goal.returns-in-Ok-eq0-clause-schedule
 returns-in-Ok-eq0-clause-schedule g c =
-    RunsFrom-finish c.args.table.now _ _ _ _ _ _ _ _ _ _ _ _ _ _ c.reads.invariant.read c.in-Ok-eq0.ensures.bytes.0 (omega arith) (omega arith)
+    RunsFrom-finish c.args.table.now _ _ _ _ _ _ _ _ _ _ _ _ _ _ _ c.reads.invariant.read c.in-Ok-eq0.ensures.bytes.0 (omega arith) (omega arith)
     (rw c.as_slice.ensures.value at c.finish.ensures.finishes)
 
 pub obey_bytes-requires-clause-room : goal.obey_bytes-requires-clause-room
@@ -32,7 +32,7 @@ returns-in-Err-obey_bytes-clause-schedule g c =
     let bound = c.in-Ok.ensures.bound in
     let bytes = take c.in-Ok.length c.read.new.bytes in
     let few : length bytes ≤ 4096 = omega arith in
-    RunsFrom-stop c.args.table.now _ _ _ _ _ _ _ _ _ _ _ _ _ c.reads.invariant.read c.in-Ok.ensures.bytes.0 (omega arith) few
+    RunsFrom-stop c.args.table.now _ _ _ _ _ _ _ _ _ _ _ _ _ _ c.reads.invariant.read c.in-Ok.ensures.bytes.0 (omega arith) few
     c.in-Err-obey_bytes.ensures.obeys
 
 pub returns-in-Err-clause-schedule : goal.returns-in-Err-clause-schedule

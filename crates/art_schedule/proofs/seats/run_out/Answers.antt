@@ -39,5 +39,6 @@ returns-clause-finishes c =
       keeps = c.make_steps.ensures.keeps;
       none = fewer.none;
       restarted = c.restarts-restarts.ensures;
+      of = c.finish-pass.ensures.pass;
       ends = λ command turns q runs. c.finish-pass.ensures.ends command turns q (c.make_steps.ensures.keeps.keeps command turns q runs);
     }

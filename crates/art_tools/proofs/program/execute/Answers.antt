@@ -24,16 +24,16 @@ returns-in-Ok-Step-clause-used g c = λ five. c.step.ensures.used (five_is_used 
 
 pub returns-in-Err-Range-clause-stepped : goal.returns-in-Err-Range-clause-stepped
 returns-in-Err-Range-clause-stepped g c = λ none asks.
-    (Some (Refused BadConfig), steps_unopened _ _ _ _ _ (inr (BadConfig, refl)), c.status-in-Err-Range.ensures.of)
+    (Some (Refused BadConfig), steps_unopened _ _ _ _ _ (inr (BadConfig, refl)), c.status-in-Err-Range.ensures.of, tt)
 
 pub returns-in-Err-NoMemory-clause-stepped : goal.returns-in-Err-NoMemory-clause-stepped
 returns-in-Err-NoMemory-clause-stepped g c = λ none asks.
-    (Some NoMemory, steps_unopened _ _ _ _ _ (inl refl), c.status-in-Err-NoMemory.ensures.of)
+    (Some NoMemory, steps_unopened _ _ _ _ _ (inl refl), c.status-in-Err-NoMemory.ensures.of, tt)
 
 pub returns-in-Err-Range-clause-session : goal.returns-in-Err-Range-clause-session
 returns-in-Err-Range-clause-session g c = λ none asks.
-    (Some (Refused BadConfig), runs_unopened _ _ _ _ _ (inr (BadConfig, refl)), c.status-in-Err-Range.ensures.of)
+    (Some (Refused BadConfig), runs_unopened _ _ _ _ _ (inr (BadConfig, refl)), c.status-in-Err-Range.ensures.of, tt)
 
 pub returns-in-Err-NoMemory-clause-session : goal.returns-in-Err-NoMemory-clause-session
 returns-in-Err-NoMemory-clause-session g c = λ none asks.
-    (Some NoMemory, runs_unopened _ _ _ _ _ (inl refl), c.status-in-Err-NoMemory.ensures.of)
+    (Some NoMemory, runs_unopened _ _ _ _ _ (inl refl), c.status-in-Err-NoMemory.ensures.of, tt)
