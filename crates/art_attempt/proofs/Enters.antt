@@ -1,7 +1,7 @@
 -- Numbers are in the hand, the cells are vouched for, and the change is made.
 use Rattle.std.proofs.Common.{◌≡◌, ℕ, ◌<◌, Bool, true, false, List, Option, Some, refl, sym, ap, ◌∙◌, subst, arith, ⊎_elim}
 use Rattle.std.specs.Prelude.{Ok, Err, Result, ⊤}
-use Rattle.std.specs.Option.{unwrap_or}
+use Rattle.std.specs.Option.{option_map, unwrap_or}
 use Rattle.std.proofs.lemmas.Bool.{cases_Bool}
 use Rattle.std.proofs.lemmas.Option.{same_Some}
 use Rattle.art_attempt.proofs.Spent.{few_looks}
@@ -50,6 +50,8 @@ use Rattle.art_place.specs.declared.desks.Desk.{Desk}
 use Rattle.art_place.specs.declared.findings.Above.{Above}
 use Rattle.art_place.specs.declared.findings.Stand.{Stand}
 use Rattle.art_plan.specs.Changes.{node_made}
+use Rattle.art_plan.specs.Whole.{twin_node}
+use Rattle.art_plan.specs.declared.changes.Twin.{Twin}
 use Rattle.art_step.specs.Events.{MakesEvent}
 use Rattle.art_step.specs.declared.deeds.Deed.{Deed}
 use Rattle.art_step.specs.declared.faults.UpgradeFault.{UpgradeFault}
@@ -219,7 +221,7 @@ module _ (z : Sizes) (u : View) (m : Inserting) (r : Room) (v : View) (h : HasMa
     over : IsOver h.early r.change made v
     over = (ends_as z h.early v r.change m.making made h.fits is).0
 
-    made_spent : HasSpent z u 22700 v
+    made_spent : HasSpent z u 22900 v
     made_spent limited =
         let spent = h.spent limited in
         let steps = (ends_as z h.early v r.change m.making made h.fits is).1 in
@@ -232,7 +234,7 @@ module _ (z : Sizes) (u : View) (m : Inserting) (r : Room) (v : View) (h : HasMa
         let done = over.done tt ok in
         let leaves : (l : ℕ) → r.change.leaf ≡ Some l → r.stock.leaf ≡ Some l = λ l at. sym h.leaf ∙ at in
         let nodes : (n : Node) → node_made r.change ≡ Some n → IsIn r.stock (node n) =
-        λ n at. let hand = (h.fits.planned.new n at).hand in subst (IsIn r.stock) hand.2 (h.has.only hand.0 hand.1) in
+        λ n at. let hand = (h.fits.planned.new false n at).hand in subst (IsIn r.stock) hand.2 (h.has.only hand.0 hand.1) in
         record {
           event = event_since u h.early h.base v (inserted r.row) (subst (λ (d : Deed). MakesEvent h.early v d) h.deed done.event);
           pins = done.pins;
@@ -241,7 +243,7 @@ module _ (z : Sizes) (u : View) (m : Inserting) (r : Room) (v : View) (h : HasMa
           rest = rest_committed u h.early h.base v r.change done over.free;
           free = over.free;
           later = still_later u h.early h.base v h.later;
-          has = stock_commits z r.row.key.items r.row.value h.early v r.change r.stock done (linked_are_in r.change r.stock leaves nodes) h.has;
+          has = stock_commits z r.row.key.items r.row.value h.early v r.change r.stock done (linked_are_in r.change r.stock (ap (λ (o : Option Twin). option_map twin_node o) h.plain) leaves nodes) h.has;
         }
 
     -- it was given up

@@ -1,5 +1,5 @@
 -- As long as nothing is held, an attempt may be given up with nothing told.
-use Rattle.std.proofs.Common.{◌≡◌, ℕ, ◌≤◌, length, true, List, [], ◌∷◌, None, inl, refl, sym, ap, ◌∙◌, subst, arith, ⊎_elim}
+use Rattle.std.proofs.Common.{◌≡◌, ℕ, ◌<◌, ◌≤◌, length, Bool, true, false, List, [], ◌∷◌, None, inl, refl, sym, ap, ◌∙◌, subst, arith, ⊎_elim}
 use Rattle.std.proofs.lemmas.Bool.{eqb-true}
 use Rattle.art_attempt.proofs.Enters.{supplies_so, vouched_ends}
 use Rattle.art_attempt.proofs.Finds.{ends_reading}
@@ -18,10 +18,11 @@ use Rattle.art_gather.specs.Vouching.{IsVouching}
 use Rattle.art_gather.specs.declared.vouching.Vouching.{Vouching}
 use Rattle.art_gather.specs.declared.vouching.Vouching.TheVariants as vouches
 use Rattle.art_make.specs.Making as making
-use Rattle.art_make.specs.Making.{IsLocking}
+use Rattle.art_make.specs.Making.{IsLocking, so_many}
 use Rattle.art_make.specs.declared.making.Making.{Making}
 use Rattle.art_make.specs.declared.making.Making.TheVariants.{Upgrading, Claiming, Filling, Writing, Committing, Releasing, ReleasingNode, GivingUp, Ended}
-use Rattle.art_plan.specs.Changes.{IsNew, IsTarget}
+use Rattle.art_plan.specs.Changes.{IsTarget}
+use Rattle.art_plan.specs.Whole.{IsNewBy}
 use Rattle.art_plan.specs.declared.changes.Change.{Change}
 use Rattle.art_step.specs.Shows.{Rest, rest_of}
 use Rattle.art_step.specs.Views.{Member}
@@ -35,32 +36,36 @@ none_held : (hs : List Holding) → ((h : Holding) → Member h hs → ⊥) → 
 none_held [] none = refl
 none_held (h ∷ hs) none = absurd (none h (inl refl))
 
-pub locking_none : (u : View) (c : Change) (v : View) → IsLocking u c 0 [] 0 v → v.held ≡ []
+none_new : (b : Bool) → 0 < so_many 0 0 b → ⊥
+none_new true some = omega (arith, some)
+none_new false some = omega (arith, some)
+
+pub locking_none : (u : View) (c : Change) (v : View) → IsLocking u c 0 [] (so_many 0 0) v → v.held ≡ []
 locking_none u c v p = none_held v.held (λ h m. ⊎_elim
     (λ (t : IsTarget u c 0 0 [] h). let low = t.below in absurd (omega (arith, low)))
-    (λ (n : IsNew u c 0 h). let some = n.some in absurd (omega (arith, some)))
+    (λ (n : IsNewBy u c (so_many 0 0) h). absurd (none_new n.which n.some))
     (p.holds.only h m))
 
-pub begun_locking : (c : Change) (m : Making) (u v : View) → is_begun m ≡ true → making.StageFits c m u v → IsLocking u c 0 [] 0 v
-begun_locking c (Upgrading i) u v is fits = subst (λ (j : ℕ). IsLocking u c j [] 0 v) (eqb-true i 0 is) fits.1
-begun_locking c Claiming u v is fits = cc
-begun_locking c (Filling place) u v is fits = cc
+pub begun_locking : (c : Change) (m : Making) (u v : View) → is_begun m ≡ true → making.StageFits c m u v → IsLocking u c 0 [] (so_many 0 0) v
+begun_locking c (Upgrading i) u v is fits = subst (λ (j : ℕ). IsLocking u c j [] (so_many 0 0) v) (eqb-true i 0 is) fits.1
+begun_locking c (Claiming b) u v is fits = cc
+begun_locking c (Filling b place) u v is fits = cc
 begun_locking c (Writing j) u v is fits = cc
 begun_locking c Committing u v is fits = cc
 begun_locking c (Releasing i) u v is fits = cc
-begun_locking c ReleasingNode u v is fits = cc
+begun_locking c (ReleasingNode b) u v is fits = cc
 begun_locking c (GivingUp locked released e) u v is fits = cc
 begun_locking c (Ended r) u v is fits = cc
 
 -- no step of the change was made
 pub begun_made : (m : Making) → is_begun m ≡ true → making.most_steps m ≡ 0
 begun_made (Upgrading i) is = eqb-true i 0 is
-begun_made Claiming is = cc
-begun_made (Filling place) is = cc
+begun_made (Claiming b) is = cc
+begun_made (Filling b place) is = cc
 begun_made (Writing j) is = cc
 begun_made Committing is = cc
 begun_made (Releasing i) is = cc
-begun_made ReleasingNode is = cc
+begun_made (ReleasingNode b) is = cc
 begun_made (GivingUp locked released e) is = cc
 begun_made (Ended r) is = cc
 

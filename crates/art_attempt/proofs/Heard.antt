@@ -1,5 +1,5 @@
 -- A step of a finding was made and heard, beside the machine.
-use Rattle.std.proofs.Common.{◌≡◌, ℕ, List, Bool, true, false, None, sym, subst, arith}
+use Rattle.std.proofs.Common.{◌≡◌, false, sym, subst, arith}
 use Rattle.art_attempt.proofs.Finds.{ends_reading, zero_going}
 use Rattle.art_attempt.proofs.Steps.{cell_fails, cell_later, cell_step}
 use Rattle.art_attempt.proofs.Tries.{later_then, still_later}

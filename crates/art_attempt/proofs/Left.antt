@@ -32,10 +32,10 @@ use Rattle.art_step.specs.declared.views.View.{View}
 
 -- ---- while nothing is held
 
-pub tries_few : (left : ℕ) → tries_left left ≤ left + 307
+pub tries_few : (left : ℕ) → tries_left left ≤ left + 581
 tries_few left = ⊎_elim (λ (e : (left == 0) ≡ true). rw e (omega arith)) (λ (e : (left == 0) ≡ false). rw e (omega arith)) (cases_Bool (left == 0))
 
-pub tries_some : (left : ℕ) → 0 < left → tries_left left ≡ left + 307
+pub tries_some : (left : ℕ) → 0 < left → tries_left left ≡ left + 581
 tries_some left some = ⊎_elim
     (λ (e : (left == 0) ≡ true). let zero = eqb-true left 0 e in absurd (omega (arith, zero, some)))
     (λ (e : (left == 0) ≡ false). rw e refl)
@@ -99,34 +99,34 @@ not_begun (Upgrading i) some = ⊎_elim
     (λ (e : (i == 0) ≡ true). let zero = eqb-true i 0 e in absurd (omega (arith, zero, some)))
     (λ (e : (i == 0) ≡ false). e)
     (cases_Bool (i == 0))
-not_begun Claiming some = refl
-not_begun (Filling place) some = refl
+not_begun (Claiming b) some = refl
+not_begun (Filling b place) some = refl
 not_begun (Writing j) some = refl
 not_begun Committing some = refl
 not_begun (Releasing i) some = refl
-not_begun ReleasingNode some = refl
+not_begun (ReleasingNode b) some = refl
 not_begun (GivingUp locked released e) some = refl
 not_begun (Ended r) some = refl
 
 pub still_made : (c : ChangeOf) (m : Making) (a : ChangeAsked) → asks c m ≡ Some a → ended_at m ≡ None
 still_made c (Upgrading i) a is = refl
-still_made c Claiming a is = refl
-still_made c (Filling place) a is = refl
+still_made c (Claiming b) a is = refl
+still_made c (Filling b place) a is = refl
 still_made c (Writing j) a is = refl
 still_made c Committing a is = refl
 still_made c (Releasing i) a is = refl
-still_made c ReleasingNode a is = refl
+still_made c (ReleasingNode b) a is = refl
 still_made c (GivingUp locked released e) a is = refl
 still_made c (Ended r) a is = absurd (cc)
 
 pub fault_ended : (m : Making) (e : UpgradeFault) → ended_at m ≡ Some (Err e) → fault_of m ≡ Some e
 fault_ended (Upgrading i) e is = absurd (cc)
-fault_ended Claiming e is = absurd (cc)
-fault_ended (Filling place) e is = absurd (cc)
+fault_ended (Claiming b) e is = absurd (cc)
+fault_ended (Filling b place) e is = absurd (cc)
 fault_ended (Writing j) e is = absurd (cc)
 fault_ended Committing e is = absurd (cc)
 fault_ended (Releasing i) e is = absurd (cc)
-fault_ended ReleasingNode e is = absurd (cc)
+fault_ended (ReleasingNode b) e is = absurd (cc)
 fault_ended (GivingUp locked released f) e is = absurd (cc)
 fault_ended (Ended (Ok done)) e is = absurd (cc)
 fault_ended (Ended (Err f)) e is = cc
@@ -148,7 +148,7 @@ step_or_last (Upgraded (Err (fault.Changed e))) p refused is = omega arith
 step_or_last (Upgraded (Err (fault.Exhausted e))) p refused is = let last = ap is_last (refused (fault.Exhausted e) refl) in absurd (cc)
 
 -- what is left of a making that holds a cell: none comes after it, or others may
-held_is : (left : ℕ) (m : Making) → ((held_left left m ≡ last_left m) × ((left ≡ 0) ⊎ (is_last (fault_of m) ≡ true))) ⊎ ((held_left left m ≡ left + 307) × (0 < left) × (is_last (fault_of m) ≡ false))
+held_is : (left : ℕ) (m : Making) → ((held_left left m ≡ last_left m) × ((left ≡ 0) ⊎ (is_last (fault_of m) ≡ true))) ⊎ ((held_left left m ≡ left + 581) × (0 < left) × (is_last (fault_of m) ≡ false))
 held_is left m = ⊎_elim
     (λ (e : (left == 0) ≡ true). inl (rw e (refl, inl (eqb-true left 0 e))))
     (λ (e : (left == 0) ≡ false). ⊎_elim
@@ -157,42 +157,42 @@ held_is left m = ⊎_elim
     (cases_Bool (is_last (fault_of m))))
     (cases_Bool (left == 0))
 
-module _ (left n : ℕ) (m then : Making) (begun : is_begun m ≡ true → 0 < left) (few : most_steps m < 306) (stays : is_last (fault_of m) ≡ true → is_last (fault_of then) ≡ true) (some : is_last (fault_of then) ≡ false → 0 < n) where
-  making_is : ((making_left left m ≡ last_left m) × ((left ≡ 0) ⊎ (is_last (fault_of m) ≡ true))) ⊎ ((making_left left m ≡ left + 307) × (0 < left))
+module _ (left n : ℕ) (m then : Making) (begun : is_begun m ≡ true → 0 < left) (few : most_steps m < 580) (stays : is_last (fault_of m) ≡ true → is_last (fault_of then) ≡ true) (some : is_last (fault_of then) ≡ false → 0 < n) where
+  making_is : ((making_left left m ≡ last_left m) × ((left ≡ 0) ⊎ (is_last (fault_of m) ≡ true))) ⊎ ((making_left left m ≡ left + 581) × (0 < left))
   making_is = ⊎_elim
       (λ (b : is_begun m ≡ true). inr (making_free left m b ∙ tries_some left (begun b), begun b))
       (λ (b : is_begun m ≡ false). ⊎_elim
       (λ (k : (held_left left m ≡ last_left m) × ((left ≡ 0) ⊎ (is_last (fault_of m) ≡ true))). inl (rw b k))
-      (λ (k : (held_left left m ≡ left + 307) × (0 < left) × (is_last (fault_of m) ≡ false)). inr (rw b (k.0, k.1)))
+      (λ (k : (held_left left m ≡ left + 581) × (0 < left) × (is_last (fault_of m) ≡ false)). inr (rw b (k.0, k.1)))
       (held_is left m))
       (cases_Bool (is_begun m))
 
   some_left : 0 < making_left left m
   some_left = ⊎_elim
       (λ (k : (making_left left m ≡ last_left m) × ((left ≡ 0) ⊎ (is_last (fault_of m) ≡ true))). let is = k.0 in omega (arith, is, few))
-      (λ (k : (making_left left m ≡ left + 307) × (0 < left)). let is = k.0 in omega (arith, is))
+      (λ (k : (making_left left m ≡ left + 581) × (0 < left)). let is = k.0 in omega (arith, is))
       making_is
 
-  again_less : 0 < left - n → is_last (fault_of then) ≡ false → (left - n) + 307 < making_left left m
+  again_less : 0 < left - n → is_last (fault_of then) ≡ false → (left - n) + 581 < making_left left m
   again_less more other = ⊎_elim
       (λ (k : (making_left left m ≡ last_left m) × ((left ≡ 0) ⊎ (is_last (fault_of m) ≡ true))). ⊎_elim
       (λ (zero : left ≡ 0). absurd (omega (arith, zero, more)))
       (λ (last : is_last (fault_of m) ≡ true). let now = stays last in absurd (cc))
       k.1)
-      (λ (k : (making_left left m ≡ left + 307) × (0 < left)). let is = k.0 in let one = some other in omega (arith, is, one, more))
+      (λ (k : (making_left left m ≡ left + 581) × (0 < left)). let is = k.0 in let one = some other in omega (arith, is, one, more))
       making_is
 
-  held_less : most_steps m < most_steps then → most_steps then < 306 → held_left (left - n) then < making_left left m
+  held_less : most_steps m < most_steps then → most_steps then < 580 → held_left (left - n) then < making_left left m
   held_less more end = ⊎_elim
       (λ (h : (held_left (left - n) then ≡ last_left then) × ((left - n ≡ 0) ⊎ (is_last (fault_of then) ≡ true))). let now = h.0 in ⊎_elim
       (λ (k : (making_left left m ≡ last_left m) × ((left ≡ 0) ⊎ (is_last (fault_of m) ≡ true))). let is = k.0 in omega (arith, now, is, more, end, few))
-      (λ (k : (making_left left m ≡ left + 307) × (0 < left)). let is = k.0 in omega (arith, now, is, more, end))
+      (λ (k : (making_left left m ≡ left + 581) × (0 < left)). let is = k.0 in omega (arith, now, is, more, end))
       making_is)
-      (λ (h : (held_left (left - n) then ≡ left - n + 307) × (0 < left - n) × (is_last (fault_of then) ≡ false)). let now = h.0 in let less = again_less h.1 h.2 in omega (arith, now, less))
+      (λ (h : (held_left (left - n) then ≡ left - n + 581) × (0 < left - n) × (is_last (fault_of then) ≡ false)). let now = h.0 in let less = again_less h.1 h.2 in omega (arith, now, less))
       (held_is (left - n) then)
 
   -- it goes on
-  pub going_less : most_steps m < most_steps then → most_steps then < 306 → making_left (left - n) then < making_left left m
+  pub going_less : most_steps m < most_steps then → most_steps then < 580 → making_left (left - n) then < making_left left m
   going_less more end = let b = not_begun then (omega arith) in rw b (held_less more end)
 
   anew_less : is_last (fault_of then) ≡ false → tries_left (left - n) < making_left left m

@@ -20,11 +20,11 @@ no_fewer (vouching.Ended vouched.Changed) n = omega arith
 
 pub begun_none : (m : Making) → 0 < most_steps m → is_begun m ≡ false
 begun_none (Upgrading i) more = ne_eqb i 0 (λ e. absurd (omega (arith, e, more)))
-begun_none Claiming more = refl
-begun_none (Filling place) more = refl
+begun_none (Claiming b) more = refl
+begun_none (Filling b place) more = refl
 begun_none (Writing j) more = refl
 begun_none Committing more = refl
 begun_none (Releasing i) more = refl
-begun_none ReleasingNode more = refl
+begun_none (ReleasingNode b) more = refl
 begun_none (GivingUp locked released e) more = refl
 begun_none (Ended r) more = refl

@@ -21,7 +21,7 @@ writes_later u v w n before only =
     record { steps = omega (arith, steps, more); failures = omega (arith, failures, same) }
 
 -- a turn is taken for each step, until none is left
-each_turn : (left n a b : ℕ) → a + n ≤ b → b ≤ 307 → n + (if left - n == 0 then 307 - b else left - n + 307) ≤ (if left == 0 then 307 - a else left + 307)
+each_turn : (left n a b : ℕ) → a + n ≤ b → b ≤ 581 → n + (if left - n == 0 then 581 - b else left - n + 581) ≤ (if left == 0 then 581 - a else left + 581)
 each_turn left n a b few end = ⊎_elim
     (λ (e : (left == 0) ≡ true). let zero = eqb-true left 0 e in let none : (left - n == 0) ≡ true = eq-eqb (left - n) 0 (omega (arith, zero)) in rw e (rw none (omega (arith, few, end))))
     (λ (e : (left == 0) ≡ false). ⊎_elim
@@ -31,14 +31,14 @@ each_turn left n a b few end = ⊎_elim
     (cases_Bool (left == 0))
 
 -- a making that has words to write holds cells
-pub writing_left : (left : ℕ) (m : Making) → is_writing m ≡ true → making_left left m ≡ (if left == 0 then 307 - most_steps m else left + 307)
+pub writing_left : (left : ℕ) (m : Making) → is_writing m ≡ true → making_left left m ≡ (if left == 0 then 581 - most_steps m else left + 581)
 writing_left left (Upgrading i) on = absurd (cc)
-writing_left left Claiming on = absurd (cc)
-writing_left left (Filling place) on = refl
+writing_left left (Claiming b) on = absurd (cc)
+writing_left left (Filling b place) on = refl
 writing_left left (Writing j) on = refl
 writing_left left Committing on = absurd (cc)
 writing_left left (Releasing i) on = absurd (cc)
-writing_left left ReleasingNode on = absurd (cc)
+writing_left left (ReleasingNode b) on = absurd (cc)
 writing_left left (GivingUp locked released e) on = absurd (cc)
 writing_left left (Ended r) on = absurd (cc)
 

@@ -189,6 +189,7 @@ pub record HasMade (z : Sizes) (u : View) (m : Inserting) (r : Room) (v : View) 
   pub spent : HasSpent z u 22300 early
   pub locks : HasLocks z u m.stand r early
   pub has : HasStock z r.row.key.items r.row.value early r.stock
+  pub plain : r.change.copy ≡ None
   pub leaf : r.change.leaf ≡ r.stock.leaf
   pub deed : r.change.deed ≡ inserted r.row
   pub fits : making.Fits z r.change m.making early v
@@ -208,9 +209,9 @@ is_free m = free_at m.stage m.making
 
 -- ---- how many steps are left
 
--- of one attempt after another, where so many turns are left: as many, and at most 306 after the last of them, while a cell is held
+-- of one attempt after another, where so many turns are left: as many, and at most 580 after the last of them, while a cell is held
 abbrev pub tries_left : ℕ → ℕ
-tries_left left = if left == 0 then 0 else left + 307
+tries_left left = if left == 0 then 0 else left + 581
 
 -- a counter at its end ends all attempts
 abbrev pub is_last : Option UpgradeFault → Bool
@@ -219,10 +220,10 @@ is_last e = false
 
 -- of a making that holds a cell, after which none comes, or others may
 abbrev pub last_left : Making → ℕ
-last_left m = 307 - most_steps m
+last_left m = 581 - most_steps m
 
 abbrev pub held_left : ℕ → Making → ℕ
-held_left left m = if left == 0 then last_left m else if is_last (fault_of m) then last_left m else left + 307
+held_left left m = if left == 0 then last_left m else if is_last (fault_of m) then last_left m else left + 581
 
 abbrev pub making_left : ℕ → Making → ℕ
 making_left left m = if is_begun m then tries_left left else held_left left m
@@ -250,7 +251,7 @@ entered_so (Err e) = given_up e
 -- but for steps, which are few, what is in hand and what reading changes, the pass is as it was
 pub record EndsSo (z : Sizes) (u : View) (r : Room) (v : View) : Type 0 where
   pub still : StillTries u v
-  pub spent : HasSpent z u 22700 v
+  pub spent : HasSpent z u 22900 v
   pub has : HasStock z r.row.key.items r.row.value v r.stock
 
 -- the leaf is in the tree: one event; what the change unlinked is in limbo, what it linked left the hand

@@ -96,6 +96,10 @@ impl Room {
             Some(node) => self.stock.spend_node(node.layout),
             None => {}
         }
+        match self.change.copied() {
+            Some(node) => self.stock.spend_node(node.layout),
+            None => {}
+        }
     }
 }
 
@@ -142,6 +146,7 @@ fn no_change() -> Change {
         writes: Writes::new(),
         node: None,
         body: no_body(),
+        copy: None,
         leaf: None,
         unlinked: ArrayVec::new(),
         deed: Deed::Look(Key::new(), Bound::End, None),

@@ -1,5 +1,5 @@
 -- A write that cannot be given up holds a cell, or has made its event; one that will refuse holds none, and has made none.
-use Rattle.std.proofs.Common.{◌≡◌, ◌≢◌, ◌++◌, ℕ, zero, suc, ◌+◌, ◌<◌, ◌==◌, false, true, List, [], ◌∷◌, length, Option, Some, None, inl, inr, refl, sym, ap, ◌∙◌, subst, arith}
+use Rattle.std.proofs.Common.{◌≡◌, ◌≢◌, ◌++◌, ℕ, zero, suc, ◌+◌, ◌<◌, ◌==◌, Bool, false, true, List, [], ◌∷◌, length, Option, Some, None, inl, inr, refl, sym, ap, ◌∙◌, subst, arith}
 use Rattle.std.proofs.lemmas.List.{length-append}
 use Rattle.std.proofs.lemmas.Option.{slice_get-get_or}
 use Rattle.std.specs.Prelude.{get_or}
@@ -37,10 +37,11 @@ use Rattle.art_frame.specs.declared.closings.Closing.{Closing}
 use Rattle.art_frame.specs.declared.closings.Closing.TheVariants as closing
 use Rattle.art_frame.specs.declared.stocks.Stock.{Stock}
 use Rattle.art_make.proofs.Committing.{some_words}
-use Rattle.art_make.specs.Making.{Fits as MakeFits, ended_at as make_ended}
+use Rattle.art_make.specs.Making.{Fits as MakeFits, at_claim, at_fill, at_release, ended_at as make_ended, so_many}
 use Rattle.art_make.specs.declared.making.Making.{Making}
 use Rattle.art_make.specs.declared.making.Making.TheVariants.{Upgrading, Claiming, Filling, Writing, Committing, Releasing, ReleasingNode, GivingUp, Ended}
-use Rattle.art_plan.specs.Changes.{Holds, filled_at, filled_end, node_made, target_at, targets}
+use Rattle.art_plan.specs.Changes.{filled_at, target_at, targets}
+use Rattle.art_plan.specs.Whole.{HoldsWhole, filled_ends, made_at}
 use Rattle.art_plan.specs.declared.changes.Change.{Change}
 use Rattle.art_plan.specs.declared.changes.Put.{Put}
 use Rattle.art_plan.specs.declared.changes.Target.{Target}
@@ -66,35 +67,39 @@ above_zero : (i : ℕ) → (i == 0) ≡ false → 0 < i
 above_zero zero some = absurd (cc)
 above_zero (suc i) some = omega arith
 
-module _ (u : View) (c : Change) (to : ℕ) (ps : List Put) (filled : ℕ) (hs : List Holding) where
-  holds_target : (i : ℕ) → Holds u c i to ps filled hs → i < to → i < targets c → hs ≢ []
+module _ (u : View) (c : Change) (to : ℕ) (ps : List Put) (filled : Bool → ℕ) (hs : List Holding) where
+  holds_target : (i : ℕ) → HoldsWhole u c i to ps filled hs → i < to → i < targets c → hs ≢ []
   holds_target i holds low is =
       let x = target_there c i is in
       let h = holds.each i x.0 (omega arith) low x.1 in
       some_member hs h.0 h.1
 
-  holds_node : (i : ℕ) (n : Node) → Holds u c i to ps filled hs → node_made c ≡ Some n → 0 < filled → hs ≢ []
-  holds_node i n holds made some = let h = holds.new n made some in some_member hs h.0 h.1
+  holds_node : (i : ℕ) (b : Bool) (n : Node) → HoldsWhole u c i to ps filled hs → made_at b c ≡ Some n → 0 < filled b → hs ≢ []
+  holds_node i b n holds made some = let h = holds.new b n made some in some_member hs h.0 h.1
 
 module _ (z : Sizes) (c : Change) (u v : View) where
   -- the making of a change holds a cell from its first upgrade to its last release
   making_holds : (m : Making) → MakeFits z c m u v → make_ended m ≡ None → is_begun m ≡ false → v.held ≢ []
   making_holds (Upgrading i) fits on some =
       let low = above_zero i some in
-      holds_target u c i [] 0 v.held 0 fits.stage.1.holds low (let a = fits.stage.0 in omega (arith, a, low))
-  making_holds Claiming fits on some = holds_target u c (targets c) [] 0 v.held 0 fits.stage.1.holds fits.planned.some fits.planned.some
-  making_holds (Filling place) fits on some = holds_target u c (targets c) [] place v.held 0 fits.stage.2.holds fits.planned.some fits.planned.some
-  making_holds (Writing j) fits on some = let k = fits.stage.1 in holds_target u c (targets c) _ (filled_end c) v.held 0 k.holds fits.planned.some fits.planned.some
-  making_holds Committing fits on some = holds_target u c (targets c) c.puts.items (filled_end c) v.held 0 fits.stage.holds fits.planned.some fits.planned.some
-  making_holds (Releasing i) fits on some = holds_target u c (targets c) c.puts.items (filled_end c) v.held i fits.stage.1.holds fits.stage.0 fits.stage.0
-  making_holds ReleasingNode fits on some =
+      holds_target u c i [] (so_many 0 0) v.held 0 fits.stage.1.holds low (let a = fits.stage.0 in omega (arith, a, low))
+  making_holds (Claiming b) fits on some = holds_target u c (targets c) [] (at_claim c b) v.held 0 fits.stage.1.holds fits.planned.some fits.planned.some
+  making_holds (Filling b place) fits on some = holds_target u c (targets c) [] (at_fill c b place) v.held 0 fits.stage.2.holds fits.planned.some fits.planned.some
+  making_holds (Writing j) fits on some = let k = fits.stage.1 in holds_target u c (targets c) _ (filled_ends c) v.held 0 k.holds fits.planned.some fits.planned.some
+  making_holds Committing fits on some = holds_target u c (targets c) c.puts.items (filled_ends c) v.held 0 fits.stage.holds fits.planned.some fits.planned.some
+  making_holds (Releasing i) fits on some = holds_target u c (targets c) c.puts.items (filled_ends c) v.held i fits.stage.1.holds fits.stage.0 fits.stage.0
+  making_holds (ReleasingNode false) fits on some =
       let n = fits.stage.0 in
-      holds_node u c (targets c) c.puts.items (filled_end c) v.held (targets c) n.0 fits.stage.1.holds n.1
+      holds_node u c (targets c) c.puts.items (at_release c false) v.held (targets c) false n.0 fits.stage.1.holds n.1
+      (subst (λ (o : Option Node). 0 < filled_at c o) (sym n.1) (some_words n.0.layout))
+  making_holds (ReleasingNode true) fits on some =
+      let n = fits.stage.0 in
+      holds_node u c (targets c) c.puts.items (at_release c true) v.held (targets c) true n.0 fits.stage.1.holds n.1
       (subst (λ (o : Option Node). 0 < filled_at c o) (sym n.1) (some_words n.0.layout))
   making_holds (GivingUp locked released e) fits on some =
       let low = fits.stage.0 in
       let few = fits.stage.1 in
-      holds_target u c locked [] 0 v.held released fits.stage.2.holds low (omega (arith, low, few))
+      holds_target u c locked [] (so_many 0 0) v.held released fits.stage.2.holds low (omega (arith, low, few))
   making_holds (Ended r) fits on some = cc
 
 no_end : {A B : Type 0} (f : A → B) (o : Option A) → option_map f o ≡ None → o ≡ None

@@ -103,7 +103,7 @@ HasHand z job v r = HasStock z (key_of job r).items (value_of job r) v r.stock
 -- but for steps, which are few, what is in hand and what reading changes, the pass is as it was
 pub record EndsSo (z : Sizes) (u : View) (job : Job) (r : Room) (v : View) : Type 0 where
   pub still : StillTries u v
-  pub spent : HasSpent z u 22700 v
+  pub spent : HasSpent z u 22900 v
   pub has : HasHand z job v r
 
 -- ---- what it knows

@@ -97,7 +97,7 @@ steps_left m r ps = left_at m.stage m r ps
 
 -- so many in all, of so many passes, in so many turns
 abbrev pub most_steps : ℕ → ℕ → List Place → ℕ
-most_steps turns passes ps = turns + passes + length ps + 318
+most_steps turns passes ps = turns + passes + length ps + 592
 
 -- attempts that come anew, where so many turns are left after one that ended so
 abbrev pub ended_left : ℕ → Tried → ℕ

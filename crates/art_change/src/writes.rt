@@ -538,6 +538,7 @@ impl Write {
     }
 
     /// An attempt ended so.
+    #[inline(always)]
     fn tried(&mut self, room: &Room, tried: Tried)
         ensures going { ended_at self.new ≡ None }
         ensures job { self.new.job ≡ self.old.job }

@@ -55,8 +55,8 @@ within_more z u n more r v fewer so = record {
   has = so.has;
 }
 
-pub within_so : (z : Sizes) (u : View) (n : ℕ) (r : Room) (v : View) → n ≤ 22700 → EndsWithin z u n r v → EndsSo z u r v
-within_so z u n r v fewer so = within_more z u n 22700 r v fewer so
+pub within_so : (z : Sizes) (u : View) (n : ℕ) (r : Room) (v : View) → n ≤ 22900 → EndsWithin z u n r v → EndsSo z u r v
+within_so z u n r v fewer so = within_more z u n 22900 r v fewer so
 
 -- ---- the place is checked
 

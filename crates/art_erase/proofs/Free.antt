@@ -64,7 +64,7 @@ module _ (z : Sizes) (u : View) (m : Erasing) (r : Room) (v : View) where
       }
 
   reading_ends : (q : Rereading) → IsReadingOn z u m q r v → EndsSo z u r v
-  reading_ends q f = reading_so z u f.early f.base r v f.later f.has f.reads.reads 22700 (λ limited. let spent = f.spent limited in omega (arith, spent))
+  reading_ends q f = reading_so z u f.early f.base r v f.later f.has f.reads.reads 22900 (λ limited. let spent = f.spent limited in omega (arith, spent))
 
   pub free_so : length r.gone.key.items ≤ 64 → (s : Stage) → free_at s m.making ≡ true → erased_at s ≡ None → StageFits z u s m r v → EndsSo z u r v
   free_so short stage.Finding is going fits = finding_so short fits

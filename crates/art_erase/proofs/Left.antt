@@ -43,7 +43,7 @@ anew_fault value (Ok done) is = absurd (cc)
 anew_fault value (Err (fault.Exhausted c)) is = absurd (cc)
 anew_fault value (Err (fault.Changed e)) is = (e, refl)
 
-module _ (left n value : ℕ) (m then : Making) (begun : is_begun m ≡ true → 0 < left) (few : most_steps m < 306) (stays : is_last (fault_of m) ≡ true → is_last (fault_of then) ≡ true) (some : is_last (fault_of then) ≡ false → 0 < n) where
+module _ (left n value : ℕ) (m then : Making) (begun : is_begun m ≡ true → 0 < left) (few : most_steps m < 580) (stays : is_last (fault_of m) ≡ true → is_last (fault_of then) ≡ true) (some : is_last (fault_of then) ≡ false → 0 < n) where
   -- the change has ended
   pub ended_less : (r : Result ⊤ UpgradeFault) → ended_at then ≡ Some r → ended_left (left - n) (erased_so value r) < making_left left m
   ended_less (Ok done) is = entered_less left n m then begun few stays some (Ok done) is

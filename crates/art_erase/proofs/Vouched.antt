@@ -7,7 +7,7 @@ use Rattle.art_attempt.proofs.Enters.{vouched_as}
 use Rattle.art_attempt.proofs.Spent.{few_looks}
 use Rattle.art_attempt.proofs.Tries.{checked_since, event_since, limbo_committed, rest_committed, standing_takes, still_fails, still_later, still_reads}
 use Rattle.art_attempt.proofs.Tries.{still_takes, stock_fails, stock_reads}
-use Rattle.std.specs.Option.{unwrap_or}
+use Rattle.std.specs.Option.{option_map, unwrap_or}
 use Rattle.art_attempt.specs.Rooms.{number_for, spent_by}
 use Rattle.art_attempt.specs.Trying.{HasSpent, IsLater, StillTries}
 use Rattle.art_attempt.specs.declared.rooms.Room.{Room}
@@ -61,6 +61,8 @@ use Rattle.art_place.specs.declared.desks.Desk.{Desk}
 use Rattle.art_place.specs.declared.findings.Above.{Above}
 use Rattle.art_place.specs.declared.findings.Stand.{Stand}
 use Rattle.art_plan.specs.Changes.{node_made}
+use Rattle.art_plan.specs.Whole.{twin_node}
+use Rattle.art_plan.specs.declared.changes.Twin.{Twin}
 use Rattle.art_plan.specs.declared.changes.Change.{Change}
 use Rattle.art_remove.specs.Removals.{removed}
 use Rattle.art_step.specs.Events.{MakesEvent}
@@ -329,7 +331,7 @@ module _ (z : Sizes) (u : View) (m : Erasing) (r : Room) (v : View) (h : HasMade
         let done = over.done tt ok in
         let leaves : (l : ℕ) → r.change.leaf ≡ Some l → r.stock.leaf ≡ Some l = λ l at. let none = h.leaf in absurd (cc) in
         let nodes : (n : Node) → node_made r.change ≡ Some n → IsIn r.stock (node n) =
-        λ n at. let hand = (h.fits.planned.new n at).hand in subst (IsIn r.stock) hand.2 (h.has.only hand.0 hand.1) in
+        λ n at. let hand = (h.fits.planned.new false n at).hand in subst (IsIn r.stock) hand.2 (h.has.only hand.0 hand.1) in
         record {
           event = event_since u h.early h.base v (removed r.gone) (subst (λ (d : Deed). MakesEvent h.early v d) h.deed done.event);
           had = refl;
@@ -339,7 +341,7 @@ module _ (z : Sizes) (u : View) (m : Erasing) (r : Room) (v : View) (h : HasMade
           rest = rest_committed u h.early h.base v r.change done over.free;
           free = over.free;
           later = still_later u h.early h.base v h.later;
-          has = stock_commits z r.gone.key.items 0 h.early v r.change r.stock done (linked_are_in r.change r.stock leaves nodes) h.has;
+          has = stock_commits z r.gone.key.items 0 h.early v r.change r.stock done (linked_are_in r.change r.stock (ap (λ (o : Option Twin). option_map twin_node o) h.plain) leaves nodes) h.has;
         }
 
     -- it was given up

@@ -203,7 +203,7 @@ pub record EndsWithin (z : Sizes) (u : View) (n : ℕ) (r : Room) (v : View) : T
 
 -- so an attempt ends, with few steps
 abbrev pub EndsSo : Sizes → View → Room → View → Type 0
-EndsSo z u r v = EndsWithin z u 22700 r v
+EndsSo z u r v = EndsWithin z u 22900 r v
 
 -- since the view u, and not after v, a check of the lower node succeeded, with the words as they are now
 pub record HasCheckedLower (z : Sizes) (u : View) (k : List ℕ) (t : Stand) (desk : Desk) (reads : List (Option ℕ)) (x : Stamp) (v : View)
@@ -301,6 +301,7 @@ pub record HasMade (z : Sizes) (u : View) (m : Erasing) (r : Room) (v : View) : 
   pub spent : HasSpent z u 22300 early
   pub locks : HasLocks z u m r early
   pub has : HasNumbers z early r
+  pub plain : r.change.copy ≡ None
   pub leaf : r.change.leaf ≡ None
   pub deed : r.change.deed ≡ removed r.gone
   pub fits : making.Fits z r.change m.making early v

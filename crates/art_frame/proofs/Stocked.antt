@@ -19,6 +19,7 @@ use Rattle.art_frame.specs.declared.stocks.Stock.{Stock}
 use Rattle.art_make.specs.Making.{IsCommitted, linked}
 use Rattle.art_make.specs.Packing.{IsPacked}
 use Rattle.art_plan.specs.Changes.{node_made}
+use Rattle.art_plan.specs.Whole.{node_copied}
 use Rattle.art_plan.specs.declared.changes.Change.{Change}
 use Rattle.art_step.specs.Steps.Give.{HandsOver}
 use Rattle.art_step.specs.Steps.Take.{word_count_of}
@@ -286,15 +287,16 @@ stock_hands_over z k value v w ds s over are o = record {
     stays : (d : Link) → (Member d ds → ⊥) → (x : InHand) → IsInHand v d x → Member x w.hand
     stays d none x i = over.stays x i.0 (λ m. none (subst (λ (e : Link). Member e ds) i.1 m))
 
--- what comes with a change is among them, where its leaf and the node that it makes are
-pub linked_are_in : (c : Change) (s : Stock) → ((l : ℕ) → c.leaf ≡ Some l → s.leaf ≡ Some l) → ((n : Node) → node_made c ≡ Some n → IsIn s (node n)) → AreIn s (linked c)
-linked_are_in c s leaves nodes = by_parts c.leaf (node_made c) refl refl
+-- what comes with a change that makes no copy is among them, where its leaf and the node that it makes are
+pub linked_are_in : (c : Change) (s : Stock) → node_copied c ≡ None → ((l : ℕ) → c.leaf ≡ Some l → s.leaf ≡ Some l) → ((n : Node) → node_made c ≡ Some n → IsIn s (node n)) → AreIn s (linked c)
+linked_are_in c s alone leaves nodes = by_parts c.leaf (node_made c) (node_copied c) refl refl alone
   where
-    by_parts : (o : Option ℕ) (p : Option Node) → c.leaf ≡ o → node_made c ≡ p → AreIn s (cons_option (option_map leaf o) (cons_option (option_map node p) []))
-    by_parts None None a b = tt
-    by_parts None (Some n) a b = (nodes n b, tt)
-    by_parts (Some l) None a b = (leaves l a, tt)
-    by_parts (Some l) (Some n) a b = (leaves l a, (node_by_leaf n.layout s None false ∙ nodes n b, tt))
+    by_parts : (o : Option ℕ) (p q : Option Node) → c.leaf ≡ o → node_made c ≡ p → q ≡ None → AreIn s (cons_option (option_map leaf o) (cons_option (option_map node p) (cons_option (option_map node q) [])))
+    by_parts o p (Some n) a b none = absurd (cc)
+    by_parts None None None a b none = tt
+    by_parts None (Some n) None a b none = (nodes n b, tt)
+    by_parts (Some l) None None a b none = (leaves l a, tt)
+    by_parts (Some l) (Some n) None a b none = (leaves l a, (node_by_leaf n.layout s None false ∙ nodes n b, tt))
 
 -- a change was made: what came with it left
 pub stock_commits : (z : Sizes) (k : List ℕ) (value : ℕ) (u v : View) (c : Change) (s : Stock) → IsCommitted u c v → AreIn s (linked c) → HasStock z k value u s → HasStock z k value v (without_all (linked c) s)

@@ -1,5 +1,5 @@
 -- The commit, the releases after it, and those of a change that is given up.
-use Rattle.std.proofs.Common.{◌≡◌, ◌⊎◌, ◌↔◌, ℕ, ◌+◌, ◌<◌, List, [], ◌∷◌, ◌++◌, length, inl, inr, ⊎_elim, sym, refl, ap, ap₂, ◌∙◌, subst, arith}
+use Rattle.std.proofs.Common.{◌≡◌, ◌⊎◌, ◌↔◌, Bool, true, false, ℕ, ◌+◌, ◌<◌, List, [], ◌∷◌, ◌++◌, length, inl, inr, ⊎_elim, sym, refl, ap, ap₂, ◌∙◌, subst, arith}
 use Rattle.std.proofs.lemmas.Option.{same_Some}
 use Rattle.std.specs.Prelude.{Option, Some, None, Ok, Err}
 use Rattle.std.specs.List.{cons_option}
@@ -14,10 +14,11 @@ use Rattle.art_cell.specs.declared.layouts.Layout.{Layout}
 use Rattle.art_cell.specs.declared.layouts.Layout.TheVariants.{Node4, Node16, Node48, Node256}
 use Rattle.art_commit.specs.AnyChange.{IsClaimed}
 use Rattle.art_commit.proofs.Members.{claimed_nodes_come}
-use Rattle.art_make.specs.Making.{Fails, GivesUp, HasFailed, IsCommitted, IsLocking, IsOver, IsReleasing, linked}
-use Rattle.art_make.proofs.Holding.{drop_holds, new_dropped, new_stays_linked, none_held, target_low}
+use Rattle.art_make.specs.Making.{Fails, GivesUp, HasFailed, IsCommitted, IsLocking, IsOver, IsReleasing, linked, so_many}
+use Rattle.art_make.proofs.Holding.{Fills, drop_holds, new_stays_linked, node_dropped, none_filled, none_held, target_low}
 use Rattle.art_make.proofs.Locking.{same_hand, same_limbo}
-use Rattle.art_plan.specs.Changes.{Holds, IsLocked, IsNew, IsPlanned, IsTarget, filled_at, filled_end, leaf_linked, node_made, target_at, targets, unlinked}
+use Rattle.art_plan.specs.Changes.{IsLocked, IsTarget, filled_at, leaf_linked, target_at, targets, unlinked}
+use Rattle.art_plan.specs.Whole.{HoldsWhole, IsNewBy, IsWhole, filled_ends, made_at}
 use Rattle.art_plan.specs.declared.changes.Change.{Change}
 use Rattle.art_plan.specs.declared.changes.Target.{Target}
 use Rattle.art_step.specs.Events.{MakesEvent}
@@ -66,21 +67,33 @@ limbo_after u v c d k = (
 
 -- ---- what comes
 
--- the members of a leaf and a node, where there are such
-pub linked_members : (o r : Option Link) (d : Link) → Member d (cons_option o (cons_option r [])) ↔ ((o ≡ Some d) ⊎ (r ≡ Some d))
-linked_members None None d = ((λ i. absurd i), ⊎_elim (λ (e : None ≡ Some d). absurd (cc)) (λ (e : None ≡ Some d). absurd (cc)))
-linked_members None (Some b) d = (
-  ⊎_elim (λ (e : d ≡ b). inr (ap Some (sym e))) (λ (i : ⊥). absurd i),
-  ⊎_elim (λ (e : None ≡ Some d). absurd (cc)) (λ (e : Some b ≡ Some d). inl (sym (same_Some b d e))),
+-- the members of a list with one more at its front, where there is one
+more_members : (o : Option Link) (ds : List Link) (d : Link) → Member d (cons_option o ds) ↔ ((o ≡ Some d) ⊎ Member d ds)
+more_members None ds d = ((λ i. inr i), ⊎_elim (λ (e : None ≡ Some d). absurd (cc)) (λ (i : Member d ds). i))
+more_members (Some a) ds d = (
+  ⊎_elim (λ (e : d ≡ a). inl (ap Some (sym e))) (λ (i : Member d ds). inr i),
+  ⊎_elim (λ (e : Some a ≡ Some d). inl (sym (same_Some a d e))) (λ (i : Member d ds). inr i),
 )
-linked_members (Some a) None d = (
-  ⊎_elim (λ (e : d ≡ a). inl (ap Some (sym e))) (λ (i : ⊥). absurd i),
-  ⊎_elim (λ (e : Some a ≡ Some d). inl (sym (same_Some a d e))) (λ (e : None ≡ Some d). absurd (cc)),
-)
-linked_members (Some a) (Some b) d = (
-  ⊎_elim (λ (e : d ≡ a). inl (ap Some (sym e))) (⊎_elim (λ (e : d ≡ b). inr (ap Some (sym e))) (λ (i : ⊥). absurd i)),
-  ⊎_elim (λ (e : Some a ≡ Some d). inl (sym (same_Some a d e))) (λ (e : Some b ≡ Some d). inr (inl (sym (same_Some b d e)))),
-)
+
+-- the members of a leaf and two nodes, where there are such
+pub linked_members : (o r q : Option Link) (d : Link) → Member d (cons_option o (cons_option r (cons_option q []))) ↔ ((o ≡ Some d) ⊎ ((r ≡ Some d) ⊎ (q ≡ Some d)))
+linked_members o r q d =
+    let first = more_members o (cons_option r (cons_option q [])) d in
+    let second = more_members r (cons_option q []) d in
+    let third = more_members q [] d in (
+      (λ i. ⊎_elim
+          (λ (e : o ≡ Some d). inl e)
+          (λ (j : Member d (cons_option r (cons_option q []))). inr (⊎_elim
+          (λ (e : r ≡ Some d). inl e)
+          (λ (k : Member d (cons_option q [])). inr (⊎_elim (λ (e : q ≡ Some d). e) (λ (none : ⊥). absurd none) (third.0 k)))
+          (second.0 j)))
+          (first.0 i)),
+      (λ i. first.1 (⊎_elim
+          (λ (e : o ≡ Some d). inl e)
+          (λ (j : (r ≡ Some d) ⊎ (q ≡ Some d)). inr (second.1 (⊎_elim
+          (λ (e : r ≡ Some d). inl e)
+          (λ (e : q ≡ Some d). inr (third.1 (inl e))) j))) i)),
+    )
 
 -- a node has words
 pub some_words : (k : Layout) → 0 < size k
@@ -89,41 +102,50 @@ some_words Node16 = omega arith
 some_words Node48 = omega arith
 some_words Node256 = omega arith
 
-module _ (z : Sizes) (u : View) (c : Change) (planned : IsPlanned z u c) where
-  -- a node comes just where it is the one that is made
-  claimed_is_made : (v : View) → IsLocking u c (targets c) c.puts.items (filled_end c) v → (n : Node) → IsClaimed v n → node_made c ≡ Some n
+module _ (z : Sizes) (u : View) (c : Change) (planned : IsWhole z u c) where
+  -- a node comes just where it is one that is made
+  claimed_is_made : (v : View) → IsLocking u c (targets c) c.puts.items (filled_ends c) v → (n : Node) → IsClaimed v n → (b : Bool) × (made_at b c ≡ Some n)
   claimed_is_made v was n k = ⊎_elim
       (λ (t : IsTarget u c 0 (targets c) c.puts.items k.0). let both : None ≡ Some t.target.stamp.version = sym k.2 ∙ t.locked.stamped in absurd (cc))
-      (λ (o : IsNew u c (filled_end c) k.0). o.is ∙ ap Some (same_node o.made n (sym o.filled_up.cell ∙ k.3)))
+      (λ (o : IsNewBy u c (filled_ends c) k.0). (o.which, o.is ∙ ap Some (same_node o.made n (sym o.filled_up.cell ∙ k.3))))
       (was.holds.only k.0 k.1)
     where
       same_node : (a b : Node) → cell.Node a ≡ cell.Node b → a ≡ b
       same_node a b e = cc
 
-  pub comes : (v : View) (d : Link) → IsLocking u c (targets c) c.puts.items (filled_end c) v → Member d (coming v (leaf_linked c)) ↔ Member d (linked c)
+  -- of either
+  either_made : (b : Bool) (d : Link) → option_map node (made_at b c) ≡ Some d → (option_map node (made_at false c) ≡ Some d) ⊎ (option_map node (made_at true c) ≡ Some d)
+  either_made false d e = inl e
+  either_made true d e = inr e
+
+  pub comes : (v : View) (d : Link) → IsLocking u c (targets c) c.puts.items (filled_ends c) v → Member d (coming v (leaf_linked c)) ↔ Member d (linked c)
   comes v d was =
       let law = claimed_nodes_come v (leaf_linked c) d in
-      let list = linked_members (leaf_linked c) (option_map node (node_made c)) d in (
+      let list = linked_members (leaf_linked c) (option_map node (made_at false c)) (option_map node (made_at true c)) d in (
         (λ i. list.1 (⊎_elim
             (λ (e : leaf_linked c ≡ Some d). inl e)
-            (λ (k : (n : Node) × (d ≡ node n) × IsClaimed v n). inr (ap (option_map node) (claimed_is_made v was k.0 k.2) ∙ ap Some (sym k.1)))
+            (λ (k : (n : Node) × (d ≡ node n) × IsClaimed v n).
+            let o = claimed_is_made v was k.0 k.2 in
+            inr (either_made o.0 d (ap (option_map node) o.1 ∙ ap Some (sym k.1))))
             (law.0 i))),
         (λ i. law.1 (⊎_elim
             (λ (e : leaf_linked c ≡ Some d). inl e)
-            (λ (e : option_map node (node_made c) ≡ Some d). inr (made_claimed v was d (node_made c) refl e))
+            (⊎_elim
+            (λ (e : option_map node (made_at false c) ≡ Some d). inr (made_claimed v was d false (made_at false c) refl e))
+            (λ (e : option_map node (made_at true c) ≡ Some d). inr (made_claimed v was d true (made_at true c) refl e)))
             (list.0 i))),
       )
     where
-      made_claimed : (v : View) → IsLocking u c (targets c) c.puts.items (filled_end c) v → (d : Link) (o : Option Node) → node_made c ≡ o → option_map node o ≡ Some d → (n : Node) × (d ≡ node n) × IsClaimed v n
-      made_claimed v was d None is e = absurd (cc)
-      made_claimed v was d (Some n) is e =
-          let some : 0 < filled_end c = subst (λ (o : Option Node). 0 < filled_at c o) (sym is) (some_words n.layout) in
-          let h = was.holds.new n is some in
+      made_claimed : (v : View) → IsLocking u c (targets c) c.puts.items (filled_ends c) v → (d : Link) (b : Bool) (o : Option Node) → made_at b c ≡ o → option_map node o ≡ Some d → (n : Node) × (d ≡ node n) × IsClaimed v n
+      made_claimed v was d b None is e = absurd (cc)
+      made_claimed v was d b (Some n) is e =
+          let some : 0 < filled_ends c b = subst (λ (o : Option Node). 0 < filled_at c o) (sym is) (some_words n.layout) in
+          let h = was.holds.new b n is some in
           (n, sym (same_Some (node n) d e), (h.0, h.1, h.2.stamped, h.2.cell))
 
   -- ---- the commit
 
-  module _ (v w : View) (x : Target) (was : IsLocking u c (targets c) c.puts.items (filled_end c) v) (at : target_at c 0 ≡ Some x)
+  module _ (v w : View) (x : Target) (was : IsLocking u c (targets c) c.puts.items (filled_ends c) v) (at : target_at c 0 ≡ Some x)
       (row : (h : Holding) → IsHolding v x.stamp.cell h → commit.Outcome v w c.deed (unlinked c) (coming v (leaf_linked c)) h) (once : IsOnce (links_in_limbo w.limbo)) where
     top : (h : Holding) × Member h v.held × IsLocked u 0 x c.puts.items h
     top = was.holds.each 0 x (omega arith) planned.some at
@@ -161,12 +183,12 @@ module _ (z : Sizes) (u : View) (c : Change) (planned : IsPlanned z u c) where
       failures = ap (λ (t : View). t.failures) o.is ∙ was.same.failures;
     }
 
-    pub commit_on : IsReleasing u c 1 w
+    pub commit_on : IsReleasing u c 1 (filled_ends c) w
     commit_on = record {
       done = committed;
-      stays = λ n made. new_stays_linked z u c planned c.puts.items (filled_end c) v.held n was.holds made;
-      holds = subst (λ (hs : List Holding). Holds u c 1 (targets c) c.puts.items (filled_end c) hs) (sym (ap (λ (t : View). t.held) o.is))
-          (drop_holds z u c planned 0 (targets c) c.puts.items (filled_end c) v.held o.held was.holds x at planned.some
+      stays = λ b n made. new_stays_linked z u c planned c.puts.items (filled_ends c) v.held b n was.holds made;
+      holds = subst (λ (hs : List Holding). HoldsWhole u c 1 (targets c) c.puts.items (filled_ends c) hs) (sym (ap (λ (t : View). t.held) o.is))
+          (drop_holds z u c planned 0 (targets c) c.puts.items (filled_ends c) v.held o.held was.holds x at planned.some
           (subst (λ (d : Cell). release.Drops v.held d o.held) top.2.cell o.drops));
       late = ap (λ (t : View). t.committed) o.is;
     }
@@ -186,28 +208,30 @@ module _ (z : Sizes) (u : View) (c : Change) (planned : IsPlanned z u c) where
     failures = ap (λ (t : View). t.failures) o.is ∙ was.failures;
   }
 
-  pub release_on : (i : ℕ) (x : Target) (v w : View) → IsReleasing u c i v → target_at c i ≡ Some x → ((h : Holding) → IsHolding v x.stamp.cell h → release.Outcome v w h) → IsReleasing u c (i + 1) w
-  release_on i x v w was at row =
+  pub release_on : (i : ℕ) (filled : Bool → ℕ) (x : Target) (v w : View) → IsReleasing u c i filled v → target_at c i ≡ Some x → ((h : Holding) → IsHolding v x.stamp.cell h → release.Outcome v w h) → IsReleasing u c (i + 1) filled w
+  release_on i filled x v w was at row =
       let low = target_low c i x at in
       let h = was.holds.each i x (omega arith) low at in
       let o = row h.0 (h.1, h.2.cell) in
       record {
         done = release_committed v w h.0 was.done o;
         stays = was.stays;
-        holds = subst (λ (hs : List Holding). Holds u c (i + 1) (targets c) c.puts.items (filled_end c) hs) (sym (ap (λ (t : View). t.held) o.is))
-            (drop_holds z u c planned i (targets c) c.puts.items (filled_end c) v.held o.held was.holds x at low (subst (λ (d : Cell). release.Drops v.held d o.held) h.2.cell o.drops));
+        holds = subst (λ (hs : List Holding). HoldsWhole u c (i + 1) (targets c) c.puts.items filled hs) (sym (ap (λ (t : View). t.held) o.is))
+            (drop_holds z u c planned i (targets c) c.puts.items filled v.held o.held was.holds x at low (subst (λ (d : Cell). release.Drops v.held d o.held) h.2.cell o.drops));
         late = ap (λ (t : View). t.committed) o.is ∙ was.late;
       }
 
-  pub release_new : (n : Node) (v w : View) → IsReleasing u c (targets c) v → node_made c ≡ Some n → ((h : Holding) → IsHolding v (cell.Node n) h → release.Outcome v w h) → IsOver u c (Ok tt) w
-  release_new n v w was made row =
-      let some : 0 < filled_end c = subst (λ (o : Option Node). 0 < filled_at c o) (sym made) (some_words n.layout) in
-      let h = was.holds.new n made some in
+  pub release_new : (b : Bool) (filled filled' : Bool → ℕ) → Fills filled b 0 filled' → 0 < filled b → (n : Node) (v w : View) → IsReleasing u c (targets c) filled v → made_at b c ≡ Some n → ((h : Holding) → IsHolding v (cell.Node n) h → release.Outcome v w h)
+      → IsReleasing u c (targets c) filled' w
+  release_new b filled filled' fills some n v w was made row =
+      let h = was.holds.new b n made some in
       let o = row h.0 (h.1, h.2.cell) in
       record {
-        free = ap (λ (t : View). t.held) o.is ∙ new_dropped z u c planned (targets c) c.puts.items (filled_end c) v.held o.held n was.holds made (subst (λ (d : Cell). release.Drops v.held d o.held) h.2.cell o.drops);
-        done = λ d e. release_committed v w h.0 was.done o;
-        failed = λ e k. absurd (cc);
+        done = release_committed v w h.0 was.done o;
+        stays = was.stays;
+        holds = subst (λ (hs : List Holding). HoldsWhole u c (targets c) (targets c) c.puts.items filled' hs) (sym (ap (λ (t : View). t.held) o.is))
+            (node_dropped z u c planned b filled filled' fills (targets c) c.puts.items v.held o.held n was.holds made (subst (λ (d : Cell). release.Drops v.held d o.held) h.2.cell o.drops));
+        late = ap (λ (t : View). t.committed) o.is ∙ was.late;
       }
 
   -- ---- a change is given up
@@ -224,8 +248,8 @@ module _ (z : Sizes) (u : View) (c : Change) (planned : IsPlanned z u c) where
           fails = fails_on e was.failed.target o was.failed.fails;
           rest = ap (λ (t : View). rest_of (record t { held = u.held; committed = u.committed })) o.is ∙ was.failed.rest;
         };
-        holds = subst (λ (hs : List Holding). Holds u c (i + 1) to [] 0 hs) (sym (ap (λ (t : View). t.held) o.is))
-            (drop_holds z u c planned i to [] 0 v.held o.held was.holds x at low (subst (λ (d : Cell). release.Drops v.held d o.held) h.2.cell o.drops));
+        holds = subst (λ (hs : List Holding). HoldsWhole u c (i + 1) to [] (so_many 0 0) hs) (sym (ap (λ (t : View). t.held) o.is))
+            (drop_holds z u c planned i to [] (so_many 0 0) v.held o.held was.holds x at low (subst (λ (d : Cell). release.Drops v.held d o.held) h.2.cell o.drops));
         early = λ less. ap (λ (t : View). t.committed) o.is ∙ was.early low;
       }
     where
@@ -235,16 +259,16 @@ module _ (z : Sizes) (u : View) (c : Change) (planned : IsPlanned z u c) where
 
 -- ---- the end
 
-pub released_all : (u : View) (c : Change) (v : View) → IsReleasing u c (targets c) v → node_made c ≡ None → IsOver u c (Ok tt) v
-released_all u c v was none = record {
-  free = none_held u c (targets c) c.puts.items v.held (subst (λ (n : ℕ). Holds u c (targets c) (targets c) c.puts.items n v.held) (ap (filled_at c) none) was.holds);
+pub released_all : (u : View) (c : Change) (filled : Bool → ℕ) (v : View) → ((b : Bool) → filled b ≡ 0) → IsReleasing u c (targets c) filled v → IsOver u c (Ok tt) v
+released_all u c filled v none was = record {
+  free = none_held u c (targets c) c.puts.items filled v.held none was.holds;
   done = λ d e. was.done;
   failed = λ e k. absurd (cc);
 }
 
 pub given_up_all : (u : View) (c : Change) (to : ℕ) (e : UpgradeFault) (v : View) → GivesUp u c to to e v → IsOver u c (Err e) v
 given_up_all u c to e v was = record {
-  free = none_held u c to [] v.held was.holds;
+  free = none_held u c to [] (so_many 0 0) v.held none_filled was.holds;
   done = λ d k. absurd (cc);
   failed = λ a k. let same : e ≡ a = cc in subst (λ (b : UpgradeFault). HasFailed u c b v) same was.failed;
 }

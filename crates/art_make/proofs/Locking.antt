@@ -1,14 +1,14 @@
 -- Upgrades, the claim, and writes: what the pass knows after each.
-use Rattle.std.proofs.Common.{◌≡◌, ℕ, ◌+◌, ◌<◌, List, [], take, ⊎_elim, sym, refl, ap, ◌∙◌, subst, arith}
+use Rattle.std.proofs.Common.{◌≡◌, Bool, ℕ, ◌+◌, ◌<◌, List, [], take, ⊎_elim, sym, refl, ap, ◌∙◌, subst, arith}
 use Rattle.std.specs.Prelude.{Some, None}
-use Rattle.art_cell.specs.Reads.{word_of}
 use Rattle.art_cell.specs.Words.{size}
 use Rattle.art_cell.specs.declared.cells.Cell.TheVariants as cell
 use Rattle.art_cell.specs.declared.cells.Link.{Link}
 use Rattle.art_cell.specs.declared.cells.Node.{Node}
-use Rattle.art_make.specs.Making.{Fails, GivesUp, IsLocking}
-use Rattle.art_make.proofs.Holding.{claim_holds, fill_holds, lock_holds, target_low, write_holds}
-use Rattle.art_plan.specs.Changes.{Holds, IsFilled, IsLocked, IsNew, IsPlanned, IsTarget, OnlyLocks, node_made, put_at, target_at, targets}
+use Rattle.art_make.specs.Making.{Fails, GivesUp, IsLocking, so_many}
+use Rattle.art_make.proofs.Holding.{Fills, claim_holds, fill_holds, lock_holds, none_filled, target_low, write_holds}
+use Rattle.art_plan.specs.Changes.{IsLocked, IsTarget, OnlyLocks, put_at, target_at, targets}
+use Rattle.art_plan.specs.Whole.{HoldsWhole, IsFilledBy, IsNewBy, IsWhole, made_at, made_word}
 use Rattle.art_plan.specs.declared.changes.Change.{Change}
 use Rattle.art_plan.specs.declared.changes.Put.{Put}
 use Rattle.art_plan.specs.declared.changes.Target.{Target}
@@ -52,10 +52,10 @@ apart_on u v d same k = (
   λ e. k.1 (e.0, subst (λ (es : List Retired). Member e.0 es) (sym (same_limbo u v same)) e.1, e.2),
 )
 
-module _ (z : Sizes) (u : View) (c : Change) (planned : IsPlanned z u c) where
+module _ (z : Sizes) (u : View) (c : Change) (planned : IsWhole z u c) where
   -- ---- a target is locked
 
-  module _ (i : ℕ) (x : Target) (at : target_at c i ≡ Some x) (v w : View) (was : IsLocking u c i [] 0 v) where
+  module _ (i : ℕ) (x : Target) (at : target_at c i ≡ Some x) (v w : View) (was : IsLocking u c i [] (so_many 0 0) v) where
     module _ (k : upgrade.Locks v w x.stamp) where
       abbrev now : Holding
       now = record { cell = x.stamp.cell; stamped = Some x.stamp.version; old = k.words; new = k.words }
@@ -71,10 +71,10 @@ module _ (z : Sizes) (u : View) (c : Change) (planned : IsPlanned z u c) where
         new = refl;
       }
 
-      pub lock_on : IsLocking u c (i + 1) [] 0 w
+      pub lock_on : IsLocking u c (i + 1) [] (so_many 0 0) w
       lock_on = record {
         same = locks_on u v w was.same (ap (λ (t : View). rest_of (record t { held = u.held; committed = u.committed })) k.is) (ap (λ (t : View). t.stamps) k.is) (ap (λ (t : View). t.notes) k.is) (ap (λ (t : View). t.failures) k.is);
-        holds = subst (λ (hs : List Holding). Holds u c 0 (i + 1) [] 0 hs) (sym (ap (λ (t : View). t.held) k.is)) (lock_holds z u c planned i v.held was.holds x at now now_locked);
+        holds = subst (λ (hs : List Holding). HoldsWhole u c 0 (i + 1) [] (so_many 0 0) hs) (sym (ap (λ (t : View). t.held) k.is)) (lock_holds z u c planned i v.held was.holds x at now now_locked);
         early = λ low. ap (λ (t : View). t.committed) k.is;
       }
 
@@ -104,30 +104,31 @@ module _ (z : Sizes) (u : View) (c : Change) (planned : IsPlanned z u c) where
             fails = o.3;
             rest = ap (λ (r : Rest). record r { held = u.held; committed = u.committed }) o.2 ∙ was.same.rest;
           };
-          holds = subst (λ (hs : List Holding). Holds u c 0 i [] 0 hs) (sym o.0) was.holds;
+          holds = subst (λ (hs : List Holding). HoldsWhole u c 0 i [] (so_many 0 0) hs) (sym o.0) was.holds;
           early = λ low. o.1 ∙ was.early low;
         }
 
   -- nothing that is held was claimed
-  pub none_claimed : (to : ℕ) (ps : List Put) (hs : List Holding) → Holds u c 0 to ps 0 hs → (h : Holding) → Member h hs → (x : ℕ) × (h.stamped ≡ Some x)
+  pub none_claimed : (to : ℕ) (ps : List Put) (hs : List Holding) → HoldsWhole u c 0 to ps (so_many 0 0) hs → (h : Holding) → Member h hs → (x : ℕ) × (h.stamped ≡ Some x)
   none_claimed to ps hs holds h m = ⊎_elim
       (λ (t : IsTarget u c 0 to ps h). (t.target.stamp.version, t.locked.stamped))
-      (λ (o : IsNew u c 0 h). let some = o.some in absurd (omega arith))
+      (λ (o : IsNewBy u c (so_many 0 0) h). let some = o.some in let none = none_filled o.which in absurd (omega arith))
       (holds.only h m)
 
-  -- ---- the new node is claimed
+  -- ---- a new node is claimed
 
-  pub claim_on : (n : Node) (v w : View) → node_made c ≡ Some n → IsLocking u c (targets c) [] 0 v → claim.Outcome v w n → IsLocking u c (targets c) [] 1 w
-  claim_on n v w made was k = record {
+  pub claim_on : (b : Bool) (filled filled' : Bool → ℕ) → Fills filled b 1 filled' → filled b ≡ 0 → (n : Node) (v w : View) → made_at b c ≡ Some n → IsLocking u c (targets c) [] filled v → claim.Outcome v w n
+      → IsLocking u c (targets c) [] filled' w
+  claim_on b filled filled' fills none n v w made was k = record {
     same = locks_on u v w was.same (ap (λ (t : View). rest_of (record t { held = u.held; committed = u.committed })) k.is) (ap (λ (t : View). t.stamps) k.is) (ap (λ (t : View). t.notes) k.is) (ap (λ (t : View). t.failures) k.is);
-    holds = subst (λ (hs : List Holding). Holds u c 0 (targets c) [] 1 hs) (sym (ap (λ (t : View). t.held) k.is)) (claim_holds z u c planned v.held was.holds n made now now_filled);
+    holds = subst (λ (hs : List Holding). HoldsWhole u c 0 (targets c) [] filled' hs) (sym (ap (λ (t : View). t.held) k.is)) (claim_holds z u c planned b filled filled' fills none v.held was.holds n made now now_filled);
     early = λ low. ap (λ (t : View). t.committed) k.is;
   }
     where
       now : Holding
       now = record { cell = cell.Node n; stamped = None; old = k.words; new = k.words }
 
-      now_filled : IsFilled u c n 1 now
+      now_filled : IsFilledBy u (made_word b c) n 1 now
       now_filled = record {
         cell = refl;
         stamped = refl;
@@ -142,18 +143,19 @@ module _ (z : Sizes) (u : View) (c : Change) (planned : IsPlanned z u c) where
   write_same : (v w : View) (h : Holding) (i x : ℕ) → OnlyLocks u v → write.Outcome v w h i x → OnlyLocks u w
   write_same v w h i x same k = locks_on u v w same (ap (λ (t : View). rest_of (record t { held = u.held; committed = u.committed })) k.is) (ap (λ (t : View). t.stamps) k.is) (ap (λ (t : View). t.notes) k.is) (ap (λ (t : View). t.failures) k.is)
 
-  pub fill_on : (place : ℕ) (n : Node) (v w : View) → node_made c ≡ Some n → 0 < place → place < size n.layout → IsLocking u c (targets c) [] place v
-      → ((h : Holding) → IsHolding v (cell.Node n) h → write.Outcome v w h place (word_of c.body place)) → IsLocking u c (targets c) [] (place + 1) w
-  fill_on place n v w made some low was row =
-      let h = was.holds.new n made some in
+  pub fill_on : (b : Bool) (place : ℕ) (filled filled' : Bool → ℕ) → Fills filled b (place + 1) filled' → filled b ≡ place → (n : Node) (v w : View) → made_at b c ≡ Some n → 0 < place → place < size n.layout → IsLocking u c (targets c) [] filled v
+      → ((h : Holding) → IsHolding v (cell.Node n) h → write.Outcome v w h place (made_word b c place)) → IsLocking u c (targets c) [] filled' w
+  fill_on b place filled filled' fills so n v w made some low was row =
+      let h = was.holds.new b n made (omega arith) in
+      let at : IsFilledBy u (made_word b c) n place h.0 = subst (λ (p : ℕ). IsFilledBy u (made_word b c) n p h.0) so h.2 in
       let k = row h.0 (h.1, h.2.cell) in
       record {
-        same = write_same v w h.0 place (word_of c.body place) was.same k;
-        holds = subst (λ (hs : List Holding). Holds u c 0 (targets c) [] (place + 1) hs) (sym (ap (λ (t : View). t.held) k.is)) (fill_holds z u c planned place v.held k.held was.holds n made low some h.0 h.1 h.2 k.puts);
+        same = write_same v w h.0 place (made_word b c place) was.same k;
+        holds = subst (λ (hs : List Holding). HoldsWhole u c 0 (targets c) [] filled' hs) (sym (ap (λ (t : View). t.held) k.is)) (fill_holds z u c planned b place filled filled' fills so v.held k.held was.holds n made low some h.0 h.1 at k.puts);
         early = λ above. ap (λ (t : View). t.committed) k.is ∙ was.early above;
       }
 
-  pub write_on : (j filled : ℕ) (p : Put) (x : Target) (v w : View) → put_at c j ≡ Some p → target_at c p.target ≡ Some x → IsLocking u c (targets c) (take j c.puts.items) filled v
+  pub write_on : (j : ℕ) (filled : Bool → ℕ) (p : Put) (x : Target) (v w : View) → put_at c j ≡ Some p → target_at c p.target ≡ Some x → IsLocking u c (targets c) (take j c.puts.items) filled v
       → ((h : Holding) → IsHolding v x.stamp.cell h → write.Outcome v w h p.place p.value) → IsLocking u c (targets c) (take (j + 1) c.puts.items) filled w
   write_on j filled p x v w at is was row =
       let low = target_low c p.target x is in
@@ -161,18 +163,18 @@ module _ (z : Sizes) (u : View) (c : Change) (planned : IsPlanned z u c) where
       let k = row h.0 (h.1, h.2.cell) in
       record {
         same = write_same v w h.0 p.place p.value was.same k;
-        holds = subst (λ (hs : List Holding). Holds u c 0 (targets c) (take (j + 1) c.puts.items) filled hs) (sym (ap (λ (t : View). t.held) k.is)) (write_holds z u c planned j filled v.held k.held was.holds p at x is h.0 h.1 h.2 k.puts);
+        holds = subst (λ (hs : List Holding). HoldsWhole u c 0 (targets c) (take (j + 1) c.puts.items) filled hs) (sym (ap (λ (t : View). t.held) k.is)) (write_holds z u c planned j filled v.held k.held was.holds p at x is h.0 h.1 h.2 k.puts);
         early = λ above. ap (λ (t : View). t.committed) k.is ∙ was.early above;
       }
 
   -- ---- the beginning
 
-  pub begins : u.held ≡ [] → IsLocking u c 0 [] 0 u
+  pub begins : u.held ≡ [] → IsLocking u c 0 [] (so_many 0 0) u
   begins free = record {
     same = record { rest = refl; stamps = refl; notes = refl; failures = refl };
-    holds = subst (λ (hs : List Holding). Holds u c 0 0 [] 0 hs) (sym free) (record {
+    holds = subst (λ (hs : List Holding). HoldsWhole u c 0 0 [] (so_many 0 0) hs) (sym free) (record {
       each = λ i x above below at. absurd (omega arith);
-      new = λ n made some. absurd (omega arith);
+      new = λ b n made some. let none = none_filled b in absurd (omega arith);
       only = λ h m. absurd m;
       single = λ h k m i e. absurd m;
     });

@@ -1,16 +1,15 @@
 -- What is asked may be done, and each answer keeps what is known.
-use Rattle.std.proofs.Common.{◌≡◌, ℕ, ◌+◌, ◌<◌, ◌≤◌, false, [], length, take, get_or, sym, refl, ap, ◌∙◌, subst, arith}
+use Rattle.std.proofs.Common.{◌≡◌, ◌≢◌, Bool, ℕ, ◌+◌, ◌<◌, ◌≤◌, true, false, [], length, take, get_or, sym, refl, ap, ◌∙◌, subst, arith}
 use Rattle.std.proofs.lemmas.Option.{same_Some, slice_get-get_or, slice_get_within}
 use Rattle.std.specs.Prelude.{Option, Some, None, Result, Ok, Err, ⊤}
 use Rattle.std.specs.Option.{option_map, option_and_then}
-use Rattle.art_cell.specs.Reads.{word_of}
 use Rattle.art_cell.specs.Words.{size}
 use Rattle.art_cell.specs.declared.layouts.Layout.{Layout}
 use Rattle.art_cell.specs.declared.layouts.Layout.TheVariants.{Node4, Node16, Node48, Node256}
 use Rattle.art_cell.specs.declared.cells.Cell.TheVariants as cell
 use Rattle.art_cell.specs.declared.cells.Node.{Node}
 use Rattle.art_make.specs.Asking.{Answers, IsAllowed}
-use Rattle.art_make.specs.Making.{Fits, GivesUp, IsLocking, IsOver, IsReleasing, StageFits, asks, ended_at, most_steps, put_into, releases}
+use Rattle.art_make.specs.Making.{Fits, GivesUp, IsLocking, IsOver, IsReleasing, StageFits, asks, at_claim, at_fill, at_release, claim_of, claimed_so, claims, ended_at, most_steps, put_into, released_so, releases}
 use Rattle.art_make.specs.declared.asked.Answer.{Answer}
 use Rattle.art_make.specs.declared.asked.Answer.TheVariants.{Upgraded, Done}
 use Rattle.art_make.specs.declared.asked.Asked.{Asked}
@@ -19,8 +18,10 @@ use Rattle.art_make.specs.declared.making.Making.{Making}
 use Rattle.art_make.specs.declared.making.Making.TheVariants.{Upgrading, Claiming, Filling, Writing, Committing, Releasing, ReleasingNode, GivingUp, Ended}
 use Rattle.art_make.proofs.Allowed.{may_claim, may_commit, may_fill, may_give_up, may_release, may_release_new, may_upgrade, may_write}
 use Rattle.art_make.proofs.Committing.{commit_on, give_on, release_new, release_on, some_words}
+use Rattle.art_make.proofs.Holding.{Fills}
 use Rattle.art_make.proofs.Locking.{claim_on, fill_on, write_on}
-use Rattle.art_plan.specs.Changes.{IsPlanned, filled_at, filled_end, node_made, put_at, target_at, targets}
+use Rattle.art_plan.specs.Changes.{filled_at, put_at, target_at, targets}
+use Rattle.art_plan.specs.Whole.{IsWhole, filled_ends, made_at, made_word}
 use Rattle.art_plan.specs.declared.changes.Change.{Change}
 use Rattle.art_plan.specs.declared.changes.Put.{Put}
 use Rattle.art_plan.specs.declared.changes.Target.{Target}
@@ -49,33 +50,97 @@ there c i low =
     (get_or c.targets.items i none, slice_get-get_or c.targets.items i none low)
 
 -- the node that is made has words
-filled_some : (c : Change) (n : Node) → node_made c ≡ Some n → 0 < filled_end c
-filled_some c n made = subst (λ (o : Option Node). 0 < filled_at c o) (sym made) (some_words n.layout)
+pub filled_some : (c : Change) (b : Bool) (n : Node) → made_at b c ≡ Some n → 0 < filled_ends c b
+filled_some c b n made = subst (λ (o : Option Node). 0 < filled_at c o) (sym made) (some_words n.layout)
 
 pub some_filled : (c : Change) (o : Option Node) → 0 < filled_at c o → (n : Node) × (o ≡ Some n)
 some_filled c None low = absurd (omega arith)
 some_filled c (Some n) low = (n, refl)
 
 -- the word that it puts has a target
-pub put_target : (z : Sizes) (u : View) (c : Change) → IsPlanned z u c → (j : ℕ) (p : Put) → put_at c j ≡ Some p → (x : Target) × (target_at c p.target ≡ Some x)
+pub put_target : (z : Sizes) (u : View) (c : Change) → IsWhole z u c → (j : ℕ) (p : Put) → put_at c j ≡ Some p → (x : Target) × (target_at c p.target ≡ Some x)
 put_target z u c planned j p at = let may = planned.puts j p at in (may.target, may.is)
+
+-- ---- how many words are written
+
+-- 1 of a node that there is
+pub claim_some : (c : Change) (b : Bool) (n : Node) → made_at b c ≡ Some n → claims c b ≡ 1
+claim_some c b n made = ap claim_of made
+
+-- before the claim none is, and after it one
+pub claim_none : (c : Change) (b : Bool) → at_claim c b b ≡ 0
+claim_none c false = refl
+claim_none c true = refl
+
+pub claim_fills : (c : Change) (b : Bool) (n : Node) → made_at b c ≡ Some n → Fills (at_claim c b) b 1 (claimed_so c b)
+claim_fills c false n made = record { here = claim_some c false n made; there = there }
+  where
+    there : (d : Bool) → d ≢ false → claimed_so c false d ≡ at_claim c false d
+    there false other = absurd (other refl)
+    there true other = refl
+claim_fills c true n made = record { here = claim_some c true n made; there = there }
+  where
+    there : (d : Bool) → d ≢ true → claimed_so c true d ≡ at_claim c true d
+    there true other = absurd (other refl)
+    there false other = refl
+
+pub fill_so : (c : Change) (b : Bool) (place : ℕ) → at_fill c b place b ≡ place
+fill_so c false place = refl
+fill_so c true place = refl
+
+pub fill_fills : (c : Change) (b : Bool) (place : ℕ) → Fills (at_fill c b place) b (place + 1) (at_fill c b (place + 1))
+fill_fills c false place = record { here = refl; there = there }
+  where
+    there : (d : Bool) → d ≢ false → at_fill c false (place + 1) d ≡ at_fill c false place d
+    there false other = absurd (other refl)
+    there true other = refl
+fill_fills c true place = record { here = refl; there = there }
+  where
+    there : (d : Bool) → d ≢ true → at_fill c true (place + 1) d ≡ at_fill c true place d
+    there true other = absurd (other refl)
+    there false other = refl
+
+pub release_fills : (c : Change) (b : Bool) → Fills (at_release c b) b 0 (released_so c b)
+release_fills c false = record { here = refl; there = there }
+  where
+    there : (d : Bool) → d ≢ false → released_so c false d ≡ at_release c false d
+    there false other = absurd (other refl)
+    there true other = refl
+release_fills c true = record { here = refl; there = there }
+  where
+    there : (d : Bool) → d ≢ true → released_so c true d ≡ at_release c true d
+    there true other = absurd (other refl)
+    there false other = refl
+
+-- before the release its words are written
+release_some : (c : Change) (b : Bool) (n : Node) → made_at b c ≡ Some n → 0 < at_release c b b
+release_some c false n made = filled_some c false n made
+release_some c true n made = filled_some c true n made
+
+-- what is made of two numbers is what each of them is
+pub two_are : (f g : Bool → ℕ) → f false ≡ g false → f true ≡ g true → f ≡ g
+two_are f g a b = λ i d. each d i
+  where
+    each : (d : Bool) → f d ≡ g d
+    each false = a
+    each true = b
 
 -- ---- it goes on
 
 -- at each stage but the last there is something to do
 pub going : (z : Sizes) (u v : View) (c : Change) (m : Making) → Fits z c m u v → ended_at m ≡ None → (a : Asked) × (asks c m ≡ Some a)
 going z u v c (Upgrading i) fits on = let x = there c i fits.stage.0 in (Upgrade x.0.stamp, ap (option_map (λ (y : Target). Upgrade y.stamp)) x.1)
-going z u v c Claiming fits on = let n = fits.stage.0 in (Claim n.0, ap (option_map Claim) n.1)
-going z u v c (Filling place) fits on =
-    let n = some_filled c (node_made c) (let a = fits.stage.1 in omega arith) in
-    (Write (cell.Node n.0) place (word_of c.body place), ap (option_map (λ (m : Node). Write (cell.Node m) place (word_of c.body place))) n.1)
+going z u v c (Claiming b) fits on = let n = fits.stage.0 in (Claim n.0, ap (option_map Claim) n.1)
+going z u v c (Filling b place) fits on =
+    let n = some_filled c (made_at b c) (let a = fits.stage.1 in omega arith) in
+    (Write (cell.Node n.0) place (made_word b c place), ap (option_map (λ (m : Node). Write (cell.Node m) place (made_word b c place))) n.1)
 going z u v c (Writing j) fits on =
     let p = fits.stage.0 in
     let x = put_target z u c fits.planned j p.0 p.1 in
     (put_into p.0 x.0, ap (option_and_then (λ (q : Put). option_map (put_into q) (target_at c q.target))) p.1 ∙ ap (option_map (put_into p.0)) x.1)
 going z u v c Committing fits on = let x = there c 0 fits.planned.some in (Commit x.0.stamp.cell x.0.obsolete, ap (option_map (λ (y : Target). Commit y.stamp.cell y.obsolete)) x.1)
 going z u v c (Releasing i) fits on = let x = there c i fits.stage.0 in (releases x.0, ap (option_map releases) x.1)
-going z u v c ReleasingNode fits on = let n = fits.stage.0 in (Release (cell.Node n.0) false, ap (option_map (λ (m : Node). Release (cell.Node m) false)) n.1)
+going z u v c (ReleasingNode b) fits on = let n = fits.stage.0 in (Release (cell.Node n.0) false, ap (option_map (λ (m : Node). Release (cell.Node m) false)) n.1)
 going z u v c (GivingUp locked released e) fits on =
     let low = fits.stage.0 in
     let few = fits.stage.1 in
@@ -88,24 +153,24 @@ pub allowed : (z : Sizes) (u v : View) (c : Change) (m : Making) (a : Asked) →
 allowed z u v c (Upgrading i) a fits is =
     let k = map_some (λ (y : Target). Upgrade y.stamp) (target_at c i) a is in
     subst (IsAllowed z c v) k.2 (may_upgrade z u c fits.planned i k.0 v k.1 fits.stage.1)
-allowed z u v c Claiming a fits is = let k = map_some Claim (node_made c) a is in subst (IsAllowed z c v) k.2 (may_claim z u c fits.planned k.0 v k.1 fits.stage.1)
-allowed z u v c (Filling place) a fits is =
-    let k = map_some (λ (m : Node). Write (cell.Node m) place (word_of c.body place)) (node_made c) a is in
+allowed z u v c (Claiming b) a fits is = let k = map_some Claim (made_at b c) a is in subst (IsAllowed z c v) k.2 (may_claim z u c fits.planned b (at_claim c b) k.0 v (claim_none c b) k.1 fits.stage.1)
+allowed z u v c (Filling b place) a fits is =
+    let k = map_some (λ (m : Node). Write (cell.Node m) place (made_word b c place)) (made_at b c) a is in
     let low : place < filled_at c (Some k.0) = subst (λ (o : Option Node). place < filled_at c o) k.1 fits.stage.1 in
-    subst (IsAllowed z c v) k.2 (may_fill z u c fits.planned place k.0 v k.1 fits.stage.0 low fits.stage.2)
+    subst (IsAllowed z c v) k.2 (may_fill z u c fits.planned b place (at_fill c b place) k.0 v (fill_so c b place) k.1 fits.stage.0 low fits.stage.2)
 allowed z u v c (Writing j) a fits is =
     let p = then_some (λ (q : Put). option_map (put_into q) (target_at c q.target)) (put_at c j) a is in
     let x = map_some (put_into p.0) (target_at c p.0.target) a p.2 in
-    subst (IsAllowed z c v) x.2 (may_write z u c fits.planned j (filled_end c) p.0 x.0 v p.1 x.1 fits.stage.1)
+    subst (IsAllowed z c v) x.2 (may_write z u c fits.planned j (filled_ends c) p.0 x.0 v p.1 x.1 fits.stage.1)
 allowed z u v c Committing a fits is =
     let k = map_some (λ (y : Target). Commit y.stamp.cell y.obsolete) (target_at c 0) a is in
     subst (IsAllowed z c v) k.2 (may_commit z u c fits.planned k.0 v k.1 fits.stage)
 allowed z u v c (Releasing i) a fits is =
     let k = map_some releases (target_at c i) a is in
-    subst (IsAllowed z c v) k.2 (may_release z u c fits.planned i k.0 v k.1 fits.stage.1)
-allowed z u v c ReleasingNode a fits is =
-    let k = map_some (λ (m : Node). Release (cell.Node m) false) (node_made c) a is in
-    subst (IsAllowed z c v) k.2 (may_release_new z u c fits.planned k.0 v k.1 (filled_some c k.0 k.1) fits.stage.1)
+    subst (IsAllowed z c v) k.2 (may_release z u c fits.planned i (filled_ends c) k.0 v k.1 fits.stage.1)
+allowed z u v c (ReleasingNode b) a fits is =
+    let k = map_some (λ (m : Node). Release (cell.Node m) false) (made_at b c) a is in
+    subst (IsAllowed z c v) k.2 (may_release_new z u c fits.planned b (at_release c b) k.0 v k.1 (release_some c b k.0 k.1) fits.stage.1)
 allowed z u v c (GivingUp locked released e) a fits is =
     let k = map_some (λ (y : Target). Release y.stamp.cell false) (target_at c released) a is in
     subst (IsAllowed z c v) k.2 (may_give_up z u c fits.planned released locked e k.0 v fits.stage.0 fits.stage.2 k.1)
@@ -115,15 +180,15 @@ allowed z u v c (Ended r) a fits is = absurd (cc)
 
 upgrade_asked : (c : Change) (m : Making) (x : Stamp) → asks c m ≡ Some (Upgrade x) → (i : ℕ) × (m ≡ Upgrading i)
 upgrade_asked c (Upgrading i) x is = (i, refl)
-upgrade_asked c Claiming x is = let k = map_some Claim (node_made c) (Upgrade x) is in absurd (cc)
-upgrade_asked c (Filling place) x is = let k = map_some (λ (n : Node). Write (cell.Node n) place (word_of c.body place)) (node_made c) (Upgrade x) is in absurd (cc)
+upgrade_asked c (Claiming b) x is = let k = map_some Claim (made_at b c) (Upgrade x) is in absurd (cc)
+upgrade_asked c (Filling b place) x is = let k = map_some (λ (n : Node). Write (cell.Node n) place (made_word b c place)) (made_at b c) (Upgrade x) is in absurd (cc)
 upgrade_asked c (Writing j) x is =
     let k = then_some (λ (p : Put). option_map (put_into p) (target_at c p.target)) (put_at c j) (Upgrade x) is in
     let q = map_some (put_into k.0) (target_at c k.0.target) (Upgrade x) k.2 in
     absurd (cc)
 upgrade_asked c Committing x is = let k = map_some (λ (y : Target). Commit y.stamp.cell y.obsolete) (target_at c 0) (Upgrade x) is in absurd (cc)
 upgrade_asked c (Releasing i) x is = let k = map_some releases (target_at c i) (Upgrade x) is in absurd (cc)
-upgrade_asked c ReleasingNode x is = let k = map_some (λ (n : Node). Release (cell.Node n) false) (node_made c) (Upgrade x) is in absurd (cc)
+upgrade_asked c (ReleasingNode b) x is = let k = map_some (λ (n : Node). Release (cell.Node n) false) (made_at b c) (Upgrade x) is in absurd (cc)
 upgrade_asked c (GivingUp locked released e) x is = let k = map_some (λ (y : Target). Release y.stamp.cell false) (target_at c released) (Upgrade x) is in absurd (cc)
 upgrade_asked c (Ended r) x is = absurd (cc)
 
@@ -147,11 +212,13 @@ pub few_filled : (c : Change) (o : Option Node) → filled_at c o ≤ 266
 few_filled c None = omega arith
 few_filled c (Some n) = few_words n.layout
 
--- until the end there are fewer than 306
-pub few_steps : (z : Sizes) (u v : View) (c : Change) (m : Making) → Fits z c m u v → ended_at m ≡ None → most_steps m < 306
+-- until the end there are fewer than 580
+pub few_steps : (z : Sizes) (u v : View) (c : Change) (m : Making) → Fits z c m u v → ended_at m ≡ None → most_steps m < 580
 few_steps z u v c (Upgrading i) fits on = let low = fits.stage.0 in let few = fits.small.targets in omega arith
-few_steps z u v c Claiming fits on = omega arith
-few_steps z u v c (Filling place) fits on = let low = fits.stage.1 in let few = few_filled c (node_made c) in omega arith
+few_steps z u v c (Claiming false) fits on = omega arith
+few_steps z u v c (Claiming true) fits on = omega arith
+few_steps z u v c (Filling false place) fits on = let low = fits.stage.1 in let few = few_filled c (made_at false c) in omega arith
+few_steps z u v c (Filling true place) fits on = let low = fits.stage.1 in let few = few_filled c (made_at true c) in omega arith
 few_steps z u v c (Writing j) fits on =
     let p = fits.stage.0 in
     let low : j < length c.puts.items = slice_get_within c.puts.items j p.0 p.1 in
@@ -159,20 +226,21 @@ few_steps z u v c (Writing j) fits on =
     omega arith
 few_steps z u v c Committing fits on = omega arith
 few_steps z u v c (Releasing i) fits on = let low = fits.stage.0 in let few = fits.small.targets in omega arith
-few_steps z u v c ReleasingNode fits on = omega arith
+few_steps z u v c (ReleasingNode false) fits on = omega arith
+few_steps z u v c (ReleasingNode true) fits on = omega arith
 few_steps z u v c (GivingUp locked released e) fits on = let low = fits.stage.0 in let more = fits.stage.1 in let few = fits.small.targets in omega arith
 few_steps z u v c (Ended r) fits on = absurd (cc)
 
 -- how it ended
-pub ends_as : (z : Sizes) (u v : View) (c : Change) (m : Making) (r : Result ⊤ UpgradeFault) → Fits z c m u v → ended_at m ≡ Some r → IsOver u c r v × (v.steps ≤ u.steps + 306)
+pub ends_as : (z : Sizes) (u v : View) (c : Change) (m : Making) (r : Result ⊤ UpgradeFault) → Fits z c m u v → ended_at m ≡ Some r → IsOver u c r v × (v.steps ≤ u.steps + 580)
 ends_as z u v c (Ended e) r fits is = (subst (λ (a : Result ⊤ UpgradeFault). IsOver u c a v) (same_Some e r is) fits.stage, fits.steps)
 ends_as z u v c (Upgrading i) r fits is = absurd (cc)
-ends_as z u v c Claiming r fits is = absurd (cc)
-ends_as z u v c (Filling place) r fits is = absurd (cc)
+ends_as z u v c (Claiming b) r fits is = absurd (cc)
+ends_as z u v c (Filling b place) r fits is = absurd (cc)
 ends_as z u v c (Writing j) r fits is = absurd (cc)
 ends_as z u v c Committing r fits is = absurd (cc)
 ends_as z u v c (Releasing i) r fits is = absurd (cc)
-ends_as z u v c ReleasingNode r fits is = absurd (cc)
+ends_as z u v c (ReleasingNode b) r fits is = absurd (cc)
 ends_as z u v c (GivingUp locked released e) r fits is = absurd (cc)
 
 -- ---- a step is one step, or none
@@ -209,62 +277,62 @@ module _ (z : Sizes) (u v w : View) (c : Change) (a : Asked) (answer : Answer) w
         omega arith;
   }
 
-  pub told_claim : Fits z c Claiming u v → asks c Claiming ≡ Some a → Answers c a answer v w → IsLocking u c (targets c) [] 1 w
-  told_claim fits is row =
-      let k = map_some Claim (node_made c) a is in
-      by_answer k.0 k.1 answer (subst (λ (b : Asked). Answers c b answer v w) (sym k.2) row)
+  pub told_claim : (b : Bool) → Fits z c (Claiming b) u v → asks c (Claiming b) ≡ Some a → Answers c a answer v w → IsLocking u c (targets c) [] (claimed_so c b) w
+  told_claim b fits is row =
+      let k = map_some Claim (made_at b c) a is in
+      by_answer k.0 k.1 answer (subst (λ (d : Asked). Answers c d answer v w) (sym k.2) row)
     where
-      by_answer : (n : Node) → node_made c ≡ Some n → (r : Answer) → Answers c (Claim n) r v w → IsLocking u c (targets c) [] 1 w
+      by_answer : (n : Node) → made_at b c ≡ Some n → (r : Answer) → Answers c (Claim n) r v w → IsLocking u c (targets c) [] (claimed_so c b) w
       by_answer n made (Upgraded r) row = absurd row
-      by_answer n made Done row = claim_on z u c fits.planned n v w made fits.stage.1 row
+      by_answer n made Done row = claim_on z u c fits.planned b (at_claim c b) (claimed_so c b) (claim_fills c b n made) (claim_none c b) n v w made fits.stage.1 row
 
-  pub told_fill : (place : ℕ) → Fits z c (Filling place) u v → asks c (Filling place) ≡ Some a → Answers c a answer v w → IsLocking u c (targets c) [] (place + 1) w
-  told_fill place fits is row =
-      let k = map_some (λ (m : Node). Write (cell.Node m) place (word_of c.body place)) (node_made c) a is in
-      by_answer k.0 k.1 answer (subst (λ (b : Asked). Answers c b answer v w) (sym k.2) row)
+  pub told_fill : (b : Bool) (place : ℕ) → Fits z c (Filling b place) u v → asks c (Filling b place) ≡ Some a → Answers c a answer v w → IsLocking u c (targets c) [] (at_fill c b (place + 1)) w
+  told_fill b place fits is row =
+      let k = map_some (λ (m : Node). Write (cell.Node m) place (made_word b c place)) (made_at b c) a is in
+      by_answer k.0 k.1 answer (subst (λ (d : Asked). Answers c d answer v w) (sym k.2) row)
     where
-      by_answer : (n : Node) → node_made c ≡ Some n → (r : Answer) → Answers c (Write (cell.Node n) place (word_of c.body place)) r v w → IsLocking u c (targets c) [] (place + 1) w
+      by_answer : (n : Node) → made_at b c ≡ Some n → (r : Answer) → Answers c (Write (cell.Node n) place (made_word b c place)) r v w → IsLocking u c (targets c) [] (at_fill c b (place + 1)) w
       by_answer n made (Upgraded r) row = absurd row
       by_answer n made Done row =
           let low : place < filled_at c (Some n) = subst (λ (o : Option Node). place < filled_at c o) made fits.stage.1 in
-          fill_on z u c fits.planned place n v w made fits.stage.0 low fits.stage.2 row
+          fill_on z u c fits.planned b place (at_fill c b place) (at_fill c b (place + 1)) (fill_fills c b place) (fill_so c b place) n v w made fits.stage.0 low fits.stage.2 row
 
-  pub told_write : (j : ℕ) → Fits z c (Writing j) u v → asks c (Writing j) ≡ Some a → Answers c a answer v w → IsLocking u c (targets c) (take (j + 1) c.puts.items) (filled_end c) w
+  pub told_write : (j : ℕ) → Fits z c (Writing j) u v → asks c (Writing j) ≡ Some a → Answers c a answer v w → IsLocking u c (targets c) (take (j + 1) c.puts.items) (filled_ends c) w
   told_write j fits is row =
       let p = then_some (λ (q : Put). option_map (put_into q) (target_at c q.target)) (put_at c j) a is in
       let x = map_some (put_into p.0) (target_at c p.0.target) a p.2 in
       by_answer p.0 x.0 p.1 x.1 answer (subst (λ (b : Asked). Answers c b answer v w) (sym x.2) row)
     where
-      by_answer : (p : Put) (x : Target) → put_at c j ≡ Some p → target_at c p.target ≡ Some x → (r : Answer) → Answers c (put_into p x) r v w → IsLocking u c (targets c) (take (j + 1) c.puts.items) (filled_end c) w
+      by_answer : (p : Put) (x : Target) → put_at c j ≡ Some p → target_at c p.target ≡ Some x → (r : Answer) → Answers c (put_into p x) r v w → IsLocking u c (targets c) (take (j + 1) c.puts.items) (filled_ends c) w
       by_answer p x at is (Upgraded r) row = absurd row
-      by_answer p x at is Done row = write_on z u c fits.planned j (filled_end c) p x v w at is fits.stage.1 row
+      by_answer p x at is Done row = write_on z u c fits.planned j (filled_ends c) p x v w at is fits.stage.1 row
 
-  pub told_commit : Fits z c Committing u v → asks c Committing ≡ Some a → Answers c a answer v w → IsReleasing u c 1 w
+  pub told_commit : Fits z c Committing u v → asks c Committing ≡ Some a → Answers c a answer v w → IsReleasing u c 1 (filled_ends c) w
   told_commit fits is row =
       let k = map_some (λ (y : Target). Commit y.stamp.cell y.obsolete) (target_at c 0) a is in
       by_answer k.0 k.1 answer (subst (λ (b : Asked). Answers c b answer v w) (sym k.2) row)
     where
-      by_answer : (x : Target) → target_at c 0 ≡ Some x → (r : Answer) → Answers c (Commit x.stamp.cell x.obsolete) r v w → IsReleasing u c 1 w
+      by_answer : (x : Target) → target_at c 0 ≡ Some x → (r : Answer) → Answers c (Commit x.stamp.cell x.obsolete) r v w → IsReleasing u c 1 (filled_ends c) w
       by_answer x at (Upgraded r) row = absurd row
       by_answer x at Done row = commit_on z u c fits.planned v w x fits.stage at row.outcome row.once
 
-  pub told_release : (i : ℕ) → Fits z c (Releasing i) u v → asks c (Releasing i) ≡ Some a → Answers c a answer v w → IsReleasing u c (i + 1) w
+  pub told_release : (i : ℕ) → Fits z c (Releasing i) u v → asks c (Releasing i) ≡ Some a → Answers c a answer v w → IsReleasing u c (i + 1) (filled_ends c) w
   told_release i fits is row =
       let k = map_some releases (target_at c i) a is in
       by_answer k.0 k.1 answer (subst (λ (b : Asked). Answers c b answer v w) (sym k.2) row)
     where
-      by_answer : (x : Target) → target_at c i ≡ Some x → (r : Answer) → Answers c (releases x) r v w → IsReleasing u c (i + 1) w
+      by_answer : (x : Target) → target_at c i ≡ Some x → (r : Answer) → Answers c (releases x) r v w → IsReleasing u c (i + 1) (filled_ends c) w
       by_answer x at (Upgraded r) row = absurd row
-      by_answer x at Done row = release_on z u c fits.planned i x v w fits.stage.1 at row
+      by_answer x at Done row = release_on z u c fits.planned i (filled_ends c) x v w fits.stage.1 at row
 
-  pub told_release_new : Fits z c ReleasingNode u v → asks c ReleasingNode ≡ Some a → Answers c a answer v w → IsOver u c (Ok tt) w
-  told_release_new fits is row =
-      let k = map_some (λ (m : Node). Release (cell.Node m) false) (node_made c) a is in
-      by_answer k.0 k.1 answer (subst (λ (b : Asked). Answers c b answer v w) (sym k.2) row)
+  pub told_release_new : (b : Bool) → Fits z c (ReleasingNode b) u v → asks c (ReleasingNode b) ≡ Some a → Answers c a answer v w → IsReleasing u c (targets c) (released_so c b) w
+  told_release_new b fits is row =
+      let k = map_some (λ (m : Node). Release (cell.Node m) false) (made_at b c) a is in
+      by_answer k.0 k.1 answer (subst (λ (d : Asked). Answers c d answer v w) (sym k.2) row)
     where
-      by_answer : (n : Node) → node_made c ≡ Some n → (r : Answer) → Answers c (Release (cell.Node n) false) r v w → IsOver u c (Ok tt) w
+      by_answer : (n : Node) → made_at b c ≡ Some n → (r : Answer) → Answers c (Release (cell.Node n) false) r v w → IsReleasing u c (targets c) (released_so c b) w
       by_answer n made (Upgraded r) row = absurd row
-      by_answer n made Done row = release_new z u c fits.planned n v w fits.stage.1 made row
+      by_answer n made Done row = release_new z u c fits.planned b (at_release c b) (released_so c b) (release_fills c b) (release_some c b n made) n v w fits.stage.1 made row
 
   pub told_give : (locked i : ℕ) (e : UpgradeFault) → Fits z c (GivingUp locked i e) u v → asks c (GivingUp locked i e) ≡ Some a → Answers c a answer v w → GivesUp u c (i + 1) locked e w
   told_give locked i e fits is row =

@@ -2,12 +2,12 @@
 use Rattle.std.specs.Prelude.{◌≡◌, ◌≢◌, ℕ, Bool, ◌+◌, ◌-◌, ◌*◌, ◌<◌, ◌≤◌, ◌++◌, List, [], length, take, true, false, Option, Some, None, Result, Ok, Err, ⊤}
 use Rattle.std.specs.Option.{option_map, option_and_then}
 use Rattle.std.specs.List.{cons_option}
-use Rattle.art_cell.specs.Reads.{word_of}
 use Rattle.art_cell.specs.declared.cells.Cell.TheVariants as cell
 use Rattle.art_cell.specs.declared.cells.Link.{Link}
 use Rattle.art_cell.specs.declared.cells.Link.TheVariants.{Node as node}
 use Rattle.art_cell.specs.declared.cells.Node.{Node}
-use Rattle.art_plan.specs.Changes.{Holds, IsPlanned, OnlyLocks, filled_end, leaf_linked, node_made, put_at, target_at, targets, unlinked}
+use Rattle.art_plan.specs.Changes.{OnlyLocks, leaf_linked, put_at, target_at, targets, unlinked}
+use Rattle.art_plan.specs.Whole.{HoldsWhole, IsWhole, filled_ends, made_at, made_word}
 use Rattle.art_make.specs.declared.asked.Asked.{Asked}
 use Rattle.art_make.specs.declared.asked.Asked.TheVariants.{Upgrade, Claim, Write, Commit, Release}
 use Rattle.art_plan.specs.declared.changes.Change.{Change}
@@ -39,12 +39,12 @@ put_into p x = Write x.stamp.cell p.place p.value
 -- the next step
 abbrev pub asks : Change → Making → Option Asked
 asks c (Upgrading i) = option_map (λ (x : Target). Upgrade x.stamp) (target_at c i)
-asks c Claiming = option_map Claim (node_made c)
-asks c (Filling place) = option_map (λ (n : Node). Write (cell.Node n) place (word_of c.body place)) (node_made c)
+asks c (Claiming b) = option_map Claim (made_at b c)
+asks c (Filling b place) = option_map (λ (n : Node). Write (cell.Node n) place (made_word b c place)) (made_at b c)
 asks c (Writing j) = option_and_then (λ (p : Put). option_map (put_into p) (target_at c p.target)) (put_at c j)
 asks c Committing = option_map (λ (x : Target). Commit x.stamp.cell x.obsolete) (target_at c 0)
 asks c (Releasing i) = option_map releases (target_at c i)
-asks c ReleasingNode = option_map (λ (n : Node). Release (cell.Node n) false) (node_made c)
+asks c (ReleasingNode b) = option_map (λ (n : Node). Release (cell.Node n) false) (made_at b c)
 asks c (GivingUp locked released e) = option_map (λ (x : Target). Release x.stamp.cell false) (target_at c released)
 asks c (Ended r) = None
 
@@ -64,26 +64,71 @@ fault_of stage = None
 -- at most so many steps were made
 abbrev pub most_steps : Making → ℕ
 most_steps (Upgrading i) = i
-most_steps Claiming = 3
-most_steps (Filling place) = 3 + place
-most_steps (Writing j) = 270 + j
-most_steps Committing = 302
-most_steps (Releasing i) = 302 + i
-most_steps ReleasingNode = 305
-most_steps (GivingUp locked released e) = 4 + released
-most_steps (Ended r) = 306
+most_steps (Claiming false) = 5
+most_steps (Claiming true) = 6
+most_steps (Filling false place) = 7 + place
+most_steps (Filling true place) = 273 + place
+most_steps (Writing j) = 539 + j
+most_steps Committing = 573
+most_steps (Releasing i) = 573 + i
+most_steps (ReleasingNode false) = 578
+most_steps (ReleasingNode true) = 579
+most_steps (GivingUp locked released e) = 6 + released
+most_steps (Ended r) = 580
+
+-- how many words of the new nodes are written, the version's place among them: of the first so many, and so many of the copy
+abbrev pub so_many : ℕ → ℕ → Bool → ℕ
+so_many a b false = a
+so_many a b true = b
+
+-- 1 of each that there is
+abbrev pub claim_of : Option Node → ℕ
+claim_of None = 0
+claim_of (Some n) = 1
+
+abbrev pub claims : Change → Bool → ℕ
+claims c b = claim_of (made_at b c)
+
+-- before the node is claimed, and before the word at the place is written
+abbrev pub at_claim : Change → Bool → Bool → ℕ
+at_claim c false = so_many 0 0
+at_claim c true = so_many (claims c false) 0
+
+abbrev pub at_fill : Change → Bool → ℕ → Bool → ℕ
+at_fill c false place = so_many place (claims c true)
+at_fill c true place = so_many (filled_ends c false) place
+
+-- so many after the claim of this one
+abbrev pub claimed_so : Change → Bool → Bool → ℕ
+claimed_so c false = so_many (claims c false) 0
+claimed_so c true = so_many (claims c false) (claims c true)
+
+-- so many after the release of this one
+abbrev pub released_so : Change → Bool → Bool → ℕ
+released_so c false = so_many 0 (filled_ends c true)
+released_so c true = so_many 0 0
+
+-- before the node is released
+abbrev pub at_release : Change → Bool → Bool → ℕ
+at_release c false = filled_ends c
+at_release c true = so_many 0 (filled_ends c true)
 
 -- ---- how many words it has still to write
 
 -- all cells are held, and words are to be written
 abbrev pub is_writing : Making → Bool
-is_writing (Filling place) = true
+is_writing (Filling b place) = true
 is_writing (Writing j) = true
 is_writing stage = false
 
--- so many, of the new node and of the targets
+-- of the new nodes: so many of this one from a place on, and after the first all words of the copy
+abbrev pub fills_left : Change → Bool → ℕ → ℕ
+fills_left c false place = filled_ends c false - place + (filled_ends c true - claims c true)
+fills_left c true place = filled_ends c true - place
+
+-- so many, of the new nodes and of the targets
 abbrev pub words_left : Change → Making → ℕ
-words_left c (Filling place) = filled_end c - place + length c.puts.items
+words_left c (Filling b place) = fills_left c b place + length c.puts.items
 words_left c (Writing j) = length c.puts.items - j
 words_left c stage = 0
 
@@ -100,9 +145,9 @@ OnlyWrites v w n = w ≡ record v { steps = v.steps + n; held = w.held }
 -- ---- what it knows, of a pass that had the view u when the change was planned
 
 -- the cells that it needs so far are locked, and nothing is told
-pub record IsLocking (u : View) (c : Change) (to : ℕ) (ps : List Put) (filled : ℕ) (v : View) : Type 0 where
+pub record IsLocking (u : View) (c : Change) (to : ℕ) (ps : List Put) (filled : Bool → ℕ) (v : View) : Type 0 where
   pub same : OnlyLocks u v
-  pub holds : Holds u c 0 to ps filled v.held
+  pub holds : HoldsWhole u c 0 to ps filled v.held
   pub early : 0 < to → v.committed ≡ false
 
 -- an upgrade failed: the word of a target was another, or its counter was at its end
@@ -120,12 +165,12 @@ pub record HasFailed (u : View) (c : Change) (e : UpgradeFault) (v : View) : Typ
 -- those above it are still held, from one on, unchanged
 pub record GivesUp (u : View) (c : Change) (from to : ℕ) (e : UpgradeFault) (v : View) : Type 0 where
   pub failed : HasFailed u c e v
-  pub holds : Holds u c from to [] 0 v.held
+  pub holds : HoldsWhole u c from to [] (so_many 0 0) v.held
   pub early : from < to → v.committed ≡ false
 
 -- what comes into the tree
 abbrev pub linked : Change → List Link
-linked c = cons_option (leaf_linked c) (cons_option (option_map node (node_made c)) [])
+linked c = cons_option (leaf_linked c) (cons_option (option_map node (made_at false c)) (cons_option (option_map node (made_at true c)) []))
 
 -- the event was made: what comes left the hand, what goes is in limbo, each number once, and nothing else changed but what is held
 pub record IsCommitted (u : View) (c : Change) (v : View) : Type 0 where
@@ -140,11 +185,12 @@ pub record IsCommitted (u : View) (c : Change) (v : View) : Type 0 where
   pub notes : v.notes ≡ u.notes
   pub failures : v.failures ≡ u.failures
 
--- the targets from an index on are still held, and the new node, if it makes one, which is none of those that it unlinks
-pub record IsReleasing (u : View) (c : Change) (from : ℕ) (v : View) : Type 0 where
+-- the targets from an index on are still held, and of the new nodes those of which so many words are, which are none of those that it
+-- unlinks
+pub record IsReleasing (u : View) (c : Change) (from : ℕ) (filled : Bool → ℕ) (v : View) : Type 0 where
   pub done : IsCommitted u c v
-  pub stays : (n : Node) → node_made c ≡ Some n → Member (node n) (unlinked c) → ⊥
-  pub holds : Holds u c from (targets c) c.puts.items (filled_end c) v.held
+  pub stays : (b : Bool) (n : Node) → made_at b c ≡ Some n → Member (node n) (unlinked c) → ⊥
+  pub holds : HoldsWhole u c from (targets c) c.puts.items filled v.held
   pub late : v.committed ≡ true
 
 -- the change is made, or was given up with nothing told; nothing is held
@@ -153,26 +199,30 @@ pub record IsOver (u : View) (c : Change) (r : Result ⊤ UpgradeFault) (v : Vie
   pub done : (x : ⊤) → r ≡ Ok x → IsCommitted u c v
   pub failed : (e : UpgradeFault) → r ≡ Err e → HasFailed u c e v
 
+-- there is such a node
+abbrev pub HasMade : Change → Bool → Type 0
+HasMade c b = (n : Node) × (made_at b c ≡ Some n)
+
 -- at each stage
 abbrev pub StageFits : Change → Making → View → View → Type 0
-StageFits c (Upgrading i) u v = (i < targets c) × IsLocking u c i [] 0 v
-StageFits c Claiming u v = ((n : Node) × (node_made c ≡ Some n)) × IsLocking u c (targets c) [] 0 v
-StageFits c (Filling place) u v = (0 < place) × (place < filled_end c) × IsLocking u c (targets c) [] place v
-StageFits c (Writing j) u v = ((p : Put) × (put_at c j ≡ Some p)) × IsLocking u c (targets c) (take j c.puts.items) (filled_end c) v
-StageFits c Committing u v = IsLocking u c (targets c) c.puts.items (filled_end c) v
-StageFits c (Releasing i) u v = (i < targets c) × IsReleasing u c i v
-StageFits c ReleasingNode u v = ((n : Node) × (node_made c ≡ Some n)) × IsReleasing u c (targets c) v
+StageFits c (Upgrading i) u v = (i < targets c) × IsLocking u c i [] (so_many 0 0) v
+StageFits c (Claiming b) u v = HasMade c b × IsLocking u c (targets c) [] (at_claim c b) v
+StageFits c (Filling b place) u v = (0 < place) × (place < filled_ends c b) × IsLocking u c (targets c) [] (at_fill c b place) v
+StageFits c (Writing j) u v = ((p : Put) × (put_at c j ≡ Some p)) × IsLocking u c (targets c) (take j c.puts.items) (filled_ends c) v
+StageFits c Committing u v = IsLocking u c (targets c) c.puts.items (filled_ends c) v
+StageFits c (Releasing i) u v = (i < targets c) × IsReleasing u c i (filled_ends c) v
+StageFits c (ReleasingNode b) u v = HasMade c b × IsReleasing u c (targets c) (at_release c b) v
 StageFits c (GivingUp locked released e) u v = (released < locked) × (locked ≤ targets c) × GivesUp u c released locked e v
 StageFits c (Ended r) u v = IsOver u c r v
 
 -- the change has few targets and few words
 pub record IsSmall (c : Change) : Type 0 where
-  pub targets : length c.targets.items ≤ 3
-  pub puts : length c.puts.items ≤ 32
+  pub targets : length c.targets.items ≤ 5
+  pub puts : length c.puts.items ≤ 33
 
 -- it was planned for the view u, and made so many steps at most
 pub record Fits (z : Sizes) (c : Change) (m : Making) (u v : View) : Type 0 where
-  pub planned : IsPlanned z u c
+  pub planned : IsWhole z u c
   pub small : IsSmall c
   pub stage : StageFits c m u v
   pub steps : v.steps ≤ u.steps + most_steps m

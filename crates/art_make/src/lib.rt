@@ -12,30 +12,30 @@
 //! # A change
 //!
 //! The `Change` of `art_plan` says what is to be done, as values: the targets, from the top down, each with its stamp; the
-//! words that they get (`Put`); the node that is made, if one is, with all its words; and the deed, the leaf that comes, and
-//! what goes. `IsPlanned` says what a plan has to show.
+//! words that they get (`Put`); the node that is made, if one is, with all its words, and the copy of a worn node, if one is
+//! renewed; and the deed, the leaf that comes, and what goes. `IsWhole` says what a plan has to show.
 //!
 //! # The steps
 //!
 //! ```text
 //! upgrade ── the targets, from the top down ──┐ one fails: those that are locked are released unchanged, and it has failed
 //!    ▼
-//! claim ──── the new node, whose number is in hand
+//! claim ──── the new node, whose number is in hand, then the copy
 //!    ▼
-//! write ──── all words of the new node, then the words that are put into the targets
+//! write ──── all words of the new node, then of the copy, then the words that are put into the targets
 //!    ▼
 //! commit ─── release of the uppermost target: the event
 //!    ▼
-//! release ── the other targets from the top down, as obsolete where they leave the tree; then the new node
+//! release ── the other targets from the top down, as obsolete where they leave the tree; then the new node, then the copy
 //! ```
 //!
-//! All upgrades come before the claim and the first write: a claimed node could not be given up, as its counter would have
-//! gone on.
+//! All upgrades come before the claims and the first write: a claimed node could not be given up, as it is locked, and not
+//! obsolete as a number in hand is.
 //!
 //! `Making` is the machine that makes them: a value of scalars with `next` and `told`, as that of `art_find`. The change stands
 //! beside it and stays as it is. `make` makes the step that it asks for, and `make_change` runs it to its end.
-//! Where words are next (`is_writing`), `write_on` writes all that are left. The words of a new node, of which there may be 265,
-//! are written in a loop of their own.
+//! Where words are next (`is_writing`), `write_on` writes all that are left. The words of each new node, of which there may be
+//! 265, are written in a loop of their own.
 //!
 //! # Where it fails
 //!
@@ -52,7 +52,7 @@
 //!
 //! Each step may be made (`next`), and each answer keeps what the machine knows (`told`). When it has ended nothing is held;
 //! either the event of the deed was made, what comes left the hand and what goes is in limbo (`IsCommitted`), or an upgrade
-//! failed for one of its two causes and nothing was told (`HasFailed`). It makes at most 306 steps.
+//! failed for one of its two causes and nothing was told (`HasFailed`). It makes at most 580 steps.
 #![tactic(auto)]
 
 mod asked;

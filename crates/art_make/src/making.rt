@@ -1,9 +1,11 @@
 //! The making of a change, step by step.
-ghost use Rattle.std.specs.Prelude.{◌≡◌, ℕ, ◌+◌, ◌<◌, ◌≤◌, [], take, length, Some};
+ghost use Rattle.std.specs.Prelude.{◌≡◌, ℕ, ◌+◌, ◌<◌, ◌≤◌, [], take, length, Some, true, false};
 ghost use Rattle.art_make.specs.Asking.{Answers};
-ghost use Rattle.art_plan.specs.Changes.{IsPlanned, filled_end, target_at, targets};
+ghost use Rattle.art_plan.specs.Changes.{target_at, targets};
+ghost use Rattle.art_plan.specs.Whole.{IsWhole, filled_ends};
 ghost use Rattle.std.specs.Prelude.{Err};
-ghost use Rattle.art_make.specs.Making.{GivesUp, IsLocking, IsReleasing, StageFits, fault_of, most_steps};
+ghost use Rattle.art_make.specs.Making.{GivesUp, IsLocking, IsReleasing, StageFits, at_fill, claimed_so, claims, fault_of, most_steps, released_so, so_many};
+ghost use Rattle.art_make.specs.declared.making.Making.TheVariants.{Claiming as claiming, Filling as filling, ReleasingNode as releasing_node};
 ghost use Rattle.art_make.specs.declared.asked.Answer.TheVariants.{Upgraded as upgraded};
 ghost use Rattle.art_make.specs.declared.asked.Asked.TheVariants.{Upgrade as upgrade};
 ghost use Rattle.art_plan.specs.declared.changes.Change.{Change as ChangeOf};
@@ -23,18 +25,18 @@ use art_step::UpgradeFault;
 pub enum Making {
     /// So many targets are locked.
     Upgrading(usize),
-    /// All targets are; the new node is to be claimed.
-    Claiming,
-    /// The words of the new node before this place are written.
-    Filling(usize),
+    /// All targets are; a new node is to be claimed: the copy where it is true, and else the other.
+    Claiming(bool),
+    /// The words of this new node before this place are written.
+    Filling(bool, usize),
     /// So many words of the targets are written.
     Writing(usize),
     /// All words are written.
     Committing,
     /// The change is committed, and so many targets are released.
     Releasing(usize),
-    /// All targets are; the new node is still held.
-    ReleasingNode,
+    /// All targets are; this new node is still held.
+    ReleasingNode(bool),
     /// After so many upgrades one failed, and so many of them are released again.
     GivingUp(usize, usize, UpgradeFault),
     /// The change is made, or was given up.
@@ -44,7 +46,7 @@ pub enum Making {
 impl Making {
     ghost use Rattle.std.specs.Prelude.{ℕ, ◌+◌, ◌<◌, ◌≤◌, [], Some, None, IfSome};
     ghost use Rattle.art_make.specs.Asking.{Answers, IsAllowed};
-    ghost use Rattle.art_plan.specs.Changes.{IsPlanned};
+    ghost use Rattle.art_plan.specs.Whole.{IsWhole};
     ghost use Rattle.std.specs.Prelude.{Err};
     ghost use Rattle.art_make.specs.Making.{Fits, IsOver, asks, ended_at, fault_of, most_steps};
     ghost use Rattle.art_make.specs.declared.asked.Answer.TheVariants.{Upgraded as upgraded};
@@ -59,7 +61,7 @@ impl Making {
     pub fn new(change: &Change) -> Making
         ensures begun { 0 < targets change.now → result ≡ upgrading 0 }
         ensures going { 0 < targets change.now → ended_at result ≡ None }
-        ensures fits { (z : Sizes) (u : View) → IsPlanned z u change.now → u.held ≡ [] → Fits z change.now result u u }
+        ensures fits { (z : Sizes) (u : View) → IsWhole z u change.now → u.held ≡ [] → Fits z change.now result u u }
     {
         if change.targets.len() + change.puts.len() > 0 {
             Making::Upgrading(0)
@@ -92,12 +94,12 @@ impl Making {
     {
         *self = match *self {
             Making::Upgrading(index) => upgraded(change, index, answer),
-            Making::Claiming => filled(change, 1),
-            Making::Filling(place) => filled(change, place + 1),
+            Making::Claiming(copy) => claimed(change, copy),
+            Making::Filling(copy, place) => filled(change, copy, place + 1),
             Making::Writing(index) => written(change, index + 1),
             Making::Committing => released(change, 1),
             Making::Releasing(index) => released(change, index + 1),
-            Making::ReleasingNode => Making::Ended(Ok(())),
+            Making::ReleasingNode(copy) => released_node(change, copy),
             Making::GivingUp(locked, count, fault) => given_up(locked, count + 1, fault),
             Making::Ended(_) => unreachable!(),
         };
@@ -110,11 +112,11 @@ impl Making {
     {
         match *self {
             Making::Upgrading(index) => Some(Asked::Upgrade(change.target(index)?.stamp)),
-            Making::Claiming => Some(Asked::Claim(change.made()?)),
-            Making::Filling(place) => Some(Asked::Write(
-                Cell::Node(change.made()?),
+            Making::Claiming(copy) => Some(Asked::Claim(change.made_at(copy)?)),
+            Making::Filling(copy, place) => Some(Asked::Write(
+                Cell::Node(change.made_at(copy)?),
                 place,
-                change.word(place),
+                change.made_word(copy, place),
             )),
             Making::Writing(index) => {
                 let put = change.put(index)?;
@@ -129,7 +131,9 @@ impl Making {
                 let target = change.target(index)?;
                 Some(Asked::Release(target.stamp.cell, target.obsolete))
             }
-            Making::ReleasingNode => Some(Asked::Release(Cell::Node(change.made()?), false)),
+            Making::ReleasingNode(copy) => {
+                Some(Asked::Release(Cell::Node(change.made_at(copy)?), false))
+            }
             Making::GivingUp(_, released, _) => {
                 Some(Asked::Release(change.target(released)?.stamp.cell, false))
             }
@@ -153,12 +157,12 @@ impl Making {
 #[inline(always)]
 fn upgraded(change: &Change, index: usize, answer: Answer) -> Making
     requires few { index < targets change.now }
-    requires three { index < 3 }
+    requires five { index < 5 }
     requires answer { (x : StampOf) × (v : View) × (w : View) × Answers change.now (upgrade x) answer v w }
     ensures steps { index < most_steps result }
     ensures refused { (e : FaultOf) → answer ≡ upgraded (Err e) → fault_of result ≡ Some e }
-    ensures fits { (z : Sizes) (u v w : View) (x : TargetOf) → IsPlanned z u change.now → target_at change.now index ≡ Some x →
-        IsLocking u change.now index [] 0 v → Answers change.now (upgrade x.stamp) answer v w → StageFits change.now result u w }
+    ensures fits { (z : Sizes) (u v w : View) (x : TargetOf) → IsWhole z u change.now → target_at change.now index ≡ Some x →
+        IsLocking u change.now index [] (so_many 0 0) v → Answers change.now (upgrade x.stamp) answer v w → StageFits change.now result u w }
 {
     let Answer::Upgraded(result) = answer else {
         unreachable!();
@@ -174,38 +178,109 @@ fn upgraded(change: &Change, index: usize, answer: Answer) -> Making
 fn locked(change: &Change, count: usize) -> Making
     requires few { count ≤ targets change.now }
     ensures steps { count ≤ most_steps result }
-    ensures fits { (u v : View) → IsLocking u change.now count [] 0 v → StageFits change.now result u v }
+    ensures fits { (u v : View) → IsLocking u change.now count [] (so_many 0 0) v → StageFits change.now result u v }
 {
     if count < change.targets.len() {
         return Making::Upgrading(count);
     }
-    match change.node {
-        Some(_) => Making::Claiming,
+    claim_first(change)
+}
+
+/// All targets are locked: the new nodes are claimed.
+#[inline(always)]
+fn claim_first(change: &Change) -> Making
+    ensures steps { 5 ≤ most_steps result }
+    ensures fits { (u v : View) → IsLocking u change.now (targets change.now) [] (so_many 0 0) v → StageFits change.now result u v }
+{
+    match change.made() {
+        Some(_) => Making::Claiming(false),
+        None => claim_copy(change),
+    }
+}
+
+/// The first new node is claimed, where there is one.
+#[inline(always)]
+fn claim_copy(change: &Change) -> Making
+    ensures steps { 6 ≤ most_steps result }
+    ensures fits { (u v : View) → IsLocking u change.now (targets change.now) [] (so_many (claims change.now false) 0) v →
+        StageFits change.now result u v }
+{
+    match change.copied() {
+        Some(_) => Making::Claiming(true),
+        None => fill_first(change),
+    }
+}
+
+/// This new node was claimed.
+#[inline(always)]
+fn claimed(change: &Change, copy: bool) -> Making
+    ensures steps { most_steps (claiming copy) < most_steps result }
+    ensures fits { (u v : View) → IsLocking u change.now (targets change.now) [] (claimed_so change.now copy) v →
+        StageFits change.now result u v }
+{
+    if copy {
+        fill_first(change)
+    } else {
+        claim_copy(change)
+    }
+}
+
+/// All new nodes are claimed: their words are written.
+#[inline(always)]
+fn fill_first(change: &Change) -> Making
+    ensures steps { 8 ≤ most_steps result }
+    ensures fits { (u v : View) →
+        IsLocking u change.now (targets change.now) [] (so_many (claims change.now false) (claims change.now true)) v →
+        StageFits change.now result u v }
+{
+    match change.made() {
+        Some(_) => Making::Filling(false, 1),
+        None => fill_copy(change),
+    }
+}
+
+/// The words of the first new node are written, where there is one.
+#[inline(always)]
+fn fill_copy(change: &Change) -> Making
+    ensures steps { 274 ≤ most_steps result }
+    ensures fits { (u v : View) →
+        IsLocking u change.now (targets change.now) [] (so_many (filled_ends change.now false) (claims change.now true)) v →
+        StageFits change.now result u v }
+{
+    match change.copied() {
+        Some(_) => Making::Filling(true, 1),
         None => written(change, 0),
     }
 }
 
-/// The words of the new node before this place are written.
+/// The words of this new node before this place are written.
 #[inline(always)]
-fn filled(change: &Change, place: usize) -> Making
+fn filled(change: &Change, copy: bool, place: usize) -> Making
     requires some { 0 < place }
-    requires few { place ≤ filled_end change.now }
-    ensures steps { 3 + place ≤ most_steps result }
-    ensures fits { (u v : View) → IsLocking u change.now (targets change.now) [] place v → StageFits change.now result u v }
+    requires few { place ≤ filled_ends change.now copy }
+    ensures steps { most_steps (filling copy place) ≤ most_steps result }
+    ensures fits { (u v : View) → IsLocking u change.now (targets change.now) [] (at_fill change.now copy place) v →
+        StageFits change.now result u v }
 {
-    if place < change.body.layout.size() {
-        Making::Filling(place)
-    } else {
+    let Some(node) = change.made_at(copy) else {
+        unreachable!();
+    };
+    if place < node.layout.size() {
+        return Making::Filling(copy, place);
+    }
+    if copy {
         written(change, 0)
+    } else {
+        fill_copy(change)
     }
 }
 
-/// So many words of the targets are written, and all of the new node.
+/// So many words of the targets are written, and all of the new nodes.
 #[inline(always)]
 fn written(change: &Change, count: usize) -> Making
     requires few { count ≤ length change.now.puts.items }
-    ensures steps { 270 + count ≤ most_steps result }
-    ensures fits { (u v : View) → IsLocking u change.now (targets change.now) (take count change.now.puts.items) (filled_end change.now) v →
+    ensures steps { 539 + count ≤ most_steps result }
+    ensures fits { (u v : View) → IsLocking u change.now (targets change.now) (take count change.now.puts.items) (filled_ends change.now) v →
         StageFits change.now result u v }
 {
     if count < change.puts.len() {
@@ -219,23 +294,51 @@ fn written(change: &Change, count: usize) -> Making
 #[inline(always)]
 fn released(change: &Change, count: usize) -> Making
     requires few { count ≤ targets change.now }
-    ensures steps { 302 + count ≤ most_steps result }
-    ensures fits { (u v : View) → IsReleasing u change.now count v → StageFits change.now result u v }
+    requires five { count ≤ 5 }
+    ensures steps { 573 + count ≤ most_steps result }
+    ensures fits { (u v : View) → IsReleasing u change.now count (filled_ends change.now) v → StageFits change.now result u v }
 {
     if count < change.targets.len() {
         return Making::Releasing(count);
     }
-    match change.node {
-        Some(_) => Making::ReleasingNode,
+    match change.made() {
+        Some(_) => Making::ReleasingNode(false),
+        None => release_copy(change),
+    }
+}
+
+/// All targets are released, and the first new node, where there is one.
+#[inline(always)]
+fn release_copy(change: &Change) -> Making
+    ensures steps { 579 ≤ most_steps result }
+    ensures fits { (u v : View) →
+        IsReleasing u change.now (targets change.now) (so_many 0 (filled_ends change.now true)) v → StageFits change.now result u v }
+{
+    match change.copied() {
+        Some(_) => Making::ReleasingNode(true),
         None => Making::Ended(Ok(())),
+    }
+}
+
+/// This new node was released.
+#[inline(always)]
+fn released_node(change: &Change, copy: bool) -> Making
+    ensures steps { most_steps (releasing_node copy) < most_steps result }
+    ensures fits { (u v : View) → IsReleasing u change.now (targets change.now) (released_so change.now copy) v →
+        StageFits change.now result u v }
+{
+    if copy {
+        Making::Ended(Ok(()))
+    } else {
+        release_copy(change)
     }
 }
 
 /// After so many upgrades one failed, and so many of them are released again.
 fn given_up(locked: usize, count: usize, fault: UpgradeFault) -> Making
     requires few { count ≤ locked }
-    requires three { locked ≤ 3 }
-    ensures steps { 4 + count ≤ most_steps result }
+    requires five { locked ≤ 5 }
+    ensures steps { 6 + count ≤ most_steps result }
     ensures fault { fault_of result ≡ Some fault }
     ensures fits { (c : ChangeOf) (u v : View) → locked ≤ targets c → GivesUp u c count locked fault v → StageFits c result u v }
 {

@@ -1,9 +1,10 @@
-//! The words of a change: once its cells are held, those of a new node are written in a loop of their own, and so are those
+//! The words of a change: once its cells are held, those of each new node are written in a loop of their own, and so are those
 //! that are put into the targets.
 ghost use Rattle.std.specs.Prelude.{◌≡◌, ℕ, ◌+◌, ◌≤◌, [], take, length};
-ghost use Rattle.art_make.specs.Making.{Fits, IsLocking, OnlyWrites};
+ghost use Rattle.art_make.specs.Making.{Fits, IsLocking, OnlyWrites, at_fill, fills_left};
 ghost use Rattle.art_make.specs.declared.making.Making.TheVariants.{Filling as filling};
-ghost use Rattle.art_plan.specs.Changes.{IsPlanned, filled_end, targets};
+ghost use Rattle.art_plan.specs.Changes.{targets};
+ghost use Rattle.art_plan.specs.Whole.{IsWhole, filled_ends};
 ghost use Rattle.art_step.specs.declared.views.Sizes.{Sizes};
 ghost use Rattle.art_step.specs.declared.views.View.{View};
 
@@ -20,7 +21,7 @@ impl Making {
     pub fn is_writing(&self) -> bool
         ensures { result ≡ is_writing self.now }
     {
-        matches!(self, Making::Filling(_) | Making::Writing(_))
+        matches!(self, Making::Filling(_, _) | Making::Writing(_))
     }
 
     /// Writes all words that are left, where it stands among them, and says how many those were; elsewhere none.
@@ -33,8 +34,8 @@ impl Making {
             Fits z change.now self.new u (S.view steps.new) }
     {
         match *self {
-            Making::Filling(place) => {
-                let filled = fill(steps, change, place);
+            Making::Filling(copy, place) => {
+                let filled = fill_all(steps, change, copy, place);
                 let put = put_from(steps, change, 0);
                 *self = Making::Committing;
                 filled + put
@@ -49,22 +50,42 @@ impl Making {
     }
 }
 
-/// Writes the words of the new node from a place on, and says how many.
-fn fill<S: Steps>(steps: &mut S, change: &Change, place: usize) -> u32
-    requires fits { (u : View) × Fits (S.sizes steps.old) change.now (filling place) u (S.view steps.old) }
+/// Writes the words of this new node from a place on, and after those of the first all of the copy, where there is one; and says how
+/// many.
+fn fill_all<S: Steps>(steps: &mut S, change: &Change, copy: bool, place: usize) -> u32
+    requires fits { (u : View) × Fits (S.sizes steps.old) change.now (filling copy place) u (S.view steps.old) }
     ensures only { S.only steps.old steps.new }
-    ensures count { result + place ≡ filled_end change.now }
+    ensures count { result ≡ fills_left change.now copy place }
     ensures made { OnlyWrites (S.view steps.old) (S.view steps.new) result }
-    ensures filled { (z : Sizes) (u : View) → Fits z change.now (filling place) u (S.view steps.old) →
-        IsLocking u change.now (targets change.now) [] (filled_end change.now) (S.view steps.new) }
+    ensures filled { (z : Sizes) (u : View) → Fits z change.now (filling copy place) u (S.view steps.old) →
+        IsLocking u change.now (targets change.now) [] (filled_ends change.now) (S.view steps.new) }
 {
-    let Some(node) = change.made() else {
+    let filled = fill(steps, change, copy, place);
+    if copy {
+        return filled;
+    }
+    match change.copied() {
+        Some(_) => filled + fill(steps, change, true, 1),
+        None => filled,
+    }
+}
+
+/// Writes the words of this new node from a place on, and says how many.
+fn fill<S: Steps>(steps: &mut S, change: &Change, copy: bool, place: usize) -> u32
+    requires fits { (u : View) × Fits (S.sizes steps.old) change.now (filling copy place) u (S.view steps.old) }
+    ensures only { S.only steps.old steps.new }
+    ensures count { result + place ≡ filled_ends change.now copy }
+    ensures made { OnlyWrites (S.view steps.old) (S.view steps.new) result }
+    ensures filled { (z : Sizes) (u : View) → Fits z change.now (filling copy place) u (S.view steps.old) →
+        IsLocking u change.now (targets change.now) [] (at_fill change.now copy (filled_ends change.now copy)) (S.view steps.new) }
+{
+    let Some(node) = change.made_at(copy) else {
         unreachable!();
     };
     let size = node.layout.size();
     let mut held = Held::of(Cell::Node(node));
     for index in place..size {
-        steps.write(&mut held, index, change.word(index));
+        steps.write(&mut held, index, change.made_word(copy, index));
     }
     held.spend();
     (size - place) as u32
@@ -72,15 +93,15 @@ fn fill<S: Steps>(steps: &mut S, change: &Change, place: usize) -> u32
 
 /// Puts the words of the targets from an index on, and says how many.
 fn put_from<S: Steps>(steps: &mut S, change: &Change, from: usize) -> u32
-    requires planned { (u : View) × IsPlanned (S.sizes steps.old) u change.now × IsLocking u change.now (targets change.now)
-        (take from change.now.puts.items) (filled_end change.now) (S.view steps.old) }
+    requires planned { (u : View) × IsWhole (S.sizes steps.old) u change.now × IsLocking u change.now (targets change.now)
+        (take from change.now.puts.items) (filled_ends change.now) (S.view steps.old) }
     requires within { from ≤ length change.now.puts.items }
     ensures only { S.only steps.old steps.new }
     ensures count { result + from ≡ length change.now.puts.items }
     ensures made { OnlyWrites (S.view steps.old) (S.view steps.new) result }
-    ensures put { (z : Sizes) (u : View) → IsPlanned z u change.now → IsLocking u change.now (targets change.now)
-        (take from change.now.puts.items) (filled_end change.now) (S.view steps.old) →
-        IsLocking u change.now (targets change.now) change.now.puts.items (filled_end change.now) (S.view steps.new) }
+    ensures put { (z : Sizes) (u : View) → IsWhole z u change.now → IsLocking u change.now (targets change.now)
+        (take from change.now.puts.items) (filled_ends change.now) (S.view steps.old) →
+        IsLocking u change.now (targets change.now) change.now.puts.items (filled_ends change.now) (S.view steps.new) }
 {
     let count = change.puts.len();
     for index in from..count {

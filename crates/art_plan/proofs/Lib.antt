@@ -1,8 +1,11 @@
 pub mod ChildPlaces
 pub mod MadeChanges
 pub mod MadeNodes
+pub mod MovedPuts
 pub mod Planning
 pub mod PutWords
 pub mod ReadyCells
+pub mod Renewing
+pub mod RenewingBelow
 pub mod SiteWords
 pub mod WordsWithin

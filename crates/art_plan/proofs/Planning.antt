@@ -145,6 +145,7 @@ module _ (z : Sizes) (u : View) (x : Stamp) (ps : List Put) (ws : List Write) (m
   pub one_planned : MayTarget z u (kept x) → map child_word (links_of us) ≡ us → NoNodeGoes us
       → ((p : Put) → Member p ps → MayPut z one_target p) → ((n : Node) → node_made one_target ≡ Some n → MayMake z u one_target n) → MayCommit z u one_target → IsPlanned z u one_target
   one_planned target words none puts makes may = record {
+    plain = refl;
     some = omega arith;
     each = λ i t is. subst (MayTarget z u) (one_of_one (kept x) i t is).1 target;
     apart = λ i j t w is at e. (one_of_one (kept x) i t is).0 ∙ sym (one_of_one (kept x) j w at).0;
@@ -173,6 +174,7 @@ module _ (z : Sizes) (u : View) (x : Stamp) (w : Target) (n : Node) (ps : List P
       → ((w.obsolete ≡ true) ↔ Member (node n) (links_of us)) → OnlyGoes n us
       → ((p : Put) → Member p ps → MayPut z two_targets p) → ((m : Node) → node_made two_targets ≡ Some m → MayMake z u two_targets m) → MayCommit z u two_targets → IsPlanned z u two_targets
   two_planned upper lower at other words goes only puts makes may = record {
+    plain = refl;
     some = omega arith;
     each = λ i t is. ⊎_elim
         (λ (o : (i ≡ 0) × (kept x ≡ t)). subst (MayTarget z u) o.1 upper)
@@ -205,6 +207,7 @@ module _ (z : Sizes) (u : View) (x : Stamp) (w : Target) (n : Node) (ps : List P
         → ((w.obsolete ≡ true) ↔ Member (node n) (links_of us)) → OnlyGoes n us
         → ((p : Put) → Member p ps → MayPut z three_targets p) → ((m : Node) → node_made three_targets ≡ Some m → MayMake z u three_targets m) → MayCommit z u three_targets → IsPlanned z u three_targets
     three_planned upper middle lower at other below ends words goes only puts makes may = record {
+      plain = refl;
       some = omega arith;
       each = λ i t is. each i t (one_of_three (kept x) w (kept y) i t is);
       apart = λ i j t q is that e. apart i j t q (one_of_three (kept x) w (kept y) i t is) (one_of_three (kept x) w (kept y) j q that) e;

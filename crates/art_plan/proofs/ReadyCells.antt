@@ -27,10 +27,10 @@ use Rattle.art_step.proofs.Shows.{shows_held, shows_same}
 use Rattle.art_tree.specs.Heaps.{Cells}
 
 -- the words of a list past its end
-past_end : (ws : List ℕ) (n p : ℕ) → length ws ≡ n → n ≤ p → words_in ws p ≡ 0
+pub past_end : (ws : List ℕ) (n p : ℕ) → length ws ≡ n → n ≤ p → words_in ws p ≡ 0
 past_end ws n p long high = get_or_past ws p 0 (omega arith)
 
-some_size : (n : Node) → 0 < size n.layout
+pub some_size : (n : Node) → 0 < size n.layout
 some_size n = by_layout n.layout
   where
     by_layout : (k : Layout) → 0 < size k

@@ -144,6 +144,7 @@ pub record IsReady (u : View) (c : Change) (v : View) : Type 0 where
 -- a change that may be made by a pass with the view u: what it writes is a commit of its deed, whatever the words of the targets
 -- are of which nothing was noted; and just the nodes that it unlinks become obsolete
 pub record IsPlanned (z : Sizes) (u : View) (c : Change) : Type 0 where
+  pub plain : c.copy ≡ None
   pub some : 0 < targets c
   pub each : (i : ℕ) (x : Target) → target_at c i ≡ Some x → MayTarget z u x
   pub apart : (i j : ℕ) (x y : Target) → target_at c i ≡ Some x → target_at c j ≡ Some y → x.stamp.cell ≡ y.stamp.cell → i ≡ j

@@ -73,6 +73,7 @@ change_of ts ps ws made body leaf us deed = record {
   writes = record { items = ws };
   node = made;
   body = body;
+  copy = None;
   leaf = leaf;
   unlinked = record { items = us };
   deed = deed;

@@ -11,6 +11,7 @@
 //! | `puts` | the words that they get, one after another |
 //! | `writes` | room for the words of one of them, from when they are planned until they are put |
 //! | `node`, `body` | the node that it makes, if it makes one, with all its words |
+//! | `copy` | the copy that it makes of a worn node, if it renews one |
 //! | `leaf` | the leaf that it links, if it links one |
 //! | `unlinked` | what goes: a leaf, a node |
 //! | `deed` | the command, with its answer |
@@ -34,12 +35,20 @@
 //!
 //! The cases of an insert are planned in `art_insert`, those of a removal in `art_remove`. `art_make` makes a change that was
 //! planned.
+//!
+//! # A worn node
+//!
+//! A counter that has come far is renewed: a copy of the node, with a number of its own, takes its place in the same change.
+//! `renew` adds that to a plan where the node's parent is no target, and `renew_below` where the new node is the parent. The
+//! result is a plan for two new nodes (`IsWhole`, `specs/Whole.antt`). No machine calls them yet.
 #![tactic(auto)]
 
 mod changes;
 mod parts;
+mod renewals;
 mod sites;
 
-pub use changes::{Change, Put, Target};
+pub use changes::{Change, Put, Target, Twin};
 pub use parts::{Below, begin, lock, make, put, unlink};
+pub use renewals::{renew, renew_below};
 pub use sites::{Site, added, dropped, replaced};

@@ -21,6 +21,10 @@ pub fn begin(change: &mut Change, deed: Deed, leaf: Option<u32>)
     change.targets.clear();
     change.puts.clear();
     change.node = None;
+    // a copy is large, and there is none but after a renewal
+    if change.copy.is_some() {
+        change.copy = None;
+    }
     change.leaf = leaf;
     change.unlinked.clear();
     change.deed = deed;

@@ -106,12 +106,12 @@ MadeSo u v what = SeesEvent u v None ⊎ MakesEvent u v what
 module _ (z : Sizes) (c : Change) (u v : View) where
   making_made : (m : Making) → MakeFits z c m u v → make_ended m ≡ None → MadeSo u v c.deed
   making_made (Upgrading i) fits on = let r = fits.stage.1.same.rest in inl (ap (λ (o : Rest). o.seen) r, ap (λ (o : Rest). o.own) r)
-  making_made Claiming fits on = let r = fits.stage.1.same.rest in inl (ap (λ (o : Rest). o.seen) r, ap (λ (o : Rest). o.own) r)
-  making_made (Filling place) fits on = let r = fits.stage.2.same.rest in inl (ap (λ (o : Rest). o.seen) r, ap (λ (o : Rest). o.own) r)
+  making_made (Claiming b) fits on = let r = fits.stage.1.same.rest in inl (ap (λ (o : Rest). o.seen) r, ap (λ (o : Rest). o.own) r)
+  making_made (Filling b place) fits on = let r = fits.stage.2.same.rest in inl (ap (λ (o : Rest). o.seen) r, ap (λ (o : Rest). o.own) r)
   making_made (Writing j) fits on = let r = fits.stage.1.same.rest in inl (ap (λ (o : Rest). o.seen) r, ap (λ (o : Rest). o.own) r)
   making_made Committing fits on = let r = fits.stage.same.rest in inl (ap (λ (o : Rest). o.seen) r, ap (λ (o : Rest). o.own) r)
   making_made (Releasing i) fits on = inr fits.stage.1.done.event
-  making_made ReleasingNode fits on = inr fits.stage.1.done.event
+  making_made (ReleasingNode b) fits on = inr fits.stage.1.done.event
   making_made (GivingUp locked released e) fits on = let r = fits.stage.2.failed.rest in inl (ap (λ (o : Rest). o.seen) r, ap (λ (o : Rest). o.own) r)
   making_made (Ended r) fits on = cc
 

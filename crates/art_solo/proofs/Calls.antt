@@ -77,10 +77,10 @@ seek_fits z turns u c n v (Insert k value) goes = absurd goes
 seek_fits z turns u c n v (Remove k) goes = absurd goes
 
 -- where a write goes on with no step, it knows the same of the words
-module _ (z : Sizes) (m : Memory) (u v : View) (ps : List Place) (n : Write) (r : Room) (qs : List Place) (fits : writes.Fits z u ps n r qs v) (current : v.own ≡ u.own → 310 < writes.steps_left n r qs → AreCurrent m v) where
+module _ (z : Sizes) (m : Memory) (u v : View) (ps : List Place) (n : Write) (r : Room) (qs : List Place) (fits : writes.Fits z u ps n r qs v) (current : v.own ≡ u.own → 582 < writes.steps_left n r qs → AreCurrent m v) where
   record Waits (a : Write) (s : Room) (rs : List Place) : Type 0 where
     knows : writes.Fits z u ps a s rs v
-    same : v.own ≡ u.own → 310 < writes.steps_left a s rs → AreCurrent m v
+    same : v.own ≡ u.own → 582 < writes.steps_left a s rs → AreCurrent m v
 
   waits_on : (times : ℕ) (a : Write) (s : Room) (rs : List Place) → WriteWaits times z v n r qs a s rs → Waits a s rs
   waits_on zero a s rs waits =

@@ -34,7 +34,8 @@ use Rattle.art_make.specs.declared.asked.Asked.{Asked as ChangeAsked}
 use Rattle.art_make.specs.declared.asked.Asked.TheVariants as change
 use Rattle.art_make.specs.declared.making.Making.{Making}
 use Rattle.art_make.specs.declared.making.Making.TheVariants.{Upgrading, Claiming, Filling, Writing, Committing, Releasing, ReleasingNode, GivingUp, Ended}
-use Rattle.art_plan.specs.Changes.{node_made, put_at, target_at}
+use Rattle.art_plan.specs.Changes.{put_at, target_at}
+use Rattle.art_plan.specs.Whole.{made_at, made_word}
 use Rattle.art_plan.specs.declared.changes.Change.{Change as ChangeOf}
 use Rattle.art_plan.specs.declared.changes.Put.{Put}
 use Rattle.art_plan.specs.declared.changes.Target.{Target}
@@ -49,24 +50,24 @@ use Rattle.art_step.specs.declared.views.View.{View}
 
 -- ---- how many steps are left
 
--- more than 303 of them: an upgrade may come, and each step after those of a change that is given up
-many_tries : (left : ℕ) → 0 < left → 303 < tries_left left
+-- more than 575 of them: an upgrade may come, and each step after those of a change that is given up
+many_tries : (left : ℕ) → 0 < left → 575 < tries_left left
 many_tries left some = let same = tries_some left some in omega (arith, same)
 
-many_held : (left i : ℕ) → i ≤ 2 → 303 < held_left left (Upgrading i)
+many_held : (left i : ℕ) → i ≤ 4 → 575 < held_left left (Upgrading i)
 many_held left i few = ⊎_elim
     (λ (e : (left == 0) ≡ true). rw e (omega (arith, few)))
     (λ (e : (left == 0) ≡ false). rw e (omega arith))
     (cases_Bool (left == 0))
 
-many_upgrades : (left i : ℕ) → i ≤ 2 → (is_begun (Upgrading i) ≡ true → 0 < left) → 303 < making_left left (Upgrading i)
+many_upgrades : (left i : ℕ) → i ≤ 4 → (is_begun (Upgrading i) ≡ true → 0 < left) → 575 < making_left left (Upgrading i)
 many_upgrades left i few some = ⊎_elim
     (λ (e : (i == 0) ≡ true). rw e (many_tries left (some e)))
     (λ (e : (i == 0) ≡ false). rw e (many_held left i few))
     (cases_Bool (i == 0))
 
 -- at most so many are left of a change that is given up for a counter
-few_given_up : (left locked released : ℕ) (c : CellOf) → held_left left (GivingUp locked released (fault.Exhausted c)) ≤ 303
+few_given_up : (left locked released : ℕ) (c : CellOf) → held_left left (GivingUp locked released (fault.Exhausted c)) ≤ 575
 few_given_up left locked released c = ⊎_elim
     (λ (e : (left == 0) ≡ true). rw e (omega arith))
     (λ (e : (left == 0) ≡ false). rw e (omega arith))
@@ -98,39 +99,39 @@ module _ (z : Sizes) (c : ChangeOf) (u v : View) (a : ChangeAsked) where
 
   -- an upgrade comes while nothing is told
   abbrev IsEarly : ℕ → Making → Type 0
-  IsEarly left m = (v.own ≡ u.own) × (303 < making_left left m)
+  IsEarly left m = (v.own ≡ u.own) × (575 < making_left left m)
 
   upgrade_early : (left : ℕ) (m : Making) → making.Fits z c m u v → (is_begun m ≡ true → 0 < left) → making.asks c m ≡ Some a → AsksUpgrade a → IsEarly left m
   upgrade_early left (Upgrading i) fits some is up =
       let few = fits.small.targets in
       let low = fits.stage.0 in
       (ap (λ (o : Rest). o.own) fits.stage.1.same.rest, many_upgrades left i (omega (arith, few, low)) some)
-  upgrade_early left Claiming fits some is up = absurd (by_none (λ b. AsksUpgrade b → ⊥) change.Claim (node_made c) is (λ n o. (let e = o.1 in cc)) up)
-  upgrade_early left (Filling place) fits some is up = absurd (by_none (λ b. AsksUpgrade b → ⊥) (λ (n : Node). change.Write (cell.Node n) place (word_of c.body place)) (node_made c) is (λ n o. (let e = o.1 in cc)) up)
-  upgrade_early left (Writing j) fits some is up = absurd (by_put (λ b. AsksUpgrade b → ⊥) (put_at c j) is (λ q x o. (let e = o.1 in cc)) up)
-  upgrade_early left Committing fits some is up = absurd (by_none (λ b. AsksUpgrade b → ⊥) (λ (x : Target). change.Commit x.stamp.cell x.obsolete) (target_at c 0) is (λ x o. (let e = o.1 in cc)) up)
-  upgrade_early left (Releasing i) fits some is up = absurd (by_none (λ b. AsksUpgrade b → ⊥) releases (target_at c i) is (λ x o. (let e = o.1 in cc)) up)
-  upgrade_early left ReleasingNode fits some is up = absurd (by_none (λ b. AsksUpgrade b → ⊥) (λ (n : Node). change.Release (cell.Node n) false) (node_made c) is (λ n o. (let e = o.1 in cc)) up)
-  upgrade_early left (GivingUp locked released e) fits some is up = absurd (by_none (λ b. AsksUpgrade b → ⊥) (λ (x : Target). change.Release x.stamp.cell false) (target_at c released) is (λ x o. (let e = o.1 in cc)) up)
+  upgrade_early left (Claiming b) fits some is up = absurd (by_none (λ q. AsksUpgrade q → ⊥) change.Claim (made_at b c) is (λ n o. (let e = o.1 in cc)) up)
+  upgrade_early left (Filling b place) fits some is up = absurd (by_none (λ q. AsksUpgrade q → ⊥) (λ (n : Node). change.Write (cell.Node n) place (made_word b c place)) (made_at b c) is (λ n o. (let e = o.1 in cc)) up)
+  upgrade_early left (Writing j) fits some is up = absurd (by_put (λ q. AsksUpgrade q → ⊥) (put_at c j) is (λ q x o. (let e = o.1 in cc)) up)
+  upgrade_early left Committing fits some is up = absurd (by_none (λ q. AsksUpgrade q → ⊥) (λ (x : Target). change.Commit x.stamp.cell x.obsolete) (target_at c 0) is (λ x o. (let e = o.1 in cc)) up)
+  upgrade_early left (Releasing i) fits some is up = absurd (by_none (λ q. AsksUpgrade q → ⊥) releases (target_at c i) is (λ x o. (let e = o.1 in cc)) up)
+  upgrade_early left (ReleasingNode b) fits some is up = absurd (by_none (λ q. AsksUpgrade q → ⊥) (λ (n : Node). change.Release (cell.Node n) false) (made_at b c) is (λ n o. (let e = o.1 in cc)) up)
+  upgrade_early left (GivingUp locked released e) fits some is up = absurd (by_none (λ q. AsksUpgrade q → ⊥) (λ (x : Target). change.Release x.stamp.cell false) (target_at c released) is (λ x o. (let e = o.1 in cc)) up)
   upgrade_early left (Ended r) fits some is up = absurd (cc)
 
-  given_up_few : (left locked released : ℕ) (e : UpgradeFault) (x : Target) → Fails u x e v → v.failures ≤ u.failures → held_left left (GivingUp locked released e) ≤ 303
+  given_up_few : (left locked released : ℕ) (e : UpgradeFault) (x : Target) → Fails u x e v → v.failures ≤ u.failures → held_left left (GivingUp locked released e) ≤ 575
   given_up_few left locked released (fault.Changed e) x fails few = let more = fails.3 in absurd (omega (arith, more, few))
   given_up_few left locked released (fault.Exhausted d) x fails few = few_given_up left locked released d
 
   -- a release comes after an event, after a failure, or where few steps are left
-  release_late : (left : ℕ) (m : Making) → making.Fits z c m u v → making.asks c m ≡ Some a → AsksRelease a → v.own ≡ u.own → v.failures ≤ u.failures → 303 < making_left left m → ⊥
+  release_late : (left : ℕ) (m : Making) → making.Fits z c m u v → making.asks c m ≡ Some a → AsksRelease a → v.own ≡ u.own → v.failures ≤ u.failures → 575 < making_left left m → ⊥
   release_late left (Releasing i) fits is up own few many = no_event u v c.deed fits.stage.1.done.event own
-  release_late left ReleasingNode fits is up own few many = no_event u v c.deed fits.stage.1.done.event own
+  release_late left (ReleasingNode b) fits is up own few many = no_event u v c.deed fits.stage.1.done.event own
   release_late left (GivingUp locked released e) fits is up own few many =
       let failed = fits.stage.2.failed in
       let low = given_up_few left locked released e failed.target failed.fails few in
       absurd (omega (arith, low, many))
-  release_late left (Upgrading i) fits is up own few many = by_none (λ b. AsksRelease b → ⊥) (λ (x : Target). change.Upgrade x.stamp) (target_at c i) is (λ x o. (let e = o.2 in cc)) up
-  release_late left Claiming fits is up own few many = by_none (λ b. AsksRelease b → ⊥) change.Claim (node_made c) is (λ n o. (let e = o.2 in cc)) up
-  release_late left (Filling place) fits is up own few many = by_none (λ b. AsksRelease b → ⊥) (λ (n : Node). change.Write (cell.Node n) place (word_of c.body place)) (node_made c) is (λ n o. (let e = o.2 in cc)) up
-  release_late left (Writing j) fits is up own few many = by_put (λ b. AsksRelease b → ⊥) (put_at c j) is (λ q x o. (let e = o.2 in cc)) up
-  release_late left Committing fits is up own few many = by_none (λ b. AsksRelease b → ⊥) (λ (x : Target). change.Commit x.stamp.cell x.obsolete) (target_at c 0) is (λ x o. (let e = o.2 in cc)) up
+  release_late left (Upgrading i) fits is up own few many = by_none (λ q. AsksRelease q → ⊥) (λ (x : Target). change.Upgrade x.stamp) (target_at c i) is (λ x o. (let e = o.2 in cc)) up
+  release_late left (Claiming b) fits is up own few many = by_none (λ q. AsksRelease q → ⊥) change.Claim (made_at b c) is (λ n o. (let e = o.2 in cc)) up
+  release_late left (Filling b place) fits is up own few many = by_none (λ q. AsksRelease q → ⊥) (λ (n : Node). change.Write (cell.Node n) place (made_word b c place)) (made_at b c) is (λ n o. (let e = o.2 in cc)) up
+  release_late left (Writing j) fits is up own few many = by_put (λ q. AsksRelease q → ⊥) (put_at c j) is (λ q x o. (let e = o.2 in cc)) up
+  release_late left Committing fits is up own few many = by_none (λ q. AsksRelease q → ⊥) (λ (x : Target). change.Commit x.stamp.cell x.obsolete) (target_at c 0) is (λ x o. (let e = o.2 in cc)) up
   release_late left (Ended r) fits is up own few many = absurd (cc)
 
 -- ---- an attempt that began with the view b
@@ -149,7 +150,7 @@ IsRelease a = (d : CellOf) × (b : Bool) × (a ≡ Change (change.Release d b))
 module _ (z : Sizes) (b v : View) (r : Room) (a : Asked) (left : ℕ) where
   -- it has told nothing, and many steps are left
   abbrev IsEarlyBy : ℕ → Type 0
-  IsEarlyBy n = (v.own ≡ b.own) × (303 < n)
+  IsEarlyBy n = (v.own ≡ b.own) × (575 < n)
 
   no_look_supply : (o : Option SupplyAsked) → option_map Supply o ≡ Some a → IsLook a → ⊥
   no_look_supply o is look = let k = map_some Supply o a is in subst IsLook (sym k.2) look
@@ -168,7 +169,7 @@ module _ (z : Sizes) (b v : View) (r : Room) (a : Asked) (left : ℕ) where
   no_release_supply o is up = let k = map_some Supply o a is in let e : Supply k.0 ≡ Change (change.Release up.0 up.1) = k.2 ∙ up.2 in cc
 
   release_change : (early : View) (n : Making) → StillTries b early → making.Fits z r.change n early v → option_map Change (making.asks r.change n) ≡ Some a → IsRelease a → v.own ≡ b.own → v.failures ≤ b.failures
-      → 303 < making_left left n → ⊥
+      → 575 < making_left left n → ⊥
   release_change early n base fits is up own few many =
       let k = map_some Change (making.asks r.change n) a is in
       let e : Change k.0 ≡ Change (change.Release up.0 up.1) = k.2 ∙ up.2 in
@@ -187,7 +188,7 @@ module _ (z : Sizes) (b v : View) (r : Room) (a : Asked) (left : ℕ) where
   insert_look i short (insert.Ended e) fits some is look = absurd (cc)
 
   pub insert_release : (i : Insertion) (s : InsertStage) → inserts.StageFits z b s i r v → inserts.asks_at s i r ≡ Some a → IsRelease a → v.own ≡ b.own → v.failures ≤ b.failures
-      → 303 < inserts.left_at left s i.making → ⊥
+      → 575 < inserts.left_at left s i.making → ⊥
   insert_release i insert.Finding fits is up own few many = no_release_cell (inserts.finding_asks i.finding) is up
   insert_release i insert.Supplying fits is up own few many = no_release_supply (inserts.supply_asks i r) is up
   insert_release i insert.Vouching fits is up own few many = no_release_cell (inserts.vouching_asks i) is up
@@ -207,7 +208,7 @@ module _ (z : Sizes) (b v : View) (r : Room) (a : Asked) (left : ℕ) where
   erase_look i short (erase.Ended e) fits some is look = absurd (cc)
 
   pub erase_release : (i : Erasure) (s : EraseStage) → erases.StageFits z b s i r v → erases.asks_at s i r ≡ Some a → IsRelease a → v.own ≡ b.own → v.failures ≤ b.failures
-      → 303 < erases.left_at left s i.making → ⊥
+      → 575 < erases.left_at left s i.making → ⊥
   erase_release i erase.Finding fits is up own few many = no_release_cell (erases.finding_asks i.finding) is up
   erase_release i (erase.Supplying layout) fits is up own few many = no_release_supply (erases.supply_asks i r) is up
   erase_release i (erase.Reading q) fits is up own few many = no_release_cell (erases.reading_asks i q) is up

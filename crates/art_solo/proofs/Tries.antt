@@ -1,5 +1,5 @@
 -- An attempt that alone makes steps: what it asks for is founded.
-use Rattle.std.proofs.Common.{◌≡◌, ◌≤◌, ℕ, false, List, [], length, Option, Some, None, IfSome, refl, sym, ap, ◌∙◌, subst, arith, ⊎_elim}
+use Rattle.std.proofs.Common.{◌≡◌, ◌<◌, ◌≤◌, ℕ, Bool, true, false, List, [], length, Option, Some, None, IfSome, refl, sym, ap, ◌∙◌, subst, arith, ⊎_elim}
 use Rattle.std.proofs.lemmas.Option.{same_Some}
 use Rattle.std.specs.Option.{option_and_then, option_map}
 use Rattle.std.specs.Prelude.{⊤}
@@ -34,14 +34,15 @@ use Rattle.art_gather.specs.declared.supplying.Wants.{Wants}
 use Rattle.art_make.proofs.Told.{map_some}
 use Rattle.art_make.specs.Asking.{IsAllowed as MayChange}
 use Rattle.art_make.specs.Making as making
-use Rattle.art_make.specs.Making.{put_into, releases}
+use Rattle.art_make.specs.Making.{put_into, releases, so_many}
 use Rattle.art_make.specs.declared.asked.Asked.{Asked as ChangeAsked}
 use Rattle.art_make.specs.declared.asked.Asked.TheVariants as change
 use Rattle.art_make.specs.declared.making.Making.{Making}
 use Rattle.art_make.specs.declared.making.Making.TheVariants.{Upgrading, Claiming, Filling, Writing, Committing, Releasing, ReleasingNode, GivingUp, Ended}
 use Rattle.art_place.specs.Findings.{stand_at}
 use Rattle.art_place.specs.declared.findings.Stand.{Stand}
-use Rattle.art_plan.specs.Changes.{Holds, IsNew, IsPlanned, IsTarget, node_made, put_at, target_at}
+use Rattle.art_plan.specs.Changes.{IsTarget, put_at, target_at}
+use Rattle.art_plan.specs.Whole.{HoldsWhole, IsNewBy, IsWhole, made_at, made_word}
 use Rattle.art_plan.specs.declared.changes.Change.{Change as ChangeOf}
 use Rattle.art_plan.specs.declared.changes.Put.{Put}
 use Rattle.art_plan.specs.declared.changes.Target.{Target}
@@ -75,14 +76,18 @@ IsTryFounded z m v (Change a) = IsChangeFounded v a
 
 -- ---- the making of a change
 
+none_new : (b : Bool) → 0 < so_many 0 0 b → ⊥
+none_new true some = omega (arith, some)
+none_new false some = omega (arith, some)
+
 -- the targets above it are other cells
-not_locked_yet : (z : Sizes) (u : View) (c : ChangeOf) (i : ℕ) (x : Target) (hs : List Holding) → IsPlanned z u c → target_at c i ≡ Some x → Holds u c 0 i [] 0 hs → IsNotHeld hs x.stamp.cell
+not_locked_yet : (z : Sizes) (u : View) (c : ChangeOf) (i : ℕ) (x : Target) (hs : List Holding) → IsWhole z u c → target_at c i ≡ Some x → HoldsWhole u c 0 i [] (so_many 0 0) hs → IsNotHeld hs x.stamp.cell
 not_locked_yet z u c i x hs planned is holds h there same = ⊎_elim
     (λ (t : IsTarget u c 0 i [] h).
     let one = planned.apart t.index i t.target x t.is is (sym t.locked.cell ∙ same) in
     let below = t.below in
     absurd (omega (arith, one, below)))
-    (λ (n : IsNew u c 0 h). let some = n.some in absurd (omega (arith, some)))
+    (λ (n : IsNewBy u c (so_many 0 0) h). absurd (none_new n.which n.some))
     (holds.only h there)
 
 module _ (z : Sizes) (c : ChangeOf) (u v : View) (a : ChangeAsked) (may : MayChange z c v a) where
@@ -93,7 +98,7 @@ module _ (z : Sizes) (c : ChangeOf) (u v : View) (a : ChangeAsked) (may : MayCha
   puts_founded (Some q) is = asks_founded (put_into q) (target_at c q.target) is (λ x. tt)
   puts_founded None is = absurd (cc)
 
-  upgrade_founded : (i : ℕ) → IsPlanned z u c → Holds u c 0 i [] 0 v.held → (x : Target) → target_at c i ≡ Some x → change.Upgrade x.stamp ≡ a → IsChangeFounded v a
+  upgrade_founded : (i : ℕ) → IsWhole z u c → HoldsWhole u c 0 i [] (so_many 0 0) v.held → (x : Target) → target_at c i ≡ Some x → change.Upgrade x.stamp ≡ a → IsChangeFounded v a
   upgrade_founded i planned holds x is same =
       let allowed : MayChange z c v (change.Upgrade x.stamp) = subst (MayChange z c v) (sym same) may in
       subst (IsChangeFounded v) same (allowed.stamp, not_locked_yet z u c i x v.held planned is holds)
@@ -102,12 +107,12 @@ module _ (z : Sizes) (c : ChangeOf) (u v : View) (a : ChangeAsked) (may : MayCha
   making_founded (Upgrading i) fits is =
       let k = map_some (λ (x : Target). change.Upgrade x.stamp) (target_at c i) a is in
       upgrade_founded i fits.planned fits.stage.1.holds k.0 k.1 k.2
-  making_founded Claiming fits is = asks_founded change.Claim (node_made c) is (λ n. tt)
-  making_founded (Filling place) fits is = asks_founded (λ (n : Node). change.Write (cell.Node n) place (word_of c.body place)) (node_made c) is (λ n. tt)
+  making_founded (Claiming b) fits is = asks_founded change.Claim (made_at b c) is (λ n. tt)
+  making_founded (Filling b place) fits is = asks_founded (λ (n : Node). change.Write (cell.Node n) place (made_word b c place)) (made_at b c) is (λ n. tt)
   making_founded (Writing j) fits is = puts_founded (put_at c j) is
   making_founded Committing fits is = asks_founded (λ (x : Target). change.Commit x.stamp.cell x.obsolete) (target_at c 0) is (λ x. tt)
   making_founded (Releasing i) fits is = asks_founded releases (target_at c i) is (λ x. tt)
-  making_founded ReleasingNode fits is = asks_founded (λ (n : Node). change.Release (cell.Node n) false) (node_made c) is (λ n. tt)
+  making_founded (ReleasingNode b) fits is = asks_founded (λ (n : Node). change.Release (cell.Node n) false) (made_at b c) is (λ n. tt)
   making_founded (GivingUp locked released e) fits is = asks_founded (λ (x : Target). change.Release x.stamp.cell false) (target_at c released) is (λ x. tt)
   making_founded (Ended r) fits is = absurd (cc)
 

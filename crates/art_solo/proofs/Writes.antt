@@ -120,13 +120,13 @@ module _ (z : Sizes) (m : Memory) (u b v : View) (had : HasFound m u v) (timely 
   try_founded may Remove (Inserting i) fits is = absurd fits
 
 module _ (z : Sizes) (b v : View) (r : Room) (a : AttemptAsked) (left : ℕ) where
-  try_look : (j : Job) (t : Trying) → tries.Fits z b j t r v → (tries.is_free t ≡ true → 0 < left) → tries.asks t r ≡ Some a → IsLook a → (v.own ≡ b.own) × (303 < tries.steps_left left t)
+  try_look : (j : Job) (t : Trying) → tries.Fits z b j t r v → (tries.is_free t ≡ true → 0 < left) → tries.asks t r ≡ Some a → IsLook a → (v.own ≡ b.own) × (575 < tries.steps_left left t)
   try_look Insert (Inserting i) fits some is look = insert_look z b v r a left i fits.room.key.short i.stage fits.stage some is look
   try_look Remove (Erasing i) fits some is look = erase_look z b v r a left i fits.room.key.short i.stage fits.stage some is look
   try_look Insert (Erasing i) fits some is look = absurd fits
   try_look Remove (Inserting i) fits some is look = absurd fits
 
-  try_release : (j : Job) (t : Trying) → tries.Fits z b j t r v → tries.asks t r ≡ Some a → IsRelease a → v.own ≡ b.own → v.failures ≤ b.failures → 303 < tries.steps_left left t → ⊥
+  try_release : (j : Job) (t : Trying) → tries.Fits z b j t r v → tries.asks t r ≡ Some a → IsRelease a → v.own ≡ b.own → v.failures ≤ b.failures → 575 < tries.steps_left left t → ⊥
   try_release Insert (Inserting i) fits is up own few many = insert_release z b v r a left i i.stage fits.stage is up own few many
   try_release Remove (Erasing i) fits is up own few many = erase_release z b v r a left i i.stage fits.stage is up own few many
   try_release Insert (Erasing i) fits is up own few many = absurd fits
@@ -137,12 +137,12 @@ module _ (z : Sizes) (b v : View) (r : Room) (a : AttemptAsked) (left : ℕ) whe
 module _ (z : Sizes) (p : ℕ) (m : Memory) (f : Views) (m' : Memory) (f' : Views) (u v w : View) (had : HasFound m u v) (timely : IsTimely u) (none : v.failures ≡ u.failures) where
   -- as long as nothing is told and many steps are left, stamps are current
   abbrev pub IsCurrentFor : Memory → View → ℕ → Type 0
-  IsCurrentFor k x left = x.own ≡ u.own → 310 < left → AreCurrent k x
+  IsCurrentFor k x left = x.own ≡ u.own → 582 < left → AreCurrent k x
 
   -- it did not fail, and where nothing is told and many steps were left, stamps are current still
   record Goes (left : ℕ) : Type 0 where
     failures : w.failures ≡ v.failures
-    keeps : v.own ≡ u.own → w.own ≡ v.own → 310 < left → AreCurrent m' w
+    keeps : v.own ≡ u.own → w.own ≡ v.own → 582 < left → AreCurrent m' w
 
   module _ (at : IsMoment z p m f m' f' v w) (d : Deed) (r : Room) where
     frame_row : (a : FrameAsked) (answer : Answer) → Answers z d r.change (Frame a) answer v w → (x : ℕ) × FrameAnswers z a x v w
@@ -154,7 +154,7 @@ module _ (z : Sizes) (p : ℕ) (m : Memory) (f : Views) (m' : Memory) (f' : View
     attempt_row a (told.Word x) row = absurd row
 
     module _ (asked : Asked) (answer : Answer) (may : IsAllowed z d r.change v asked) (row : Answers z d r.change asked answer v w) where
-      frame_goes : (o : Option FrameAsked) (left : ℕ) → option_map Frame o ≡ Some asked → ((a : FrameAsked) → o ≡ Some a → IsFrameFounded m a) → (v.own ≡ u.own → 310 < left → AreCurrent m v) → Goes left
+      frame_goes : (o : Option FrameAsked) (left : ℕ) → option_map Frame o ≡ Some asked → ((a : FrameAsked) → o ≡ Some a → IsFrameFounded m a) → (v.own ≡ u.own → 582 < left → AreCurrent m v) → Goes left
       frame_goes o left is founded current =
           let k = map_some Frame o asked is in
           let x = frame_row k.0 answer (subst (λ (a : Asked). Answers z d r.change a answer v w) (sym k.2) row) in
@@ -165,7 +165,7 @@ module _ (z : Sizes) (p : ℕ) (m : Memory) (f : Views) (m' : Memory) (f' : View
           }
 
       attempt_goes : (b : View) (j : Job) (t : Trying) (left : ℕ) → u.steps ≤ b.steps → u.failures ≤ b.failures → b.own ≡ u.own → tries.Fits z b j t r v → (tries.is_free t ≡ true → 0 < left)
-          → option_map Attempt (tries.asks t r) ≡ Some asked → (v.own ≡ u.own → 310 < tries.steps_left left t + 7 → AreCurrent m v) → Goes (tries.steps_left left t + 7)
+          → option_map Attempt (tries.asks t r) ≡ Some asked → (v.own ≡ u.own → 582 < tries.steps_left left t + 7 → AreCurrent m v) → Goes (tries.steps_left left t + 7)
       attempt_goes b j t left late low begun fits some is current =
           let k = map_some Attempt (tries.asks t r) asked is in
           let x = attempt_row k.0 answer (subst (λ (a : Asked). Answers z d r.change a answer v w) (sym k.2) row) in
@@ -179,7 +179,7 @@ module _ (z : Sizes) (p : ℕ) (m : Memory) (f : Views) (m' : Memory) (f' : View
           }
 
       module _ (ps qs : List Place) (n : Write) where
-        write_goes : (s : Stage) → StageFits z u ps s n r qs v → (v.own ≡ u.own → 310 < left_at s n r qs → AreCurrent m v) → asks_at s n r qs ≡ Some asked → Goes (left_at s n r qs)
+        write_goes : (s : Stage) → StageFits z u ps s n r qs v → (v.own ≡ u.own → 582 < left_at s n r qs → AreCurrent m v) → asks_at s n r qs ≡ Some asked → Goes (left_at s n r qs)
         write_goes stage.Opening fits current is = frame_goes (openings.asks n.opening qs) (left_at stage.Opening n r qs) is (λ a asks. opening_founded m a n.opening qs asks) current
         write_goes stage.Trying fits current is =
             let t = fits.0 in

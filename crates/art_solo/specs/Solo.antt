@@ -19,10 +19,10 @@ use Rattle.art_step.specs.declared.views.Sizes.{Sizes}
 use Rattle.art_step.specs.declared.views.View.{View}
 use Rattle.art_world.specs.Lasting.{IsLasting, IsTimely}
 
--- as long as it has told nothing, stamps are current; of a write only while more than 310 steps are left, since a change that is given up
+-- as long as it has told nothing, stamps are current; of a write only while more than 582 steps are left, since a change that is given up
 -- for a counter at its end has no more
 abbrev pub IsCurrentBy : Memory → View → View → Caller → Call → Type 0
-IsCurrentBy m u v c (call.Write n) = v.own ≡ u.own → 310 < writes.steps_left n c.room (places_of c.limbo) → AreCurrent m v
+IsCurrentBy m u v c (call.Write n) = v.own ≡ u.own → 582 < writes.steps_left n c.room (places_of c.limbo) → AreCurrent m v
 IsCurrentBy m u v c (call.Seek n) = v.own ≡ u.own → AreCurrent m v
 
 -- the call was begun at the view u and has come to the view v: the pass p is alone, and no step failed since

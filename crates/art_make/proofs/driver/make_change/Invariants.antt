@@ -13,4 +13,4 @@ invariant-loop-result g l = record {
 }
 
 abbrev pub decreases-loop-result : goal.decreases-loop-result
-decreases-loop-result g l = 306 - most_steps l.making
+decreases-loop-result g l = 580 - most_steps l.making

@@ -8,7 +8,8 @@ use Rattle.art_make.proofs.Locking.{write_on}
 use Rattle.art_make.proofs.Told.{put_target}
 use Rattle.art_make.proofs.Written.{more_writes, one_write}
 use Rattle.art_make.specs.Making.{IsLocking}
-use Rattle.art_plan.specs.Changes.{filled_end, put_at, target_at, targets}
+use Rattle.art_plan.specs.Changes.{put_at, target_at, targets}
+use Rattle.art_plan.specs.Whole.{filled_ends}
 use Rattle.art_plan.specs.declared.changes.Put.{Put}
 use Rattle.art_step.specs.Steps.Write as write
 use Rattle.art_step.specs.Tokens.{cell_held}
@@ -28,7 +29,7 @@ write-requires-clause-may g c =
     let z = g.S.Steps.sizes c.args.steps.now in
     let q = c.requires.planned in
     let ch = c.args.change.now in
-    let m = may_write z q.0 ch q.1 c.loop-index.index (filled_end ch) c.in-Some.put c.in-Some-target.target (g.S.Steps.view c.loop-index.steps)
+    let m = may_write z q.0 ch q.1 c.loop-index.index (filled_ends ch) c.in-Some.put c.in-Some-target.target (g.S.Steps.view c.loop-index.steps)
     (sym c.put.ensures ∙ c.in-Some.is) (sym c.target.ensures ∙ c.in-Some-target.is) (c.loop-index.invariant.put z q.0 q.1 q.2) in
     (m.holding, m.cell ∙ sym c.of-held.ensures, m.may)
 
@@ -39,7 +40,7 @@ write-requires-clause-child g c =
     let ch = c.args.change.now in
     let p = c.in-Some.put in
     let i = c.loop-index.invariant in
-    let m = may_write z q.0 ch q.1 c.loop-index.index (filled_end ch) p c.in-Some-target.target (g.S.Steps.view c.loop-index.steps)
+    let m = may_write z q.0 ch q.1 c.loop-index.index (filled_ends ch) p c.in-Some-target.target (g.S.Steps.view c.loop-index.steps)
     (sym c.put.ensures ∙ c.in-Some.is) (sym c.target.ensures ∙ c.in-Some-target.is) (i.put z q.0 q.1 q.2) in
     subst (λ (y : Sizes). IsChildPlace (cell_held c.of-held.result) p.place → IsChildWord y p.value) (sym i.sizes)
     (subst (λ (d : Cell). IsChildPlace d p.place → IsChildWord z p.value) (sym c.of-held.ensures) m.child)
@@ -61,14 +62,14 @@ loop-index-preserved g c =
     let is : target_at ch p.target ≡ Some x = sym c.target.ensures ∙ c.in-Some-target.is in
     let row : (h : Holding) → IsHolding v x.stamp.cell h → write.Outcome v w h p.place p.value = λ h k.
     c.write.ensures.row h (subst (λ (d : Cell). IsHolding v d h) (sym c.of-held.ensures) k) in
-    let m = may_write z q.0 ch q.1 j (filled_end ch) p x v at is (i.put z q.0 q.1 q.2) in
+    let m = may_write z q.0 ch q.1 j (filled_ends ch) p x v at is (i.put z q.0 q.1 q.2) in
     let one = one_write v w m.holding p.place p.value (row m.holding (m.may.held, m.cell)) in
     let above = c.loop-index.auto.index in
     record {
       only = g.met.S.Steps.only_then s t c.write.new.self i.only c.write.ensures.only;
       sizes = g.met.S.Steps.only_sizes t c.write.new.self c.write.ensures.only ∙ i.sizes;
       made = more_writes (g.S.Steps.view s) v w (j - c.args.from) 1 (j + 1 - c.args.from) i.made one (omega (arith, above));
-      put = λ y u planned was. write_on y u ch planned j (filled_end ch) p x v w at is (i.put y u planned was) row;
+      put = λ y u planned was. write_on y u ch planned j (filled_ends ch) p x v w at is (i.put y u planned was) row;
     }
 
 pub returns-clause-put : goal.returns-clause-put
@@ -76,5 +77,5 @@ returns-clause-put g c z u planned was =
     let ch = c.args.change.now in
     let count = c.len-count.ensures.value in
     let over = c.loop-index-test.false in
-    subst (λ (ps : List Put). IsLocking u ch (targets ch) ps (filled_end ch) (g.S.Steps.view c.loop-index.steps)) (take_all c.loop-index.index ch.puts.items (omega (arith, count, over)))
+    subst (λ (ps : List Put). IsLocking u ch (targets ch) ps (filled_ends ch) (g.S.Steps.view c.loop-index.steps)) (take_all c.loop-index.index ch.puts.items (omega (arith, count, over)))
     (c.loop-index.invariant.put z u planned was)

@@ -1,5 +1,5 @@
 -- The steps are those of the finding.
-use Rattle.std.proofs.Common.{◌≡◌, ◌∙◌, Bool, true, false, List, ℕ, sym, subst}
+use Rattle.std.proofs.Common.{◌≡◌, Bool, List, ℕ, sym, subst}
 use Rattle.art_attempt.proofs.Heard.{comes_back, descends_so}
 use Rattle.art_attempt.specs.Inserting.{Fits, IsFinding, StageFits, present_of}
 use Rattle.art_attempt.specs.declared.inserting.Inserting.{Inserting}

@@ -158,6 +158,7 @@ loop-self-preserved-then-is_writing g c =
           spent = h.spent;
           locks = h.locks;
           has = h.has;
+          plain = h.plain;
           leaf = h.leaf;
           deed = h.deed;
           fits = k.fits z h.early h.fits;

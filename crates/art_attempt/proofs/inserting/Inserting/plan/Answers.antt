@@ -5,6 +5,7 @@ use Rattle.art_attempt.proofs.inserting.Inserting.plan.Goals as goal
 use Rattle.art_attempt.specs.Rooms.{number_for}
 use Rattle.art_decide.specs.Plans.{HasNeeded}
 use Rattle.art_decide.specs.declared.needs.Needs.{Needs}
+use Rattle.art_plan.proofs.Renewing.{plain_whole}
 
 pub plan_insert-requires-clause-seen : goal.plan_insert-requires-clause-seen
 plan_insert-requires-clause-seen c =
@@ -31,9 +32,10 @@ returns-clause-fits c z u v room h is =
           spent = vouched_spent z u m r v h;
           locks = record { only = c.plan_insert.ensures.locks; each = vouched_each z u m r v h is };
           has = so.has;
+          plain = planned.plain;
           leaf = c.plan_insert.ensures.leaf ∙ sym at;
           deed = c.plan_insert.ensures.deed;
-          fits = c.new-self.ensures.fits z v planned so.still.free;
+          fits = c.new-self.ensures.fits z v (plain_whole z v c.plan_insert.new.change planned) so.still.free;
         },
         c.new-self.ensures.going c.plan_insert.ensures.targets,
       );

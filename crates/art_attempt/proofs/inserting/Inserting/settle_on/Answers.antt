@@ -1,13 +1,13 @@
 -- The check is that of the place.
 use Rattle.std.proofs.Common.{◌≡◌, ◌∙◌, Some, sym, ap, subst, arith}
 use Rattle.art_attempt.proofs.Finds.{asks_check, finding_allowed, may_look}
-use Rattle.art_attempt.specs.Inserting.{Fits, IsFinding, StageFits, check_of, deed_at}
+use Rattle.art_attempt.specs.Inserting.{Fits, IsFinding, StageFits, deed_at}
 use Rattle.art_attempt.specs.declared.inserting.Inserting.{Inserting}
 use Rattle.art_attempt.specs.declared.inserting.Stage.{Stage}
 use Rattle.art_attempt.specs.declared.inserting.Stage.TheVariants.{Finding}
 use Rattle.art_attempt.specs.declared.rooms.Room.{Room}
 use Rattle.art_find.proofs.Counting.{answers_count}
-use Rattle.art_find.specs.Asking.{Answers, IsAllowed}
+use Rattle.art_find.specs.Asking.{Answers}
 use Rattle.art_find.specs.declared.asked.Asked.{Asked}
 use Rattle.art_step.specs.declared.views.Sizes.{Sizes}
 use Rattle.art_step.specs.declared.views.View.{View}

@@ -1,9 +1,9 @@
-use Rattle.std.proofs.Common.{◌≡◌, Some, sym, subst}
-use Rattle.art_attempt.specs.Asking.{Answers, cell_in}
+use Rattle.std.proofs.Common.{◌≡◌, ◌<◌, ◌-◌, true, Some, sym, subst}
+use Rattle.art_attempt.specs.Asking.{Answers, cell_in, steps_in}
 use Rattle.art_change.proofs.EitherKind.{erase_anew, erases_on, insert_anew, inserts_on}
 use Rattle.art_change.proofs.Overlaps.{erase_apart, insert_overlaps}
 use Rattle.art_change.proofs.tries.Trying.told.Goals as goal
-use Rattle.art_change.specs.Tries.{Fits, IsAnewBy, IsOverlapBy, asks, deed_at}
+use Rattle.art_change.specs.Tries.{Fits, IsAnewBy, IsOverlapBy, asks, deed_at, is_free, steps_left}
 use Rattle.art_change.specs.declared.tries.Trying.{Trying as TryingOf}
 use Rattle.art_change.specs.declared.tries.Trying.TheVariants.{Inserting, Erasing}
 
@@ -37,3 +37,8 @@ returns-in-Inserting-clause-overlaps c is =
 
 pub returns-in-Erasing-clause-overlaps : goal.returns-in-Erasing-clause-overlaps
 returns-in-Erasing-clause-overlaps c is = absurd (erase_apart c.told-in-Erasing.new.self is)
+
+pub returns-in-Erasing-clause-left : goal.returns-in-Erasing-clause-left
+returns-in-Erasing-clause-left c left begun =
+    subst (λ (t : TryingOf). steps_left (left - steps_in c.args.answer) (Erasing c.told-in-Erasing.new.self) < steps_left left t) (sym c.in-Erasing.is)
+    (c.told-in-Erasing.ensures.left left (subst (λ (t : TryingOf). is_free t ≡ true → 0 < left) c.in-Erasing.is begun))

@@ -1,6 +1,7 @@
 use Rattle.std.proofs.Common.{ap}
 use Rattle.art_attempt.proofs.Tries.{later_first}
 use Rattle.art_attempt.specs.Inserting.{is_begun}
+use Rattle.art_plan.proofs.Renewing.{plain_whole}
 use Rattle.art_erase.proofs.erasing.Erasing.begin.Goals as goal
 
 pub returns-clause-fits : goal.returns-clause-fits
@@ -14,9 +15,10 @@ returns-clause-fits c z u v room so removal locks each = record {
       spent = so.spent;
       locks = record { only = locks; each = each };
       has = so.has;
+      plain = removal.planned.plain;
       leaf = removal.leaf;
       deed = removal.deed;
-      fits = c.new-self.ensures.fits z v removal.planned so.still.free;
+      fits = c.new-self.ensures.fits z v (plain_whole z v c.args.room.now.change removal.planned) so.still.free;
     },
     c.new-self.ensures.going removal.planned.some,
   );

@@ -155,6 +155,7 @@ loop-self-preserved-then-is_writing g c =
           spent = h.spent;
           locks = record { only = h.locks.only; each = h.locks.each };
           has = h.has;
+          plain = h.plain;
           leaf = h.leaf;
           deed = h.deed;
           fits = k.fits z h.early h.fits;

@@ -32,6 +32,7 @@ returns-in-None-clause-fits c z u v w asked room h is row =
       spent = h.spent;
       locks = record { only = h.locks.only; each = h.locks.each };
       has = h.has;
+      plain = h.plain;
       leaf = h.leaf;
       deed = h.deed;
       fits = c.told.ensures.fits z h.early v w asked h.fits is row;
@@ -53,6 +54,7 @@ returns-in-Some-clause-fits c z u v w asked room h is row =
       spent = h.spent;
       locks = record { only = h.locks.only; each = h.locks.each };
       has = h.has;
+      plain = h.plain;
       leaf = h.leaf;
       deed = h.deed;
       fits = c.told.ensures.fits z h.early v w asked h.fits is row;

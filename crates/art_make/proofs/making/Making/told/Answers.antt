@@ -1,6 +1,6 @@
 -- Stage by stage.
-use Rattle.std.proofs.Common.{ap, sym, subst, ◌≡◌, ◌∙◌, Some, arith}
-use Rattle.std.specs.Prelude.{Ok, Err}
+use Rattle.std.proofs.Common.{ap, sym, subst, ◌≡◌, ◌∙◌, ◌+◌, ◌<◌, ◌≤◌, ℕ, Bool, true, false, Some, arith}
+use Rattle.std.specs.Prelude.{Err}
 use Rattle.art_make.specs.Asking.{Answers}
 use Rattle.art_make.specs.declared.asked.Answer.{Answer}
 use Rattle.art_make.specs.declared.asked.Asked.{Asked}
@@ -9,9 +9,15 @@ use Rattle.art_plan.specs.Changes.{target_at}
 use Rattle.art_plan.specs.declared.changes.Target.{Target}
 use Rattle.art_make.specs.Making.{Fits, asks}
 use Rattle.art_make.specs.declared.making.Making.{Making}
-use Rattle.art_make.specs.declared.making.Making.TheVariants.{Upgrading, Claiming, Filling, Writing, Committing, Releasing, ReleasingNode, GivingUp, Ended}
+use Rattle.art_make.specs.declared.making.Making.TheVariants.{Upgrading, Claiming, Filling, Writing, Committing, Releasing, ReleasingNode, GivingUp}
 use Rattle.art_make.proofs.Told.{fits_on, map_some, refused_upgrade, told_claim, told_commit, told_fill, told_give, told_release, told_release_new, told_write}
+use Rattle.art_make.specs.Making.{most_steps}
 use Rattle.art_make.proofs.making.Making.told.Goals as goal
+
+-- one word more is one step more
+fills_more : (b : Bool) (place : ℕ) (m : Making) → most_steps (Filling b (place + 1)) ≤ most_steps m → most_steps (Filling b place) < most_steps m
+fills_more false place m more = omega (arith, more)
+fills_more true place m more = omega (arith, more)
 
 pub returns-in-Upgrading-clause-fits : goal.returns-in-Upgrading-clause-fits
 returns-in-Upgrading-clause-fits c z u v w a fits is row =
@@ -27,19 +33,19 @@ pub returns-in-Claiming-clause-fits : goal.returns-in-Claiming-clause-fits
 returns-in-Claiming-clause-fits c z u v w a fits is row =
     let ch = c.args.change.now in
     let b = c.in-Claiming in
-    let now : Fits z ch Claiming u v = subst (λ (m : Making). Fits z ch m u v) b.is fits in
-    let asked : asks ch Claiming ≡ Some a = sym (ap (asks ch) b.is) ∙ is in
-    fits_on z u v w ch a c.args.answer Claiming c.filled.result now asked row (let more = c.filled.ensures.steps in omega arith)
-    (c.filled.ensures.fits u w (told_claim z u v w ch a c.args.answer now asked row))
+    let now : Fits z ch (Claiming b.copy) u v = subst (λ (m : Making). Fits z ch m u v) b.is fits in
+    let asked : asks ch (Claiming b.copy) ≡ Some a = sym (ap (asks ch) b.is) ∙ is in
+    fits_on z u v w ch a c.args.answer (Claiming b.copy) c.claimed.result now asked row c.claimed.ensures.steps
+    (c.claimed.ensures.fits u w (told_claim z u v w ch a c.args.answer b.copy now asked row))
 
 pub returns-in-Filling-clause-fits : goal.returns-in-Filling-clause-fits
 returns-in-Filling-clause-fits c z u v w a fits is row =
     let ch = c.args.change.now in
     let b = c.in-Filling in
-    let now : Fits z ch (Filling b.place) u v = subst (λ (m : Making). Fits z ch m u v) b.is fits in
-    let asked : asks ch (Filling b.place) ≡ Some a = sym (ap (asks ch) b.is) ∙ is in
-    fits_on z u v w ch a c.args.answer (Filling b.place) c.filled-in-Filling.result now asked row (let more = c.filled-in-Filling.ensures.steps in omega arith)
-    (c.filled-in-Filling.ensures.fits u w (told_fill z u v w ch a c.args.answer b.place now asked row))
+    let now : Fits z ch (Filling b.copy b.place) u v = subst (λ (m : Making). Fits z ch m u v) b.is fits in
+    let asked : asks ch (Filling b.copy b.place) ≡ Some a = sym (ap (asks ch) b.is) ∙ is in
+    fits_on z u v w ch a c.args.answer (Filling b.copy b.place) c.filled.result now asked row (fills_more b.copy b.place c.filled.result c.filled.ensures.steps)
+    (c.filled.ensures.fits u w (told_fill z u v w ch a c.args.answer b.copy b.place now asked row))
 
 pub returns-in-Writing-clause-fits : goal.returns-in-Writing-clause-fits
 returns-in-Writing-clause-fits c z u v w a fits is row =
@@ -72,9 +78,10 @@ pub returns-in-ReleasingNode-clause-fits : goal.returns-in-ReleasingNode-clause-
 returns-in-ReleasingNode-clause-fits c z u v w a fits is row =
     let ch = c.args.change.now in
     let b = c.in-ReleasingNode in
-    let now : Fits z ch ReleasingNode u v = subst (λ (m : Making). Fits z ch m u v) b.is fits in
-    let asked : asks ch ReleasingNode ≡ Some a = sym (ap (asks ch) b.is) ∙ is in
-    fits_on z u v w ch a c.args.answer ReleasingNode (Ended (Ok tt)) now asked row (omega arith) (told_release_new z u v w ch a c.args.answer now asked row)
+    let now : Fits z ch (ReleasingNode b.copy) u v = subst (λ (m : Making). Fits z ch m u v) b.is fits in
+    let asked : asks ch (ReleasingNode b.copy) ≡ Some a = sym (ap (asks ch) b.is) ∙ is in
+    fits_on z u v w ch a c.args.answer (ReleasingNode b.copy) c.released_node.result now asked row c.released_node.ensures.steps
+    (c.released_node.ensures.fits u w (told_release_new z u v w ch a c.args.answer b.copy now asked row))
 
 pub returns-in-GivingUp-clause-fits : goal.returns-in-GivingUp-clause-fits
 returns-in-GivingUp-clause-fits c z u v w a fits is row =
