@@ -1,5 +1,5 @@
 -- What a vouching knows between two of its steps.
-use Rattle.std.specs.Prelude.{◌≡◌, ℕ, ◌+◌, ◌-◌, ◌<◌, ◌≤◌, List, Bool, true, false, Option, Some, None, Ok, if◌then◌else◌}
+use Rattle.std.specs.Prelude.{◌≡◌, ℕ, ◌+◌, ◌-◌, ◌<◌, ◌≤◌, List, Bool, true, false, Option, Some, None, Ok, ⊤, if◌then◌else◌}
 use Rattle.std.specs.Option.{option_map, option_and_then}
 use Rattle.art_find.specs.Descents.{IsReading}
 use Rattle.art_find.specs.declared.asked.Answer.{Answer}
@@ -43,6 +43,22 @@ asks t (Ended r) = None
 abbrev pub ended_at : Vouching → Option Vouched
 ended_at (Ended r) = Some r
 ended_at m = None
+
+-- no word of the cell above is to be read any more, if one was
+abbrev pub IsPastAbove : Vouching → Type 0
+IsPastAbove (Above r) = ⊥
+IsPastAbove (Here r) = ⊤
+IsPastAbove CheckAbove = ⊤
+IsPastAbove CheckHere = ⊤
+IsPastAbove (Ended r) = ⊤
+
+-- nor of the cell where the key stands
+abbrev pub IsPastReads : Vouching → Type 0
+IsPastReads (Above r) = ⊥
+IsPastReads (Here r) = ⊥
+IsPastReads CheckAbove = ⊤
+IsPastReads CheckHere = ⊤
+IsPastReads (Ended r) = ⊤
 
 -- how many steps it makes at most from here on: a cell has at most 265 words after its version word
 abbrev pub steps_left : Vouching → ℕ

@@ -1,13 +1,14 @@
 //! All words of the cells that are written are seen, and both are checked.
-ghost use Rattle.std.specs.Prelude.{◌≡◌, ℕ, ◌+◌, ◌-◌, ◌<◌, ◌≤◌, List, Bool, Some, None};
+ghost use Rattle.std.specs.Prelude.{◌≡◌, ◌⊎◌, ℕ, ◌+◌, ◌-◌, ◌<◌, ◌≤◌, List, Bool, Some, None};
 ghost use Rattle.art_find.specs.Asking.{Answers};
 ghost use Rattle.art_find.specs.declared.asked.Asked.{Asked as AskedStep};
-ghost use Rattle.art_gather.specs.Vouching.{Fits, HasLeft, IsVouching, KnowsAbove, KnowsHere, after_check, asks, ended_at, passed, steps_left, word_in, written_above};
+ghost use Rattle.art_gather.specs.Vouching.{Fits, HasLeft, IsPastAbove, IsPastReads, IsVouching, KnowsAbove, KnowsHere, after_check, asks, ended_at, passed, steps_left, word_in, written_above};
 ghost use Rattle.art_gather.specs.declared.vouching.Vouching.TheVariants.{Above as above_read, Here as here_read};
 ghost use Rattle.art_place.specs.Desks.{above_of, node_of};
 ghost use Rattle.art_place.specs.Kept.{StaysRead};
 ghost use Rattle.art_place.specs.Rereadings.{RereadingFits};
 ghost use Rattle.art_place.specs.declared.desks.Desk.{Desk as DeskOf};
+ghost use Rattle.art_step.specs.Views.{size_of};
 ghost use Rattle.art_step.specs.declared.deeds.Deed.{Deed};
 ghost use Rattle.art_step.specs.declared.views.Sizes.{Sizes};
 ghost use Rattle.art_step.specs.declared.views.View.{View};
@@ -149,6 +150,7 @@ fn above_read_on(
     rereading: Rereading,
 ) -> Vouching
     ensures going { ended_at result ≡ None }
+    ensures past { size_of above.stamp.cell ≤ rereading.place → IsPastAbove result }
     ensures few { steps_left result ≤ 266 - rereading.place + 267 }
     ensures fits { (z : Sizes) (k : List ℕ) (u v : View) → IsVouching z k stand.now desk.now u v →
         HasLeft u v (266 - rereading.place + 267) 532 → written_above both stand.now ≡ Some above →
@@ -163,6 +165,7 @@ fn above_read_on(
 /// The cell where the key stands is read from now on.
 fn here_begun(stand: &Stand, both: bool, desk: &Desk) -> Vouching
     ensures going { ended_at result ≡ None }
+    ensures past { IsPastAbove result }
     ensures few { steps_left result ≤ 267 }
     ensures fits { (z : Sizes) (k : List ℕ) (u v : View) → IsVouching z k stand.now desk.now u v → HasLeft u v 267 532 →
         KnowsAbove both stand.now desk.now → Fits z k both stand.now result desk.now u v }
@@ -194,6 +197,7 @@ fn here_told(
 /// It is read on, or all its words are known, and checks come next.
 fn here_read_on(stand: &Stand, both: bool, rereading: Rereading) -> Vouching
     ensures going { ended_at result ≡ None }
+    ensures past { IsPastAbove result × (size_of stand.now.stamp.cell ≤ rereading.place → IsPastReads result) }
     ensures few { steps_left result ≤ 266 - rereading.place + 2 }
     ensures fits { (z : Sizes) (k : List ℕ) (desk : DeskOf) (u v : View) → IsVouching z k stand.now desk u v →
         HasLeft u v (266 - rereading.place + 2) 532 → KnowsAbove both stand.now desk →
@@ -255,6 +259,7 @@ fn read_here<S: Steps>(
     ensures only { S.only steps.old steps.new }
     ensures some { 0 < left.new }
     ensures less { left.new ≤ left.old }
+    ensures last { IsPastAbove vouching.old → IsPastReads vouching.new ⊎ (left.new ≡ 1) }
     ensures made { (S.view steps.new).steps + left.new ≡ (S.view steps.old).steps + left.old }
     ensures going { ended_at vouching.old ≡ None → ended_at vouching.new ≡ None }
     ensures stays { StaysRead (node_of desk.old) (node_of desk.new) }
@@ -284,6 +289,7 @@ fn read_above<S: Steps>(
     ensures only { S.only steps.old steps.new }
     ensures some { 0 < left.new }
     ensures less { left.new ≤ left.old }
+    ensures last { IsPastAbove vouching.new ⊎ (left.new ≡ 1) }
     ensures made { (S.view steps.new).steps + left.new ≡ (S.view steps.old).steps + left.old }
     ensures node { node_of desk.new ≡ node_of desk.old }
     ensures going { ended_at vouching.old ≡ None → ended_at vouching.new ≡ None }
@@ -316,6 +322,7 @@ pub fn read_cells<S: Steps>(
     ensures only { S.only steps.old steps.new }
     ensures some { 0 < left.new }
     ensures less { left.new ≤ left.old }
+    ensures last { IsPastReads vouching.new ⊎ (left.new ≡ 1) }
     ensures made { (S.view steps.new).steps + left.new ≡ (S.view steps.old).steps + left.old }
     ensures going { ended_at vouching.old ≡ None → ended_at vouching.new ≡ None }
     ensures stays { StaysRead (node_of desk.old) (node_of desk.new) }
