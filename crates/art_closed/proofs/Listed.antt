@@ -1,10 +1,10 @@
 -- What a listing has: the rows of the tree, all of them, in ascending order of their keys.
-use Rattle.std.proofs.Common.{◌≡◌, ◌⊎◌, ℕ, zero, suc, ◌+◌, ◌-◌, ◌<◌, ◌≤◌, false, List, [], ◌∷◌, ◌++◌, length, inl, inr, ⊎_elim, refl, sym, ap, ap₂, ◌∙◌, subst, arith, eqb, ne_eqb}
+use Rattle.std.proofs.Common.{◌≡◌, ℕ, zero, suc, ◌+◌, ◌-◌, ◌<◌, ◌≤◌, false, List, [], ◌∷◌, ◌++◌, length, inl, ⊎_elim, refl, sym, ap, ap₂, ◌∙◌, subst, arith, eqb, ne_eqb}
 use Rattle.std.proofs.lemmas.Bool.{cases_eq, false≢true}
 use Rattle.std.proofs.lemmas.Cmp.{nat_list_cmp_total, tied_itself}
 use Rattle.std.proofs.lemmas.Map.Steps.{length-le_from_distinct_below}
 use Rattle.std.specs.Prelude.{Option, Some, None, true}
-use Rattle.std.specs.List.{AllByRecursion, IsDistinct, flat_map, list_any, range_with_len}
+use Rattle.std.specs.List.{AllByRecursion, IsDistinct, list_any}
 use Rattle.std.specs.List.Sorted.{IsStrictlySortedBy}
 use Rattle.std.specs.Ordering.{nat_cmp}
 use Rattle.std.specs.Cmp.Lexicographic.{slice_cmp}
@@ -15,12 +15,12 @@ use Rattle.art_cell.specs.declared.cells.Link.{Link}
 use Rattle.art_cell.specs.declared.cells.Link.TheVariants.{Leaf as leaf, Node as node}
 use Rattle.art_step.specs.Views.{Member}
 use Rattle.art_step.proofs.SetsView.{member_append, member_back, member_front}
-use Rattle.art_tree.specs.Tree.{Begins, Heap, IsTree, Row, StandsAt, down, path_past, top}
+use Rattle.art_tree.specs.Tree.{Begins, Heap, IsTree, Row, StandsAt, down, path_past}
 use Rattle.art_tree.proofs.Lookup.{row_at_leaf, row_at_node}
 use Rattle.art_tree.proofs.Order.{before_byte}
 use Rattle.art_tree.proofs.Paths.{begins_more, length_past}
 use Rattle.art_closed.specs.Listing.{Pair, listing, of_child, of_children}
-use Rattle.art_closed.proofs.Members.{member_all, sorted_both, sorted_none, sorted_one}
+use Rattle.art_closed.proofs.Members.{sorted_both, sorted_none, sorted_one}
 
 abbrev pub pair_cmp : Pair → Pair → Ordering
 pair_cmp x y = slice_cmp nat_cmp x.0 y.0

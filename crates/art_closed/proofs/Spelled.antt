@@ -1,5 +1,5 @@
 -- Rows that a map spells: those of ascending pairs, and that there is one list of them.
-use Rattle.std.proofs.Common.{◌≡◌, ◌⊎◌, ℕ, Bool, true, false, List, [], ◌∷◌, ◌++◌, Some, None, cond, inl, inr, ⊎_elim, refl, sym, ap, ap₂, ◌∙◌, subst, map, append-nil}
+use Rattle.std.proofs.Common.{◌≡◌, ℕ, List, [], ◌∷◌, Some, None, cond, inl, inr, ⊎_elim, refl, sym, ap, ap₂, ◌∙◌, subst, append-nil}
 use Rattle.std.proofs.lemmas.Cmp.{nat_list_cmp_total, tied_itself}
 use Rattle.std.proofs.lemmas.Map.Lookups.{exact_bytes}
 use Rattle.std.proofs.lemmas.Option.{same_Some}

@@ -1,18 +1,16 @@
 -- What waits in the limbos of several passes.
-use Rattle.std.proofs.Common.{◌≡◌, ◌⊎◌, ℕ, ◌+◌, ◌≤◌, Bool, true, false, cond, List, [], ◌∷◌, ◌++◌, length, inl, inr, ⊎_elim, refl, sym, ap, ap₂, ◌∙◌, subst, arith, length-append}
+use Rattle.std.proofs.Common.{◌≡◌, ℕ, ◌+◌, Bool, true, false, cond, List, [], ◌∷◌, ◌++◌, length, inl, inr, ⊎_elim, refl, sym, ap, ap₂, ◌∙◌, subst, arith, length-append}
 use Rattle.std.proofs.lemmas.Bool.{eqb-true, eq-eqb, false≢true}
 use Rattle.std.proofs.lemmas.List.Sums.{sum_by-cons}
 use Rattle.art_cell.specs.declared.cells.Link.{Link}
 use Rattle.art_cell.specs.declared.layouts.Pool.{Pool}
 use Rattle.art_epoch.specs.Limbo.{IsLimbo, links_waiting}
 use Rattle.art_epoch.specs.declared.limbo.Place.{Place}
-use Rattle.art_shared.specs.Closing.{Fate, HasFate, InLimbo, IsAccounted, numbers_of}
+use Rattle.art_shared.specs.Closing.{HasFate, InLimbo, numbers_of}
 use Rattle.art_shared.specs.Rule.{Apart}
 use Rattle.art_shared.specs.Tables.{view_of_pass}
 use Rattle.art_shared.specs.declared.pass.Pass.{Pass}
-use Rattle.art_step.specs.Views.{IsInLimbo, IsOnce, Member, Memory, pool_of, pool_rank}
-use Rattle.art_step.specs.declared.views.Retired.{Retired}
-use Rattle.art_step.specs.declared.views.Sizes.{Sizes}
+use Rattle.art_step.specs.Views.{IsInLimbo, Member, pool_of, pool_rank}
 use Rattle.art_step.proofs.SetsView.{member_append, member_back, member_front}
 use Rattle.art_step.proofs.WordPlaces.{same_pool}
 use Rattle.art_closed.specs.Counts.{HasCount, HaveLimbos, Waits, is_of, waiting_among, waiting_in_all}

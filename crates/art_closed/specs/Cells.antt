@@ -6,8 +6,16 @@ use Rattle.art_step.specs.WordPlaces.{word_count}
 use Rattle.art_step.specs.WordRows.{memory_of}
 use Rattle.art_tree.specs.Heaps.{Cells, heap_of}
 use Rattle.art_tree.specs.Tree.{Heap}
+use Rattle.art_key.specs.declared.columns.Column.{Column}
 use Rattle.art_shared.specs.declared.ended.Ended.{Ended}
-use Rattle.art_shared.specs.Ended.{words_of}
+use Rattle.art_shared.specs.Ended.{basis_left, words_of}
+
+-- what the table was opened with: its sizes, and what spelled the keys
+abbrev pub sizes_left : Ended → Sizes
+sizes_left e = (basis_left e).sizes
+
+abbrev pub schema_left : Ended → List Column
+schema_left e = (basis_left e).schema
 
 -- there are as many words as the sizes say
 abbrev pub HasAllWords : Sizes → Ended → Type 0

@@ -1,5 +1,5 @@
 -- The laws of what a closed table has.
-use Rattle.std.specs.Prelude.{◌≡◌, ℕ, ◌≤◌, List}
+use Rattle.std.specs.Prelude.{◌≡◌, ◌≤◌, List}
 use Rattle.art_cell.specs.declared.layouts.Pool.{Pool}
 use Rattle.art_epoch.specs.declared.limbo.Place.{Place}
 use Rattle.art_key.specs.declared.columns.Column.{Column}

@@ -1,5 +1,5 @@
 -- The rows of a closed table.
-use Rattle.std.specs.Prelude.{◌≡◌, ℕ, List}
+use Rattle.std.specs.Prelude.{ℕ, List}
 use Rattle.art_key.specs.declared.columns.Column.{Column}
 use Rattle.art_key.specs.Spelling.{IsKeyOf}
 use Rattle.art_model.specs.declared.rows.Row.{Row}

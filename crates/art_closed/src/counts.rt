@@ -5,14 +5,14 @@ ghost use Rattle.art_epoch.specs.Limbo.{places_of};
 ghost use Rattle.art_shared.specs.declared.pass.Pass.{Pass as PassOf};
 ghost use Rattle.art_step.specs.Views.{is_free, pool_of};
 ghost use Rattle.art_step.specs.WordPlaces.{pool_size};
-ghost use Rattle.art_closed.specs.Cells.{HasAllWords, memory_in};
+ghost use Rattle.art_closed.specs.Cells.{HasAllWords, memory_in, sizes_left};
 ghost use Rattle.art_closed.specs.Counts.{HasWaiting, IsCounted, first_numbers, waiting_among};
 
 use crate::cells::Reader;
 use art_cell::{Link, Pool};
 use art_epoch::Limbo;
 use art_shared::Ended;
-use art_step::{Sizes, pool_of_layout};
+use art_step::pool_of_layout;
 
 /// How many places a limbo has.
 const PLACES: u32 = 64;
@@ -27,16 +27,14 @@ pub struct PoolCount {
 
 /// Counts the numbers of a pool of a closed table, of which so many wait in limbos of its passes, and each has one fate. This takes
 /// no memory.
-pub fn count(words: &Ended, sizes: &Sizes, pool: Pool, waiting: u32) -> PoolCount
-    requires whole { HasAllWords sizes.now words.now }
-    requires known { (passes : List PassOf) × HasWaiting sizes.now (memory_in sizes.now words.now) pool waiting passes }
-    ensures { (passes : List PassOf) → HasWaiting sizes.now (memory_in sizes.now words.now) pool waiting passes
-        → IsCounted sizes.now (memory_in sizes.now words.now) passes pool result }
+pub fn count(words: &Ended, pool: Pool, waiting: u32) -> PoolCount
+    requires whole { HasAllWords (sizes_left words.now) words.now }
+    requires known { (passes : List PassOf) × HasWaiting (sizes_left words.now) (memory_in (sizes_left words.now) words.now) pool waiting passes }
+    ensures { (passes : List PassOf) → HasWaiting (sizes_left words.now) (memory_in (sizes_left words.now) words.now) pool waiting passes
+        → IsCounted (sizes_left words.now) (memory_in (sizes_left words.now) words.now) passes pool result }
 {
-    let reader = Reader {
-        words,
-        sizes: *sizes,
-    };
+    let sizes = words.sizes();
+    let reader = Reader { words, sizes };
     let free = free_numbers(&reader, pool);
     PoolCount {
         linked: sizes.pool_size(pool) - free - waiting,

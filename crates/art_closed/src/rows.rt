@@ -2,7 +2,7 @@
 ghost use Rattle.std.specs.Prelude.{◌≡◌, ◌+◌, ◌≤◌, ◌++◌, [], length, vec_capacity};
 ghost use Rattle.art_cell.specs.declared.cells.Link.TheVariants.{Leaf as leaf_link};
 ghost use Rattle.art_step.specs.Knowledge.{IsShape};
-ghost use Rattle.art_closed.specs.Cells.{HasAllWords, cells_in, heap_in};
+ghost use Rattle.art_closed.specs.Cells.{HasAllWords, cells_in, heap_in, schema_left, sizes_left};
 ghost use Rattle.art_closed.specs.Listing.{IsWithin, listing, row_spelled, rows_spelled};
 ghost use Rattle.art_closed.specs.Rows.{AreRowsOf, SpellsTuples};
 
@@ -11,7 +11,6 @@ use art_cell::{Cell, Link};
 use art_key::{Schema, decode};
 use art_model::Row;
 use art_shared::Ended;
-use art_step::Sizes;
 
 /// The place of the anchor's child word.
 const ROOT: usize = 1;
@@ -20,21 +19,21 @@ const ROOT: usize = 1;
 const DEEPEST: usize = 64;
 
 /// Writes the rows of a closed table in order, for which there is room: where its words are those of a tree, and each key spells a
-/// tuple of the schema. This takes no memory.
-pub fn list_rows(words: &Ended, sizes: &Sizes, schema: &Schema, rows: &mut Vec<Row>)
-    requires whole { HasAllWords sizes.now words.now }
-    requires shape { IsShape sizes.now (cells_in sizes.now words.now) }
-    requires keys { SpellsTuples schema.now (heap_in sizes.now words.now) }
+/// tuple of its schema. This takes no memory.
+pub fn list_rows(words: &Ended, rows: &mut Vec<Row>)
+    requires whole { HasAllWords (sizes_left words.now) words.now }
+    requires shape { IsShape (sizes_left words.now) (cells_in (sizes_left words.now) words.now) }
+    requires keys { SpellsTuples (schema_left words.now) (heap_in (sizes_left words.now) words.now) }
     requires empty { rows.old.items ≡ [] }
-    requires room { sizes.now.leaves ≤ vec_capacity rows.old }
-    ensures { AreRowsOf schema.now (heap_in sizes.now words.now) rows.new.items }
+    requires room { (sizes_left words.now).leaves ≤ vec_capacity rows.old }
+    ensures { AreRowsOf (schema_left words.now) (heap_in (sizes_left words.now) words.now) rows.new.items }
 {
     let reader = Reader {
         words,
-        sizes: *sizes,
+        sizes: words.sizes(),
     };
     if let Some(root) = Link::named_by(reader.word(Cell::Anchor, ROOT)) {
-        push_below(&reader, schema, root, DEEPEST, rows);
+        push_below(&reader, words.schema(), root, DEEPEST, rows);
     }
 }
 

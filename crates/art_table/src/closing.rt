@@ -75,15 +75,14 @@ fn ended(table: Table, passes: Vec<Pass>, rows: Vec<Row>, seats: Vec<art_shared:
     let waiting = Waiting::of(&passes);
     let mut rows = rows;
     let words = table.shared.close(seats_of(passes, seats));
-    let sizes = words.sizes();
-    list_rows(&words, &sizes, words.schema(), &mut rows);
+    list_rows(&words, &mut rows);
     Closed {
         rows,
-        leaves: count(&words, &sizes, Pool::Leaves, waiting.leaves),
-        n4: count(&words, &sizes, Pool::N4, waiting.n4),
-        n16: count(&words, &sizes, Pool::N16, waiting.n16),
-        n48: count(&words, &sizes, Pool::N48, waiting.n48),
-        n256: count(&words, &sizes, Pool::N256, waiting.n256),
+        leaves: count(&words, Pool::Leaves, waiting.leaves),
+        n4: count(&words, Pool::N4, waiting.n4),
+        n16: count(&words, Pool::N16, waiting.n16),
+        n48: count(&words, Pool::N48, waiting.n48),
+        n256: count(&words, Pool::N256, waiting.n256),
     }
 }
 

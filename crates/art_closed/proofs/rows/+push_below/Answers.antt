@@ -1,14 +1,13 @@
-use Rattle.std.proofs.Common.{rules, ◌≡◌, ◌+◌, ◌-◌, ◌<◌, ◌≤◌, ◌++◌, ◌∷◌, [], ◌∙◌, ℕ, List, Some, length, vec_capacity, sym, ap, subst, arith, append-nil}
+use Rattle.std.proofs.Common.{◌≡◌, ◌+◌, ◌-◌, ◌≤◌, ◌++◌, ◌∷◌, [], ◌∙◌, List, length, vec_capacity, sym, ap, subst, arith, append-nil}
 use Rattle.art_cell.specs.declared.cells.Link.{Link}
-use Rattle.art_cell.specs.declared.cells.Link.TheVariants.{Leaf as leaf, Node as node}
+use Rattle.art_cell.specs.declared.cells.Link.TheVariants.{Node as node}
 use Rattle.art_cell.specs.declared.cells.Cell.TheVariants as cell
 use Rattle.art_cell.specs.declared.node_kinds.Entry.{Entry}
-use Rattle.art_cell.specs.Children.{link_of}
 use Rattle.art_cell.specs.Words.{entries}
 use Rattle.art_model.specs.declared.rows.Row.{Row}
 use Rattle.std.specs.Prelude.{Option}
 use Rattle.art_closed.specs.Cells.{cells_in, heap_in}
-use Rattle.art_closed.specs.Listing.{IsWithin, Pair, listing, of_child, row_spelled, rows_spelled}
+use Rattle.art_closed.specs.Listing.{IsWithin, Pair, listing, of_child, rows_spelled}
 use Rattle.art_closed.proofs.Listed.{listing_leaf}
 use Rattle.art_closed.proofs.Walk.{all_below, child_within, deep, one_more, room_below}
 use Rattle.art_closed.proofs.rows.+push_below.Goals as goal

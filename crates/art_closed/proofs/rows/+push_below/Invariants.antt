@@ -1,5 +1,5 @@
 -- The rows below the children so far are written.
-use Rattle.std.proofs.Common.{◌≡◌, ◌-◌, ◌++◌, List, take, vec_capacity}
+use Rattle.std.proofs.Common.{◌≡◌, ◌-◌, ◌++◌, take, vec_capacity}
 use Rattle.std.specs.List.{flat_map}
 use Rattle.art_cell.specs.declared.node_kinds.Entry.{Entry}
 use Rattle.art_cell.specs.Children.{link_of}

@@ -1,11 +1,10 @@
-use Rattle.std.proofs.Common.{◌≡◌, ◌≤◌, ◌∙◌, ℕ, List, [], Some, None, refl, sym, ap, ap₂, subst, arith}
+use Rattle.std.proofs.Common.{◌≤◌, ◌∙◌, ℕ, List, [], Some, None, refl, sym, ap, subst, arith}
 use Rattle.std.specs.Option.{IfNone, IsSome, option_map}
 use Rattle.std.specs.Prelude.{Option, unwrap_or}
 use Rattle.art_cell.specs.declared.cells.Cell.TheVariants as cell
 use Rattle.art_key.specs.declared.columns.Column.{Column}
 use Rattle.art_key.specs.Spelling.{IsKeyOf, IsSpelling, tuple_spelled}
 use Rattle.art_model.specs.Rows.{Tuple}
-use Rattle.art_model.specs.declared.rows.Row.{Row}
 use Rattle.art_model.specs.declared.values.Value.{Value}
 use Rattle.art_tree.proofs.Meanings.{words_mean}
 use Rattle.art_closed.specs.Cells.{cells_in, heap_in}
