@@ -1,4 +1,4 @@
-use Rattle.art_call.specs.Calls.{Insert}
+use Rattle.art_call.specs.Calls.{Insert, Remove}
 use Rattle.art_runs_uses.proofs.benches.begun.Goals as goal
 
 pub returns-in-Insert : goal.returns-in-Insert
@@ -8,4 +8,13 @@ returns-in-Insert g c = λ z u is. record {
   turns = 1000;
   began = u;
   calling = c.insert.ensures z u is;
+}
+
+pub returns-in-Remove : goal.returns-in-Remove
+returns-in-Remove g c = λ z u is. record {
+  wish = Remove c.key_of-in-Remove.result;
+  given = 1000;
+  turns = 1000;
+  began = u;
+  calling = c.remove.ensures z u is;
 }
