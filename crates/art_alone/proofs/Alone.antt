@@ -3,20 +3,21 @@ use Rattle.std.proofs.Common.{◌≡◌, ℕ, ◌+◌, ◌==◌, true, if◌then
 use Rattle.std.proofs.lemmas.Bool.Decides.{nat_tests}
 use Rattle.std.proofs.lemmas.List.{nil_from_length}
 use Rattle.std.specs.List.{AllByRecursion}
-use Rattle.art_alone.specs.Laws.{ClosedAlone, IsAlone}
+use Rattle.art_alone.specs.Laws.{ClosedAlone, IsAlone, IsOnlyPass}
 use Rattle.art_key.specs.Histories.{IsAnswered, IsLegal, IsLegalFrom, becomes, replay, run}
 use Rattle.art_key.specs.declared.columns.Column.{Column}
 use Rattle.art_key.specs.declared.events.Deed.{Deed}
 use Rattle.art_key.specs.declared.events.Event.{Event}
 use Rattle.art_model.proofs.Parts.{All-first}
 use Rattle.art_model.specs.declared.rows.Row.{Row}
+use Rattle.art_shared.specs.Rule.{AreBelow}
 use Rattle.art_step.specs.Histories as bytes
 use Rattle.art_step.specs.Views.{Member}
 use Rattle.art_step.specs.declared.views.Event.{Event as ByteEvent}
 use Rattle.art_table.specs.Calls.{Makes}
 use Rattle.art_table.specs.Closing.{IsHere, places_from}
 use Rattle.art_table.specs.Marks.{StartsWith}
-use Rattle.art_table.specs.Tables.{IsPassOf, number_of, own_of, schema_in, seen_by, view_of}
+use Rattle.art_table.specs.Tables.{IsPassOf, number_of, own_of, schema_in, seen_by, sizes_in, view_of}
 use Rattle.art_table.specs.declared.passes.Pass.{Pass}
 use Rattle.art_table.specs.declared.tables.Table.{Table}
 use Rattle.art_typed.proofs.Events.{histories_are_typed}
@@ -51,6 +52,17 @@ all_placed_typed n k (e ∷ log) are =
 typed_long : (schema : List Column) (log : List ByteEvent) → length (typed schema log) ≡ length log
 typed_long schema [] = refl
 typed_long schema (e ∷ log) = let rest = typed_long schema log in omega (arith, rest)
+
+-- events of passes below 1 are of pass 0
+all_first : (schema : List Column) (n passes : ℕ) (log : List ByteEvent) → passes ≡ 1 → n ≡ 0 → AreBelow passes log → AllByRecursion (IsOf n) (typed schema log)
+all_first schema n passes [] one first below = tt
+all_first schema n passes (e ∷ log) one first below =
+    let low = below e (inl refl) in
+    (omega (arith, low, one, first), all_first schema n passes log one first (λ x i. below x (inr i)))
+
+-- so the only pass of a table has seen its own events alone
+pub only_alone : (t : Table) (q : Pass) → IsOnlyPass t q → IsAlone t q
+only_alone t q is = all_first (schema_in t) (number_of q) (sizes_in t).passes (view_of q).seen is.one is.first is.pass.of.below
 
 -- as many of its own as it has seen
 pub own_all : (t : Table) (q : Pass) → IsPassOf t q → IsAlone t q → length (own_of q) ≡ length (seen_by t q)

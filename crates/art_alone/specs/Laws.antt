@@ -7,7 +7,7 @@ use Rattle.art_model.specs.declared.commands.Reply.{Reply}
 use Rattle.art_server.specs.Sessions.{AnswersLines}
 use Rattle.art_server.specs.declared.refusals.Refusal.{Refusal}
 use Rattle.art_table.specs.Closing.{IsClosed}
-use Rattle.art_table.specs.Tables.{IsPassOf, number_of, schema_in, seen_by}
+use Rattle.art_table.specs.Tables.{IsPassOf, number_of, schema_in, seen_by, sizes_in}
 use Rattle.art_table.specs.declared.closing.Closed.{Closed}
 use Rattle.art_table.specs.declared.passes.Pass.{Pass}
 use Rattle.art_table.specs.declared.tables.Table.{Table}
@@ -16,12 +16,22 @@ use Rattle.art_table.specs.declared.tables.Table.{Table}
 abbrev pub IsAlone : Table → Pass → Type 0
 IsAlone t q = AllByRecursion (λ e. e.pass ≡ number_of q) (seen_by t q)
 
--- A pass that was p answered lines, is q then, and has seen its own events alone: one sorted map gives these replies, from the rows that
--- what p had seen leaves to those that what q has seen leaves.
+-- the table has one pass, which is this
+pub record IsOnlyPass (t : Table) (p : Pass) : Type 0 where
+  pub pass : IsPassOf t p
+  pub one : (sizes_in t).passes ≡ 1
+  pub first : number_of p ≡ 0
+
+-- The only pass of its table, p, answered lines and is q then: that is its only pass still, has seen its own events alone, and one sorted
+-- map gives these replies, from the rows that what p had seen leaves to those that what q has seen leaves.
+pub record IsOneMap (t : Table) (lines : List (List ℕ)) (p q : Pass) (replies : List (Result Reply Refusal)) : Type 0 where
+  pub only : IsOnlyPass t q
+  pub alone : IsAlone t q
+  pub map : MapAnswersLines (schema_in t) lines (replay (seen_by t p)) replies (replay (seen_by t q))
+
 abbrev pub SessionsAloneAreOneMap : Type 0
 SessionsAloneAreOneMap = (t : Table) (lines : List (List ℕ)) (p q : Pass) (replies : List (Result Reply Refusal))
-    → IsPassOf t p → AnswersLines t lines p replies q → IsAlone t q
-    → MapAnswersLines (schema_in t) lines (replay (seen_by t p)) replies (replay (seen_by t q))
+    → IsOnlyPass t p → AnswersLines t lines p replies q → IsOneMap t lines p q replies
 
 -- A table was closed with its one pass: that has seen its own events alone, and the rows are those that they leave.
 abbrev pub ClosedAlone : Type 0

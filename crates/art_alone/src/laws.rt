@@ -1,7 +1,7 @@
 //! The laws of a table of one pass, for the crates above to cite.
 ghost use Rattle.art_alone.specs.Laws.{ClosedAlone, SessionsAloneAreOneMap};
 
-/// What a pass answered to lines, and has seen only its own events, is what one sorted map answers to them.
+/// What the only pass of a table answered to lines is what one sorted map answers to them, wherever it stopped.
 pub fn sessions_alone_are_one_map()
     ensures { SessionsAloneAreOneMap }
 {}

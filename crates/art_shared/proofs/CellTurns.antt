@@ -29,7 +29,7 @@ use Rattle.art_step.specs.Steps.Read as read
 use Rattle.art_step.specs.Steps.Release as release
 use Rattle.art_step.specs.Steps.Upgrade as upgrade
 use Rattle.art_step.specs.Steps.Write as write
-use Rattle.art_step.specs.Views.{IsChildPlace, IsChildWord, IsHolding, IsInHand, Member, Views, size_of}
+use Rattle.art_step.specs.Views.{IsWordOf, IsHolding, IsInHand, Member, Views, size_of}
 use Rattle.art_step.specs.WordPlaces.{HasVersion, IsInside, first_place, place_of, word_count}
 use Rattle.art_step.specs.WordRows.{memory_of, version_in, word_in}
 use Rattle.art_step.proofs.Changing.{first_low, held_plain, moves_claims, moves_commits, moves_releases, moves_upgrades, moves_writes, moves_writes_leaf, released_fits}
@@ -172,17 +172,17 @@ module _ (basis : Basis) (me : Known) where
 
   -- ---- writes
 
-  pub turns_write : (c : Cell) (h : Holding) (i x at : ℕ) → at ≡ place_of z c + i → IsInside z c → h.cell ≡ c → write.May v h i → (IsChildPlace c i → IsChildWord z x)
+  pub turns_write : (c : Cell) (h : Holding) (i x at : ℕ) → at ≡ place_of z c + i → IsInside z c → h.cell ≡ c → write.May v h i → IsWordOf z c i x
       → MayTurn basis me at (λ _. x) (λ _ v w. (k : Holding) → IsHolding v c k → write.Outcome v w k i x) (λ _. PutsWord c i x)
-  turns_write c h i x at is inside of may child = record {
-    moves = λ ws f s low. rw is (moves_writes z ws f v.pass v s.sound s.here s.long c h i x inside of may child);
+  turns_write c h i x at is inside of may form = record {
+    moves = λ ws f s low. rw is (moves_writes z ws f v.pass v s.sound s.here s.long c h i x inside of may form);
     adds = λ n w row. quiet basis.schema v w (ap (λ (u : View). u.own) (row h (may.held, of)).is);
   }
 
-  pub turns_write_leaf : (y : InHand) (l i x at : ℕ) → at ≡ place_of z (cell.Leaf l) + i → l < z.leaves → write.MayLeaf v y l i
+  pub turns_write_leaf : (y : InHand) (l i x at : ℕ) → at ≡ place_of z (cell.Leaf l) + i → l < z.leaves → write.MayLeaf v y l i → IsWordOf z (cell.Leaf l) i x
       → MayTurn basis me at (λ _. x) (λ _ v w. (a : InHand) → IsInHand v (leaf l) a → write.LeafOutcome v w a i x) (λ _. PutsWord (cell.Leaf l) i x)
-  turns_write_leaf y l i x at is inside may = record {
-    moves = λ ws f s low. rw is (moves_writes_leaf z ws f v.pass v s.sound s.here s.long y l i x inside may);
+  turns_write_leaf y l i x at is inside may form = record {
+    moves = λ ws f s low. rw is (moves_writes_leaf z ws f v.pass v s.sound s.here s.long y l i x inside may form);
     adds = λ n w row. quiet basis.schema v w (ap (λ (u : View). u.own) (row y (may.hand, may.leaf)).is);
   }
 

@@ -1,3 +1,4 @@
+pub mod Below
 pub mod CellTurns
 pub mod Closed
 pub mod Counters

@@ -33,6 +33,7 @@ use Rattle.art_shared.proofs.Counters.{still_begun}
 use Rattle.art_shared.proofs.Lists.{joined_here}
 use Rattle.art_shared.proofs.Moving.{told_in, views_in}
 use Rattle.art_shared.proofs.Seated.{at_member, members, passes_set, standing, turns_member}
+use Rattle.art_shared.proofs.Below.{seen_below}
 use Rattle.art_shared.proofs.Typed.{still_typed, typed_start}
 
 -- a step that writes nothing
@@ -169,6 +170,7 @@ module _ (basis : Basis) (id place : ℕ) (me : Me (Unit {0}) Known) (single : l
             placed = placed_all z w.stamps (sound.unstamped.pinned v.pass w turn.here).placed;
             numbers = owned z (memory_of z (set s.words place x)) g v.pass w sound turn.here;
             typed = typed_start basis.schema sound.log w.seen (sound.history.tells v.pass w turn.here).starts kept.typed;
+            below = seen_below z (memory_of z (set s.words place x)) g sound v.pass w turn.here;
             basis = refl;
             told = refl;
           };

@@ -3,7 +3,7 @@
 -- the schema; and the anchor's counter is never below the one at which the table was opened, and is just that one until some pass makes
 -- a step.
 use Rattle.art_key.specs.Spelling.{IsKeyOf}
-use Rattle.std.specs.Prelude.{◌≡◌, ◌*◌, ◌≤◌, ℕ, List, [], ◌∷◌, ◌++◌, map, length, ◌==◌, if◌then◌else◌, Option, Some, None, ⊤}
+use Rattle.std.specs.Prelude.{◌≡◌, ◌*◌, ◌<◌, ◌≤◌, ℕ, List, [], ◌∷◌, ◌++◌, map, length, ◌==◌, if◌then◌else◌, Option, Some, None, ⊤}
 use Rattle.atomic_table.specs.Table.{State}
 use Rattle.art_cell.specs.declared.cells.Cell.TheVariants as cell
 use Rattle.art_step.specs.declared.views.Event.{Event}
@@ -48,6 +48,10 @@ passes_of vs = map (λ (v : View). v.pass) vs
 abbrev pub Apart : {A : Type 0} → List A → Type 0
 Apart [] = ⊤
 Apart (x ∷ xs) = (Member x xs → ⊥) × Apart xs
+
+-- the events are of passes with numbers below this one
+abbrev pub AreBelow : ℕ → List Event → Type 0
+AreBelow n log = (e : Event) → Member e log → e.pass < n
 
 -- the version word of the anchor shows that its counter began at start: the counter, which is all but the word's two lowest bits, is
 -- start or more; and as long as no pass has made any step, the word is just that of start, neither locked nor obsolete. So words that

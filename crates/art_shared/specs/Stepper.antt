@@ -13,6 +13,7 @@ use Rattle.art_shared.specs.declared.pass.Pass.{Pass}
 use Rattle.art_shared.specs.declared.stepper.Stepper.{Stepper}
 use Rattle.art_shared.specs.Passes.{view_in}
 use Rattle.art_shared.specs.SamePass.{SamePass}
+use Rattle.art_shared.specs.Rule.{AreBelow}
 use Rattle.art_shared.specs.Tables.{known_to}
 use Rattle.art_shared.specs.Turns.{Moment}
 
@@ -46,12 +47,14 @@ schema_of a = (basis_of a).schema
 abbrev pub instants_of : Stepper → Stepper → Instant
 instants_of a b = Moment (basis_of a) (known_by a) (known_by b)
 
--- it is the same borrow of the same pass; and if all that it had seen are commands with keys of the schema, so is all that it has seen
+-- it is the same borrow of the same pass; and if all that it had seen are commands with keys of the schema, so is all that it has seen;
+-- and if they are of passes of the table, so are these
 pub record OnlyStepped (a b : Stepper) : Type 0 where
   pub lender : lender b ≡ lender a
   pub pass : SamePass (pass_of a) (pass_of b)
   pub basis : basis_of b ≡ basis_of a
   pub typed : AreAdmitted (IsKeyOf (schema_of a)) (view_of a).seen → AreAdmitted (IsKeyOf (schema_of b)) (view_of b).seen
+  pub below : AreBelow (sizes_of a).passes (view_of a).seen → AreBelow (sizes_of b).passes (view_of b).seen
 
 pub only_same : (a : Stepper) → OnlyStepped a a
 only_same a = record {
@@ -59,6 +62,7 @@ only_same a = record {
   pass = record { number = refl; table = refl; seat = refl; basis = refl; told = refl };
   basis = refl;
   typed = λ t. t;
+  below = λ t. t;
 }
 
 pub only_then : (a b c : Stepper) → OnlyStepped a b → OnlyStepped b c → OnlyStepped a c
@@ -73,6 +77,7 @@ only_then a b c x y = record {
   };
   basis = y.basis ∙ x.basis;
   typed = λ t. y.typed (x.typed t);
+  below = λ t. y.below (x.below t);
 }
 
 pub only_sizes : (a b : Stepper) → OnlyStepped a b → sizes_of b ≡ sizes_of a

@@ -20,7 +20,7 @@ use Rattle.art_step.proofs.Moves.{Moves}
 use Rattle.art_shared.specs.declared.law.Basis.{Basis}
 use Rattle.art_shared.specs.declared.law.Known.{Known}
 use Rattle.art_shared.specs.Passes.{all_placed, has_numbers, view_in}
-use Rattle.art_shared.specs.Rule.{Kept, Words, seated}
+use Rattle.art_shared.specs.Rule.{AreBelow, Kept, Words, seated}
 
 -- the table is so just before a step of a seat and just after it, where what the seat knows goes from k to k'; and the rule holds before
 -- and after
@@ -46,6 +46,7 @@ pub record Turn (b : Basis) (k k' : Known) (so : Instant) (Row : View → View �
   pub placed : all_placed b.sizes (view_in k').stamps ≡ true
   pub numbers : has_numbers b.sizes (view_in k') ≡ true
   pub typed : AreAdmitted (IsKeyOf b.schema) (view_in k').seen
+  pub below : AreBelow b.sizes.passes (view_in k').seen
   pub basis : k'.basis ≡ k.basis
   pub told : k'.told ≡ k.told
 

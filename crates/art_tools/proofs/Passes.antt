@@ -15,6 +15,9 @@ use Rattle.art_table.specs.declared.closing.CloseRefusal.TheVariants as close
 use Rattle.art_table.specs.declared.configs.Config.{Config}
 use Rattle.art_table.specs.declared.passes.Pass.{Pass}
 use Rattle.art_table.specs.declared.tables.Table.{Table}
+use Rattle.art_alone.specs.Laws.{IsOnlyPass}
+use Rattle.art_step.specs.declared.views.Sizes.{Sizes}
+use Rattle.art_tools.specs.Outputs.{of_one_pass}
 use Rattle.art_tools.specs.Schedules.{AreEight, AreInPlace}
 use Rattle.art_tools.specs.Statuses.{unclosed}
 use Rattle.art_tools.specs.declared.run_faults.RunFault.TheVariants.{NoMemory}
@@ -53,6 +56,12 @@ only_pass passes rest o q split is one =
 
 pub new_pass : (schema : List Column) (config : Config) (t : Table) (passes : List Pass) (q : Pass) → IsOpened schema config t passes → passes ≡ q ∷ [] → IsNew t 0 q
 new_pass schema config t passes q opened is = opened.each 0 q (ap (λ (l : List Pass). slice_get l 0) is)
+
+-- so a table of one pass has it as its only one
+pub opened_only : (schema : List Column) (sizes : Config) (t : Table) (p : Pass) → IsOpened schema (of_one_pass sizes) t (p ∷ []) → IsOnlyPass t p
+opened_only schema sizes t p opened =
+    let new = opened.each 0 p refl in
+    record { pass = new.of; one = ap (λ (z : Sizes). z.passes) opened.sizes_are; first = new.number_is }
 
 -- ---- eight passes
 

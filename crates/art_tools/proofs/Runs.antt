@@ -4,7 +4,8 @@ use Rattle.std.proofs.Math.Seq.{take-length}
 use Rattle.std.specs.Option.{option_or}
 use Rattle.std.specs.Io.KnownBytes.{IsAtEnd}
 use Rattle.art_alone.proofs.Lines.{sessions_alone_are_one_map}
-use Rattle.art_alone.specs.Laws.{IsAlone}
+use Rattle.art_alone.proofs.Alone.{closed_alone}
+use Rattle.art_alone.specs.Laws.{IsOneMap, IsOnlyPass}
 use Rattle.art_alone.specs.Maps.{MapAnswersLines}
 use Rattle.art_key.specs.Histories.{replay}
 use Rattle.art_key.specs.declared.columns.Column.{Column}
@@ -18,23 +19,17 @@ use Rattle.art_server.specs.declared.sessions.EndCause.TheVariants as end
 use Rattle.art_server.specs.declared.sessions.SessionEnd.{SessionEnd}
 use Rattle.art_server.specs.Sessions.{AnswersLines, EndsBy, IsSession, RunsSession, begun, texts}
 use Rattle.art_server.specs.Streams.{lines_of}
-use Rattle.art_table.specs.Tables.{IsPassOf, schema_in, seen_by}
+use Rattle.art_table.specs.Tables.{schema_in, seen_by}
+use Rattle.art_table.specs.Closing.{IsClosed}
+use Rattle.art_table.specs.declared.closing.Closed.{Closed}
 use Rattle.art_table.specs.declared.passes.Pass.{Pass}
 use Rattle.art_table.specs.declared.tables.Table.{Table}
-use Rattle.art_tools.specs.Outputs.{HasOutput, Outputs}
+use Rattle.art_tools.specs.Outputs.{HasFront, HasOutput, Outputs}
 use Rattle.art_tools.specs.declared.run_faults.RunFault.{RunFault}
 use Rattle.art_tools.specs.declared.run_faults.RunFault.TheVariants.{ReadFailed, WriteFailed, Refused, NoMemory, ReadsUsed, BadLine}
 use Rattle.art_tools.specs.Statuses.{fault_at, fault_in, schedule_fault, status_after}
 
--- no fault is told only where there was none, and then none in the closing
-pub where_closed : {A B : Type 0} (r : Result A RunFault) (told : Option RunFault) (closed : Result B RunFault) (P Q : Type 0)
-    → fault_in r ≡ option_or told (fault_in closed) → OnOk closed P → (told ≡ None → P → Q) → OnOk r Q
-where_closed (Err fault) told closed P Q e closing both = tt
-where_closed (Ok a) None (Ok b) P Q e closing both = both refl closing
-where_closed (Ok a) None (Err fault) P Q e closing both = absurd (cc)
-where_closed (Ok a) (Some fault) closed P Q e closing both = absurd (cc)
-
--- the same of the end before the closing alone
+-- no fault is told only where there was none before the closing
 pub where_ended : {A B : Type 0} (r : Result A RunFault) (told : Option RunFault) (closed : Result B RunFault) (Q : Type 0)
     → fault_in r ≡ option_or told (fault_in closed) → (told ≡ None → Q) → OnOk r Q
 where_ended (Err fault) told closed Q e ended = tt
@@ -67,7 +62,26 @@ all_begun : (e : SessionEnd) (n : ℕ) → e.answered ≡ n → e.pending ≡ fa
 all_begun e n answered pending =
     ap (λ (b : Bool). e.answered + (if b then 1 else 0)) pending ∙ (let same = answered in omega (arith, same))
 
-module _ (t : Table) (p q : Pass) (was : IsPassOf t p) (new : seen_by t p ≡ []) (alone : IsAlone t q) (read written : List ℕ) (e : SessionEnd) (is : IsSession t read written p q e) (ended : e.why ≡ end.Ended) where
+module _ (t : Table) (p q : Pass) (only : IsOnlyPass t p) (new : seen_by t p ≡ []) (read written : List ℕ) (e : SessionEnd) (is : IsSession t read written p q e) where
+  one_map : IsOneMap t (take (begun e) (lines_of read)) p q is.lines.replies
+  one_map = sessions_alone_are_one_map t (take (begun e) (lines_of read)) p q is.lines.replies only is.lines.answers
+
+  -- what was written is what one sorted map answers to the lines that were begun
+  pub has_front : (schema : List Column) → schema_in t ≡ schema → HasFront schema read written e
+  has_front schema schema_is = record {
+    replies = is.lines.replies;
+    rows = replay (seen_by t q);
+    answers = subst (λ (s : List Column). MapAnswersLines s (take (begun e) (lines_of read)) [] is.lines.replies (replay (seen_by t q))) schema_is
+        (subst (λ (log : List Event). MapAnswersLines (schema_in t) (take (begun e) (lines_of read)) (replay log) is.lines.replies (replay (seen_by t q))) new one_map.map);
+    begins = is.lines.begins;
+    whole = is.lines.whole;
+  }
+
+  -- and the rows at the close are that map's
+  pub closed_rows : (closed : Closed) → IsClosed t (q ∷ []) closed → closed.rows.items ≡ replay (seen_by t q)
+  closed_rows closed shut = (closed_alone t q closed one_map.only.pass shut).1
+
+module _ (t : Table) (p q : Pass) (only : IsOnlyPass t p) (new : seen_by t p ≡ []) (read written : List ℕ) (e : SessionEnd) (is : IsSession t read written p q e) (ended : e.why ≡ end.Ended) where
   lines : List (List ℕ)
   lines = lines_of read
 
@@ -94,7 +108,7 @@ module _ (t : Table) (p q : Pass) (was : IsPassOf t p) (new : seen_by t p ≡ []
   pub has_output : (schema : List Column) → schema_in t ≡ schema → HasOutput schema read written
   unfolding lines
   has_output schema schema_is =
-      let map = sessions_alone_are_one_map t (lines_of read) p q is.lines.replies was answers alone in
+      let map = (sessions_alone_are_one_map t (lines_of read) p q is.lines.replies only answers).map in
       let from_none = subst (λ (log : List Event). MapAnswersLines (schema_in t) (lines_of read) (replay log) is.lines.replies (replay (seen_by t q))) new map in
       record {
         replies = is.lines.replies;
@@ -103,13 +117,13 @@ module _ (t : Table) (p q : Pass) (was : IsPassOf t p) (new : seen_by t p ≡ []
         text = wrote;
       }
 
-pub session_outputs : (schema : List Column) (left left_after held held_after : Option (List ℕ)) (t : Table) (p q : Pass) (e : SessionEnd) → schema_in t ≡ schema → IsPassOf t p → seen_by t p ≡ []
-    → IsAlone t q → RunsSession left left_after held held_after t p q e → IsAtEnd left_after → e.why ≡ end.Ended → Outputs (Ok schema) left held held_after
-session_outputs schema None left_after held held_after t p q e schema_is was new alone runs at_end ended = tt
-session_outputs schema (Some input) None held held_after t p q e schema_is was new alone runs at_end ended = absurd runs.2
-session_outputs schema (Some input) (Some rest) held held_after t p q e schema_is was new alone runs at_end ended =
+pub session_outputs : (schema : List Column) (left left_after held held_after : Option (List ℕ)) (t : Table) (p q : Pass) (e : SessionEnd) → schema_in t ≡ schema → IsOnlyPass t p → seen_by t p ≡ []
+    → RunsSession left left_after held held_after t p q e → IsAtEnd left_after → e.why ≡ end.Ended → Outputs (Ok schema) left held held_after
+session_outputs schema None left_after held held_after t p q e schema_is only new runs at_end ended = tt
+session_outputs schema (Some input) None held held_after t p q e schema_is only new runs at_end ended = absurd runs.2
+session_outputs schema (Some input) (Some rest) held held_after t p q e schema_is only new runs at_end ended =
     let same = all_was_read input rest runs.0 runs.2 at_end in
-    let output = has_output t p q was new alone runs.0 runs.1 e runs.4 ended schema schema_is in
+    let output = has_output t p q only new runs.0 runs.1 e runs.4 ended schema schema_is in
     (runs.1, subst (λ (bytes : List ℕ). HasOutput schema bytes runs.1) same output, runs.3)
 
 -- ---- which end a fault tells of

@@ -18,6 +18,8 @@ use Rattle.art_server.specs.Reads.{MakesReads}
 use Rattle.art_server.specs.Sessions.{RunsSession}
 use Rattle.art_server.specs.declared.sessions.EndCause.TheVariants as cause
 use Rattle.art_server.specs.declared.sessions.SessionEnd.{SessionEnd}
+use Rattle.art_tools.proofs.Passes.{opened_only}
+use Rattle.art_tools.proofs.Runs.{closed_rows, has_front}
 use Rattle.art_tools.specs.Outputs.{of_one_pass}
 use Rattle.art_tools.specs.Schedules.{Steps, of_eight_passes}
 use Rattle.art_tools.specs.Sessions.{Runs}
@@ -90,16 +92,22 @@ pub runs_ran : {A B : Type 0} (schema : Result (List Column) SchemaFault) (colum
     → OnOk closed ((c : Closed) × IsClosed t (q ∷ []) c)
     → fault_in r ≡ option_or (fault_at end.why) (fault_in closed) → IfErr closed (λ why. why ≡ fault.NoMemory)
     → Runs schema sizes left left_after held held_after (fault_in r)
-runs_ran (Ok schema) columns sizes left left_after held held_after t p q end r closed is opened runs shut told none = inl (record {
-  table = t;
-  pass = p;
-  back = q;
-  end = end;
-  opened = subst (λ (s : List Column). IsOpened s (of_one_pass sizes) t (p ∷ [])) (same_columns columns schema is) opened;
-  runs = runs;
-  told_is = told_of r (fault_at end.why) closed told none;
-  closed = closed_by r (fault_at end.why) closed t (q ∷ []) told shut;
-})
+runs_ran (Ok schema) columns sizes left left_after held held_after t p q end r closed is opened runs shut told none =
+    let same = same_columns columns schema is in
+    let new = opened.each 0 p refl in
+    let only = opened_only columns sizes t p opened in
+    inl (record {
+      table = t;
+      pass = p;
+      back = q;
+      end = end;
+      opened = subst (λ (s : List Column). IsOpened s (of_one_pass sizes) t (p ∷ [])) same opened;
+      runs = runs;
+      front = has_front t p q only new.seen runs.0 runs.1 end runs.4 schema (opened.schema_is ∙ same);
+      rows = closed_rows t p q only new.seen runs.0 runs.1 end runs.4;
+      told_is = told_of r (fault_at end.why) closed told none;
+      closed = closed_by r (fault_at end.why) closed t (q ∷ []) told shut;
+    })
 runs_ran (Err fault) columns sizes left left_after held held_after t p q end r closed is opened runs shut told none = absurd (cc)
 
 -- the status tells the fault

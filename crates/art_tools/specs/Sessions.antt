@@ -1,19 +1,22 @@
 -- What `run` does: one session over a table of its own.
-use Rattle.std.specs.Prelude.{◌⊎◌, ℕ, List, [], ◌∷◌, Option, Result, Ok, Err}
+use Rattle.std.specs.Prelude.{◌≡◌, ◌⊎◌, ℕ, List, [], ◌∷◌, Option, Result, Ok, Err}
 use Rattle.art_key.specs.declared.columns.Column.{Column}
 use Rattle.art_key.specs.declared.faults.SchemaFault.{SchemaFault}
 use Rattle.art_server.specs.Sessions.{RunsSession}
 use Rattle.art_server.specs.declared.sessions.SessionEnd.{SessionEnd}
+use Rattle.art_table.specs.Closing.{IsClosed}
 use Rattle.art_table.specs.Opening.{IsOpened}
+use Rattle.art_table.specs.declared.closing.Closed.{Closed}
 use Rattle.art_table.specs.declared.configs.Config.{Config}
 use Rattle.art_table.specs.declared.passes.Pass.{Pass}
 use Rattle.art_table.specs.declared.tables.Table.{Table}
-use Rattle.art_tools.specs.Outputs.{of_one_pass}
+use Rattle.art_tools.specs.Outputs.{HasFront, of_one_pass}
 use Rattle.art_tools.specs.Statuses.{fault_at}
 use Rattle.art_tools.specs.Told.{IsClosedBy, IsToldOf, IsUnopened, NothingRead}
 use Rattle.art_tools.specs.declared.run_faults.RunFault.{RunFault}
 
--- a session was run by the one pass of an empty table of the schema and these sizes, which was closed with the pass as it came back
+-- a session was run by the one pass of an empty table of the schema and these sizes: what it wrote is what one sorted map answers, however
+-- the session ended; and the table was closed with the pass as it came back, which gives the rows of that map
 pub record RanSession (schema : List Column) (sizes : Config) (left left_after held held_after : Option (List ℕ))
     (told : Option RunFault) : Type 0 where
   pub table : Table
@@ -22,6 +25,8 @@ pub record RanSession (schema : List Column) (sizes : Config) (left left_after h
   pub end : SessionEnd
   pub opened : IsOpened schema (of_one_pass sizes) table (pass ∷ [])
   pub runs : RunsSession left left_after held held_after table pass back end
+  pub front : HasFront schema runs.0 runs.1 end
+  pub rows : (closed : Closed) → IsClosed table (back ∷ []) closed → closed.rows.items ≡ front.rows
   pub told_is : IsToldOf (fault_at end.why) told
   pub closed : IsClosedBy told table (back ∷ [])
 

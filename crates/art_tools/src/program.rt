@@ -6,7 +6,6 @@ ghost use Rattle.clap.specs.Values.{kind_of};
 ghost use Rattle.clap.specs.declared.error.kind.ErrorKind.TheVariants.{DisplayHelp, DisplayVersion};
 ghost use Rattle.art_key.specs.declared.faults.SchemaFault.{SchemaFault};
 ghost use Rattle.art_key.specs.Schemas.{schema_of};
-ghost use Rattle.art_alone.specs.Laws.{IsAlone};
 ghost use Rattle.art_table.specs.Closing.{IsClosed};
 ghost use Rattle.art_table.specs.Opening.{IsOpened};
 ghost use Rattle.art_table.specs.Sizes.{IsConfig};
@@ -160,12 +159,11 @@ fn check_end(why: EndCause) -> Result<(), RunFault>
     }
 }
 
-/// Closes the table with its one pass, for which there is room here: that has seen its own events alone.
+/// Closes the table with its one pass, for which there is room here.
 fn give_back(alloc: Global, table: Table, mut passes: Vec<Pass>, pass: Pass) -> Result<(), RunFault>
     requires room { passes.items ≡ [] }
     requires pass { IsPassOf table pass × (number_of pass ≡ 0) }
     requires one { (sizes_in table).passes ≡ 1 }
-    ensures alone { OnOk result (IsAlone table pass) }
     ensures closed { OnOk result ((closed : ClosedOf) × IsClosed table (pass ∷ []) closed) }
     ensures memory { IfErr result (λ fault. fault ≡ RunFault.NoMemory) }
 {

@@ -1,17 +1,9 @@
 use Rattle.std.proofs.Common.{List, [], ◌∷◌, ◌++◌, sym, ap, subst, ◌∙◌}
-use Rattle.art_alone.proofs.Alone.{closed_alone}
 use Rattle.art_table.specs.Closing.{AreAllPasses, IsClosed}
 use Rattle.art_table.specs.Tables.{sizes_in}
 use Rattle.art_table.specs.declared.passes.Pass.{Pass}
 use Rattle.art_tools.proofs.Passes.{no_memory, one_is_all}
 use Rattle.art_tools.proofs.program.give_back.Goals as goal
-
-pub returns-in-Ok-clause-alone : goal.returns-in-Ok-clause-alone
-returns-in-Ok-clause-alone c =
-    let t = c.args.table in
-    let q = c.args.pass in
-    let here = c.in_ok-push.ensures.items ∙ ap (λ (l : List Pass). l ++ q ∷ []) c.requires.room in
-    (closed_alone t q c.in-Ok.field-0 c.requires.pass.0 (subst (λ (l : List Pass). IsClosed t l c.in-Ok.field-0) here c.in-Ok.ensures.closed)).0
 
 pub returns-clause-memory : goal.returns-clause-memory
 returns-clause-memory c =

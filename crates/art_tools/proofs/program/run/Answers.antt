@@ -3,7 +3,8 @@ use Rattle.art_server.specs.Counted.{reader_of}
 use Rattle.art_tools.specs.Outputs.{Outputs}
 use Rattle.art_server.specs.Reads.{MakesReads}
 use Rattle.art_tools.specs.declared.run_faults.RunFault.TheVariants.{ReadFailed, ReadsUsed, BadLine}
-use Rattle.art_tools.proofs.Runs.{where_closed, session_ended, session_outputs, told_first, used_up, read_failed, no_line}
+use Rattle.art_tools.proofs.Passes.{opened_only}
+use Rattle.art_tools.proofs.Runs.{where_ended, session_ended, session_outputs, told_first, used_up, read_failed, no_line}
 use Rattle.art_tools.proofs.Stepped.{runs_ran}
 use Rattle.art_tools.proofs.program.run.Goals as goal
 
@@ -13,16 +14,15 @@ returns-clause-output g c =
     let held = g.W.Write.contents c.args.writer.now in
     let held_after = g.W.Write.contents c.session-pass.new.writer in
     let e = c.in_ok-table.ensures in
-    where_closed c.outcome.result _ c.give_back-closed.result _ _ c.outcome.ensures c.give_back-closed.ensures.alone (λ none alone.
+    where_ended c.outcome.result _ c.give_back-closed.result _ c.outcome.ensures (λ none.
     let ended = session_ended _ none in
-    let wrote = session_outputs c.in_ok-schema.schema left _ held held_after c.in_ok-table.table c.in_ok-table.pass c.session-pass.result.0 _ e.opened.schema_is e.pass.0 e.pass.2 alone
+    let only = opened_only _ _ _ _ e.opened in
+    let wrote = session_outputs c.in_ok-schema.schema left _ held held_after c.in_ok-table.table c.in_ok-table.pass c.session-pass.result.0 _ e.opened.schema_is only e.pass.2
     c.session-pass.ensures.session (c.session-pass.ensures.end ended) ended in
     subst (λ s. Outputs s left held held_after) c.in_ok-schema.ensures wrote)
 
 pub returns-clause-ended : goal.returns-clause-ended
-returns-clause-ended g c =
-    where_closed c.outcome.result _ c.give_back-closed.result _ _ c.outcome.ensures c.give_back-closed.ensures.alone
-    (λ none alone. c.session-pass.ensures.end (session_ended _ none))
+returns-clause-ended g c = where_ended c.outcome.result _ c.give_back-closed.result _ c.outcome.ensures (λ none. c.session-pass.ensures.end (session_ended _ none))
 
 pub returns-clause-runs : goal.returns-clause-runs
 returns-clause-runs g c =

@@ -6,7 +6,8 @@ use Rattle.art_step.specs.Views.{Member}
 use Rattle.art_shared.specs.declared.law.Known.{Known}
 use Rattle.art_shared.specs.Marks.{history_of}
 use Rattle.art_shared.specs.Passes.{view_in}
-use Rattle.art_shared.specs.Tables.{known_to, schema_in}
+use Rattle.art_shared.specs.Rule.{AreBelow}
+use Rattle.art_shared.specs.Tables.{known_to, schema_in, sizes_in}
 use Rattle.art_shared.proofs.Marking.{told_last}
 use Rattle.art_shared.proofs.shared.Shared.learn.Goals as goal
 
@@ -20,4 +21,5 @@ look-requires c = record {
   table = c.take_in.ensures.same.table ∙ c.requires.pass.table;
   basis = c.take_in.ensures.same.basis ∙ c.requires.pass.basis;
   typed = subst (λ (k : Known). AreAdmitted (IsKeyOf (schema_in c.args.self.now)) (view_in k).seen) (sym c.take_in.ensures.told) c.requires.pass.typed;
+  below = subst (λ (k : Known). AreBelow (sizes_in c.args.self.now).passes (view_in k).seen) (sym c.take_in.ensures.told) c.requires.pass.below;
 }

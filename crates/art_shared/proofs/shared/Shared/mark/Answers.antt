@@ -5,7 +5,8 @@ use Rattle.std.proofs.Common.{◌∙◌, ap, arith, refl, subst, sym}
 use Rattle.art_shared.specs.Passes.{first_told, marked, view_in}
 use Rattle.art_step.specs.Steps.Anchor.{Outcome}
 use Rattle.art_shared.specs.Marks.{LooksOnce}
-use Rattle.art_shared.specs.Tables.{basis_in, known_to, schema_in, view_of_pass}
+use Rattle.art_shared.specs.Rule.{AreBelow}
+use Rattle.art_shared.specs.Tables.{basis_in, known_to, schema_in, sizes_in, view_of_pass}
 use Rattle.art_shared.proofs.Marking.{seen_begins}
 use Rattle.art_shared.proofs.Moving.{splits}
 use Rattle.art_shared.proofs.shared.Shared.mark.Goals as goal
@@ -24,6 +25,7 @@ returns-clause-pass c =
       table = cut.0 ∙ (c.look.ensures.same.table ∙ c.requires.table);
       basis = ap (λ m. m.0.basis) cut.2 ∙ (c.look.ensures.same.basis ∙ c.requires.basis);
       typed = subst (λ m. AreAdmitted (IsKeyOf (schema_in c.args.self.now)) (view_in m.0).seen) (sym cut.2) c.look.ensures.turn.typed;
+      below = subst (λ m. AreBelow (sizes_in c.args.self.now).passes (view_in m.0).seen) (sym cut.2) c.look.ensures.turn.below;
     }
 
 pub returns-clause-row : goal.returns-clause-row

@@ -8,7 +8,7 @@ pub store-requires-clause-may : goal.store-requires-clause-may
 store-requires-clause-may c =
     let s = c.args.self.now in
     let may = c.requires.may in
-    rw c.cell-cell.ensures (turns_write (basis_of s) (known_by s) _ may.0 c.args.place c.args.value _ (c.word_at-at.ensures ∙ ap (λ (n : ℕ). n + c.args.place) (rw c.cell-cell.ensures at c.place_of-first.ensures)) c.requires.inside may.1 may.2 c.requires.child)
+    rw c.cell-cell.ensures (turns_write (basis_of s) (known_by s) _ may.0 c.args.place c.args.value _ (c.word_at-at.ensures ∙ ap (λ (n : ℕ). n + c.args.place) (rw c.cell-cell.ensures at c.place_of-first.ensures)) c.requires.inside may.1 may.2 c.requires.form)
 
 pub returns-clause-row : goal.returns-clause-row
 returns-clause-row c = rw c.cell-cell.ensures at c.store.ensures.turn.row
