@@ -28,5 +28,5 @@ pub named_there : (z : Sizes) (u : View) (t : Stand) (desk : Desk) (d : Link) â†
 named_there z u t desk d words child =
     let was = words.each child.place child.word child.read in (
       record { fact = Word child.place child.word; noted = was.noted; names = child.names },
-      names_there z child.word d (was.child child.child) child.names,
+      names_there z child.word d (was.form.child child.child) child.names,
     )

@@ -1,9 +1,10 @@
 -- A cell of which all words are known, as a body or as the anchor's word.
-use Rattle.std.proofs.Common.{◌≡◌, ℕ, ◌<◌, List, Option, Some, None, refl, sym, ap, ◌∙◌, subst, arith}
+use Rattle.std.proofs.Common.{◌≡◌, ◌≢◌, ℕ, ◌<◌, ◌≤◌, List, Option, Some, None, refl, sym, ap, ◌∙◌, subst, ⊎_elim, arith}
 use Rattle.std.specs.Prelude.{unwrap_or}
+use Rattle.std.proofs.lemmas.Bool.{cases_eq, cases_lt}
 use Rattle.std.proofs.lemmas.Option.{same_Some}
 use Rattle.art_cell.specs.Reads.{Agrees, word_of, word_read}
-use Rattle.art_cell.specs.Words.{first_child, size}
+use Rattle.art_cell.specs.Words.{size}
 use Rattle.art_cell.specs.declared.bodies.Body.{Body}
 use Rattle.art_cell.specs.declared.cells.Cell.{Cell}
 use Rattle.art_cell.specs.declared.cells.Cell.TheVariants as cell
@@ -20,8 +21,9 @@ use Rattle.art_place.specs.declared.findings.Above.{Above}
 use Rattle.art_place.specs.declared.findings.Stand.{Stand}
 use Rattle.art_plan.specs.Changes.{MayTarget}
 use Rattle.art_plan.specs.Seen.{IsReadRoot, IsReadWhole, kept}
+use Rattle.art_step.proofs.WordForms.{no_word}
 use Rattle.art_step.specs.Shows.{HasStamp}
-use Rattle.art_step.specs.Views.{IsChildPlace, size_of}
+use Rattle.art_step.specs.Views.{IsWordOf, size_of}
 use Rattle.art_step.specs.declared.views.Sizes.{Sizes}
 use Rattle.art_step.specs.declared.views.Stamp.{Stamp}
 use Rattle.art_step.specs.declared.views.View.{View}
@@ -63,12 +65,6 @@ module _ (z : Sizes) (k : List ℕ) (t : Stand) (desk : Desk) (u : View) (at : I
 
 -- ---- as what a plan goes by
 
-after_header : (k : Layout) → 0 < first_child k
-after_header Node4 = omega arith
-after_header Node16 = omega arith
-after_header Node48 = omega arith
-after_header Node256 = omega arith
-
 -- each word that is known is that of the body
 pub filled_agrees : (n : Node) (reads : List (Option ℕ)) (body : Body) → HasWords n reads body → Agrees reads (word_of body)
 filled_agrees n reads body has place value is = has.words place ∙ ap (λ (o : Option ℕ). unwrap_or o 0) is
@@ -104,15 +100,23 @@ module _ (z : Sizes) (u : View) (x : Stamp) (reads : List (Option ℕ)) (whole :
     pub nothing_there : (i : ℕ) → (0 < i → i < size n.layout → ⊥) → word_of body i ≡ 0
     nothing_there i out = (filled n at).words i ∙ unknown_outside x.cell reads i (kept_within z u x reads whole.words) (λ low high. out low (subst (λ (c : Cell). i < size_of c) at high))
 
+    -- so each word has its form
+    form_there : (i : ℕ) → IsWordOf z (cell.Node n) i (word_of body i)
+    form_there i = ⊎_elim
+        (λ (low : i < size n.layout). ⊎_elim
+        (λ (none : i ≡ 0). no_word z (cell.Node n) i (word_of body i) (λ after. absurd (omega (arith, none, after))))
+        (λ (after : i ≢ 0). subst (λ (c : Cell). IsWordOf z c i (word_of body i)) at (word_there i (omega (arith, after)) low).form)
+        (cases_eq i 0))
+        (λ (high : size n.layout ≤ i). no_word z (cell.Node n) i (word_of body i) (λ _. nothing_there i (λ _ before. omega (arith, high, before))))
+        (cases_lt i (size n.layout))
+
     pub read_whole : IsReadWhole z u x n body
     read_whole = record {
       may = may_kept;
       cell = at;
       layout = (filled n at).layout;
       noted = λ i low high. (word_there i low high).noted;
-      child = λ i place.
-          let first = after_header n.layout in
-          (word_there i (omega (arith, first, place.0)) place.1).child (subst (λ (c : Cell). IsChildPlace c i) (sym at) place);
+      forms = form_there;
       version = nothing_there 0 (λ low high. omega (arith, low));
       past = λ i high. nothing_there i (λ low before. omega (arith, high, before));
     }

@@ -1,5 +1,5 @@
 -- Numbers come into the hand one after another, and the leaf gets its words.
-use Rattle.std.proofs.Common.{◌≡◌, ◌≢◌, ℕ, ◌+◌, ◌<◌, ◌≤◌, Bool, true, false, List, Option, Some, None, nat_lt, refl, sym, ap, ◌∙◌, subst, arith, ⊎_elim, if◌then◌else◌}
+use Rattle.std.proofs.Common.{◌≡◌, ◌≢◌, ℕ, ◌+◌, ◌<◌, ◌≤◌, Bool, true, false, List, length, Option, Some, None, nat_lt, refl, sym, ap, ◌∙◌, subst, arith, ⊎_elim, if◌then◌else◌}
 use Rattle.std.specs.Option.{option_and_then, option_map}
 use Rattle.std.specs.Prelude.{IfSome}
 use Rattle.std.proofs.lemmas.Bool.{cases_eq, lt-ltb, ltb-true}
@@ -33,6 +33,7 @@ use Rattle.art_gather.specs.declared.asked.Asked.TheVariants.{Number as number_a
 use Rattle.art_gather.specs.declared.supplying.Supplying.{Supplying}
 use Rattle.art_gather.specs.declared.supplying.Supplying.TheVariants as stage
 use Rattle.art_gather.specs.declared.supplying.Wants.{Wants}
+use Rattle.art_make.proofs.PackedLeaves.{word_form}
 use Rattle.art_make.specs.Packing.{IsPacked, OnlyPacks, PackingFits, word_asked}
 use Rattle.art_make.specs.declared.packing.LeafWrite.{LeafWrite}
 use Rattle.art_make.specs.declared.packing.Packing.{Packing}
@@ -342,13 +343,14 @@ search_allowed z v0 v pool words first (Took i k) is fits = tt
 taking_allowed : (z : Sizes) (v0 v : View) (t : Taking) → taking.Fits z v0 t v → IfSome (option_map number_asked (taking.asks t)) (IsAllowed z v)
 taking_allowed z v0 v t fits = search_allowed z v0 v t.pool t.words t.first t.search fits.words fits.search
 
-pub allowed : (z : Sizes) (wants : Wants) (k : List ℕ) (value : ℕ) (m : Supplying) (s : Stock) (u v : View) → StageFits z wants k value m s u v → IfSome (asks k value s m) (IsAllowed z v)
-allowed z wants k value (stage.Leaf t) s u v fits = taking_allowed z fits.2.sought.early v t fits.2.sought.seeks
-allowed z wants k value (stage.Packing p) s u v fits =
+pub allowed : (z : Sizes) (wants : Wants) (k : List ℕ) (value : ℕ) (m : Supplying) (s : Stock) (u v : View) → length k ≤ 64 → StageFits z wants k value m s u v
+    → IfSome (asks k value s m) (IsAllowed z v)
+allowed z wants k value (stage.Leaf t) s u v few fits = taking_allowed z fits.2.sought.early v t fits.2.sought.seeks
+allowed z wants k value (stage.Packing p) s u v few fits =
     let q = fits.1 in
-    rw q.is rw (lt-ltb p.place 10 q.more) (q.packs.packed.is, q.more)
-allowed z wants k value (stage.Node t) s u v fits = taking_allowed z fits.1.seeking.sought.early v t fits.1.seeking.sought.seeks
-allowed z wants k value (stage.Ended r) s u v fits = tt
+    rw q.is rw (lt-ltb p.place 10 q.more) (q.packs.packed.is, q.more, word_form z q.leaf k value p.place few)
+allowed z wants k value (stage.Node t) s u v few fits = taking_allowed z fits.1.seeking.sought.early v t fits.1.seeking.sought.seeks
+allowed z wants k value (stage.Ended r) s u v few fits = tt
 
 -- ---- a node came into the hand
 

@@ -18,7 +18,7 @@ use Rattle.art_plan.specs.declared.changes.Put.{Put}
 use Rattle.art_plan.specs.declared.changes.Target.{Target}
 use Rattle.art_step.specs.Steps.Claim as claim
 use Rattle.art_step.specs.Steps.Release.{IsNodeAmong}
-use Rattle.art_step.specs.Views.{IsChildPlace, IsChildWord, IsInLimbo, Member, MayLock, note_of, size_of}
+use Rattle.art_step.specs.Views.{IsWordOf, IsInLimbo, Member, MayLock, note_of, size_of}
 use Rattle.art_step.specs.WordPlaces.{IsInside}
 use Rattle.art_step.specs.declared.faults.UpgradeFault.{UpgradeFault}
 use Rattle.art_step.specs.declared.views.Fact.TheVariants.{Starts}
@@ -81,7 +81,7 @@ module _ (z : Sizes) (u : View) (c : Change) (planned : IsWhole z u c) where
         holding = h.0;
         cell = h.2.cell;
         may = record { held = h.1; early = was.early planned.some; place = subst (λ (d : Cell). (0 < place) × (place < size_of d)) (sym h.2.cell) (some, low) };
-        child = may.children place;
+        form = may.forms place;
       }
 
   pub may_write : (j : ℕ) (filled : Bool → ℕ) (p : Put) (x : Target) (v : View) → put_at c j ≡ Some p → target_at c p.target ≡ Some x → IsLocking u c (targets c) (take j c.puts.items) filled v → MayWrite z v x.stamp.cell p.place p.value
@@ -98,7 +98,7 @@ module _ (z : Sizes) (u : View) (c : Change) (planned : IsWhole z u c) where
           early = was.early planned.some;
           place = subst (λ (d : Cell). (0 < p.place) × (p.place < size_of d)) (ap (λ (a : Target). a.stamp.cell) same ∙ sym h.2.cell) may.place;
         };
-        child = subst (λ (a : Target). IsChildPlace a.stamp.cell p.place → IsChildWord z p.value) same may.child;
+        form = subst (λ (a : Target). IsWordOf z a.stamp.cell p.place p.value) same may.form;
       }
 
   -- ---- the commit

@@ -14,7 +14,7 @@ use Rattle.art_step.specs.Steps.Commit as commit
 use Rattle.art_step.specs.Steps.Release as release
 use Rattle.art_step.specs.Steps.Upgrade as upgrade
 use Rattle.art_step.specs.Steps.Write as write
-use Rattle.art_step.specs.Views.{IsChildPlace, IsChildWord, IsHolding, IsOnce, MayLock, Member, links_in_limbo, note_of}
+use Rattle.art_step.specs.Views.{IsWordOf, IsHolding, IsOnce, MayLock, Member, links_in_limbo, note_of}
 use Rattle.art_step.specs.WordPlaces.{HasVersion, IsInside}
 use Rattle.art_step.specs.declared.faults.UpgradeFault.{UpgradeFault}
 use Rattle.art_step.specs.declared.views.Fact.TheVariants.{Starts}
@@ -39,7 +39,7 @@ pub record MayWrite (z : Sizes) (v : View) (c : Cell) (i x : ℕ) : Type 0 where
   pub holding : Holding
   pub cell : holding.cell ≡ c
   pub may : write.May v holding i
-  pub child : IsChildPlace c i → IsChildWord z x
+  pub form : IsWordOf z c i x
 
 -- the commit of a change
 pub record MayCommit (z : Sizes) (v : View) (ch : Change) (c : Cell) (obsolete : Bool) : Type 0 where

@@ -1,9 +1,10 @@
 //! The words of a leaf in hand are written.
 ghost use Rattle.std.specs.Prelude.{◌≡◌, ◌<◌, ◌≤◌, ℕ, length};
+ghost use Rattle.art_cell.specs.declared.cells.Cell.TheVariants.{Leaf as leaf_cell};
 ghost use Rattle.art_cell.specs.declared.cells.Link.TheVariants.{Leaf as leaf_link};
 ghost use Rattle.art_make.specs.Packing.{IsLeafInHand};
 ghost use Rattle.art_step.specs.Steps.Write as write;
-ghost use Rattle.art_step.specs.Views.{IsInHand};
+ghost use Rattle.art_step.specs.Views.{IsInHand, IsWordOf};
 ghost use Rattle.art_step.specs.declared.views.InHand.{InHand as NumberInHand};
 
 use art_cell::Link;
@@ -82,7 +83,8 @@ impl Packing {
 /// Writes a word of a leaf in hand.
 #[inline(always)]
 pub fn write_leaf<S: Steps>(steps: &mut S, leaf: u32, put: LeafWrite)
-    requires { IsLeafInHand (S.sizes steps.old) (S.view steps.old) leaf × (put.place < 10) }
+    requires { IsLeafInHand (S.sizes steps.old) (S.view steps.old) leaf × (put.place < 10) ×
+        IsWordOf (S.sizes steps.old) (leaf_cell leaf) put.place put.word }
     ensures only { S.only steps.old steps.new }
     ensures row { (y : NumberInHand) → IsInHand (S.view steps.old) (leaf_link leaf) y →
         write.LeafOutcome (S.view steps.old) (S.view steps.new) y put.place put.word }

@@ -59,7 +59,7 @@ kept_grows z v w x reads grows kept = record {
   room = kept.room;
   each = λ place word is.
       let was : WasReadAt z v x place word = kept.each place word is in
-      record { after = was.after; inside = was.inside; noted = grows.notes _ was.noted; child = was.child };
+      record { after = was.after; inside = was.inside; noted = grows.notes _ was.noted; form = was.form };
 }
 
 -- ---- paths
@@ -132,7 +132,7 @@ module _ (reads : List (Option ℕ)) (room : length reads ≡ 266) (place word :
         after = after;
         inside = inside;
         noted = subst (λ (t : View). Member (note_of x (Word place word)) t.notes) (sym row.is) (inl refl);
-        child = row.child;
+        form = row.form;
       } in
       record {
         room = length-set reads place (Some word) ∙ room;

@@ -5,3 +5,4 @@ pub mod Keeping
 pub mod Looks
 pub mod Placing
 pub mod Runs
+pub mod Standing

@@ -50,11 +50,11 @@ was_read z v w x place word after inside row = record {
   after = after;
   inside = inside;
   noted = subst (λ (t : View). Member (note_of x (Word place word)) t.notes) (sym row.is) (inl refl);
-  child = row.child;
+  form = row.form;
 }
 
 pub read_stays : (z : Sizes) (v w : View) (x : Stamp) (place word : ℕ) → Grows v w → WasReadAt z v x place word → WasReadAt z w x place word
-read_stays z v w x place word grows was = record { after = was.after; inside = was.inside; noted = grows.notes _ was.noted; child = was.child }
+read_stays z v w x place word grows was = record { after = was.after; inside = was.inside; noted = grows.notes _ was.noted; form = was.form }
 
 module _ (reads reads' : List (Option ℕ)) (place : ℕ) (words : List ℕ) (noted : AreNoted place words reads reads') where
   -- a place of the run

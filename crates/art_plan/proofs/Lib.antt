@@ -1,3 +1,4 @@
+pub mod BodyForms
 pub mod ChildPlaces
 pub mod MadeChanges
 pub mod MadeNodes

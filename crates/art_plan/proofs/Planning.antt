@@ -30,7 +30,8 @@ use Rattle.art_step.specs.declared.views.Stamp.{Stamp}
 use Rattle.art_step.specs.declared.views.View.{View}
 use Rattle.art_tree.proofs.ChildWords.{link_back}
 use Rattle.art_tree.specs.WordChanges.{FitsWord}
-use Rattle.art_plan.proofs.ChildPlaces.{NameThere, words_there}
+use Rattle.art_plan.proofs.ChildPlaces.{NameThere}
+use Rattle.art_plan.proofs.BodyForms.{node_forms}
 use Rattle.art_plan.proofs.ReadyCells.{comes}
 
 -- ---- lists
@@ -68,7 +69,7 @@ pub may_make : (z : Sizes) (u : View) (c : Change) (m : Node) → node_made c �
 may_make z u c m made has meaning names n is = subst (MayMake z u c) (same_Some m n (sym made ∙ is)) (record {
   inside = has.number;
   hand = (has.hand, has.has, has.link);
-  children = λ i at. words_there z m.layout (word_of c.body) meaning names i at;
+  forms = node_forms z m m.layout (word_of c.body) refl meaning names;
 })
 
 module _ (z : Sizes) (u v : View) (c : Change) (ready : IsReady u c v) (l : ℕ) (linked : leaf_linked c ≡ Some (leaf l)) where

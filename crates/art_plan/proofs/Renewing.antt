@@ -33,7 +33,7 @@ use Rattle.art_plan.specs.declared.changes.Twin.{Twin}
 use Rattle.art_plan.specs.declared.parts.Below.{Below}
 use Rattle.art_plan.specs.declared.sites.Site.{Site}
 use Rattle.art_plan.specs.declared.sites.Site.TheVariants.{Root, Slot}
-use Rattle.art_plan.proofs.ChildPlaces.{IsPlaceOf}
+use Rattle.art_plan.proofs.BodyForms.{same_form}
 use Rattle.art_plan.proofs.MadeChanges.{taken_meaning}
 use Rattle.art_plan.proofs.MovedPuts.{IsLower, WasPut, either_index, lower, lower_at, lower_high, member_at, same_after, was_put, with_moved, with_none_moved, word_after}
 use Rattle.art_plan.proofs.Planning.{get_member}
@@ -46,7 +46,7 @@ use Rattle.art_step.specs.Shows.{Rest, Shows}
 use Rattle.art_step.specs.Steps.Commit as commit
 use Rattle.art_step.specs.Steps.Commit.{AllNew, Commits, IsLinked, Knows}
 use Rattle.art_step.specs.Steps.Release.{IsNodeAmong}
-use Rattle.art_step.specs.Views.{IsChildPlace, IsChildWord, IsNotHeld, Member, size_of, words_in}
+use Rattle.art_step.specs.Views.{IsNotHeld, IsWordOf, Member, size_of, words_in}
 use Rattle.art_step.specs.declared.views.Holding.{Holding}
 use Rattle.art_step.specs.declared.views.InHand.{InHand}
 use Rattle.art_step.specs.declared.views.Sizes.{Sizes}
@@ -91,7 +91,7 @@ plain_whole z u c k = record {
     none n e = let no : None ≡ Some n = sym (ap (λ (o : Option Twin). Rattle.std.specs.Option.option_map twin_node o) k.plain) ∙ e in cc
 
     new : (b : Bool) (n : Node) → made_at b c ≡ Some n → MayMakeBy z u (made_word b c) n
-    new false n e = let o = k.new n e in record { inside = o.inside; hand = o.hand; children = o.children }
+    new false n e = let o = k.new n e in record { inside = o.inside; hand = o.hand; forms = o.forms }
     new true n e = absurd (none n e)
 
     by_which : (b : Bool) (h : Holding) (n : Node) → made_at b c ≡ Some n → 0 < filled_ends c b → IsFilledBy u (made_word b c) n (filled_ends c b) h → IsNew u c (filled_end c) h
@@ -323,7 +323,7 @@ module _ (z : Sizes) (u : View) (c : Change) (first : Bool) (site : Site) (write
       let o : WasPut first c.puts.items p = was_put first c.puts.items p i in
       let at = member_at c.puts.items o.put o.has in
       let may = r.planned.puts at.0 o.put at.1 in
-      subst (MayPut z c') (sym o.is) (record { target = may.target; is = at_lower o.put.target may.target o.low may.is; place = may.place; child = may.child })
+      subst (MayPut z c') (sym o.is) (record { target = may.target; is = at_lower o.put.target may.target o.low may.is; place = may.place; form = may.form })
 
   puts_may : (j : ℕ) (p : Put) → put_at c' j ≡ Some p → MayPut z c' p
   puts_may j p is = ⊎_elim
@@ -352,28 +352,26 @@ module _ (z : Sizes) (u : View) (c : Change) (first : Bool) (site : Site) (write
           let room = r.long in
           (omega arith, omega arith))
 
-  child_there : (i : ℕ) → IsChildPlace (cell.Node m) i → IsChildWord z (word_of twin.body i)
-  child_there i at = subst (λ (w : Words). IsChildWord z (w i)) twin_is (by_first first r.first_is)
+  forms_there : (i : ℕ) → IsWordOf z (cell.Node m) i (word_of twin.body i)
+  forms_there i = same_form z m n i (word_of twin.body i) r.layout (subst (λ (w : Words). IsWordOf z (cell.Node n) i (w i)) twin_is (by_first first r.first_is))
     where
-      place : IsChildPlace (cell.Node n) i
-      place = subst (λ (l : Layout). IsPlaceOf l i) r.layout at
+      was : IsWordOf z (cell.Node n) i (words_in below.body.now.words i)
+      was = r.place.read.forms i
 
-      was : IsChildWord z (words_in below.body.now.words i)
-      was = r.place.read.child i place
-
-      by_first : (b : Bool) → IsFirst b c worn → IsChildWord z (words_in (worn_words b c below.body.now.words) i)
+      by_first : (b : Bool) → IsFirst b c worn → IsWordOf z (cell.Node n) i (words_in (worn_words b c below.body.now.words) i)
       by_first false none = was
-      by_first true one = word_after (IsChildWord z) 0 i c.puts.items below.body.now.words
+      by_first true one = word_after (IsWordOf z (cell.Node n) i) 0 i c.puts.items below.body.now.words
           (λ p j to here.
           let at = member_at c.puts.items p j in
           let may = r.planned.puts at.0 p at.1 in
           let same : may.target ≡ kept worn = same_Some may.target (kept worn) (sym (subst (λ (t : ℕ). target_at c t ≡ Some may.target) to may.is) ∙ one) in
-          may.child (subst (λ (d : Cell). IsChildPlace d p.place) (sym (ap (λ (q : Target). q.stamp.cell) same ∙ at_worn)) (subst (IsChildPlace (cell.Node n)) (sym here) place)))
+          subst (λ (q : ℕ). IsWordOf z (cell.Node n) q p.value) here
+          (subst (λ (d : Cell). IsWordOf z d p.place p.value) (ap (λ (q : Target). q.stamp.cell) same ∙ at_worn) may.form))
           was
 
   makes : (b : Bool) (o : Node) → made_at b c' ≡ Some o → MayMakeBy z u (made_word b c') o
-  makes false o e = let a = r.planned.new o e in record { inside = a.inside; hand = a.hand; children = a.children }
-  makes true o e = subst (MayMakeBy z u (made_word true c')) (same_Some m o e) (record { inside = r.hand.number; hand = (r.hand.hand, r.hand.has, r.hand.link); children = child_there })
+  makes false o e = let a = r.planned.new o e in record { inside = a.inside; hand = a.hand; forms = a.forms }
+  makes true o e = subst (MayMakeBy z u (made_word true c')) (same_Some m o e) (record { inside = r.hand.number; hand = (r.hand.hand, r.hand.has, r.hand.link); forms = forms_there })
 
   two : (o : Node) → made_at false c' ≡ Some o → made_at true c' ≡ Some o → ⊥
   two o e f = r.other (e ∙ sym f)

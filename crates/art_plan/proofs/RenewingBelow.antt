@@ -33,7 +33,8 @@ use Rattle.art_plan.specs.declared.changes.Target.{Target}
 use Rattle.art_plan.specs.declared.changes.Twin.{Twin}
 use Rattle.art_plan.specs.declared.parts.Below.{Below}
 use Rattle.art_plan.specs.declared.sites.Site.{Site}
-use Rattle.art_plan.proofs.ChildPlaces.{IsPlaceOf}
+use Rattle.art_plan.proofs.BodyForms.{node_forms, same_form}
+use Rattle.art_plan.proofs.ChildPlaces.{NameThere, children_there, same_there, with_child_there}
 use Rattle.art_plan.proofs.MovedPuts.{member_at, same_after, word_after}
 use Rattle.art_plan.proofs.Planning.{get_member, one_of_two}
 use Rattle.art_plan.proofs.Renewing.{site_place, site_shows}
@@ -45,7 +46,7 @@ use Rattle.art_step.specs.Shows.{Rest}
 use Rattle.art_step.specs.Steps.Commit as commit
 use Rattle.art_step.specs.Steps.Commit.{AllNew, Commits, IsLinked, Knows}
 use Rattle.art_step.specs.Steps.Release.{IsNodeAmong}
-use Rattle.art_step.specs.Views.{IsChildPlace, IsChildWord, Member, size_of, words_in}
+use Rattle.art_step.specs.Views.{IsWordOf, Member, size_of, words_in}
 use Rattle.art_step.specs.declared.views.Holding.{Holding}
 use Rattle.art_step.specs.declared.views.InHand.{InHand}
 use Rattle.art_step.specs.declared.views.Sizes.{Sizes}
@@ -224,7 +225,7 @@ module _ (z : Sizes) (u : View) (c : Change) (site : Site) (o : Node) (a : ℕ) 
         target = may.target;
         is = ap (target_at c') e.0 ∙ ap Some e.1;
         place = may.place;
-        child = may.child;
+        form = may.form;
       })
       (λ (e : (p.target ≡ 1) × (kept worn ≡ may.target)). absurd (y.1 e.0))
       (one_before p.target may.target may.is)
@@ -243,17 +244,16 @@ module _ (z : Sizes) (u : View) (c : Change) (site : Site) (o : Node) (a : ℕ) 
       let room = r.long in
       (omega arith, omega arith)) ∙ twin_is
 
-  child_there : (i : ℕ) → IsChildPlace (cell.Node m) i → IsChildWord z (word_of twin.body i)
-  child_there i at = subst (λ (w : Words). IsChildWord z (w i)) twin_is (word_after (IsChildWord z) 1 i c.puts.items below.body.now.words
+  forms_there : (i : ℕ) → IsWordOf z (cell.Node m) i (word_of twin.body i)
+  forms_there i = same_form z m n i (word_of twin.body i) r.same (subst (λ (w : Words). IsWordOf z (cell.Node n) i (w i)) twin_is
+      (word_after (IsWordOf z (cell.Node n) i) 1 i c.puts.items below.body.now.words
       (λ p j to here.
       let at = member_at c.puts.items p j in
       let may = r.planned.puts at.0 p at.1 in
       let same : may.target ≡ kept worn = same_Some may.target (kept worn) (sym (subst (λ (t : ℕ). target_at c t ≡ Some may.target) to may.is) ∙ was_worn) in
-      may.child (subst (λ (d : Cell). IsChildPlace d p.place) (sym (ap (λ (q : Target). q.stamp.cell) same ∙ at_worn)) (subst (IsChildPlace (cell.Node n)) (sym here) place)))
-      (r.place.read.child i place))
-    where
-      place : IsChildPlace (cell.Node n) i
-      place = subst (λ (l : Layout). IsPlaceOf l i) r.same at
+      subst (λ (q : ℕ). IsWordOf z (cell.Node n) q p.value) here
+      (subst (λ (d : Cell). IsWordOf z d p.place p.value) (ap (λ (q : Target). q.stamp.cell) same ∙ at_worn) may.form))
+      (r.place.read.forms i)))
 
   new_is : node_made c' ≡ Some o
   new_is = make c.node r.new
@@ -269,22 +269,22 @@ module _ (z : Sizes) (u : View) (c : Change) (site : Site) (o : Node) (a : ℕ) 
       make None e = absurd (cc)
       make (Some y) e = ap (λ (q : Node). q.layout) (same_Some (record { layout = c.body.layout; number = y }) o e)
 
-  -- the children of the new node name what there is, the copy among them
-  new_children : (i : ℕ) → IsChildPlace (cell.Node o) i → IsChildWord z (word_of body i)
-  new_children i at = Rattle.art_plan.proofs.ChildPlaces.words_there z o.layout (word_of body) r.other.body names i at
+  -- the words of the new node have their forms, and its children name what there is, the copy among them
+  new_forms : (i : ℕ) → IsWordOf z (cell.Node o) i (word_of body i)
+  new_forms = node_forms z o o.layout (word_of body) refl r.other.body names
     where
-      old : Rattle.art_plan.proofs.ChildPlaces.NameThere z (child_of o.layout (word_of c.body))
-      old = Rattle.art_plan.proofs.ChildPlaces.children_there z o.layout (word_of c.body) r.meaning (λ i at. (r.planned.new o r.new).children i at)
+      old : NameThere z (child_of o.layout (word_of c.body))
+      old = children_there z o.layout (word_of c.body) r.meaning (λ i at. ((r.planned.new o r.new).forms i).child at)
 
-      names : Rattle.art_plan.proofs.ChildPlaces.NameThere z (child_of o.layout (word_of body))
-      names = Rattle.art_plan.proofs.ChildPlaces.same_there z (with_child (child_of o.layout (word_of c.body)) a (child_word (node m))) (child_of o.layout (word_of body)) r.other.children
-          (Rattle.art_plan.proofs.ChildPlaces.with_child_there z (child_of o.layout (word_of c.body)) a (child_word (node m)) old (names_there z (node m) r.hand.fits r.hand.number))
+      names : NameThere z (child_of o.layout (word_of body))
+      names = same_there z (with_child (child_of o.layout (word_of c.body)) a (child_word (node m))) (child_of o.layout (word_of body)) r.other.children
+          (with_child_there z (child_of o.layout (word_of c.body)) a (child_word (node m)) old (names_there z (node m) r.hand.fits r.hand.number))
 
   makes : (b : Bool) (y : Node) → made_at b c' ≡ Some y → MayMakeBy z u (made_word b c') y
   makes false y e =
       let may = r.planned.new o r.new in
-      subst (MayMakeBy z u (word_of body)) (same_Some o y (sym new_is ∙ e)) (record { inside = may.inside; hand = may.hand; children = new_children })
-  makes true y e = subst (MayMakeBy z u (made_word true c')) (same_Some m y e) (record { inside = r.hand.number; hand = (r.hand.hand, r.hand.has, r.hand.link); children = child_there })
+      subst (MayMakeBy z u (word_of body)) (same_Some o y (sym new_is ∙ e)) (record { inside = may.inside; hand = may.hand; forms = new_forms })
+  makes true y e = subst (MayMakeBy z u (made_word true c')) (same_Some m y e) (record { inside = r.hand.number; hand = (r.hand.hand, r.hand.has, r.hand.link); forms = forms_there })
 
   two : (y : Node) → made_at false c' ≡ Some y → made_at true c' ≡ Some y → ⊥
   two y e f = r.apart (same_Some o m (sym new_is ∙ (e ∙ sym f)))

@@ -25,7 +25,7 @@ use Rattle.art_plan.specs.declared.changes.Target.{Target}
 use Rattle.art_plan.specs.declared.sites.Site.{Site}
 use Rattle.art_plan.specs.declared.sites.Site.TheVariants.{Root, Slot}
 use Rattle.art_step.specs.Knowledge.{HoldsAll, IsShape}
-use Rattle.art_step.specs.Views.{IsChildPlace, IsChildWord, IsNumber, Member, note_of, size_of, words_in}
+use Rattle.art_step.specs.Views.{IsChildWord, IsNumber, IsWordOf, Member, note_of, size_of, words_in}
 use Rattle.art_step.specs.declared.views.Fact.TheVariants.{Word}
 use Rattle.art_step.specs.declared.views.Holding.{Holding}
 use Rattle.art_step.specs.declared.views.Sizes.{Sizes}
@@ -38,7 +38,9 @@ use Rattle.art_tree.specs.Heaps.{Cells, heap_of}
 use Rattle.art_tree.specs.Tree.{Place, PlaceAt, child_at_place, StandsAt}
 use Rattle.art_tree.specs.Tree as tree
 use Rattle.art_tree.specs.WordChanges.{FitsWord, WritesPlace, at_byte, cell_of, word_of_child}
-use Rattle.art_plan.proofs.ChildPlaces.{IsPlaceOf, NameThere, children_there, same_there, with_child_there, without_child_there, words_there}
+use Rattle.art_plan.proofs.ChildPlaces.{IsPlaceOf, NameThere, children_there, same_there, with_child_there, without_child_there}
+use Rattle.art_plan.proofs.BodyForms.{node_forms}
+use Rattle.art_step.proofs.WordForms.{root_word}
 use Rattle.art_plan.proofs.PutWords.{Agree, changes_agree, put_is, puts_write}
 use Rattle.art_plan.proofs.ReadyCells.{locked, new_words, old_words, so_held}
 
@@ -55,7 +57,7 @@ module _ (z : Sizes) (u : View) (x : Stamp) (n : Node) (body : Body) (read : IsR
 
   -- its children name what there is
   pub children_read : IsBody body.layout (word_of body) → NameThere z (child_of body.layout (word_of body))
-  children_read meaning = children_there z body.layout (word_of body) meaning (λ i at. read.child i (subst (λ (k : Layout). IsPlaceOf k i) read.layout at))
+  children_read meaning = children_there z body.layout (word_of body) meaning (λ i at. (read.forms i).child (subst (λ (k : Layout). IsPlaceOf k i) read.layout at))
 
   -- where it is locked, it has the words of the body
   pub whole_words : (i : ℕ) (t : Target) (ps : List Put) (h : Holding) → t.stamp ≡ x → IsLocked u i t ps h → words_in h.old ≡ word_of body
@@ -85,8 +87,8 @@ module _ (z : Sizes) (u : View) (x : Stamp) (n : Node) (body : Body) (read : IsR
         target = t;
         is = is;
         place = (at.0, subst (λ (d : Cell). w.0.place < size_of d) (sym cell_is) (subst (λ (k : Layout). w.0.place < size k) read.layout at.1));
-        child = λ place. subst (IsChildWord z) (sym value) (words_there z body.layout (written (word_of body) writes) meaning names w.0.place
-            (subst (λ (k : Layout). IsPlaceOf k w.0.place) (sym read.layout) (subst (λ (d : Cell). IsChildPlace d w.0.place) cell_is place)));
+        form = subst (λ (d : Cell). IsWordOf z d w.0.place w.0.value) (sym cell_is)
+            (subst (IsWordOf z (cell.Node n) w.0.place) (sym value) (node_forms z n body.layout (written (word_of body) writes) read.layout meaning names w.0.place));
       })
     where
       cell_is : t.stamp.cell ≡ cell.Node n
@@ -217,7 +219,7 @@ module _ (z : Sizes) (u : View) (c : Change) (k : List ℕ) (depth : ℕ) (o d :
         target = kept x;
         is = is;
         place = (omega arith, subst (λ (d : Cell). 1 < size_of d) (sym fits.read.cell) (omega arith));
-        child = λ place. word_there z d there;
+        form = subst (λ (a : Cell). IsWordOf z a 1 (word_of_child d)) (sym fits.read.cell) (root_word z (word_of_child d) (word_there z d there));
       })
   may_put_site (Slot x body byte) fits meaning plan is p m =
       let names = at_byte_there z (child_of body.now.layout (word_of body.now)) byte d (children_read z u x fits.node body.now fits.read meaning) there in

@@ -17,7 +17,7 @@ use Rattle.art_step.specs.Steps.Commit as commit
 use Rattle.art_step.specs.Steps.Release.{IsNodeAmong}
 use Rattle.art_step.specs.Steps.Upgrade.{AgreesWithNotes}
 use Rattle.art_step.specs.Tokens.{links_of}
-use Rattle.art_step.specs.Views.{IsChildPlace, IsChildWord, IsInLimbo, IsNotInHand, Member, cell_named, note_of, size_of, words_in}
+use Rattle.art_step.specs.Views.{IsWordOf, IsInLimbo, IsNotInHand, Member, cell_named, note_of, size_of, words_in}
 use Rattle.art_step.specs.WordPlaces.{HasVersion, IsInside}
 use Rattle.art_step.specs.declared.views.Fact.TheVariants.{Starts}
 use Rattle.art_step.specs.declared.views.Holding.{Holding}
@@ -128,13 +128,13 @@ pub record MayPut (z : Sizes) (c : Change) (p : Put) : Type 0 where
   pub target : Target
   pub is : target_at c p.target ≡ Some target
   pub place : (0 < p.place) × (p.place < size_of target.stamp.cell)
-  pub child : IsChildPlace target.stamp.cell p.place → IsChildWord z p.value
+  pub form : IsWordOf z target.stamp.cell p.place p.value
 
 -- the new node may be claimed, and its words written
 pub record MayMake (z : Sizes) (u : View) (c : Change) (n : Node) : Type 0 where
   pub inside : IsInside z (cell.Node n)
   pub hand : (x : InHand) × Member x u.hand × (x.link ≡ node n)
-  pub children : (i : ℕ) → IsChildPlace (cell.Node n) i → IsChildWord z (word_of c.body i)
+  pub forms : (i : ℕ) → IsWordOf z (cell.Node n) i (word_of c.body i)
 
 -- all cells of the change are held, with their new words, and the pass has not committed
 pub record IsReady (u : View) (c : Change) (v : View) : Type 0 where

@@ -13,7 +13,7 @@ use Rattle.art_plan.specs.declared.parts.Below.{Below}
 use Rattle.art_plan.specs.declared.sites.Site.{Site}
 use Rattle.art_plan.specs.declared.sites.Site.TheVariants.{Root, Slot}
 use Rattle.art_step.specs.Shows.{Shows}
-use Rattle.art_step.specs.Views.{IsChildPlace, IsChildWord, Member, note_of}
+use Rattle.art_step.specs.Views.{IsWordOf, Member, note_of}
 use Rattle.art_step.specs.declared.views.Fact.TheVariants.{Word}
 use Rattle.art_step.specs.declared.views.Sizes.{Sizes}
 use Rattle.art_step.specs.declared.views.Stamp.{Stamp}
@@ -33,14 +33,14 @@ kept x = record { stamp = x; obsolete = false }
 abbrev pub gone : Stamp → Target
 gone x = record { stamp = x; obsolete = true }
 
--- the node may be locked under the stamp, and each of its words was noted: the body has them, and 0 elsewhere. A child word names
--- what there is
+-- the node may be locked under the stamp, and each of its words was noted: the body has them, and 0 elsewhere. Each has the
+-- form of its place
 pub record IsReadWhole (z : Sizes) (u : View) (x : Stamp) (n : Node) (body : Body) : Type 0 where
   pub may : MayTarget z u (kept x)
   pub cell : x.cell ≡ cells.Node n
   pub layout : body.layout ≡ n.layout
   pub noted : (i : ℕ) → 0 < i → i < size n.layout → Member (note_of x (Word i (word_of body i))) u.notes
-  pub child : (i : ℕ) → IsChildPlace (cells.Node n) i → IsChildWord z (word_of body i)
+  pub forms : (i : ℕ) → IsWordOf z (cells.Node n) i (word_of body i)
   pub version : word_of body 0 ≡ 0
   pub past : (i : ℕ) → size n.layout ≤ i → word_of body i ≡ 0
 

@@ -15,7 +15,7 @@ use Rattle.art_plan.specs.declared.changes.Target.{Target}
 use Rattle.art_plan.specs.declared.changes.Twin.{Twin}
 use Rattle.art_step.specs.Steps.Commit as commit
 use Rattle.art_step.specs.Steps.Release.{IsNodeAmong}
-use Rattle.art_step.specs.Views.{IsChildPlace, IsChildWord, IsInLimbo, Member, words_in}
+use Rattle.art_step.specs.Views.{IsWordOf, IsInLimbo, Member, words_in}
 use Rattle.art_step.specs.WordPlaces.{IsInside}
 use Rattle.art_step.specs.declared.views.Holding.{Holding}
 use Rattle.art_step.specs.declared.views.InHand.{InHand}
@@ -81,7 +81,7 @@ pub record HoldsWhole (u : View) (c : Change) (from to : ℕ) (ps : List Put) (f
 pub record MayMakeBy (z : Sizes) (u : View) (word : Words) (n : Node) : Type 0 where
   pub inside : IsInside z (cell.Node n)
   pub hand : (x : InHand) × Member x u.hand × (x.link ≡ node n)
-  pub children : (i : ℕ) → IsChildPlace (cell.Node n) i → IsChildWord z (word i)
+  pub forms : (i : ℕ) → IsWordOf z (cell.Node n) i (word i)
 
 -- all cells of the change are held, with their new words, and the pass has not committed
 pub record IsWholeReady (u : View) (c : Change) (v : View) : Type 0 where

@@ -21,7 +21,7 @@ use Rattle.art_tree.specs.Heaps.{Cells}
 use Rattle.art_step.specs.Histories.{event, IsAnswered, becomes, run, replay, IsLegalFrom, IsLegal}
 use Rattle.art_step.specs.Effects.{LocksClaimed, LocksStamped, PutsWord, Unlocks, SetsVersion, SetsWord, claimed_word, released_word}
 use Rattle.art_tree.specs.Rows.{ByteMap}
-use Rattle.art_step.specs.Views.{IsChildPlace, IsChildWord, IsHolding, IsInHand, note_of, IsNotHeld, SetsView}
+use Rattle.art_step.specs.Views.{IsHolding, IsInHand, IsWordOf, note_of, IsNotHeld, SetsView}
 use Rattle.art_step.specs.Steps.Upgrade as upgrade
 use Rattle.art_step.specs.Steps.Claim as claim
 use Rattle.art_step.specs.Steps.Write as write
@@ -191,9 +191,9 @@ module _ (z : Sizes) (ws : List ℕ) (f : Views) (p : ℕ) (v : View) (r : IsSou
   -- ---- writes
 
   -- a word of a cell that is held is written
-  pub moves_writes : (c : Cell) (h : Holding) (i x : ℕ) → IsInside z c → h.cell ≡ c → write.May v h i → (IsChildPlace c i → IsChildWord z x)
+  pub moves_writes : (c : Cell) (h : Holding) (i x : ℕ) → IsInside z c → h.cell ≡ c → write.May v h i → IsWordOf z c i x
       → Moves z ws f p v (set ws (place_of z c + i) x) (λ v w. (k : Holding) → IsHolding v c k → write.Outcome v w k i x) (PutsWord c i x)
-  moves_writes c h i x there of may child =
+  moves_writes c h i x there of may form =
       let Row : View → View → Type 0 = λ v w. (k : Holding) → IsHolding v c k → write.Outcome v w k i x in
       let single = (r.holder.holds p v at).single in
       let key : Holding → Cell = λ k. k.cell in
@@ -207,13 +207,13 @@ module _ (z : Sizes) (ws : List ℕ) (f : Views) (p : ℕ) (v : View) (r : IsSou
       let of_holding : SetsWord m h.cell i x (memory_of z us) = subst (λ (d : Cell). SetsWord m d i x (memory_of z us)) (sym of) sets in
       moved z ws f p v r at long us Row (PutsWord c i x) (write.view_after v held) refl
       (λ k a. subst (λ (j : Holding). write.Outcome v (write.view_after v held) j i x) (single h k may.held a.0 (of ∙ sym a.1)) record { held = held; puts = puts; is = refl })
-      (λ g t. IsWrite record { holding = h; held = held; place = i; value = x; may = may; child = λ place. child (subst (λ (d : Cell). IsChildPlace d i) of place); puts = puts; word = of_holding; view = t })
+      (λ g t. IsWrite record { holding = h; held = held; place = i; value = x; may = may; form = subst (λ (d : Cell). IsWordOf z d i x) (sym of) form; puts = puts; word = of_holding; view = t })
       (λ g t. sets)
 
   -- a word of a leaf in hand is written
-  pub moves_writes_leaf : (y : InHand) (l i x : ℕ) → l < z.leaves → write.MayLeaf v y l i
+  pub moves_writes_leaf : (y : InHand) (l i x : ℕ) → l < z.leaves → write.MayLeaf v y l i → IsWordOf z (cell.Leaf l) i x
       → Moves z ws f p v (set ws (place_of z (cell.Leaf l) + i) x) (λ v w. (a : InHand) → IsInHand v (leaf l) a → write.LeafOutcome v w a i x) (PutsWord (cell.Leaf l) i x)
-  moves_writes_leaf y l i x there may =
+  moves_writes_leaf y l i x there may form =
       let Row : View → View → Type 0 = λ v w. (a : InHand) → IsInHand v (leaf l) a → write.LeafOutcome v w a i x in
       let one = one_entry m r.at p v l in
       let k = r.numbers.accounts p v at in
@@ -226,7 +226,7 @@ module _ (z : Sizes) (ws : List ℕ) (f : Views) (p : ℕ) (v : View) (r : IsSou
       let sets : SetsWord m (cell.Leaf l) i x (memory_of z us) = sets_word z ws (cell.Leaf l) i x there (omega arith) may.place long in
       moved z ws f p v r at long us Row (PutsWord (cell.Leaf l) i x) (write.view_after_leaf v hand) refl
       (λ a o. subst (λ (b : InHand). write.LeafOutcome v (write.view_after_leaf v hand) b i x) (one y a k may.hand o.0 may.leaf o.1) record { hand = hand; puts = puts; is = refl })
-      (λ g t. IsWriteLeaf record { leaf = y; hand = hand; number = l; place = i; value = x; may = may; puts = puts; once = once; word = sets; view = t })
+      (λ g t. IsWriteLeaf record { leaf = y; hand = hand; number = l; place = i; value = x; may = may; form = form; puts = puts; once = once; word = sets; view = t })
       (λ g t. sets)
 
   -- ---- releases

@@ -24,5 +24,6 @@ pub mod StepNotes
 pub mod StepNumbers
 pub mod StepOpens
 pub mod StepWrites
+pub mod WordForms
 pub mod WordPlaces
 pub mod WordRows

@@ -23,7 +23,7 @@ use Rattle.art_step.specs.Steps.Check as check
 use Rattle.art_step.specs.Events.{MakesEvent, SeesEvent}
 use Rattle.art_step.specs.Sound.{IsOneHistory, Whereabouts, InTree, IsFree, InHandOf, InLimboOf, Nowhere, IsSound}
 use Rattle.art_step.specs.Steps.{OfAKind, OneStep, IsBegin, IsRead, IsReadLeaf, IsUnchanged, IsChanged, IsAnchor}
-use Rattle.art_step.specs.Views.{IsChildWord, note_of, SetsView}
+use Rattle.art_step.specs.Views.{IsWordOf, note_of, SetsView}
 use Rattle.art_step.specs.Steps.Claim as claim
 use Rattle.art_step.specs.Steps.Check.{ArePaths, Without}
 use Rattle.art_step.specs.Steps.Anchor as anchor
@@ -197,7 +197,7 @@ module _ (z : Sizes) (ws : List ℕ) (f : Views) (p : ℕ) (v : View) (r : IsSou
   -- a word of the stamp's cell is read
   pub moves_reads : (x : Stamp) (i found : ℕ) → read.May v x i → found ≡ m.words x.cell i → Moves z ws f p v ws (λ v w. read.Outcome z v w x i found) (FindsWord x.cell i found)
   moves_reads x i found may is = moved ws (λ v w. read.Outcome z v w x i found) (FindsWord x.cell i found) (read.view_after v x (Word i (m.words x.cell i))) refl
-      record { child = λ place. subst (IsChildWord z) (sym is) (r.formed.children x.cell i place); is = ap (λ (word : ℕ). read.view_after v x (Word i word)) (sym is) }
+      record { form = subst (IsWordOf z x.cell i) (sym is) (r.formed.words x.cell i); is = ap (λ (word : ℕ). read.view_after v x (Word i word)) (sym is) }
       (λ g t. IsRead record { stamp = x; place = i; may = may; words = refl; view = t })
       (λ g t. record { found = is; same = refl })
 

@@ -1,7 +1,7 @@
 -- The words of a world that just opened: what stands at the places of cells, of free numbers, of the epoch and of the passes,
 -- and what all of them mean.
 use Rattle.std.proofs.Common.{◌≡◌, ◌≢◌, ℕ, ◌+◌, ◌-◌, ◌*◌, ◌/◌, ◌%◌, ◌<◌, ◌≤◌, ◌==◌, if◌then◌else◌, true, false, List, Some, zero, suc, length, get_or, nat_lt, sym, refl, ap, ◌∙◌, subst, ⊎_elim, arith, le-ltb, ltb-false, ne_eqb, false}
-use Rattle.std.proofs.lemmas.Bool.{cases_Bool, cases_lt, eqb-true, cond-false, cond_both}
+use Rattle.std.proofs.lemmas.Bool.{cases_Bool, cases_lt, ltb-true, eqb-true, cond-false, cond_both}
 use Rattle.std.proofs.lemmas.Bool.Decides.{nat_tests}
 use Rattle.std.proofs.lemmas.List.FromFn.{get_or-map-range_with_len, length-map-range_with_len}
 use Rattle.std.proofs.lemmas.Option.{same_Some}
@@ -21,11 +21,11 @@ use Rattle.art_step.specs.declared.views.Sizes.{Sizes}
 use Rattle.art_step.specs.declared.views.View.{View}
 use Rattle.art_step.specs.OpeningWords.{version_or_zero, first_bits, opening_word, opening_words}
 use Rattle.art_step.specs.Opening.{Opens, newcomer}
-use Rattle.art_step.specs.Views.{IsChildPlace, IsNumber, bit_of, free_index, is_free, last_counter, pool_of, pool_of_layout}
+use Rattle.art_step.specs.Views.{IsNumber, size_of, bit_of, free_index, is_free, last_counter, pool_of, pool_of_layout}
 use Rattle.art_cell.specs.Children.{number_of}
 use Rattle.art_step.specs.WordPlaces.{HasFreeWord, pool_size, words_each, first_cell, free_words, first_free_word, epoch_place, pass_place, word_count}
 use Rattle.art_step.specs.WordRows.{newcomers, version_in, word_in, free_word_in, memory_of, views_of}
-use Rattle.art_step.specs.WordPlaces.{is_inside, place_of}
+use Rattle.art_step.specs.WordPlaces.{IsInside, first_place, is_inside, place_of}
 use Rattle.art_step.proofs.WordRows.{version_found, word_found, free_word_found, pass_word_found, version_below}
 use Rattle.art_step.proofs.WordPlaces.{is_number, has_free_word, is_inside_of, free_below, cell_below}
 
@@ -60,12 +60,6 @@ node_words_at z k number i Node256 low few = grind (arith, nat_tests)
 
 later_word : (each number i version : ℕ) → 0 < i → i < each → version_or_zero (each * number + i) each version ≡ 0
 later_word each number i version late few = cond-false _ version 0 (ap (λ (j : ℕ). j == 0) (mul-add-mod_self_left each number i ∙ mod-eq_of_lt few) ∙ ne_eqb i 0 (λ e. omega arith))
-
-late_child : (l : Layout) (i : ℕ) → first_child l ≤ i → 0 < i
-late_child Node4 i late = omega arith
-late_child Node16 i late = omega arith
-late_child Node48 i late = omega arith
-late_child Node256 i late = omega arith
 
 few_words : (l : Layout) (i : ℕ) → i < size l → i < words_each (pool_of_layout l)
 few_words Node4 i few = few
@@ -134,9 +128,6 @@ module _ (z : Sizes) (k : ℕ) where
   found_late : (p : ℕ) → p < z.passes → get_or opened (pass_place z p) 0 ≡ 0
   found_late p low = opening_at z k (pass_place z p) (omega arith) ∙ late_word z k (pass_place z p) (omega arith)
 
-  no_root : (memory_of z opened).words cell.Anchor 1 ≡ 0
-  no_root = word_found z opened cell.Anchor 1 tt (omega arith) (omega arith) ∙ (opening_at z k 1 (omega arith) ∙ grind (arith, nat_tests))
-
   pub anchor_version : version_in z opened cell.Anchor ≡ 4 * k
   anchor_version = opening_at z k 0 (omega arith)
 
@@ -156,19 +147,26 @@ module _ (z : Sizes) (k : ℕ) where
       (λ (e : is_inside z (cell.Node n) ≡ false). (0, omega arith, cond-false _ _ 1 e))
       (cases_Bool (is_inside z (cell.Node n)))
 
-  -- no cell names a child
-  no_child : (c : Cell) (i : ℕ) → IsChildPlace c i → word_in z opened c i ≡ 0
-  no_child cell.Anchor i place = subst (λ (j : ℕ). word_in z opened cell.Anchor j ≡ 0) (sym place) no_root
-  no_child (cell.Leaf l) i place = absurd place
-  no_child (cell.Node n) i place = ⊎_elim
-      (λ (e : is_inside z (cell.Node n) ≡ true).
-      let inside = is_inside_of z (cell.Node n) e in
-      let below = cell_below z (cell.Node n) i inside place.1 in
-      word_found z opened (cell.Node n) i inside (late_child n.layout i place.0) place.1
-      ∙ (opening_at z k (place_of z (cell.Node n) + i) (omega arith)
-      ∙ (node_words_at z k n.number i n.layout ((is_number z (node n)).0 inside) (few_words n.layout i place.1) ∙ later_word (words_each (pool_of_layout n.layout)) n.number i (4 * k + 1) (late_child n.layout i place.0) (few_words n.layout i place.1))))
-      (λ (e : is_inside z (cell.Node n) ≡ false). cond-false _ _ 0 e)
-      (cases_Bool (is_inside z (cell.Node n)))
+  -- the words of a cell behind its first are 0
+  later_words : (c : Cell) (i : ℕ) → 0 < i → i < size_of c → IsInside z c → get_or opened (place_of z c + i) 0 ≡ 0
+  later_words cell.Anchor i late few inside = opening_at z k (place_of z cell.Anchor + i) (omega arith) ∙ grind (arith, nat_tests)
+  later_words (cell.Leaf l) i late few inside =
+      let below = cell_below z (cell.Leaf l) i inside few in
+      opening_at z k (place_of z (cell.Leaf l) + i) (omega arith) ∙ grind (arith, nat_tests)
+  later_words (cell.Node n) i late few inside =
+      let below = cell_below z (cell.Node n) i inside few in
+      let each : ℕ = words_each (pool_of_layout n.layout) in
+      opening_at z k (place_of z (cell.Node n) + i) (omega arith)
+      ∙ (node_words_at z k n.number i n.layout ((is_number z (node n)).0 inside) (few_words n.layout i few)
+      ∙ later_word each n.number i (4 * k + 1) late (few_words n.layout i few))
+
+  -- and 0 stands where a cell has no word
+  no_words : (c : Cell) (i : ℕ) → 0 < i → word_in z opened c i ≡ 0
+  no_words c i late = cond_both (is_inside z c) _ _ (λ (w : ℕ). w ≡ 0)
+      (λ inside. cond_both (nat_lt i (first_place c)) _ _ (λ (w : ℕ). w ≡ 0)
+      (λ _. refl)
+      (λ _. cond_both (nat_lt i (size_of c)) _ _ (λ (w : ℕ). w ≡ 0) (λ few. later_words c i late (ltb-true i (size_of c) few) (is_inside_of z c inside)) (λ _. refl)))
+      (λ _. refl)
 
   -- how many numbers the pool has from the first of the number's word on
   abbrev rest : Link → ℕ
@@ -207,8 +205,7 @@ module _ (z : Sizes) (k : ℕ) where
   -- so all is as at opening
   pub opens : k ≤ last_counter → Opens z (memory_of z opened) (views_of (newcomers 0 z.passes))
   opens low = record {
-    root = no_root;
-    children = no_child;
+    words = no_words;
     anchor = (k, low, anchor_version);
     cells = obsolete low;
     free = λ d. (no_other_free d, all_free d);

@@ -18,7 +18,7 @@ use Rattle.art_step.specs.declared.views.View.{View}
 use Rattle.art_tree.specs.Heaps.{Cells}
 use Rattle.art_step.specs.Sound.{Keeps, HoldsEach, OneHolder, Holder, Whereabouts, InTree, IsFree, InLimboOf, Accounts, NumbersAccounted, IsUnder, Awaits, IsPinned, MarkedUnstamped, WordsFormed}
 use Rattle.art_step.specs.WordPlaces.{place_of}
-use Rattle.art_step.specs.Views.{HaveChildWords, Member, Memory, IsClear, IsObsolete, IsVersion, cell_named, is_free, Views, SetsView}
+use Rattle.art_step.specs.Views.{HaveForms, Member, Memory, IsClear, IsObsolete, IsVersion, cell_named, is_free, Views, SetsView}
 use Rattle.art_cell.specs.Words.{Words}
 use Rattle.art_step.proofs.SetsView.{one_view, either_view, stranger_before, each_view, each_two, same_early_notes}
 
@@ -140,11 +140,11 @@ unstamped_turn z m m' f g p v w s at t is-v numbers k epoch words clear pin pins
 -- ---- words
 
 pub formed_turn : (z : Sizes) (m m' : Memory) (f g : Views) (p : ℕ) (v w : View) → SetsView f p w g → f p ≡ Some v → WordsFormed z m f → ((c : Cell) → IsVersion (m'.version c)) → ((l : ℕ) → IsObsolete (m'.version (cell.Leaf l)))
-    → m'.epoch ≡ m.epoch → w.noted ≡ v.noted → HaveChildWords z m'.words → WordsFormed z m' g
-formed_turn z m m' f g p v w t is k versions leaves epoch noted children = record {
+    → m'.epoch ≡ m.epoch → w.noted ≡ v.noted → HaveForms z m'.words → WordsFormed z m' g
+formed_turn z m m' f g p v w t is k versions leaves epoch noted words = record {
   versions = versions;
   leaves = leaves;
-  children = children;
+  words = words;
   epoch = subst (λ (n : ℕ). n < 2 ^ 62 + z.passes) (sym (ap₂ (λ (a b : ℕ). a + b) epoch (same_early_notes f g p w t v is noted z.passes))) k.epoch;
 }
 

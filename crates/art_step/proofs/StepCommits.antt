@@ -22,7 +22,7 @@ use Rattle.art_tree.specs.Rows.{HasRows}
 use Rattle.art_step.specs.Sound.{IsOneHistory, ShowsReplay, StampsVouch, Keeps, HoldsEach, OneHolder, Vouches, Vouched, Whereabouts, InTree, IsFree, InHandOf, InLimboOf, Nowhere, HeldAt, Accounts, NumbersAccounted, Awaits, IsPinned, MarkedUnstamped, WordsFormed, IsSound}
 use Rattle.art_step.specs.Steps.Commit as commit
 use Rattle.art_step.specs.Effects.{SetsVersion, released_word}
-use Rattle.art_step.specs.Views.{HaveChildWords, IsNotHeld, SetsView}
+use Rattle.art_step.specs.Views.{HaveForms, IsNotHeld, SetsView}
 use Rattle.art_step.specs.Steps.Commit.{Knows, AllNew, IsLinked, Commits, AreStanding, retired, all_retired}
 use Rattle.art_step.specs.Steps.Release.{Drops}
 use Rattle.art_step.specs.Steps.Give.{HandsOver}
@@ -567,7 +567,7 @@ module _ (z : Sizes) (m : Memory) (f : Views) (p : ℕ) (v : View) (is-v : f p �
       (λ (other : c ≢ h₀.cell). subst IsVersion (sym (sets.there c other)) (r.formed.versions c))
       (same_cell c h₀.cell))
       (λ l. subst IsObsolete (sym (sets.there (cell.Leaf l) (λ e. not_held_leaf l h₀ first.held (sym e)))) (r.formed.leaves l))
-      sets.epoch refl (subst (HaveChildWords z) (sym sets.words) r.formed.children)
+      sets.epoch refl (subst (HaveForms z) (sym sets.words) r.formed.words)
 
   pub commits : IsSound z m' g
   commits = record { log = r.log ++ event v.pass what ∷ []; logical = s'; at = at'; history = history; shows = shows; holder = holder; vouch = vouch; numbers = numbers; unstamped = unstamped; formed = formed }

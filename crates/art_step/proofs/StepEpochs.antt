@@ -24,7 +24,7 @@ use Rattle.art_step.specs.Steps.Epoch.{label_or, labelled}
 use Rattle.art_step.specs.Steps.Pin as pin
 use Rattle.art_step.specs.Steps.Watch as watch
 use Rattle.art_step.specs.Steps.Watch.{is_past, watched}
-use Rattle.art_step.specs.Views.{HaveChildWords, IsClear, IsObsolete, IsOnce, IsVersion, Member, Memory, SetsView, Views, cell_named, links_in_limbo}
+use Rattle.art_step.specs.Views.{HaveForms, IsClear, IsObsolete, IsOnce, IsVersion, Member, Memory, SetsView, Views, cell_named, links_in_limbo}
 use Rattle.art_step.proofs.EpochBound.{bound_notes, bound_rests, bound_rises}
 use Rattle.art_step.proofs.Gathered.{key_member, member_key}
 use Rattle.art_step.proofs.Histories.{history_stays}
@@ -148,7 +148,7 @@ module _ (z : Sizes) (m m' : Memory) (f g : Views) (p : ℕ) (v : View) (is : f 
       formed = record {
         versions = λ c. subst (λ (a : Cell → ℕ). IsVersion (a c)) (sym same.version) (r.formed.versions c);
         leaves = λ l. subst (λ (a : Cell → ℕ). IsObsolete (a (cell.Leaf l))) (sym same.version) (r.formed.leaves l);
-        children = subst (HaveChildWords z) (sym same.words) r.formed.children;
+        words = subst (HaveForms z) (sym same.words) r.formed.words;
         epoch = k.bound;
       };
     }

@@ -288,7 +288,7 @@ module _ (z : Sizes) (m : Memory) (versions : Cell → ℕ) (f : Views) (p : ℕ
           refl refl refl refl (λ x i. inl i)
           (λ h i e. ⊎_elim (λ (a : (h.cell ≢ c) × Member h v.held). (r.unstamped.pinned p v is).idle e h a.1) (λ (a : IsNew h). a.idle e) (k.each h i));
       formed = formed_turn z m n f g p v w t is r.formed (words_on (λ (d : Cell) (x : ℕ). IsVersion x) k.formed (λ d other. r.formed.versions d))
-          (λ l. subst IsObsolete (sym (k.raises.there (cell.Leaf l) (λ e. k.leaf l (sym e)))) (r.formed.leaves l)) refl refl r.formed.children;
+          (λ l. subst IsObsolete (sym (k.raises.there (cell.Leaf l) (λ e. k.leaf l (sym e)))) (r.formed.leaves l)) refl refl r.formed.words;
     }
 
 -- ---- a cell is locked, and held with the words that it has

@@ -95,7 +95,7 @@ module _ (z : Sizes) (m : Memory) (f g : Views) (p : ℕ) (v : View) (at : f p �
             record { hand = k.hand; in_hand = k.in_hand; leaves = k.leaves; limbo = k.limbo; in_limbo = k.in_limbo; held = k.held; hand_once = k.hand_once; limbo_once = k.limbo_once };
         unstamped = unstamped_turn z m m f g p v w s r.at t at r.numbers r.unstamped refl refl r.unstamped.clear refl refl refl refl
             (λ x i. ⊎_elim (λ (j : Member x v.stamps). inl j) (λ (j : IsMade x). inr j.0) (stamps x i)) (λ h i e. (r.unstamped.pinned p v at).idle e h i);
-        formed = formed_turn z m m f g p v w t at r.formed r.formed.versions r.formed.leaves refl refl r.formed.children;
+        formed = formed_turn z m m f g p v w t at r.formed r.formed.versions r.formed.leaves refl refl r.formed.words;
       }
 
   -- the pass tells nothing

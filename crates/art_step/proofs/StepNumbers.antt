@@ -24,7 +24,7 @@ use Rattle.art_step.specs.Steps.Take as take_free
 use Rattle.art_step.specs.Steps.Give as give
 use Rattle.art_step.specs.Effects.{SetsFreeWord}
 use Rattle.art_step.specs.Steps.Take.{IsTaken}
-use Rattle.art_step.specs.Views.{HaveChildWords, Member, Memory, words_in, IsClear, IsLocked, IsObsolete, IsVersion, bit_of, cell_named, is_free, number_at, pool_rank, Views, SetsView}
+use Rattle.art_step.specs.Views.{HaveForms, Member, Memory, words_in, IsClear, IsLocked, IsObsolete, IsVersion, bit_of, cell_named, is_free, number_at, pool_rank, Views, SetsView}
 use Rattle.art_step.proofs.Histories.{history_stays}
 use Rattle.art_step.proofs.SoundParts.{IdleHolds, account_on, unstamped_turn, holder_same, formed_turn}
 use Rattle.art_step.proofs.FreeBits.{SetsFree, frees_number, set_is_free, takes_bit}
@@ -100,11 +100,11 @@ unstamped_same z m m' f g p v w s at t is numbers k version epoch words pin pins
     pin pins noted limbo (λ x i. inl (subst (Member x) stamps i)) held
 
 -- words have their forms where version words, the epoch and its note stay
-pub formed_same : (z : Sizes) (m m' : Memory) (f g : Views) (p : ℕ) (v w : View) → SetsView f p w g → f p ≡ Some v → m'.version ≡ m.version → m'.epoch ≡ m.epoch → w.noted ≡ v.noted → WordsFormed z m f → HaveChildWords z m'.words → WordsFormed z m' g
-formed_same z m m' f g p v w t is version epoch noted k children = formed_turn z m m' f g p v w t is k
+pub formed_same : (z : Sizes) (m m' : Memory) (f g : Views) (p : ℕ) (v w : View) → SetsView f p w g → f p ≡ Some v → m'.version ≡ m.version → m'.epoch ≡ m.epoch → w.noted ≡ v.noted → WordsFormed z m f → HaveForms z m'.words → WordsFormed z m' g
+formed_same z m m' f g p v w t is version epoch noted k words = formed_turn z m m' f g p v w t is k
     (λ c. subst (λ (a : Cell → ℕ). IsVersion (a c)) (sym version) (k.versions c))
     (λ l. subst (λ (a : Cell → ℕ). IsObsolete (a (cell.Leaf l))) (sym version) (k.leaves l))
-    epoch noted children
+    epoch noted words
 
 -- ---- the place of one number changes
 
@@ -260,7 +260,7 @@ module _ (z : Sizes) (m m' : Memory) (f g : Views) (p : ℕ) (v : View) (is-v : 
     vouch = vouch_turn m m' f g p v w r.logical t is-v sets.version refl refl refl (λ h i. (h, i, refl, refl)) r.vouch;
     numbers = numbers_move;
     unstamped = unstamped_moves;
-    formed = formed_same z m m' f g p v w t is-v sets.version sets.epoch refl r.formed (subst (HaveChildWords z) (sym sets.words) r.formed.children);
+    formed = formed_same z m m' f g p v w t is-v sets.version sets.epoch refl r.formed (subst (HaveForms z) (sym sets.words) r.formed.words);
   }
 
 -- ---- a word of free numbers stays as it is

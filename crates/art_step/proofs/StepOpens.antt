@@ -15,6 +15,7 @@ use Rattle.art_tree.specs.Tree.{StandsAt}
 use Rattle.art_step.specs.Views.{Member, Memory, IsLocked, IsObsolete, last_counter, IsVersion, cell_named, is_free, Views}
 use Rattle.art_tree.proofs.Places.{same_cell}
 use Rattle.art_tree.proofs.Frame.{opened_unlinked, opened_sound, opened_rows}
+use Rattle.art_step.proofs.WordForms.{no_word}
 
 -- ---- numbers: the free ones and no others
 
@@ -55,9 +56,12 @@ obsolete_version x k low is = record {
 -- ---- all of it
 
 module _ (z : Sizes) (m : Memory) (f : Views) (o : Opens z m f) where
+  no_child : m.words cell.Anchor 1 ≡ 0
+  no_child = o.words cell.Anchor 1 (omega arith)
+
   no_root : (heap_of m.words).root ≡ None
   unfolding heap_of
-  no_root = ap link_of o.root
+  no_root = ap link_of no_child
 
   no_path : (d : Link) (r : List ℕ) → StandsAt (heap_of m.words) d r → ⊥
   no_path d r at = opened_unlinked (heap_of m.words) d no_root r at
@@ -107,7 +111,7 @@ module _ (z : Sizes) (m : Memory) (f : Views) (o : Opens z m f) where
     shows = record {
       shape = record {
         tree = opened_sound (heap_of m.words) no_root;
-        anchor = inl o.root;
+        anchor = inl no_child;
         nodes = λ n p at. absurd (no_path (node n) p at);
         leaves = λ l p at. absurd (no_path (leaf l) p at);
         numbers = λ d p at. absurd (no_path d p at);
@@ -155,7 +159,7 @@ module _ (z : Sizes) (m : Memory) (f : Views) (o : Opens z m f) where
     formed = record {
       versions = versions;
       leaves = λ l. obsolete (leaf l);
-      children = λ c i place. inl (o.children c i place);
+      words = λ c i. no_word z c i (m.words c i) (o.words c i);
       epoch = let k = not_early z.passes in omega (arith, o.epoch);
     };
   }

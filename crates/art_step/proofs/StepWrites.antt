@@ -22,7 +22,7 @@ use Rattle.art_step.specs.Effects.{SetsWord}
 use Rattle.art_step.specs.Steps.Write.{Puts, with_word, with_leaf_word}
 use Rattle.art_tree.specs.Tree.{StandsAt}
 use Rattle.art_cell.specs.declared.layouts.Pool.{Pool}
-use Rattle.art_step.specs.Views.{HaveChildWords, IsChildPlace, IsChildWord, IsOnce, Member, Memory, is_free, links_in_hand, words_in, IsLocked, IsObsolete, Views, SetsView}
+use Rattle.art_step.specs.Views.{IsWordOf, IsOnce, Member, Memory, is_free, links_in_hand, words_in, IsLocked, IsObsolete, Views, SetsView}
 use Rattle.art_tree.specs.WordChanges.{SameByWords}
 use Rattle.art_cell.specs.Words.{Words}
 use Rattle.art_step.proofs.Facts.{SameLeafWords, holds_on}
@@ -33,6 +33,7 @@ use Rattle.art_tree.proofs.Meanings.{same_tree}
 use Rattle.art_tree.proofs.Places.{same_cell, same_link}
 use Rattle.art_step.proofs.StepNumbers.{keeps_new, keeps_on, holder_words, HoldingsFrom, vouch_turn, unstamped_same, formed_same}
 use Rattle.art_step.proofs.SetsView.{stranger_before, each_view}
+use Rattle.art_step.proofs.WordForms.{word_formed}
 
 -- ---- words and lists of them
 
@@ -49,7 +50,7 @@ words_set w w' ws i x was low here there = λ k j. each j k
 -- ---- a word of a cell that is held
 
 module _ (z : Sizes) (m : Memory) (f : Views) (p : ℕ) (v : View) (is : f p ≡ Some v) (m' : Memory) (g : Views) (h : Holding) (hs : List Holding) (i x : ℕ) (r : IsSound z m f)
-    (may : write.May v h i) (child : IsChildPlace h.cell i → IsChildWord z x) (puts : Puts v.held h (with_word h i x) hs) (sets : SetsWord m h.cell i x m') (t : SetsView f p (write.view_after v hs) g) where
+    (may : write.May v h i) (form : IsWordOf z h.cell i x) (puts : Puts v.held h (with_word h i x) hs) (sets : SetsWord m h.cell i x m') (t : SetsView f p (write.view_after v hs) g) where
   abbrev writer : View
   writer = write.view_after v hs
 
@@ -141,16 +142,6 @@ module _ (z : Sizes) (m : Memory) (f : Views) (p : ℕ) (v : View) (is : f p ≡
   still_idle : IdleHolds v writer
   still_idle k j e = let o = from k j in sym o.3 ∙ (r.unstamped.pinned p v is).idle e o.0 o.1
 
-  -- the word that is written is formed at a child's place, and all others are as before
-  children_formed : HaveChildWords z m'.words
-  children_formed c j place = ⊎_elim
-      (λ (e : c ≡ h.cell). let at : IsChildPlace h.cell j = subst (λ (d : Cell). IsChildPlace d j) e place in subst (λ (d : Cell). IsChildWord z (m'.words d j)) (sym e) (⊎_elim
-      (λ (k : j ≡ i). let word : m'.words h.cell j ≡ x = ap (m'.words h.cell) k ∙ sets.here in subst (IsChildWord z) (sym word) (child (subst (IsChildPlace h.cell) k at)))
-      (λ (other : j ≢ i). subst (IsChildWord z) (sym (sets.there j other)) (r.formed.children h.cell j at))
-      (cases_eq j i)))
-      (λ (other : c ≢ h.cell). subst (λ (a : Words). IsChildWord z (a j)) (sym (sets.others c other)) (r.formed.children c j place))
-      (same_cell c h.cell)
-
   writes : IsSound z m' g
   writes = record {
     log = r.log;
@@ -162,12 +153,12 @@ module _ (z : Sizes) (m : Memory) (f : Views) (p : ℕ) (v : View) (is : f p ≡
     vouch = vouch_turn m m' f g p v writer r.logical t is sets.version refl refl refl from r.vouch;
     numbers = numbers_turn z m m' f g p writer r.logical r.logical r.at t r.numbers r.numbers sets.free leaves_stay writer_account;
     unstamped = unstamped_same z m m' f g p v writer r.logical r.at t is r.numbers r.unstamped sets.version sets.epoch sets.pass_word refl refl refl refl refl still_idle;
-    formed = formed_same z m m' f g p v writer t is sets.version sets.epoch refl r.formed children_formed;
+    formed = formed_same z m m' f g p v writer t is sets.version sets.epoch refl r.formed (word_formed z m m' h.cell i x sets form r.formed.words);
   }
 
 -- a word of a cell that is held is written before the commit
 pub write_law : write.Law
-write_law z p v m f m' g is r row = writes z m f p v is m' g row.holding row.held row.place row.value r row.may row.child row.puts row.word row.view
+write_law z p v m f m' g is r row = writes z m f p v is m' g row.holding row.held row.place row.value r row.may row.form row.puts row.word row.view
 
 -- ---- a word of a leaf in hand
 
@@ -178,7 +169,7 @@ with_leaves s words (cell.Leaf l) = words (cell.Leaf l)
 with_leaves s words (cell.Node n) = s (cell.Node n)
 
 module _ (z : Sizes) (m : Memory) (f : Views) (p : ℕ) (v : View) (is : f p ≡ Some v) (m' : Memory) (g : Views) (y : InHand) (ys : List InHand) (l i x : ℕ) (r : IsSound z m f)
-    (may : write.MayLeaf v y l i) (puts : Puts v.hand y (with_leaf_word y i x) ys) (once : IsOnce (links_in_hand v.hand) → IsOnce (links_in_hand ys)) (sets : SetsWord m (cell.Leaf l) i x m') (t : SetsView f p (write.view_after_leaf v ys) g) where
+    (may : write.MayLeaf v y l i) (form : IsWordOf z (cell.Leaf l) i x) (puts : Puts v.hand y (with_leaf_word y i x) ys) (once : IsOnce (links_in_hand v.hand) → IsOnce (links_in_hand ys)) (sets : SetsWord m (cell.Leaf l) i x m') (t : SetsView f p (write.view_after_leaf v ys) g) where
   abbrev hander : View
   hander = write.view_after_leaf v ys
 
@@ -325,13 +316,6 @@ module _ (z : Sizes) (m : Memory) (f : Views) (p : ℕ) (v : View) (is : f p ≡
     strangers = λ q d e. r.numbers.strangers q d (stranger_before f g p hander t q e).1;
   }
 
-  -- a leaf has no children
-  leaf_children : HaveChildWords z m'.words
-  leaf_children c j place = ⊎_elim
-      (λ (e : c ≡ cell.Leaf l). absurd (subst (λ (d : Cell). IsChildPlace d j) e place))
-      (λ (other : c ≢ cell.Leaf l). subst (λ (a : Words). IsChildWord z (a j)) (sym (sets.others c other)) (r.formed.children c j place))
-      (same_cell c (cell.Leaf l))
-
   leaf_writes : IsSound z m' g
   leaf_writes = record {
     log = r.log;
@@ -343,9 +327,9 @@ module _ (z : Sizes) (m : Memory) (f : Views) (p : ℕ) (v : View) (is : f p ≡
     vouch = vouch_turn m m' f g p v hander after t is sets.version refl refl refl (λ h j. (h, j, refl, refl)) vouch;
     numbers = numbers;
     unstamped = unstamped_same z m m' f g p v hander r.logical r.at t is r.numbers r.unstamped sets.version sets.epoch sets.pass_word refl refl refl refl refl (λ h j e. (r.unstamped.pinned p v is).idle e h j);
-    formed = formed_same z m m' f g p v hander t is sets.version sets.epoch refl r.formed leaf_children;
+    formed = formed_same z m m' f g p v hander t is sets.version sets.epoch refl r.formed (word_formed z m m' (cell.Leaf l) i x sets form r.formed.words);
   }
 
 -- a word of a leaf in hand is written
 pub write_leaf_law : write.LeafLaw
-write_leaf_law z p v m f m' g is r row = leaf_writes z m f p v is m' g row.leaf row.hand row.number row.place row.value r row.may row.puts row.once row.word row.view
+write_leaf_law z p v m f m' g is r row = leaf_writes z m f p v is m' g row.leaf row.hand row.number row.place row.value r row.may row.form row.puts row.once row.word row.view

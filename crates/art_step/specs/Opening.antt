@@ -6,7 +6,7 @@ use Rattle.art_cell.specs.declared.cells.Link.{Link}
 use Rattle.art_step.specs.declared.views.Sizes.{Sizes}
 use Rattle.art_step.specs.declared.views.View.{View}
 use Rattle.art_step.specs.Sound.{IsSound}
-use Rattle.art_step.specs.Views.{IsChildPlace, IsNumber, Memory, Views, is_free, last_counter}
+use Rattle.art_step.specs.Views.{IsNumber, Memory, Views, is_free, last_counter}
 
 -- a pass that knows nothing, and is idle
 abbrev pub newcomer : ℕ → View
@@ -29,11 +29,10 @@ newcomer p = record {
   limbo = [];
 }
 
--- the words at opening: no cell names a child, the anchor is clear, all other cells are obsolete, all numbers are free, the epoch is 1,
--- and all passes are idle
+-- the words at opening: those of a cell behind its first are 0, so that none names a child; the anchor is clear, all other cells are
+-- obsolete, all numbers are free, the epoch is 1, and all passes are idle
 pub record Opens (z : Sizes) (m : Memory) (f : Views) : Type 0 where
-  pub root : m.words cell.Anchor 1 ≡ 0
-  pub children : (c : Cell) (i : ℕ) → IsChildPlace c i → m.words c i ≡ 0
+  pub words : (c : Cell) (i : ℕ) → 0 < i → m.words c i ≡ 0
   pub anchor : (k : ℕ) × (k ≤ last_counter) × (m.version cell.Anchor ≡ 4 * k)
   pub cells : (c : Cell) → c ≢ cell.Anchor → (k : ℕ) × (k ≤ last_counter) × (m.version c ≡ 4 * k + 1)
   pub free : (d : Link) → (is_free m d ≡ true → IsNumber z d) × (IsNumber z d → is_free m d ≡ true)

@@ -20,7 +20,7 @@ use Rattle.art_step.specs.Knowledge.{IsShape, Holds}
 use Rattle.art_tree.specs.Rows.{HasRows}
 use Rattle.art_tree.specs.Tree.{StandsAt}
 use Rattle.art_step.specs.WordPlaces.{place_of}
-use Rattle.art_step.specs.Views.{Member, Memory, size_of, words_in, IsClear, IsLocked, IsObsolete, IsOnce, last_counter, IsVersion, IsNumber, HaveChildWords, cell_named, is_free, links_in_hand, links_in_limbo, Views}
+use Rattle.art_step.specs.Views.{Member, Memory, size_of, words_in, IsClear, IsLocked, IsObsolete, IsOnce, last_counter, IsVersion, IsNumber, HaveForms, cell_named, is_free, links_in_hand, links_in_limbo, Views}
 
 -- ---- one history
 
@@ -191,12 +191,12 @@ abbrev pub early_notes : Views → ℕ → ℕ
 early_notes f zero = 0
 early_notes f (suc n) = early_of (f n) + early_notes f n
 
--- version words are so, a leaf counts as obsolete, child words name what there is, and the epoch stays below its bound, whatever
--- the passes that may raise it do
+-- version words are so, a leaf counts as obsolete, each word has the form of its place, and the epoch stays below its bound,
+-- whatever the passes that may raise it do
 pub record WordsFormed (z : Sizes) (m : Memory) (f : Views) : Type 0 where
   pub versions : (c : Cell) → IsVersion (m.version c)
   pub leaves : (l : ℕ) → IsObsolete (m.version (cell.Leaf l))
-  pub children : HaveChildWords z m.words
+  pub words : HaveForms z m.words
   pub epoch : m.epoch + early_notes f z.passes < 2 ^ 62 + z.passes
 
 -- ---- all of it

@@ -4,6 +4,7 @@ use Rattle.art_cell.specs.declared.layouts.Pool.{Pool}
 use Rattle.art_cell.specs.declared.layouts.Pool.TheVariants.{Leaves, N4, N16, N48, N256}
 use Rattle.art_cell.specs.declared.layouts.Layout.{Layout}
 use Rattle.art_cell.specs.declared.layouts.Layout.TheVariants.{Node4, Node16, Node48, Node256}
+use Rattle.art_cell.specs.declared.cells.Node.{Node}
 use Rattle.art_cell.specs.declared.cells.Cell.{Cell}
 use Rattle.art_cell.specs.declared.cells.Cell.TheVariants as cell
 use Rattle.art_cell.specs.declared.cells.Link.{Link}
@@ -21,7 +22,7 @@ use Rattle.art_step.specs.declared.views.Sizes.{Sizes}
 use Rattle.art_step.specs.declared.views.View.{View}
 use Rattle.art_tree.specs.Heaps.{Cells}
 use Rattle.art_cell.specs.Children.{link_in_pool, link_of, number_of}
-use Rattle.art_cell.specs.Words.{Words, first_child, size}
+use Rattle.art_cell.specs.Words.{Words, byte_of, first_child, places, size}
 
 abbrev pub Member : {A : Type 0} → A → List A → Type 0
 Member x [] = ⊥
@@ -144,9 +145,29 @@ IsChildPlace cell.Anchor i = i ≡ 1
 IsChildPlace (cell.Leaf l) i = ⊥
 IsChildPlace (cell.Node n) i = (first_child n.layout ≤ i) × (i < size n.layout)
 
--- such words stand there in each cell, whoever holds it
-abbrev pub HaveChildWords : Sizes → Cells → Type 0
-HaveChildWords z s = (c : Cell) (i : ℕ) → IsChildPlace c i → IsChildWord z (s c i)
+-- ---- the form of a word, by itself
+
+-- a header: at most as many children as the layout has places, a prefix of at most 64 bytes, and above bit 15 the places of a Node48
+-- alone
+pub record IsHeader (k : Layout) (word : ℕ) : Type 0 where
+  pub few : word % 512 ≤ places k
+  pub short : word / 512 % 128 ≤ 64
+  pub low : k ≢ Node48 → word < 2 ^ 16
+
+-- eight entries of an index, each 0 or a place plus 1
+abbrev pub IsIndexWord : ℕ → Type 0
+IsIndexWord word = (j : ℕ) → j < 8 → byte_of word j ≤ 48
+
+-- a word that may stand at this place of the cell, whatever stands beside it. Key bytes, prefixes and values may be any
+pub record IsWordOf (z : Sizes) (c : Cell) (i word : ℕ) : Type 0 where
+  pub header : (n : Node) → c ≡ cell.Node n → i ≡ 1 → IsHeader n.layout word
+  pub index : (n : Node) → c ≡ cell.Node n → n.layout ≡ Node48 → 10 ≤ i → i < 42 → IsIndexWord word
+  pub length : (l : ℕ) → c ≡ cell.Leaf l → i ≡ 1 → word ≤ 64
+  pub child : IsChildPlace c i → IsChildWord z word
+
+-- such words stand in each cell, whoever holds it, and in each leaf
+abbrev pub HaveForms : Sizes → Cells → Type 0
+HaveForms z s = (c : Cell) (i : ℕ) → IsWordOf z c i (s c i)
 
 -- ---- passes
 

@@ -21,7 +21,7 @@ ghost use Rattle.art_step.specs.Steps.Release as release;
 ghost use Rattle.art_step.specs.Steps.Upgrade as upgrade;
 ghost use Rattle.art_step.specs.Steps.Write as write;
 ghost use Rattle.art_step.specs.Tokens.{cell_held, link_of_number, links_of};
-ghost use Rattle.art_step.specs.Views.{IsChildPlace, IsChildWord, IsHolding, IsInHand, MayLock, Member, note_of};
+ghost use Rattle.art_step.specs.Views.{IsHolding, IsInHand, IsWordOf, MayLock, Member, note_of};
 ghost use Rattle.art_step.specs.WordPlaces.{HasVersion, IsInside};
 
 use crate::{Changed, Deed, Held, Locked, Number, Stamp, Unlinked, UpgradeFault};
@@ -118,11 +118,11 @@ pub trait Steps {
         ensures row { (n : NodeOf) → link_of_number number ≡ node n →
             (cell_held result ≡ node_cell n) × claim.Outcome (view self.old) (view self.new) n };
 
-    /// Writes a word of a held cell, before the commit.
+    /// Writes a word of a held cell, before the commit. It has the form of its place.
     fn write(&mut self, held: &mut Held, place: usize, value: u64)
         requires inside { IsInside (sizes self.old) (cell_held held.old) }
         requires may { (h : HoldingOf) × (h.cell ≡ cell_held held.old) × write.May (view self.old) h place }
-        requires child { IsChildPlace (cell_held held.old) place → IsChildWord (sizes self.old) value }
+        requires form { IsWordOf (sizes self.old) (cell_held held.old) place value }
         ensures only { only self.old self.new }
         ensures at_once { AtStep (sizes self.old) (view self.old) (view self.new) (instants self.old self.new)
             (PutsWord (cell_held held.old) place value) }
@@ -130,10 +130,10 @@ pub trait Steps {
         ensures row { (h : HoldingOf) → IsHolding (view self.old) (cell_held held.old) h →
             write.Outcome (view self.old) (view self.new) h place value };
 
-    /// Writes a word of a leaf whose number is in hand.
+    /// Writes a word of a leaf whose number is in hand, likewise.
     fn write_leaf(&mut self, number: &mut Number, place: usize, value: u64)
         requires inside { (l : ℕ) × (y : NumberInHand) × (link_of_number number.old ≡ leaf l) × (l < (sizes self.old).leaves) ×
-            write.MayLeaf (view self.old) y l place }
+            write.MayLeaf (view self.old) y l place × IsWordOf (sizes self.old) (leaf_cell l) place value }
         ensures only { only self.old self.new }
         ensures at_once { (l : ℕ) → link_of_number number.old ≡ leaf l →
             AtStep (sizes self.old) (view self.old) (view self.new) (instants self.old self.new) (PutsWord (leaf_cell l) place value) }

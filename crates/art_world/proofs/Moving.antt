@@ -20,7 +20,7 @@ use Rattle.art_step.specs.declared.deeds.Deed.{Deed}
 use Rattle.art_step.specs.Effects.{FindsUnchanged, FindsVersion, Instant}
 use Rattle.art_step.specs.Steps.Check as check
 use Rattle.art_step.specs.declared.views.Sizes.{Sizes}
-use Rattle.art_step.specs.Views.{Member, Views, size_of}
+use Rattle.art_step.specs.Views.{IsWordOf, Member, Views, size_of}
 use Rattle.art_step.specs.WordRows.{view_at, views_of}
 use Rattle.art_step.proofs.Moves.{Moves, moves_fails, moves_passes}
 use Rattle.art_world.specs.Contents.{Contents, IsSoundWorld, memory_now}
@@ -94,8 +94,9 @@ claim_named z v d n o is =
     subst (λ (a : Node). IsInside z (cell.Node a) × claim.May v a) same (o.2, o.3)
 
 -- the leaf that a number names may be written, where one that it names may
-pub leaf_named : (d : Link) (l : ℕ) → d ≡ leaf l → (z : Sizes) (v : View) (i : ℕ) → (a : ℕ) × (y : InHand) × (d ≡ leaf a) × (a < z.leaves) × write.MayLeaf v y a i → (y : InHand) × (l < z.leaves) × write.MayLeaf v y l i
-leaf_named d l is z v i o =
+pub leaf_named : (d : Link) (l : ℕ) → d ≡ leaf l → (z : Sizes) (v : View) (i x : ℕ)
+    → (a : ℕ) × (y : InHand) × (d ≡ leaf a) × (a < z.leaves) × write.MayLeaf v y a i × IsWordOf z (cell.Leaf a) i x → (y : InHand) × (l < z.leaves) × write.MayLeaf v y l i × IsWordOf z (cell.Leaf l) i x
+leaf_named d l is z v i x o =
     let named : leaf o.0 ≡ leaf l = sym o.2 ∙ is in
     let same : o.0 ≡ l = cc in
-    subst (λ (a : ℕ). (y : InHand) × (a < z.leaves) × write.MayLeaf v y a i) same (o.1, o.3, o.4)
+    subst (λ (a : ℕ). (y : InHand) × (a < z.leaves) × write.MayLeaf v y a i × IsWordOf z (cell.Leaf a) i x) same (o.1, o.3, o.4, o.5)

@@ -3,7 +3,7 @@ use Rattle.std.specs.Prelude.{ℕ, ◌<◌, ◌+◌, ◌∷◌, ◌≡◌}
 use Rattle.art_cell.specs.declared.cells.Cell.TheVariants as cell
 use Rattle.art_step.specs.Knowledge.{KnowsLeaf}
 use Rattle.art_step.specs.Sound.{KeepsSound}
-use Rattle.art_step.specs.Views.{IsChildPlace, IsChildWord, Member, IsNotHeld, size_of, note_of, Memory, Views, SetsView}
+use Rattle.art_step.specs.Views.{IsWordOf, Member, IsNotHeld, size_of, note_of, Memory, Views, SetsView}
 use Rattle.art_step.specs.declared.views.Fact.{Fact}
 use Rattle.art_step.specs.declared.views.Fact.TheVariants.{Word, LeafWord}
 use Rattle.art_step.specs.declared.views.Sizes.{Sizes}
@@ -40,9 +40,9 @@ pub record LeafStep (z : Sizes) (p : ℕ) (v : View) (m : Memory) (f : Views) (m
   pub words : m' ≡ m
   pub view : SetsView f p (view_after v stamp (LeafWord number place (m.words (cell.Leaf number) place))) f'
 
--- a child word names what there is
+-- the word has the form of its place, as all words have: a child word names what there is
 pub record Outcome (z : Sizes) (v w : View) (x : Stamp) (i word : ℕ) : Type 0 where
-  pub child : IsChildPlace x.cell i → IsChildWord z word
+  pub form : IsWordOf z x.cell i word
   pub is : w ≡ view_after v x (Word i word)
 
 abbrev pub LeafOutcome : View → View → Stamp → ℕ → ℕ → ℕ → Type 0

@@ -4,7 +4,7 @@ use Rattle.art_cell.specs.declared.cells.Cell.TheVariants as cell
 use Rattle.art_cell.specs.declared.cells.Link.TheVariants.{Leaf as leaf}
 use Rattle.art_step.specs.Effects.{PutsWord}
 use Rattle.art_step.specs.Sound.{KeepsSound}
-use Rattle.art_step.specs.Views.{IsChildPlace, IsChildWord, IsOnce, Member, links_in_hand, size_of, Memory, Views, SetsView}
+use Rattle.art_step.specs.Views.{IsWordOf, IsOnce, Member, links_in_hand, size_of, Memory, Views, SetsView}
 use Rattle.art_step.specs.declared.views.Holding.{Holding}
 use Rattle.art_step.specs.declared.views.InHand.{InHand}
 use Rattle.art_step.specs.declared.views.Sizes.{Sizes}
@@ -16,7 +16,7 @@ pub record Puts {A : Type 0} (hs : List A) (h x : A) (hs' : List A) : Type 0 whe
   pub was : (y : A) → Member y hs' → (y ≡ x) ⊎ (Member y hs × (y ≢ h))
   pub stays : (y : A) → Member y hs → y ≢ h → Member y hs'
 
--- ---- of a held cell: at a child's place a child word of what there is
+-- ---- of a held cell, a word of the form that its place wants
 
 pub record May (v : View) (h : Holding) (i : ℕ) : Type 0 where
   pub held : Member h v.held
@@ -35,7 +35,7 @@ pub record Step (z : Sizes) (p : ℕ) (v : View) (m : Memory) (f : Views) (m' : 
   pub place : ℕ
   pub value : ℕ
   pub may : May v holding place
-  pub child : IsChildPlace holding.cell place → IsChildWord z value
+  pub form : IsWordOf z holding.cell place value
   pub puts : Puts v.held holding (with_word holding place value) held
   pub word : PutsWord holding.cell place value m f m' f'
   pub view : SetsView f p (view_after v held) f'
@@ -48,7 +48,7 @@ pub record Outcome (v w : View) (h : Holding) (i x : ℕ) : Type 0 where
 abbrev pub Law : Type 0
 Law = KeepsSound Step
 
--- ---- of a leaf in hand
+-- ---- of a leaf in hand, likewise
 
 pub record MayLeaf (v : View) (y : InHand) (l i : ℕ) : Type 0 where
   pub hand : Member y v.hand
@@ -68,6 +68,7 @@ pub record LeafStep (z : Sizes) (p : ℕ) (v : View) (m : Memory) (f : Views) (m
   pub place : ℕ
   pub value : ℕ
   pub may : MayLeaf v leaf number place
+  pub form : IsWordOf z (cell.Leaf number) place value
   pub puts : Puts v.hand leaf (with_leaf_word leaf place value) hand
   pub once : IsOnce (links_in_hand v.hand) → IsOnce (links_in_hand hand)
   pub word : PutsWord (cell.Leaf number) place value m f m' f'

@@ -4,10 +4,33 @@ use Rattle.art_choose.specs.Plans.{IsAnyAt}
 use Rattle.art_decide.proofs.AboveSites.{above_deep, above_taken}
 use Rattle.art_decide.proofs.ChildSites.{site_named, stamp_in}
 use Rattle.art_decide.proofs.LockedCells.{three_locked}
-use Rattle.art_decide.specs.Bodies.{IsFilled}
+use Rattle.art_decide.proofs.WholeCells.{above_kept, kept_within}
+use Rattle.art_decide.specs.Bodies.{AreWithin, IsFilled}
+use Rattle.art_place.specs.Desks.{above_of, node_of}
 use Rattle.art_plan.specs.Puts.{IsTaken}
 use Rattle.art_plan.specs.Seen.{gone, kept, site_stamp}
 use Rattle.art_choose.proofs.lowers.plan_merge_node.Goals as goal
+
+pub fill-requires : goal.fill-requires
+fill-requires c =
+    let t = c.args.stand.now in
+    let old = c.requires.seen.1.node.0 in
+    subst (AreWithin t.stamp.cell) (sym c.node.ensures) (kept_within c.requires.seen.0 old.view t.stamp (node_of c.args.desk.now) old.standing.place.kept)
+
+pub fill-requires-2 : goal.fill-requires-2
+fill-requires-2 c =
+    let z = c.requires.seen.0 in
+    let a = c.in-Some.above in
+    let old = c.requires.seen.1.node.0 in
+    subst (AreWithin a.stamp.cell) (sym c.above.ensures)
+    (kept_within z old.view a.stamp (above_of c.args.desk.now)
+    (above_kept z c.args.old.now.key.items c.args.stand.now c.args.desk.now old.view old.standing c.in-Node.node c.in-Node.is a c.in-Some.is))
+
+pub fill-requires-3 : goal.fill-requires-3
+fill-requires-3 c =
+    let lower = c.args.lower.now in
+    let old = c.requires.seen.2 in
+    kept_within c.requires.seen.0 old.view lower.stamp c.args.reads.now old.known.kept
 
 pub site_at-site-requires-clause-some : goal.site_at-site-requires-clause-some
 site_at-site-requires-clause-some c =

@@ -13,7 +13,7 @@ use Rattle.art_plan.specs.Changes.{filled_at, targets}
 use Rattle.art_plan.specs.Whole.{filled_ends, made_at, made_word}
 use Rattle.art_step.specs.Steps.Write as write
 use Rattle.art_step.specs.Tokens.{cell_held}
-use Rattle.art_step.specs.Views.{IsChildPlace, IsChildWord, IsHolding}
+use Rattle.art_step.specs.Views.{IsWordOf, IsHolding}
 use Rattle.art_step.specs.WordPlaces.{IsInside}
 use Rattle.art_step.specs.declared.views.Holding.{Holding}
 use Rattle.art_step.specs.declared.views.Sizes.{Sizes}
@@ -42,17 +42,17 @@ write-requires-clause-inside g c =
     subst (λ (y : Sizes). IsInside y (cell_held c.loop-index.held)) (sym i.sizes)
     (subst (λ (d : Cell). IsInside (g.S.Steps.sizes c.args.steps.now) d) (sym held) may.inside)
 
-pub write-requires-clause-child : goal.write-requires-clause-child
-write-requires-clause-child g c =
+pub write-requires-clause-form : goal.write-requires-clause-form
+write-requires-clause-form g c =
     let q = c.requires.fits in
     let i = c.loop-index.invariant in
     let z = g.S.Steps.sizes c.args.steps.now in
     let n = c.in-Some.node in
     let may = q.1.planned.new c.args.copy n (sym c.made_at.ensures ∙ c.in-Some.is) in
     let held : cell_held c.loop-index.held ≡ cell.Node n = ap cell_held i.held ∙ c.of-held.ensures in
-    subst (λ (y : Sizes). IsChildPlace (cell_held c.loop-index.held) c.loop-index.index → IsChildWord y c.made_word.result) (sym i.sizes)
-    (subst (λ (d : Cell). IsChildPlace d c.loop-index.index → IsChildWord z c.made_word.result) (sym held)
-    (subst (λ (x : ℕ). IsChildPlace (cell.Node n) c.loop-index.index → IsChildWord z x) (sym c.made_word.ensures) (may.children c.loop-index.index)))
+    subst (λ (y : Sizes). IsWordOf y (cell_held c.loop-index.held) c.loop-index.index c.made_word.result) (sym i.sizes)
+    (subst (λ (d : Cell). IsWordOf z d c.loop-index.index c.made_word.result) (sym held)
+    (subst (IsWordOf z (cell.Node n) c.loop-index.index) (sym c.made_word.ensures) (may.forms c.loop-index.index)))
 
 pub loop-index-preserved : goal.loop-index-preserved
 loop-index-preserved g c =

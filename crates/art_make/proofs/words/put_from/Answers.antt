@@ -13,7 +13,7 @@ use Rattle.art_plan.specs.Whole.{filled_ends}
 use Rattle.art_plan.specs.declared.changes.Put.{Put}
 use Rattle.art_step.specs.Steps.Write as write
 use Rattle.art_step.specs.Tokens.{cell_held}
-use Rattle.art_step.specs.Views.{IsChildPlace, IsChildWord, IsHolding}
+use Rattle.art_step.specs.Views.{IsWordOf, IsHolding}
 use Rattle.art_step.specs.declared.views.Holding.{Holding}
 use Rattle.art_step.specs.declared.views.Sizes.{Sizes}
 use Rattle.art_make.proofs.words.put_from.Goals as goal
@@ -33,8 +33,8 @@ write-requires-clause-may g c =
     (sym c.put.ensures ∙ c.in-Some.is) (sym c.target.ensures ∙ c.in-Some-target.is) (c.loop-index.invariant.put z q.0 q.1 q.2) in
     (m.holding, m.cell ∙ sym c.of-held.ensures, m.may)
 
-pub write-requires-clause-child : goal.write-requires-clause-child
-write-requires-clause-child g c =
+pub write-requires-clause-form : goal.write-requires-clause-form
+write-requires-clause-form g c =
     let z = g.S.Steps.sizes c.args.steps.now in
     let q = c.requires.planned in
     let ch = c.args.change.now in
@@ -42,8 +42,8 @@ write-requires-clause-child g c =
     let i = c.loop-index.invariant in
     let m = may_write z q.0 ch q.1 c.loop-index.index (filled_ends ch) p c.in-Some-target.target (g.S.Steps.view c.loop-index.steps)
     (sym c.put.ensures ∙ c.in-Some.is) (sym c.target.ensures ∙ c.in-Some-target.is) (i.put z q.0 q.1 q.2) in
-    subst (λ (y : Sizes). IsChildPlace (cell_held c.of-held.result) p.place → IsChildWord y p.value) (sym i.sizes)
-    (subst (λ (d : Cell). IsChildPlace d p.place → IsChildWord z p.value) (sym c.of-held.ensures) m.child)
+    subst (λ (y : Sizes). IsWordOf y (cell_held c.of-held.result) p.place p.value) (sym i.sizes)
+    (subst (λ (d : Cell). IsWordOf z d p.place p.value) (sym c.of-held.ensures) m.form)
 
 pub loop-index-preserved : goal.loop-index-preserved
 loop-index-preserved g c =

@@ -8,4 +8,4 @@ use Rattle.art_gather.specs.declared.asked.Asked.{Asked}
 pub returns-clause-allowed : goal.returns-clause-allowed
 returns-clause-allowed c z u v wants fits =
     subst (λ (o : Option Asked). IfSome o (IsAllowed z v)) (sym c.asked.ensures)
-    (allowed z wants c.args.key.now c.args.value c.args.self.now c.args.stock.now u v fits.stage)
+    (allowed z wants c.args.key.now c.args.value c.args.self.now c.args.stock.now u v c.requires.few fits.stage)

@@ -20,4 +20,4 @@ put-requires-clause-moves c i =
     let s = c.args.self.now in
     let k = world_of s in
     let may = c.requires.may in
-    rw (c.place_of-first.ensures, c.sizes.ensures, c.cell-cell.ensures) (moves_writes k.sizes k.words (views_of k.views) (pass_of s) (view_of s) i.sound (at_view k.views (pass_of s) s.inside) i.long _ may.0 c.args.place c.args.value c.requires.inside may.1 may.2 c.requires.child)
+    rw (c.place_of-first.ensures, c.sizes.ensures, c.cell-cell.ensures) (moves_writes k.sizes k.words (views_of k.views) (pass_of s) (view_of s) i.sound (at_view k.views (pass_of s) s.inside) i.long _ may.0 c.args.place c.args.value c.requires.inside may.1 may.2 c.requires.form)
