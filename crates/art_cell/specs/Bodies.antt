@@ -1,7 +1,8 @@
 -- Which words are the body of a node.
-use Rattle.std.specs.Prelude.{◌≡◌, ℕ, zero, suc, ◌+◌, ◌-◌, ◌*◌, ◌^◌, ◌<◌, ◌≤◌, length, Option}
+use Rattle.std.specs.Prelude.{◌≡◌, ◌≢◌, ℕ, zero, suc, ◌+◌, ◌-◌, ◌*◌, ◌^◌, ◌<◌, ◌≤◌, length, get_or, Option, ⊤}
 use Rattle.art_cell.specs.declared.layouts.Layout.{Layout}
 use Rattle.art_cell.specs.declared.layouts.Layout.TheVariants.{Node4, Node16, Node48, Node256}
+use Rattle.art_cell.specs.declared.node_kinds.Entry.{Entry}
 use Rattle.art_cell.specs.Words.{Words, places, count_of, prefix_len, is_used, packed, prefix_of, key_byte, child_of, entries}
 
 -- the prefix has at most 64 bytes, and bytes after it are 0
@@ -62,3 +63,24 @@ pub record IsRelaid (k l : Layout) (w after : Words) : Type 0 where
   pub body : IsBody l after
   pub prefix : prefix_of after ≡ prefix_of w
   pub children : (b : ℕ) → b < 256 → child_of l after b ≡ child_of k w b
+
+-- ---- which place a child of a Node48 has; the other layouts leave no choice
+
+-- the byte's index entry, which is a place plus 1, names no place above a free one; the other bytes keep their entries
+pub record TakesPlace (w after : Words) (byte : ℕ) : Type 0 where
+  pub lowest : (p : ℕ) → p < 48 → is_used w p ≡ 0 → key_byte after byte ≤ suc p
+  pub others : (b : ℕ) → b < 256 → b ≢ byte → key_byte after b ≡ key_byte w b
+
+-- the new child of a byte takes the lowest place that is free
+abbrev pub TakesLowest : Layout → Words → Words → ℕ → Type 0
+TakesLowest Node4 w after byte = ⊤
+TakesLowest Node16 w after byte = ⊤
+TakesLowest Node48 w after byte = TakesPlace w after byte
+TakesLowest Node256 w after byte = ⊤
+
+-- the children stand at the places from 0 on, in ascending order of their bytes
+abbrev pub IsInOrder : Layout → Words → Type 0
+IsInOrder Node4 w = ⊤
+IsInOrder Node16 w = ⊤
+IsInOrder Node48 w = (i : ℕ) (d : Entry) → i < length (entries Node48 w) → key_byte w (get_or (entries Node48 w) i d).byte ≡ suc i
+IsInOrder Node256 w = ⊤

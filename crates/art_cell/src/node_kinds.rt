@@ -43,9 +43,9 @@ pub type Entries = ArrayVec<Entry, 256>;
 pub trait NodeKind {
     ghost use Rattle.art_cell.specs.declared.layouts.Layout.{Layout};
     ghost use Rattle.art_cell.specs.Words.{Words, child_of, entries, listed, nth_entry};
-    ghost use Rattle.art_cell.specs.Bodies.{IsBody, IsFull, Becomes};
-    ghost use Rattle.art_cell.specs.Reads.{Agrees, ProbeNeeds, ProbeTells, NextNeeds, NextTells};
-    ghost use Rattle.art_cell.specs.Reads.{word_of, IsBodyOf, SameOutside, changes, IsPlan, with_child, without_child, most_writes};
+    ghost use Rattle.art_cell.specs.Bodies.{IsBody, IsFull, Becomes, TakesLowest};
+    ghost use Rattle.art_cell.specs.Reads.{word_of, Agrees, ProbeNeeds, ProbeTells, NextNeeds, NextTells};
+    ghost use Rattle.art_cell.specs.Reads.{IsBodyOf, SameOutside, changes, written, IsPlan, with_child, without_child, most_writes};
 
     ghost layout: { Layout };
 
@@ -59,7 +59,8 @@ pub trait NodeKind {
         ensures needs { NextNeeds layout reads.now result }
         ensures tells { (w : Words) → IsBody layout w → Agrees reads.now w → NextTells (child_of layout w) byte result };
 
-    /// Gives the byte, which has none, this child. False, with nothing changed, where the node is full.
+    /// Gives the byte, which has none, this child; a Node48 takes the lowest place that is free. False, with nothing changed, where
+    /// the node is full.
     fn add(body: &mut Body, byte: u8, child: u64) -> bool
         requires body { IsBodyOf layout body.old }
         requires free { child_of layout (word_of body.old) byte ≡ None }
@@ -67,6 +68,7 @@ pub trait NodeKind {
         ensures full { (result ≡ false) ↔ IsFull layout (word_of body.old) }
         ensures added { result ≡ true → Becomes layout (word_of body.old) (word_of body.new)
             (with_child (child_of layout (word_of body.old)) byte child) }
+        ensures lowest { result ≡ true → TakesLowest layout (word_of body.old) (word_of body.new) byte }
         ensures refused { result ≡ false → body.new ≡ body.old }
         ensures layout { body.new.layout ≡ body.old.layout }
         ensures outside { SameOutside layout (word_of body.old) (word_of body.new) }
@@ -105,8 +107,8 @@ pub trait NodeKind {
         requires before { listed (child_of layout (word_of body.now)) 0 from ≡ take index (entries layout (word_of body.now)) }
         ensures { result ≡ nth_entry (entries layout (word_of body.now)) index };
 
-    /// Makes the writes the words by which the byte, which has none, gets this child. False, with nothing changed, where the node
-    /// is full.
+    /// Makes the writes the words by which the byte, which has none, gets this child; a Node48 takes the lowest place that is free.
+    /// False, with nothing changed, where the node is full.
     fn plan_add(body: &Body, byte: u8, child: u64, writes: &mut Writes) -> bool
         requires body { IsBodyOf layout body.now }
         requires free { child_of layout (word_of body.now) byte ≡ None }
@@ -114,6 +116,7 @@ pub trait NodeKind {
         ensures full { (result ≡ false) ↔ IsFull layout (word_of body.now) }
         ensures plan { result ≡ true → IsPlan layout (word_of body.now) writes.new.items
             (with_child (child_of layout (word_of body.now)) byte child) }
+        ensures lowest { result ≡ true → TakesLowest layout (word_of body.now) (written (word_of body.now) writes.new.items) byte }
         ensures refused { result ≡ false → writes.new ≡ writes.old }
         ensures few { result ≡ true → length writes.new.items ≤ most_writes };
 

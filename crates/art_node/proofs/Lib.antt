@@ -1,6 +1,7 @@
 pub mod ChildWords
 pub mod Copies
 pub mod Forked
+pub mod InOrder
 pub mod KeyBytes
 pub mod LeafWords
 pub mod Lookups

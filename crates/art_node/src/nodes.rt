@@ -1,8 +1,9 @@
 //! The operations on a node, by its layout.
 ghost use Rattle.std.specs.Prelude.{◌≡◌, ◌≢◌, ◌≤◌, ◌<◌, ◌↔◌, ℕ, Some, None, false, true, length};
 ghost use Rattle.art_cell.specs.Words.{Words, count_of, places, child_of, entries};
-ghost use Rattle.art_cell.specs.Bodies.{IsBody, IsFull, IsRelaid};
-ghost use Rattle.art_cell.specs.Reads.{Agrees, ProbeNeeds, ProbeTells, NextNeeds, NextTells, IsPlan, word_of, with_child, without_child, most_writes};
+ghost use Rattle.art_cell.specs.Bodies.{IsBody, IsFull, IsInOrder, IsRelaid, TakesLowest};
+ghost use Rattle.art_cell.specs.Reads.{Agrees, ProbeNeeds, ProbeTells, NextNeeds, NextTells, IsPlan};
+ghost use Rattle.art_cell.specs.Reads.{word_of, with_child, without_child, most_writes, written};
 ghost use Rattle.art_node.specs.Sizes.{larger, smaller};
 
 use crate::relaid::relaid;
@@ -40,8 +41,8 @@ pub fn at_least(layout: Layout, byte: u8, reads: &Reads) -> NextProbe
     art_node!(layout, at_least(byte, reads))
 }
 
-/// Makes the writes the words by which the byte, which has none, gets this child. False, with nothing changed, where the node is
-/// full.
+/// Makes the writes the words by which the byte, which has none, gets this child; a Node48 takes the lowest place that is free.
+/// False, with nothing changed, where the node is full.
 pub fn plan_add(body: &Body, byte: u8, child: u64, writes: &mut Writes) -> bool
     requires body { IsBody body.now.layout (word_of body.now) }
     requires free { child_of body.now.layout (word_of body.now) byte ≡ None }
@@ -49,6 +50,8 @@ pub fn plan_add(body: &Body, byte: u8, child: u64, writes: &mut Writes) -> bool
     ensures full { (result ≡ false) ↔ IsFull body.now.layout (word_of body.now) }
     ensures plan { result ≡ true → IsPlan body.now.layout (word_of body.now) writes.new.items
         (with_child (child_of body.now.layout (word_of body.now)) byte child) }
+    ensures lowest { result ≡ true →
+        TakesLowest body.now.layout (word_of body.now) (written (word_of body.now) writes.new.items) byte }
     ensures refused { result ≡ false → writes.new ≡ writes.old }
     ensures few { result ≡ true → length writes.new.items ≤ most_writes }
 {
@@ -92,6 +95,7 @@ pub fn grow(body: &Body, grown: &mut Body)
     requires larger { body.now.layout ≢ Layout.Node256 }
     ensures layout { grown.new.layout ≡ larger body.now.layout }
     ensures same { IsRelaid body.now.layout (larger body.now.layout) (word_of body.now) (word_of grown.new) }
+    ensures order { IsInOrder (larger body.now.layout) (word_of grown.new) }
 {
     match body.layout {
         Layout::Node4 => relaid::<Node4, Node16>(body, Layout::Node16, grown),
@@ -109,6 +113,7 @@ pub fn shrink(body: &Body, shrunk: &mut Body)
     requires fits { count_of (word_of body.now) ≤ places (smaller body.now.layout) }
     ensures layout { shrunk.new.layout ≡ smaller body.now.layout }
     ensures same { IsRelaid body.now.layout (smaller body.now.layout) (word_of body.now) (word_of shrunk.new) }
+    ensures order { IsInOrder (smaller body.now.layout) (word_of shrunk.new) }
 {
     match body.layout {
         Layout::Node4 => unreachable!(),

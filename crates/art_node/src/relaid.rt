@@ -1,7 +1,7 @@
 //! A node in another layout.
 ghost use Rattle.std.specs.Prelude.{◌≡◌, ◌≤◌, ◌<◌, ◌^◌, ℕ, get_or};
 ghost use Rattle.art_cell.specs.Words.{count_of, places};
-ghost use Rattle.art_cell.specs.Bodies.{IsRelaid};
+ghost use Rattle.art_cell.specs.Bodies.{IsInOrder, IsRelaid};
 ghost use Rattle.art_cell.specs.Lemmas.Empty.{IsEmpty};
 ghost use Rattle.art_cell.specs.Reads.{word_of, IsBodyOf};
 
@@ -25,6 +25,7 @@ pub(crate) fn relaid<Old: NodeKind, New: NodeKind>(body: &Body, layout: Layout, 
     requires fits { count_of (word_of body.now) ≤ places New.layout }
     ensures layout { after.new.layout ≡ layout }
     ensures relaid { IsRelaid Old.layout New.layout (word_of body.now) (word_of after.new) }
+    ensures order { IsInOrder New.layout (word_of after.new) }
 {
     emptied(body, layout, after);
     let count = (body.words[HEADER] % 512) as usize;

@@ -1,10 +1,10 @@
 -- A change of one child of a node of 48 places.
 use Rattle.std.proofs.Common.{◌≡◌, ◌≢◌, ◌⊎◌, ℕ, zero, suc, ◌+◌, ◌-◌, ◌*◌, ◌/◌, ◌%◌, ◌^◌, ◌<◌, ◌≤◌, Some, None, refl, sym, ap, subst, ◌∙◌, inl, inr, arith, eq-eqb, ne_eqb}
-use Rattle.std.proofs.lemmas.Bool.{cases_eq}
+use Rattle.std.proofs.lemmas.Bool.{cases_eq, cases_lt}
 use Rattle.std.proofs.lemmas.Nat.{one_shl}
 use Rattle.art_cell.specs.declared.layouts.Layout.TheVariants.{Node48}
 use Rattle.art_cell.specs.Words.{Words, count_of, is_used, key_byte, nonzero, indexed_child}
-use Rattle.art_cell.specs.Bodies.{used_count, IsIndexed, IsBody, Becomes}
+use Rattle.art_cell.specs.Bodies.{used_count, IsIndexed, IsBody, Becomes, TakesPlace}
 use Rattle.art_cell.specs.Lemmas.Entries.{listed_some, becomes_with, becomes_other, becomes_without}
 use Rattle.art_cell.specs.Lemmas.Headers.{UsesPlace, uses_place, frees_place, bit_more_below, bit_at_least, count_less, used_kept}
 use Rattle.art_cell.specs.Reads.{with_child, without_child}
@@ -327,6 +327,16 @@ becomes_added w after header byte place child body low none within uses some hea
       unnamed = λ b in_range apart is. one_not_zero (is_used w place) ((body.form.named b place in_range is).0) uses.free;
       places = count ∙ ap (λ (n : ℕ). n + 1) body.form.places ∙ sym (used_more w after place 48 within uses.free bit bits);
     }
+
+-- no free place is below the lowest one
+pub takes_lowest : (w after : Words) (header byte place child : ℕ) → IsLowestFree (w 1) place → Wrote w after header byte (place + 1) place child → TakesPlace w after byte
+takes_lowest w after header byte place child lowest wrote = record { lowest = at_most; others = wrote.entries }
+  where
+    at_most : (p : ℕ) → p < 48 → is_used w p ≡ 0 → key_byte after byte ≤ suc p
+    at_most p within free = elim (cases_lt p place) [
+      | inl below ↦ absurd (one_not_zero (is_used w p) (lowest.least p below) free)
+      | inr above ↦ omega (arith, wrote.wrote_entry, above)
+    ]
 
 pub becomes_set : (w after : Words) (header byte entry place child : ℕ) → IsBody Node48 w → byte < 256 → (c : ℕ) × (indexed_child w byte ≡ Some c) → Stands w byte place → entry ≡ suc place → header ≡ w 1 → 0 < child → child < 2 ^ 64
     → Wrote w after header byte entry place child → Becomes Node48 w after (with_child (indexed_child w) byte child)

@@ -1,7 +1,7 @@
 use Rattle.std.proofs.Common.{◌+◌, ◌*◌, ◌^◌, ◌%◌, refl, arith}
 use Rattle.art_cell.specs.Reads.{word_of}
 use Rattle.art_node48.proofs.Differing.{few_wrote}
-use Rattle.art_node48.proofs.Steps.{full_where_all, not_full, header_more, header_uses, becomes_added}
+use Rattle.art_node48.proofs.Steps.{full_where_all, not_full, header_more, header_uses, becomes_added, takes_lowest}
 use Rattle.art_node48.proofs.node48.Node48NodeKind.add.Goals as goal
 
 pub returns-in_default-clause-full : goal.returns-in_default-clause-full
@@ -23,6 +23,11 @@ returns-clause-added c = λ e.
     let header = w 1 + 1 * 2 ^ (16 + place) % 2 ^ 64 + 1 in
     becomes_added w (word_of c.write.new.body) header c.args.byte place c.args.child c.requires.body.meaning c.ranges.byte.fits c.requires.free c.in-Some.ensures.within (header_uses w place header c.requires.body.meaning c.in-Some.ensures refl)
     c.requires.child (header_more w place c.requires.body.meaning c.in-Some.ensures) c.ranges.child.fits c.write.ensures.wrote
+
+pub returns-clause-lowest : goal.returns-clause-lowest
+returns-clause-lowest c = λ _.
+    let place = c.in-Some.place in
+    takes_lowest (word_of c.args.body.now) (word_of c.write.new.body) _ c.args.byte place c.args.child c.in-Some.ensures c.write.ensures.wrote
 
 pub returns-clause-few : goal.returns-clause-few
 returns-clause-few c = λ _.

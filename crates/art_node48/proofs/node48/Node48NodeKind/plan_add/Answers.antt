@@ -1,10 +1,11 @@
 use Rattle.std.proofs.Common.{◌+◌, ◌*◌, ◌^◌, ◌%◌, ◌<◌, List, refl, sym, subst, arith}
-use Rattle.art_cell.specs.Reads.{IsPlan, with_child, word_of}
+use Rattle.art_cell.specs.Bodies.{TakesPlace}
+use Rattle.art_cell.specs.Reads.{IsPlan, with_child, word_of, written}
 use Rattle.art_cell.specs.Words.{indexed_child}
 use Rattle.art_cell.specs.declared.layouts.Layout.TheVariants.{Node48}
 use Rattle.art_cell.specs.declared.writes.Write.{Write}
 use Rattle.art_node48.proofs.Plans.{three_exact, three_outside, three_wrote}
-use Rattle.art_node48.proofs.Steps.{becomes_added, full_where_all, header_more, header_uses, no_entry, not_full}
+use Rattle.art_node48.proofs.Steps.{becomes_added, full_where_all, header_more, header_uses, no_entry, not_full, takes_lowest}
 use Rattle.art_node48.proofs.node48.Node48NodeKind.plan_add.Goals as goal
 
 pub returns-in_default-clause-full : goal.returns-in_default-clause-full
@@ -40,3 +41,14 @@ returns-clause-plan c = λ e.
       exact = three_exact w header byte entry place child low within (omega (arith, named)) (λ e. omega (arith, e)) (λ e. omega (arith, e, none)) (λ e. omega (arith, e, free, some));
       outside = three_outside w header byte entry place child low within;
     })
+
+pub returns-clause-lowest : goal.returns-clause-lowest
+returns-clause-lowest c = λ _.
+    let w = word_of c.args.body.now in
+    let byte = c.args.byte in
+    let child = c.args.child in
+    let place = c.in-Some.place in
+    let within = c.in-Some.ensures.within in
+    let header = w 1 + 1 * 2 ^ (16 + place) % 2 ^ 64 + 1 in
+    let wrote = three_wrote w header byte (place + 1) place child c.ranges.byte.fits within (omega (arith, within)) in
+    subst (λ (xs : List Write). TakesPlace w (written w xs) byte) (sym c.plan_three.ensures) (takes_lowest w _ header byte place child c.in-Some.ensures wrote)
