@@ -15,7 +15,7 @@ use Rattle.art_lines.specs.Lines.{line_says}
 use Rattle.art_server.specs.Sessions.{AnswersCommand, AnswersLine, AnswersSaid}
 use Rattle.art_lines.specs.declared.lines.LineFault.{LineFault}
 use Rattle.art_server.specs.declared.refusals.Refusal.{Refusal}
-use Rattle.art_table.specs.Tables.{IsPassOf, number_of, schema_in, seen_by, sizes_in}
+use Rattle.art_table.specs.Tables.{IsPassOf, schema_in, seen_by}
 use Rattle.art_table.specs.declared.passes.Pass.{Pass}
 use Rattle.art_table.specs.declared.tables.Table.{Table}
 

@@ -1,5 +1,5 @@
 -- Where a finding has come to a verdict, it stands.
-use Rattle.std.proofs.Common.{◌≡◌, ℕ, List, Option, Some, sym, ap, subst}
+use Rattle.std.proofs.Common.{◌≡◌, ℕ, List, Option, Some, subst}
 use Rattle.std.proofs.lemmas.Option.{same_Some}
 use Rattle.art_find.specs.Descents.{IsReading, StageFits, decided_at, stands_on}
 use Rattle.art_find.specs.declared.descents.Stage.{Stage}
@@ -8,7 +8,6 @@ use Rattle.art_find.specs.declared.verdicts.Verdict.{Verdict}
 use Rattle.art_place.specs.Findings.{FindingFits, IsStanding, PlaceFits, stand_of}
 use Rattle.art_place.specs.declared.desks.Desk.{Desk}
 use Rattle.art_place.specs.declared.findings.Finding.{Finding}
-use Rattle.art_place.specs.declared.findings.Stand.{Stand}
 use Rattle.art_step.specs.declared.deeds.Deed.{Deed}
 use Rattle.art_step.specs.declared.views.Sizes.{Sizes}
 use Rattle.art_step.specs.declared.views.Stamp.{Stamp}

@@ -1,7 +1,7 @@
 -- The words of a body have the forms of their places.
 use Rattle.std.proofs.Common.{◌≡◌, ◌≢◌, ℕ, zero, suc, ◌+◌, ◌-◌, ◌*◌, ◌/◌, ◌%◌, ◌^◌, ◌<◌, ◌≤◌, length, Option, Some, None, refl, sym, ap, ap₂, ◌∙◌, subst, arith}
 use Rattle.art_cell.specs.Bodies.{IsBody, used_count}
-use Rattle.art_cell.specs.Words.{Words, byte_of, child_of, count_of, entry_at, is_used, key_byte, listed, packed, places}
+use Rattle.art_cell.specs.Words.{Words, byte_of, child_of, count_of, entry_at, key_byte, listed, packed, places}
 use Rattle.art_cell.specs.declared.cells.Cell.TheVariants as cell
 use Rattle.art_cell.specs.declared.cells.Node.{Node}
 use Rattle.art_cell.specs.declared.layouts.Layout.{Layout}

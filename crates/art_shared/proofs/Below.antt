@@ -1,8 +1,7 @@
 -- The events of a history are of passes that the table has: each of them has a view, and no other pass has any event.
-use Rattle.std.proofs.Common.{◌≡◌, ℕ, ◌+◌, ◌<◌, ◌==◌, List, [], ◌∷◌, Option, Some, None, refl, inl, inr, ap, sym, subst, ⊎_elim, eq-eqb, if◌then◌else◌}
-use Rattle.std.proofs.lemmas.Bool.{cases_Bool}
+use Rattle.std.proofs.Common.{◌≡◌, ℕ, ◌+◌, ◌<◌, ◌==◌, List, [], ◌∷◌, Option, Some, None, refl, ap, sym, subst, ⊎_elim, eq-eqb, if◌then◌else◌}
 use Rattle.std.specs.Prelude.{Bool, true, false}
-use Rattle.art_step.specs.Histories.{StartsWith, places, places_from}
+use Rattle.art_step.specs.Histories.{places_from}
 use Rattle.art_step.specs.Sound.{IsSound}
 use Rattle.art_step.specs.Views.{Member, Memory, Views}
 use Rattle.art_step.specs.declared.views.Event.{Event}

@@ -1,13 +1,13 @@
 -- The words of a world that just opened: what stands at the places of cells, of free numbers, of the epoch and of the passes,
 -- and what all of them mean.
-use Rattle.std.proofs.Common.{◌≡◌, ◌≢◌, ℕ, ◌+◌, ◌-◌, ◌*◌, ◌/◌, ◌%◌, ◌<◌, ◌≤◌, ◌==◌, if◌then◌else◌, true, false, List, Some, zero, suc, length, get_or, nat_lt, sym, refl, ap, ◌∙◌, subst, ⊎_elim, arith, le-ltb, ltb-false, ne_eqb, false}
+use Rattle.std.proofs.Common.{◌≡◌, ◌≢◌, ℕ, ◌+◌, ◌-◌, ◌*◌, ◌/◌, ◌%◌, ◌<◌, ◌≤◌, ◌==◌, if◌then◌else◌, true, false, List, Some, zero, suc, length, get_or, nat_lt, sym, refl, ap, ◌∙◌, ⊎_elim, arith, le-ltb, ltb-false, ne_eqb, false}
 use Rattle.std.proofs.lemmas.Bool.{cases_Bool, cases_lt, ltb-true, eqb-true, cond-false, cond_both}
 use Rattle.std.proofs.lemmas.Bool.Decides.{nat_tests}
 use Rattle.std.proofs.lemmas.List.FromFn.{get_or-map-range_with_len, length-map-range_with_len}
 use Rattle.std.proofs.lemmas.Option.{same_Some}
 use Rattle.std.proofs.lemmas.Nat.Bits.{bit_at_ones, bit_at_ones_above}
 use Rattle.std.proofs.Math.Nat.{mul-mod_right, mul-add-mod_self_left, mod-eq_of_lt}
-use Rattle.art_cell.specs.Words.{first_child, size}
+use Rattle.art_cell.specs.Words.{size}
 use Rattle.art_cell.specs.declared.layouts.Layout.{Layout}
 use Rattle.art_cell.specs.declared.layouts.Layout.TheVariants.{Node4, Node16, Node48, Node256}
 use Rattle.art_cell.specs.declared.layouts.Pool.{Pool}
@@ -26,7 +26,7 @@ use Rattle.art_cell.specs.Children.{number_of}
 use Rattle.art_step.specs.WordPlaces.{HasFreeWord, pool_size, words_each, first_cell, free_words, first_free_word, epoch_place, pass_place, word_count}
 use Rattle.art_step.specs.WordRows.{newcomers, version_in, word_in, free_word_in, memory_of, views_of}
 use Rattle.art_step.specs.WordPlaces.{IsInside, first_place, is_inside, place_of}
-use Rattle.art_step.proofs.WordRows.{version_found, word_found, free_word_found, pass_word_found, version_below}
+use Rattle.art_step.proofs.WordRows.{version_found, free_word_found, pass_word_found, version_below}
 use Rattle.art_step.proofs.WordPlaces.{is_number, has_free_word, is_inside_of, free_below, cell_below}
 
 -- each place has its word

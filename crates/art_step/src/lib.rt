@@ -90,7 +90,7 @@
 //! | `StampsVouch` | no stamp is above its cell's version word; while that is the stamped one, what was noted under the stamp holds |
 //! | `NumbersAccounted` | each number is in exactly one place, and free exactly where its bit is set |
 //! | `MarkedUnstamped` | only a pinned pass has stamps; a number in limbo that is marked for a pass is in no stamp of it |
-//! | `WordsFormed` | version words have their forms, child words name cells that there are, the epoch stays below its bound |
+//! | `WordsFormed` | version words and all others have the form of their place (`IsWordOf`), the epoch stays below its bound |
 //!
 //! The bound is 2^62 and the number of passes together: a note of the epoch lets its pass raise it once, and a note of 2^62
 //! or above does not.
