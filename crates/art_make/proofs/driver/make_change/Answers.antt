@@ -1,7 +1,7 @@
 -- The steps are those of the machine.
 use Rattle.std.proofs.Common.{◌∙◌, ◌↔◌, ℕ, List, refl, sym, subst, arith}
 use Rattle.art_make.specs.Asking.{IsAllowed}
-use Rattle.art_make.proofs.Told.{allowed, few_steps}
+use Rattle.art_make.proofs.Told.{allowed, ends_as, few_steps}
 use Rattle.art_step.specs.Deeds.{IsAdmitted}
 use Rattle.art_step.specs.declared.deeds.Deed.{Deed}
 use Rattle.art_step.specs.declared.deeds.Deed.TheVariants.{Done, Look}
@@ -52,3 +52,9 @@ loop-result-preserved g c =
       admitted = admitted_on (g.S.Steps.admits t) (g.S.Steps.admits c.make-answer.new.steps) c.args.change.now.deed (λ k. g.met.S.Steps.only_admits t c.make-answer.new.steps k c.make-answer.ensures.only) i.admitted;
       fits = c.told.ensures.fits (g.S.Steps.sizes s) (g.S.Steps.view s) (g.S.Steps.view t) (g.S.Steps.view c.make-answer.new.steps) c.in-Some-next.asked i.fits (sym c.next.ensures.asks ∙ c.in-Some-next.is) c.make-answer.ensures.row;
     }
+
+pub returns-in-Some-clause-over : goal.returns-in-Some-clause-over
+returns-in-Some-clause-over g c =
+    let s = c.args.steps.now in
+    let ended = ends_as (g.S.Steps.sizes s) (g.S.Steps.view s) (g.S.Steps.view c.loop-result.steps) c.args.change.now c.loop-result.making c.in-Some.result c.loop-result.invariant.fits (sym c.ended.ensures ∙ c.in-Some.is) in
+    ended.0

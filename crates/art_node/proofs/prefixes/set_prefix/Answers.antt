@@ -1,4 +1,4 @@
-use Rattle.std.proofs.Common.{◌≡◌, sym, arith}
+use Rattle.std.proofs.Common.{◌≡◌, arith, get_or-set_same, refl, rules, sym}
 use Rattle.art_cell.specs.Reads.{word_of}
 use Rattle.art_node.proofs.Prefixed.{past_prefix, prefixed}
 use Rattle.art_node.proofs.prefixes.set_prefix.Goals as goal
@@ -22,3 +22,14 @@ returns-clause-outside c = (
   sym c.loop-at.invariant.version,
   λ place past. let big = past_prefix c.args.body.now.layout in sym (c.loop-at.invariant.rest place (omega (arith, big, past))),
 )
+
+pub loop-at-init : goal.loop-at-init
+loop-at-init c = record {
+  all = search rules;
+  layout = refl;
+  header = get_or-set_same c.args.body.now.words 1 _ 0 (omega (arith, c.requires.body.words));
+  words = λ i low. absurd (omega (arith, low));
+  rest = search rules;
+  version = search rules;
+  fits = search rules;
+}
