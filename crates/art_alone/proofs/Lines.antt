@@ -12,7 +12,7 @@ use Rattle.art_model.specs.declared.commands.Command.{Command}
 use Rattle.art_model.specs.declared.commands.Command.TheVariants.{Insert, Remove, Get, Scan}
 use Rattle.art_model.specs.declared.commands.Reply.{Reply}
 use Rattle.art_lines.specs.Lines.{line_says}
-use Rattle.art_server.specs.Sessions.{AnswersCommand, AnswersLine, AnswersSaid}
+use Rattle.art_server.specs.Sessions.{AnswersCommand, AnswersLine, AnswersLines, AnswersSaid}
 use Rattle.art_lines.specs.declared.lines.LineFault.{LineFault}
 use Rattle.art_server.specs.declared.refusals.Refusal.{Refusal}
 use Rattle.art_table.specs.Tables.{IsPassOf, schema_in, seen_by}

@@ -24,7 +24,7 @@ use Rattle.art_table.specs.Closing.{IsClosed}
 use Rattle.art_table.specs.declared.closing.Closed.{Closed}
 use Rattle.art_table.specs.declared.passes.Pass.{Pass}
 use Rattle.art_table.specs.declared.tables.Table.{Table}
-use Rattle.art_tools.specs.Outputs.{HasFront, HasOutput, Outputs}
+use Rattle.art_tools.specs.Outputs.{HasOutput, Outputs}
 use Rattle.art_tools.specs.declared.run_faults.RunFault.{RunFault}
 use Rattle.art_tools.specs.declared.run_faults.RunFault.TheVariants.{ReadFailed, WriteFailed, Refused, NoMemory, ReadsUsed, BadLine}
 use Rattle.art_tools.specs.Statuses.{fault_at, fault_in, schedule_fault, status_after}
@@ -66,16 +66,11 @@ module _ (t : Table) (p q : Pass) (only : IsOnlyPass t p) (new : seen_by t p ≡
   one_map : IsOneMap t (take (begun e) (lines_of read)) p q is.lines.replies
   one_map = sessions_alone_are_one_map t (take (begun e) (lines_of read)) p q is.lines.replies only is.lines.answers
 
-  -- what was written is what one sorted map answers to the lines that were begun
-  pub has_front : (schema : List Column) → schema_in t ≡ schema → HasFront schema read written e
-  has_front schema schema_is = record {
-    replies = is.lines.replies;
-    rows = replay (seen_by t q);
-    answers = subst (λ (s : List Column). MapAnswersLines s (take (begun e) (lines_of read)) [] is.lines.replies (replay (seen_by t q))) schema_is
-        (subst (λ (log : List Event). MapAnswersLines (schema_in t) (take (begun e) (lines_of read)) (replay log) is.lines.replies (replay (seen_by t q))) new one_map.map);
-    begins = is.lines.begins;
-    whole = is.lines.whole;
-  }
+  -- one sorted map gives the session's replies to the lines that were begun
+  pub map_answers : (schema : List Column) → schema_in t ≡ schema → MapAnswersLines schema (take (begun e) (lines_of read)) [] is.lines.replies (replay (seen_by t q))
+  map_answers schema schema_is =
+      subst (λ (s : List Column). MapAnswersLines s (take (begun e) (lines_of read)) [] is.lines.replies (replay (seen_by t q))) schema_is
+      (subst (λ (log : List Event). MapAnswersLines (schema_in t) (take (begun e) (lines_of read)) (replay log) is.lines.replies (replay (seen_by t q))) new one_map.map)
 
   -- and the rows at the close are that map's
   pub closed_rows : (closed : Closed) → IsClosed t (q ∷ []) closed → closed.rows.items ≡ replay (seen_by t q)

@@ -6,7 +6,9 @@ use Rattle.art_key.specs.declared.columns.Column.{Column}
 use Rattle.art_key.specs.declared.faults.SchemaFault.{SchemaFault}
 use Rattle.art_schedule.specs.Schedules.{ComeBack, RunsSchedule}
 use Rattle.art_schedule.specs.declared.stops.ScheduleEnd.{ScheduleEnd}
+use Rattle.art_key.specs.Histories.{replay}
 use Rattle.art_table.specs.Closing.{IsClosed}
+use Rattle.art_table.specs.Tables.{seen_by}
 use Rattle.art_table.specs.Opening.{IsOpened}
 use Rattle.art_table.specs.declared.closing.Closed.{Closed}
 use Rattle.art_table.specs.declared.configs.Config.{Config}
@@ -19,7 +21,7 @@ use Rattle.art_server.specs.Sessions.{RunsSession}
 use Rattle.art_server.specs.declared.sessions.EndCause.TheVariants as cause
 use Rattle.art_server.specs.declared.sessions.SessionEnd.{SessionEnd}
 use Rattle.art_tools.proofs.Passes.{opened_only}
-use Rattle.art_tools.proofs.Runs.{closed_rows, has_front}
+use Rattle.art_tools.proofs.Runs.{closed_rows, map_answers}
 use Rattle.art_tools.specs.Outputs.{of_one_pass}
 use Rattle.art_tools.specs.Schedules.{Steps, of_eight_passes}
 use Rattle.art_tools.specs.Sessions.{Runs}
@@ -103,8 +105,9 @@ runs_ran (Ok schema) columns sizes left left_after held held_after t p q end r c
       end = end;
       opened = subst (λ (s : List Column). IsOpened s (of_one_pass sizes) t (p ∷ [])) same opened;
       runs = runs;
-      front = has_front t p q only new.seen runs.0 runs.1 end runs.4 schema (opened.schema_is ∙ same);
-      rows = closed_rows t p q only new.seen runs.0 runs.1 end runs.4;
+      rows = replay (seen_by t q);
+      answers = map_answers t p q only new.seen runs.0 runs.1 end runs.4 schema (opened.schema_is ∙ same);
+      closes = closed_rows t p q only new.seen runs.0 runs.1 end runs.4;
       told_is = told_of r (fault_at end.why) closed told none;
       closed = closed_by r (fault_at end.why) closed t (q ∷ []) told shut;
     })

@@ -1,8 +1,11 @@
 -- What `run` does: one session over a table of its own.
-use Rattle.std.specs.Prelude.{◌≡◌, ◌⊎◌, ℕ, List, [], ◌∷◌, Option, Result, Ok, Err}
+use Rattle.std.specs.Prelude.{◌≡◌, ◌⊎◌, ℕ, List, [], ◌∷◌, take, Option, Result, Ok, Err}
 use Rattle.art_key.specs.declared.columns.Column.{Column}
 use Rattle.art_key.specs.declared.faults.SchemaFault.{SchemaFault}
-use Rattle.art_server.specs.Sessions.{RunsSession}
+use Rattle.art_alone.specs.Maps.{MapAnswersLines}
+use Rattle.art_model.specs.declared.rows.Row.{Row}
+use Rattle.art_server.specs.Sessions.{RunsSession, begun}
+use Rattle.art_server.specs.Streams.{lines_of}
 use Rattle.art_server.specs.declared.sessions.SessionEnd.{SessionEnd}
 use Rattle.art_table.specs.Closing.{IsClosed}
 use Rattle.art_table.specs.Opening.{IsOpened}
@@ -10,13 +13,14 @@ use Rattle.art_table.specs.declared.closing.Closed.{Closed}
 use Rattle.art_table.specs.declared.configs.Config.{Config}
 use Rattle.art_table.specs.declared.passes.Pass.{Pass}
 use Rattle.art_table.specs.declared.tables.Table.{Table}
-use Rattle.art_tools.specs.Outputs.{HasFront, of_one_pass}
+use Rattle.art_tools.specs.Outputs.{of_one_pass}
 use Rattle.art_tools.specs.Statuses.{fault_at}
 use Rattle.art_tools.specs.Told.{IsClosedBy, IsToldOf, IsUnopened, NothingRead}
 use Rattle.art_tools.specs.declared.run_faults.RunFault.{RunFault}
 
--- a session was run by the one pass of an empty table of the schema and these sizes: what it wrote is what one sorted map answers, however
--- the session ended; and the table was closed with the pass as it came back, which gives the rows of that map
+-- a session was run by the one pass of an empty table of the schema and these sizes. However it ended, one sorted map answers the lines that
+-- it began with the replies of the session, from no row on, and keeps these rows; a close with the pass as it came back gives them, and the
+-- table was closed so
 pub record RanSession (schema : List Column) (sizes : Config) (left left_after held held_after : Option (List ℕ))
     (told : Option RunFault) : Type 0 where
   pub table : Table
@@ -25,8 +29,9 @@ pub record RanSession (schema : List Column) (sizes : Config) (left left_after h
   pub end : SessionEnd
   pub opened : IsOpened schema (of_one_pass sizes) table (pass ∷ [])
   pub runs : RunsSession left left_after held held_after table pass back end
-  pub front : HasFront schema runs.0 runs.1 end
-  pub rows : (closed : Closed) → IsClosed table (back ∷ []) closed → closed.rows.items ≡ front.rows
+  pub rows : List Row
+  pub answers : MapAnswersLines schema (take (begun end) (lines_of runs.0)) [] runs.4.lines.replies rows
+  pub closes : (closed : Closed) → IsClosed table (back ∷ []) closed → closed.rows.items ≡ rows
   pub told_is : IsToldOf (fault_at end.why) told
   pub closed : IsClosedBy told table (back ∷ [])
 

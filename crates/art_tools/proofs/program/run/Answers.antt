@@ -16,7 +16,7 @@ returns-clause-output g c =
     let e = c.in_ok-table.ensures in
     where_ended c.outcome.result _ c.give_back-closed.result _ c.outcome.ensures (λ none.
     let ended = session_ended _ none in
-    let only = opened_only _ _ _ _ e.opened in
+    let only = opened_only c.in_ok-schema.schema c.args.sizes c.in_ok-table.table c.in_ok-table.pass e.opened in
     let wrote = session_outputs c.in_ok-schema.schema left _ held held_after c.in_ok-table.table c.in_ok-table.pass c.session-pass.result.0 _ e.opened.schema_is only e.pass.2
     c.session-pass.ensures.session (c.session-pass.ensures.end ended) ended in
     subst (λ s. Outputs s left held held_after) c.in_ok-schema.ensures wrote)
