@@ -2,13 +2,6 @@
 use art_cell::{Body, Layout, Reads, Write, Writes, changes};
 use std::test::*;
 
-fn empty() -> Body {
-    Body {
-        layout: Layout::Node4,
-        words: [0; 266],
-    }
-}
-
 #[test]
 fn sizes_and_places_of_the_layouts(rt: HostRuntime) {
     let layouts = [
@@ -18,8 +11,7 @@ fn sizes_and_places_of_the_layouts(rt: HostRuntime) {
         (Layout::Node256, 266, 256),
     ];
     for (layout, size, places) in layouts {
-        assert_eq!(rt; layout.size(), size);
-        assert_eq!(rt; layout.places(), places);
+        assert_eq!(rt; (layout.size(), layout.places()), (size, places));
     }
 }
 
@@ -28,15 +20,18 @@ fn a_word_is_read_once_it_is_noted(rt: HostRuntime) {
     let mut reads = Reads::new();
     assert_eq!(rt; reads.get(1), None);
     reads.note(1, 514);
-    assert_eq!(rt; reads.get(1), Some(514));
-    assert_eq!(rt; reads.get(2), None);
-    assert_eq!(rt; reads.get(266), None);
+    for (place, word) in [(1, Some(514)), (2, None), (266, None)] {
+        assert_eq!(rt; reads.get(place), word);
+    }
 }
 
 #[test]
 fn words_that_differ_are_written_in_ascending_place(rt: HostRuntime) {
-    let before = empty();
-    let mut after = empty();
+    let before = Body {
+        layout: Layout::Node4,
+        words: [0; 266],
+    };
+    let mut after = before;
     after.words[11] = 9;
     after.words[1] = 1;
     let mut writes = Writes::new();

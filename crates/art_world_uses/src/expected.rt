@@ -1,4 +1,4 @@
-//! The steps of inserts and removals that were written down beforehand.
+//! The steps of inserts and removals that were written down beforehand; those of one kind on one cell share lines.
 
 /// Insert into the empty anchor.
 pub(crate) const INTO_THE_EMPTY_ANCHOR: &str = "\
@@ -12,12 +12,8 @@ take leaves word 0 lowest\n\
 write leaves#0[0] := 0x1\n\
 write leaves#0[1] := 0x1\n\
 write leaves#0[2] := 0x100000000000000\n\
-write leaves#0[3] := 0x0\n\
-write leaves#0[4] := 0x0\n\
-write leaves#0[5] := 0x0\n\
-write leaves#0[6] := 0x0\n\
-write leaves#0[7] := 0x0\n\
-write leaves#0[8] := 0x0\n\
+write leaves#0[3] := 0x0\nwrite leaves#0[4] := 0x0\nwrite leaves#0[5] := 0x0\n\
+write leaves#0[6] := 0x0\nwrite leaves#0[7] := 0x0\nwrite leaves#0[8] := 0x0\n\
 write leaves#0[9] := 0x0\n\
 check anchor\n\
 upgrade anchor\n\
@@ -33,9 +29,7 @@ pin 1\n\
 begin anchor\n\
 read anchor[1]\n\
 check anchor\n\
-read leaves#0[0]\n\
-read leaves#0[1]\n\
-read leaves#0[2]\n\
+read leaves#0[0]\nread leaves#0[1]\nread leaves#0[2]\n\
 check anchor\n\
 pin 0\n\
 ";
@@ -47,21 +41,15 @@ pin 1\n\
 begin anchor\n\
 read anchor[1]\n\
 check anchor\n\
-read leaves#0[0]\n\
-read leaves#0[1]\n\
-read leaves#0[2]\n\
+read leaves#0[0]\nread leaves#0[1]\nread leaves#0[2]\n\
 check anchor\n\
 take leaves word 0\n\
 take leaves word 0 lowest\n\
 write leaves#1[0] := 0x5\n\
 write leaves#1[1] := 0x1\n\
 write leaves#1[2] := 0x500000000000000\n\
-write leaves#1[3] := 0x0\n\
-write leaves#1[4] := 0x0\n\
-write leaves#1[5] := 0x0\n\
-write leaves#1[6] := 0x0\n\
-write leaves#1[7] := 0x0\n\
-write leaves#1[8] := 0x0\n\
+write leaves#1[3] := 0x0\nwrite leaves#1[4] := 0x0\nwrite leaves#1[5] := 0x0\n\
+write leaves#1[6] := 0x0\nwrite leaves#1[7] := 0x0\nwrite leaves#1[8] := 0x0\n\
 write leaves#1[9] := 0x0\n\
 take n4 word 0\n\
 take n4 word 0 lowest\n\
@@ -69,19 +57,12 @@ check anchor\n\
 upgrade anchor\n\
 claim n4#0\n\
 write n4#0[1] := 0x2\n\
-write n4#0[2] := 0x0\n\
-write n4#0[3] := 0x0\n\
-write n4#0[4] := 0x0\n\
-write n4#0[5] := 0x0\n\
-write n4#0[6] := 0x0\n\
-write n4#0[7] := 0x0\n\
-write n4#0[8] := 0x0\n\
-write n4#0[9] := 0x0\n\
+write n4#0[2] := 0x0\nwrite n4#0[3] := 0x0\nwrite n4#0[4] := 0x0\nwrite n4#0[5] := 0x0\n\
+write n4#0[6] := 0x0\nwrite n4#0[7] := 0x0\nwrite n4#0[8] := 0x0\nwrite n4#0[9] := 0x0\n\
 write n4#0[10] := 0x105000000000000\n\
 write n4#0[11] := 0x1\n\
 write n4#0[12] := 0x9\n\
-write n4#0[13] := 0x0\n\
-write n4#0[14] := 0x0\n\
+write n4#0[13] := 0x0\nwrite n4#0[14] := 0x0\n\
 write anchor[1] := 0x2\n\
 commit anchor\n\
 release n4#0\n\
@@ -97,33 +78,18 @@ read anchor[1]\n\
 check anchor\n\
 begin n4#0\n\
 check anchor\n\
-read n4#0[1]\n\
-read n4#0[10]\n\
+read n4#0[1]\nread n4#0[10]\n\
 check n4#0\n\
 take leaves word 0\n\
 take leaves word 0 lowest\n\
 write leaves#2[0] := 0x3\n\
 write leaves#2[1] := 0x1\n\
 write leaves#2[2] := 0x300000000000000\n\
-write leaves#2[3] := 0x0\n\
-write leaves#2[4] := 0x0\n\
-write leaves#2[5] := 0x0\n\
-write leaves#2[6] := 0x0\n\
-write leaves#2[7] := 0x0\n\
-write leaves#2[8] := 0x0\n\
+write leaves#2[3] := 0x0\nwrite leaves#2[4] := 0x0\nwrite leaves#2[5] := 0x0\n\
+write leaves#2[6] := 0x0\nwrite leaves#2[7] := 0x0\nwrite leaves#2[8] := 0x0\n\
 write leaves#2[9] := 0x0\n\
-read n4#0[2]\n\
-read n4#0[3]\n\
-read n4#0[4]\n\
-read n4#0[5]\n\
-read n4#0[6]\n\
-read n4#0[7]\n\
-read n4#0[8]\n\
-read n4#0[9]\n\
-read n4#0[11]\n\
-read n4#0[12]\n\
-read n4#0[13]\n\
-read n4#0[14]\n\
+read n4#0[2]\nread n4#0[3]\nread n4#0[4]\nread n4#0[5]\nread n4#0[6]\nread n4#0[7]\n\
+read n4#0[8]\nread n4#0[9]\nread n4#0[11]\nread n4#0[12]\nread n4#0[13]\nread n4#0[14]\n\
 check n4#0\n\
 upgrade n4#0\n\
 write n4#0[1] := 0x3\n\
@@ -143,49 +109,29 @@ read anchor[1]\n\
 check anchor\n\
 begin n4#0\n\
 check anchor\n\
-read n4#0[1]\n\
-read n4#0[10]\n\
+read n4#0[1]\nread n4#0[10]\n\
 check n4#0\n\
 take leaves word 0\n\
 take leaves word 0 lowest\n\
 write leaves#4[0] := 0x5\n\
 write leaves#4[1] := 0x1\n\
 write leaves#4[2] := 0x500000000000000\n\
-write leaves#4[3] := 0x0\n\
-write leaves#4[4] := 0x0\n\
-write leaves#4[5] := 0x0\n\
-write leaves#4[6] := 0x0\n\
-write leaves#4[7] := 0x0\n\
-write leaves#4[8] := 0x0\n\
+write leaves#4[3] := 0x0\nwrite leaves#4[4] := 0x0\nwrite leaves#4[5] := 0x0\n\
+write leaves#4[6] := 0x0\nwrite leaves#4[7] := 0x0\nwrite leaves#4[8] := 0x0\n\
 write leaves#4[9] := 0x0\n\
 take n16 word 0\n\
 take n16 word 0 lowest\n\
-read n4#0[2]\n\
-read n4#0[3]\n\
-read n4#0[4]\n\
-read n4#0[5]\n\
-read n4#0[6]\n\
-read n4#0[7]\n\
-read n4#0[8]\n\
-read n4#0[9]\n\
-read n4#0[11]\n\
-read n4#0[12]\n\
-read n4#0[13]\n\
-read n4#0[14]\n\
+read n4#0[2]\nread n4#0[3]\nread n4#0[4]\nread n4#0[5]\nread n4#0[6]\nread n4#0[7]\n\
+read n4#0[8]\nread n4#0[9]\nread n4#0[11]\nread n4#0[12]\nread n4#0[13]\nread n4#0[14]\n\
 check anchor\n\
 check n4#0\n\
 upgrade anchor\n\
 upgrade n4#0\n\
 claim n16#0\n\
 write n16#0[1] := 0x5\n\
-write n16#0[2] := 0x0\n\
-write n16#0[3] := 0x0\n\
-write n16#0[4] := 0x0\n\
-write n16#0[5] := 0x0\n\
-write n16#0[6] := 0x0\n\
-write n16#0[7] := 0x0\n\
-write n16#0[8] := 0x0\n\
-write n16#0[9] := 0x0\n\
+write n16#0[2] := 0x0\nwrite n16#0[3] := 0x0\nwrite n16#0[4] := 0x0\n\
+write n16#0[5] := 0x0\nwrite n16#0[6] := 0x0\nwrite n16#0[7] := 0x0\n\
+write n16#0[8] := 0x0\nwrite n16#0[9] := 0x0\n\
 write n16#0[10] := 0x102030405000000\n\
 write n16#0[11] := 0x0\n\
 write n16#0[12] := 0x1\n\
@@ -193,17 +139,10 @@ write n16#0[13] := 0x9\n\
 write n16#0[14] := 0x11\n\
 write n16#0[15] := 0x19\n\
 write n16#0[16] := 0x21\n\
-write n16#0[17] := 0x0\n\
-write n16#0[18] := 0x0\n\
-write n16#0[19] := 0x0\n\
-write n16#0[20] := 0x0\n\
-write n16#0[21] := 0x0\n\
-write n16#0[22] := 0x0\n\
-write n16#0[23] := 0x0\n\
-write n16#0[24] := 0x0\n\
-write n16#0[25] := 0x0\n\
-write n16#0[26] := 0x0\n\
-write n16#0[27] := 0x0\n\
+write n16#0[17] := 0x0\nwrite n16#0[18] := 0x0\nwrite n16#0[19] := 0x0\n\
+write n16#0[20] := 0x0\nwrite n16#0[21] := 0x0\nwrite n16#0[22] := 0x0\n\
+write n16#0[23] := 0x0\nwrite n16#0[24] := 0x0\nwrite n16#0[25] := 0x0\n\
+write n16#0[26] := 0x0\nwrite n16#0[27] := 0x0\n\
 write anchor[1] := 0x3\n\
 commit anchor\n\
 release n4#0\n\
@@ -221,54 +160,32 @@ read anchor[1]\n\
 check anchor\n\
 begin n4#0\n\
 check anchor\n\
-read n4#0[1]\n\
-read n4#0[2]\n\
+read n4#0[1]\nread n4#0[2]\n\
 check n4#0\n\
 take leaves word 0\n\
 take leaves word 0 lowest\n\
 write leaves#2[0] := 0x3\n\
 write leaves#2[1] := 0x2\n\
 write leaves#2[2] := 0x203000000000000\n\
-write leaves#2[3] := 0x0\n\
-write leaves#2[4] := 0x0\n\
-write leaves#2[5] := 0x0\n\
-write leaves#2[6] := 0x0\n\
-write leaves#2[7] := 0x0\n\
-write leaves#2[8] := 0x0\n\
+write leaves#2[3] := 0x0\nwrite leaves#2[4] := 0x0\nwrite leaves#2[5] := 0x0\n\
+write leaves#2[6] := 0x0\nwrite leaves#2[7] := 0x0\nwrite leaves#2[8] := 0x0\n\
 write leaves#2[9] := 0x0\n\
 take n4 word 0\n\
 take n4 word 0 lowest\n\
-read n4#0[3]\n\
-read n4#0[4]\n\
-read n4#0[5]\n\
-read n4#0[6]\n\
-read n4#0[7]\n\
-read n4#0[8]\n\
-read n4#0[9]\n\
-read n4#0[10]\n\
-read n4#0[11]\n\
-read n4#0[12]\n\
-read n4#0[13]\n\
-read n4#0[14]\n\
+read n4#0[3]\nread n4#0[4]\nread n4#0[5]\nread n4#0[6]\nread n4#0[7]\nread n4#0[8]\n\
+read n4#0[9]\nread n4#0[10]\nread n4#0[11]\nread n4#0[12]\nread n4#0[13]\nread n4#0[14]\n\
 check anchor\n\
 check n4#0\n\
 upgrade anchor\n\
 upgrade n4#0\n\
 claim n4#1\n\
 write n4#1[1] := 0x2\n\
-write n4#1[2] := 0x0\n\
-write n4#1[3] := 0x0\n\
-write n4#1[4] := 0x0\n\
-write n4#1[5] := 0x0\n\
-write n4#1[6] := 0x0\n\
-write n4#1[7] := 0x0\n\
-write n4#1[8] := 0x0\n\
-write n4#1[9] := 0x0\n\
+write n4#1[2] := 0x0\nwrite n4#1[3] := 0x0\nwrite n4#1[4] := 0x0\nwrite n4#1[5] := 0x0\n\
+write n4#1[6] := 0x0\nwrite n4#1[7] := 0x0\nwrite n4#1[8] := 0x0\nwrite n4#1[9] := 0x0\n\
 write n4#1[10] := 0x102000000000000\n\
 write n4#1[11] := 0x2\n\
 write n4#1[12] := 0x11\n\
-write n4#1[13] := 0x0\n\
-write n4#1[14] := 0x0\n\
+write n4#1[13] := 0x0\nwrite n4#1[14] := 0x0\n\
 write anchor[1] := 0xa\n\
 write n4#0[1] := 0x2\n\
 write n4#0[2] := 0x0\n\
@@ -285,9 +202,7 @@ pin 1\n\
 begin anchor\n\
 read anchor[1]\n\
 check anchor\n\
-read leaves#0[0]\n\
-read leaves#0[1]\n\
-read leaves#0[2]\n\
+read leaves#0[0]\nread leaves#0[1]\nread leaves#0[2]\n\
 check anchor\n\
 check anchor\n\
 upgrade anchor\n\
@@ -306,25 +221,12 @@ read anchor[1]\n\
 check anchor\n\
 begin n4#0\n\
 check anchor\n\
-read n4#0[1]\n\
-read n4#0[10]\n\
-read n4#0[12]\n\
+read n4#0[1]\nread n4#0[10]\nread n4#0[12]\n\
 check n4#0\n\
-read leaves#1[0]\n\
-read leaves#1[1]\n\
-read leaves#1[2]\n\
+read leaves#1[0]\nread leaves#1[1]\nread leaves#1[2]\n\
 check n4#0\n\
-read n4#0[2]\n\
-read n4#0[3]\n\
-read n4#0[4]\n\
-read n4#0[5]\n\
-read n4#0[6]\n\
-read n4#0[7]\n\
-read n4#0[8]\n\
-read n4#0[9]\n\
-read n4#0[11]\n\
-read n4#0[13]\n\
-read n4#0[14]\n\
+read n4#0[2]\nread n4#0[3]\nread n4#0[4]\nread n4#0[5]\nread n4#0[6]\nread n4#0[7]\n\
+read n4#0[8]\nread n4#0[9]\nread n4#0[11]\nread n4#0[13]\nread n4#0[14]\n\
 check anchor\n\
 check n4#0\n\
 upgrade anchor\n\
@@ -345,41 +247,17 @@ read anchor[1]\n\
 check anchor\n\
 begin n4#1\n\
 check anchor\n\
-read n4#1[1]\n\
-read n4#1[10]\n\
-read n4#1[12]\n\
+read n4#1[1]\nread n4#1[10]\nread n4#1[12]\n\
 check n4#1\n\
-read leaves#2[0]\n\
-read leaves#2[1]\n\
-read leaves#2[2]\n\
+read leaves#2[0]\nread leaves#2[1]\nread leaves#2[2]\n\
 check n4#1\n\
-read n4#1[2]\n\
-read n4#1[3]\n\
-read n4#1[4]\n\
-read n4#1[5]\n\
-read n4#1[6]\n\
-read n4#1[7]\n\
-read n4#1[8]\n\
-read n4#1[9]\n\
-read n4#1[11]\n\
-read n4#1[13]\n\
-read n4#1[14]\n\
+read n4#1[2]\nread n4#1[3]\nread n4#1[4]\nread n4#1[5]\nread n4#1[6]\nread n4#1[7]\n\
+read n4#1[8]\nread n4#1[9]\nread n4#1[11]\nread n4#1[13]\nread n4#1[14]\n\
 begin n4#0\n\
 check n4#1\n\
-read n4#0[1]\n\
-read n4#0[2]\n\
-read n4#0[3]\n\
-read n4#0[4]\n\
-read n4#0[5]\n\
-read n4#0[6]\n\
-read n4#0[7]\n\
-read n4#0[8]\n\
-read n4#0[9]\n\
-read n4#0[10]\n\
-read n4#0[11]\n\
-read n4#0[12]\n\
-read n4#0[13]\n\
-read n4#0[14]\n\
+read n4#0[1]\nread n4#0[2]\nread n4#0[3]\nread n4#0[4]\nread n4#0[5]\nread n4#0[6]\n\
+read n4#0[7]\nread n4#0[8]\nread n4#0[9]\nread n4#0[10]\nread n4#0[11]\nread n4#0[12]\n\
+read n4#0[13]\nread n4#0[14]\n\
 check anchor\n\
 check n4#1\n\
 check n4#0\n\
@@ -405,25 +283,12 @@ read anchor[1]\n\
 check anchor\n\
 begin n4#0\n\
 check anchor\n\
-read n4#0[1]\n\
-read n4#0[10]\n\
-read n4#0[13]\n\
+read n4#0[1]\nread n4#0[10]\nread n4#0[13]\n\
 check n4#0\n\
-read leaves#2[0]\n\
-read leaves#2[1]\n\
-read leaves#2[2]\n\
+read leaves#2[0]\nread leaves#2[1]\nread leaves#2[2]\n\
 check n4#0\n\
-read n4#0[2]\n\
-read n4#0[3]\n\
-read n4#0[4]\n\
-read n4#0[5]\n\
-read n4#0[6]\n\
-read n4#0[7]\n\
-read n4#0[8]\n\
-read n4#0[9]\n\
-read n4#0[11]\n\
-read n4#0[12]\n\
-read n4#0[14]\n\
+read n4#0[2]\nread n4#0[3]\nread n4#0[4]\nread n4#0[5]\nread n4#0[6]\nread n4#0[7]\n\
+read n4#0[8]\nread n4#0[9]\nread n4#0[11]\nread n4#0[12]\nread n4#0[14]\n\
 check n4#0\n\
 upgrade n4#0\n\
 write n4#0[1] := 0x2\n\
@@ -453,54 +318,25 @@ read anchor[1]\n\
 check anchor\n\
 begin n16#0\n\
 check anchor\n\
-read n16#0[1]\n\
-read n16#0[10]\n\
-read n16#0[15]\n\
+read n16#0[1]\nread n16#0[10]\nread n16#0[15]\n\
 check n16#0\n\
-read leaves#3[0]\n\
-read leaves#3[1]\n\
-read leaves#3[2]\n\
+read leaves#3[0]\nread leaves#3[1]\nread leaves#3[2]\n\
 check n16#0\n\
 take n4 word 0\n\
 take n4 word 0 lowest\n\
-read n16#0[2]\n\
-read n16#0[3]\n\
-read n16#0[4]\n\
-read n16#0[5]\n\
-read n16#0[6]\n\
-read n16#0[7]\n\
-read n16#0[8]\n\
-read n16#0[9]\n\
-read n16#0[11]\n\
-read n16#0[12]\n\
-read n16#0[13]\n\
-read n16#0[14]\n\
-read n16#0[16]\n\
-read n16#0[17]\n\
-read n16#0[18]\n\
-read n16#0[19]\n\
-read n16#0[20]\n\
-read n16#0[21]\n\
-read n16#0[22]\n\
-read n16#0[23]\n\
-read n16#0[24]\n\
-read n16#0[25]\n\
-read n16#0[26]\n\
-read n16#0[27]\n\
+read n16#0[2]\nread n16#0[3]\nread n16#0[4]\nread n16#0[5]\nread n16#0[6]\n\
+read n16#0[7]\nread n16#0[8]\nread n16#0[9]\nread n16#0[11]\nread n16#0[12]\n\
+read n16#0[13]\nread n16#0[14]\nread n16#0[16]\nread n16#0[17]\nread n16#0[18]\n\
+read n16#0[19]\nread n16#0[20]\nread n16#0[21]\nread n16#0[22]\nread n16#0[23]\n\
+read n16#0[24]\nread n16#0[25]\nread n16#0[26]\nread n16#0[27]\n\
 check anchor\n\
 check n16#0\n\
 upgrade anchor\n\
 upgrade n16#0\n\
 claim n4#0\n\
 write n4#0[1] := 0x3\n\
-write n4#0[2] := 0x0\n\
-write n4#0[3] := 0x0\n\
-write n4#0[4] := 0x0\n\
-write n4#0[5] := 0x0\n\
-write n4#0[6] := 0x0\n\
-write n4#0[7] := 0x0\n\
-write n4#0[8] := 0x0\n\
-write n4#0[9] := 0x0\n\
+write n4#0[2] := 0x0\nwrite n4#0[3] := 0x0\nwrite n4#0[4] := 0x0\nwrite n4#0[5] := 0x0\n\
+write n4#0[6] := 0x0\nwrite n4#0[7] := 0x0\nwrite n4#0[8] := 0x0\nwrite n4#0[9] := 0x0\n\
 write n4#0[10] := 0x102030000000000\n\
 write n4#0[11] := 0x1\n\
 write n4#0[12] := 0x9\n\

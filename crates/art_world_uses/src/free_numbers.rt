@@ -1,4 +1,8 @@
 //! Numbers of a pool with more than one free word, and what opens.
+ghost use Rattle.art_cell.specs.declared.layouts.Pool.TheVariants.{N4};
+ghost use Rattle.art_step.specs.WordPlaces.{HasFreeWord};
+
+use crate::worlds::opened;
 use art_cell::{Link, Pool};
 use art_epoch::{Taking, advance, give, make, take};
 use art_frame::Stock;
@@ -28,47 +32,51 @@ fn counted_take<S: EpochSteps>(steps: &mut S) -> (Option<Number>, u32) {
     (taking.number(), count)
 }
 
-/// Takes this number in so many steps.
-fn takes<S: EpochSteps>(rt: &impl Abort, steps: &mut S, number: u32, count: u32) {
+/// The next take of a leaf answers so, in so many steps.
+fn check_take<S: EpochSteps>(rt: &impl Abort, steps: &mut S, wanted: Option<Link>, count: u32) {
     let (taken, made) = counted_take(steps);
-    let taken = taken.expect(rt, "it is free");
-    assert_eq!(rt; taken.spend(), Link::Leaf(number));
-    assert_eq!(rt; made, count);
+    assert_eq!(rt; (spent(taken), made), (wanted, count));
 }
 
 #[test]
-fn a_pool_of_130_has_three_free_words(rt: HostRuntime) -> Result<(), Fail> {
-    let mut world = World::open(rt.alloc(), &THREE_FREE_WORDS, 0)?;
-    let words = [u64::MAX, u64::MAX, 3];
-    for index in 0..3 {
-        assert_eq!(rt; world.free_word(Pool::Leaves, index), words[index]);
-    }
-    assert_eq!(rt; world.epoch(), 1);
-    assert_eq!(rt; world.pass_word(0), 0);
-    assert_eq!(rt; world.pass_word(1), 0);
+fn a_pool_of_130_has_three_free_words(rt: HostRuntime) {
+    let mut world = opened(&rt, rt.alloc(), &THREE_FREE_WORDS);
+    let words = [
+        world.free_word(Pool::Leaves, 0),
+        world.free_word(Pool::Leaves, 1),
+        world.free_word(Pool::Leaves, 2),
+        world.epoch(),
+        world.pass_word(0),
+        world.pass_word(1),
+    ];
+    assert_eq!(rt; words, [u64::MAX, u64::MAX, 3, 1, 0, 0]);
     let mut stepper = world.at(0);
     for number in 0..130 {
-        takes(&rt, &mut stepper, number, 2 + number / 64);
+        let leaf = Link::Leaf(number);
+        check_take(&rt, &mut stepper, Some(leaf), 2 + number / 64);
     }
-    let (taken, made) = counted_take(&mut stepper);
-    assert_eq!(rt; spent(taken), None);
-    assert_eq!(rt; made, 3);
-    Ok(())
+    check_take(&rt, &mut stepper, None, 3);
+}
+
+/// These are the word of free numbers of the nodes of four, and the epoch.
+fn check_words(rt: &impl Abort, world: &World, free: u64, epoch: u64)
+    requires { HasFreeWord world.now.sizes N4 0 }
+{
+    let words = (world.free_word(Pool::N4, 0), world.epoch());
+    assert_eq!(rt; words, (free, epoch));
 }
 
 #[test]
-fn a_number_in_hand_goes_back_and_the_epoch_rises(rt: HostRuntime) -> Result<(), Fail> {
-    let mut world = World::open(rt.alloc(), &THREE_FREE_WORDS, 0)?;
+fn a_number_in_hand_goes_back_and_the_epoch_rises(rt: HostRuntime) {
+    let mut world = opened(&rt, rt.alloc(), &THREE_FREE_WORDS);
     let mut stepper = world.at(1);
     let taken = take(&mut stepper, Pool::N4).expect(&rt, "it is free");
-    assert_eq!(rt; taken.pool(), Pool::N4);
-    assert_eq!(rt; taken.number(), 0);
-    assert_eq!(rt; stepper.world.free_word(Pool::N4, 0), 0);
+    assert_eq!(rt; (taken.pool(), taken.number()), (Pool::N4, 0));
+    check_words(&rt, stepper.world, 0, 1);
     give(&mut stepper, taken);
-    assert_eq!(rt; stepper.world.free_word(Pool::N4, 0), 1);
+    check_words(&rt, stepper.world, 1, 1);
     advance(&mut stepper);
-    assert_eq!(rt; stepper.world.epoch(), 2);
-    Ok(())
+    check_words(&rt, stepper.world, 1, 2);
 }
 
 /// The word of three at which the first search of a pass begins, of so many passes.

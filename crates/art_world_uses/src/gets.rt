@@ -1,41 +1,38 @@
 //! Gets over a world of one thread.
+ghost use Rattle.art_epoch.specs.Pins.{MayPin};
+ghost use Rattle.art_world.specs.Stepper.{OnlyStepped, view_of};
+
 use crate::keys::key_of;
+use crate::worlds::{ONE_PASS, opened};
 use art_find::Got;
 use art_seek::{KeySought, Seeker};
-use art_step::Sizes;
-use art_world::World;
+use art_world::Stepper;
+use std::process::Abort;
 use std::test::*;
 
-const ONE_PASS: Sizes = Sizes {
-    leaves: 4,
-    n4: 1,
-    n16: 1,
-    n48: 1,
-    n256: 1,
-    passes: 1,
-};
-
-/// How a get ends that was out of turns.
-const BUSY: KeySought = KeySought {
-    got: Got::Busy,
-    restarts: 0,
-};
-
-/// How one ends that found no row.
-const ABSENT: KeySought = KeySought {
-    got: Got::Absent,
-    restarts: 0,
-};
+/// A get of the key of 7 ends so in so many turns, and met no failure.
+pub(crate) fn check_get(
+    rt: &impl Abort,
+    stepper: &mut Stepper<'_>,
+    seeker: &mut Seeker,
+    turns: u32,
+    got: Got,
+)
+    requires { MayPin (view_of stepper.old) }
+    ensures only { OnlyStepped stepper.old stepper.new }
+    ensures may { MayPin (view_of stepper.new) }
+{
+    let sought = seeker.get(stepper, &key_of([7]), turns);
+    assert_eq!(rt; sought, KeySought { got, restarts: 0 });
+}
 
 #[test]
-fn a_get_on_an_empty_tree_takes_three_steps(rt: HostRuntime) -> Result<(), Fail> {
-    let mut world = World::open(rt.alloc(), &ONE_PASS, 0)?;
+fn a_get_on_an_empty_tree_takes_three_steps(rt: HostRuntime) {
+    let mut world = opened(&rt, rt.alloc(), &ONE_PASS);
     let mut stepper = world.at(0);
-    let key = key_of(7);
     let mut seeker = Seeker::new();
-    assert_eq!(rt; seeker.get(&mut stepper, &key, 0), BUSY);
-    assert_eq!(rt; seeker.get(&mut stepper, &key, 2), BUSY);
-    assert_eq!(rt; seeker.get(&mut stepper, &key, 3), ABSENT);
-    assert_eq!(rt; seeker.get(&mut stepper, &key, 1_000), ABSENT);
-    Ok(())
+    check_get(&rt, &mut stepper, &mut seeker, 0, Got::Busy);
+    check_get(&rt, &mut stepper, &mut seeker, 2, Got::Busy);
+    check_get(&rt, &mut stepper, &mut seeker, 3, Got::Absent);
+    check_get(&rt, &mut stepper, &mut seeker, 1_000, Got::Absent);
 }

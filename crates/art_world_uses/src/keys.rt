@@ -1,9 +1,13 @@
-//! Keys of one byte.
+//! Keys of few bytes.
 use art_key::Key;
 
-/// The key of one byte.
-pub(crate) fn key_of(byte: u8) -> Key {
+/// The key of these bytes.
+pub(crate) fn key_of<const N: usize>(bytes: [u8; N]) -> Key {
     let mut key = Key::new();
-    key.push(byte);
+    for byte in bytes {
+        if key.len() < 64 {
+            key.push(byte);
+        }
+    }
     key
 }

@@ -33,3 +33,5 @@ mod seeks;
 mod step_names;
 #[cfg(test)]
 mod traces;
+#[cfg(test)]
+mod worlds;

@@ -1,11 +1,12 @@
 //! The steps of an insert, as lines of text.
 use art_attempt::Asked as AttemptAsked;
-use art_cell::{Cell, Layout, Link, Pool};
+use art_cell::{Cell, Link, Pool};
 use art_change::Asked;
 use art_epoch::Asked as FrameAsked;
 use art_find::Asked as CellAsked;
 use art_gather::Asked as SupplyAsked;
 use art_make::Asked as ChangeAsked;
+use art_step::pool_of_layout;
 use std::fmt::{self, Write};
 
 /// Writes what is asked, as one line.
@@ -91,19 +92,11 @@ fn named<W: Write>(out: &mut W, kind: &str, cell: Cell) -> fmt::Result {
 }
 
 fn link_name<W: Write>(out: &mut W, link: Link) -> fmt::Result {
-    match link {
-        Link::Leaf(leaf) => write!(out, "leaves#{leaf}"),
-        Link::Node(node) => write!(out, "{}#{}", layout_name(node.layout), node.number),
-    }
-}
-
-fn layout_name(layout: Layout) -> &'static str {
-    match layout {
-        Layout::Node4 => "n4",
-        Layout::Node16 => "n16",
-        Layout::Node48 => "n48",
-        Layout::Node256 => "n256",
-    }
+    let (pool, number) = match link {
+        Link::Leaf(leaf) => (Pool::Leaves, leaf),
+        Link::Node(node) => (pool_of_layout(node.layout), node.number),
+    };
+    write!(out, "{}#{number}", pool_name(pool))
 }
 
 fn pool_name(pool: Pool) -> &'static str {

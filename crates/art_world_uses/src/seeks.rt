@@ -1,14 +1,19 @@
 //! Gets and looks from their pin to their close, over a world of one thread.
 ghost use Rattle.std.specs.Prelude.{◌≤◌, length};
 ghost use Rattle.art_epoch.specs.Pins.{MayPin};
+ghost use Rattle.art_world.specs.Stepper.{OnlyStepped, view_of};
 
+use crate::gets::check_get;
 use crate::keys::key_of;
+use crate::worlds::opened;
 use art_find::Got;
 use art_key::Bound;
 use art_look::{Seen, Trail};
-use art_seek::{Aim, KeySought, RangeSought, Seek, Seeker, Stepped, step};
+use art_seek::{Aim, RangeSought, Seek, Seeker, Stepped, step};
 use art_step::{EpochSteps, Sizes};
-use art_world::World;
+use art_world::Stepper;
+use std::alloc::Global;
+use std::process::Abort;
 use std::test::*;
 
 const EIGHT_LEAVES: Sizes = Sizes {
@@ -20,52 +25,48 @@ const EIGHT_LEAVES: Sizes = Sizes {
     passes: 2,
 };
 
-/// How a get ends so that met no failure.
-fn got(got: Got) -> KeySought {
-    KeySought { got, restarts: 0 }
+#[test]
+fn a_seeker_gets_from_an_empty_tree_in_three_turns(rt: HostRuntime) {
+    let mut world = opened(&rt, rt.alloc(), &EIGHT_LEAVES);
+    let mut seeker = Seeker::new();
+    let mut pass = world.at(1);
+    check_get(&rt, &mut pass, &mut seeker, 0, Got::Busy);
+    check_get(&rt, &mut pass, &mut seeker, 2, Got::Busy);
+    check_get(&rt, &mut pass, &mut seeker, 3, Got::Absent);
+    check_get(&rt, &mut pass, &mut seeker, 1_000, Got::Absent);
+    assert_eq!(rt; world.pass_word(1), 0);
 }
 
-/// How a look ends that met no failure and was out of turns.
-const NOTHING_SEEN: RangeSought = RangeSought {
-    seen: None,
-    restarts: 0,
-};
-
-#[test]
-fn a_seeker_gets_from_an_empty_tree_in_three_turns(rt: HostRuntime) -> Result<(), Fail> {
-    let mut world = World::open(rt.alloc(), &EIGHT_LEAVES, 0)?;
-    let mut seeker = Seeker::new();
-    let key = key_of(7);
-    let mut pass = world.at(1);
-    assert_eq!(rt; seeker.get(&mut pass, &key, 0), got(Got::Busy));
-    assert_eq!(rt; seeker.get(&mut pass, &key, 2), got(Got::Busy));
-    assert_eq!(rt; seeker.get(&mut pass, &key, 3), got(Got::Absent));
-    assert_eq!(rt; seeker.get(&mut pass, &key, 1_000), got(Got::Absent));
-    assert_eq!(rt; world.pass_word(1), 0);
-    Ok(())
+/// A look from the key of 7 on sees so much in so many turns, and met no failure.
+fn check_look(
+    rt: &impl Abort,
+    pass: &mut Stepper<'_>,
+    seeker: &mut Seeker,
+    turns: u32,
+    seen: Option<Seen>,
+)
+    requires { MayPin (view_of pass.old) }
+    ensures only { OnlyStepped pass.old pass.new }
+    ensures may { MayPin (view_of pass.new) }
+{
+    let sought = seeker.look(pass, &key_of([7]), &Bound::End, turns);
+    assert_eq!(rt; sought, RangeSought { seen, restarts: 0 });
 }
 
 #[test]
-fn a_seeker_sees_all_of_an_empty_tree(rt: HostRuntime) -> Result<(), Fail> {
-    let mut world = World::open(rt.alloc(), &EIGHT_LEAVES, 0)?;
+fn a_seeker_sees_all_of_an_empty_tree(rt: HostRuntime) {
+    let mut world = opened(&rt, rt.alloc(), &EIGHT_LEAVES);
     let mut seeker = Seeker::new();
-    let lo = key_of(7);
+    let all = Seen {
+        lo: key_of([7]),
+        hi: Bound::End,
+        row: None,
+    };
     let mut pass = world.at(1);
-    assert_eq!(rt; seeker.look(&mut pass, &lo, &Bound::End, 0), NOTHING_SEEN);
-    assert_eq!(rt; seeker.look(&mut pass, &lo, &Bound::End, 2), NOTHING_SEEN);
-    let sought = seeker.look(&mut pass, &lo, &Bound::End, 3);
-    assert_eq!(rt; sought.restarts, 0);
-    let seen = sought.seen.expect(&rt, "three steps are enough");
-    assert_eq!(rt;
-        seen,
-        Seen {
-            lo: key_of(7),
-            hi: Bound::End,
-            row: None,
-        }
-    );
+    check_look(&rt, &mut pass, &mut seeker, 0, None);
+    check_look(&rt, &mut pass, &mut seeker, 2, None);
+    check_look(&rt, &mut pass, &mut seeker, 3, Some(all));
     assert_eq!(rt; world.pass_word(1), 0);
-    Ok(())
 }
 
 /// How many steps of a get of the key were counted, in so many turns, and how many made an event.
@@ -90,13 +91,15 @@ fn counts_of<S: EpochSteps>(steps: &mut S, key: &[u8], turns: u32) -> (u32, u32)
     (counted, told)
 }
 
+/// So many steps of a get from an empty tree were counted, in so many turns, and so many made an event.
+fn check_counts(rt: &impl Abort, alloc: Global, turns: u32, wanted: (u32, u32)) {
+    let mut world = opened(rt, alloc, &EIGHT_LEAVES);
+    let mut pass = world.at(1);
+    assert_eq!(rt; counts_of(&mut pass, &[7], turns), wanted);
+}
+
 #[test]
-fn each_step_says_whether_it_is_counted_and_told(rt: HostRuntime) -> Result<(), Fail> {
-    let mut world = World::open(rt.alloc(), &EIGHT_LEAVES, 0)?;
-    let mut pass = world.at(1);
-    assert_eq!(rt; counts_of(&mut pass, &[7], 2), (2, 0));
-    let mut world = World::open(rt.alloc(), &EIGHT_LEAVES, 0)?;
-    let mut pass = world.at(1);
-    assert_eq!(rt; counts_of(&mut pass, &[7], 1_000), (3, 1));
-    Ok(())
+fn each_step_says_whether_it_is_counted_and_told(rt: HostRuntime) {
+    check_counts(&rt, rt.alloc(), 2, (2, 0));
+    check_counts(&rt, rt.alloc(), 1_000, (3, 1));
 }

@@ -3,7 +3,7 @@ use art_step::StepKind;
 use std::test::*;
 
 #[test]
-fn kinds_of_step_have_names(rt: HostRuntime) -> Result<(), Fail> {
+fn kinds_of_step_have_names(rt: HostRuntime) {
     let names = [
         (StepKind::Begin, "begin"),
         (StepKind::Read, "read"),
@@ -22,8 +22,7 @@ fn kinds_of_step_have_names(rt: HostRuntime) -> Result<(), Fail> {
         (StepKind::Anchor, "anchor"),
     ];
     for (kind, name) in names {
-        let shown = format!(in rt.alloc(); "{kind}")?;
+        let shown = format!(in rt.alloc(); "{kind}").expect(&rt, "memory");
         assert_eq!(rt; shown.as_str(), name);
     }
-    Ok(())
 }

@@ -6,17 +6,18 @@ ghost use Rattle.art_epoch.specs.Limbo.{places_of};
 ghost use Rattle.art_step.specs.declared.views.View.{View};
 ghost use Rattle.art_world.specs.Stepper.{OnlyStepped, sizes_of, view_of};
 
-use crate::expected;
+use crate::expected::*;
 use crate::lines::write_line;
+use crate::worlds::opened;
 use arrayvec::ArrayString;
 use art_attempt::{Asked as AttemptAsked, Room};
 use art_change::{Asked, Job, Write, step};
 use art_epoch::{Asked as FrameAsked, Limbo};
 use art_gather::Asked as SupplyAsked;
 use art_key::{Key, Schema, encode};
-use art_model::{NoMemory, Tuple, Value};
+use art_model::{Tuple, Value};
 use art_step::Sizes;
-use art_world::{Stepper, World};
+use art_world::Stepper;
 use std::alloc::Global;
 use std::process::Abort;
 use std::test::*;
@@ -50,18 +51,12 @@ enum Shown {
 
 impl Shown {
     fn has(self, asked: Asked) -> bool {
-        match self {
-            Shown::All => true,
-            Shown::Numbers => is_of_numbers(asked),
+        match (self, asked) {
+            (Shown::All, _) => true,
+            (_, Asked::Frame(FrameAsked::Give(_) | FrameAsked::Free(_))) => true,
+            (_, Asked::Attempt(AttemptAsked::Supply(SupplyAsked::Number(_)))) => true,
+            _ => false,
         }
-    }
-}
-
-fn is_of_numbers(asked: Asked) -> bool {
-    match asked {
-        Asked::Frame(FrameAsked::Give(_) | FrameAsked::Free(_)) => true,
-        Asked::Attempt(AttemptAsked::Supply(SupplyAsked::Number(_))) => true,
-        _ => false,
     }
 }
 
@@ -149,28 +144,18 @@ fn key_of(rt: &impl Abort, schema: &Schema, number: i128) -> Key {
     encode(schema, &tuple).expect(rt, "a number of the column")
 }
 
-/// The steps of the last of these writes, one after another, from an empty tree on.
+/// Those steps of the last of these writes that are shown, one after another, from an empty tree with these sizes on.
 fn last_steps(
-    rt: &impl Abort,
-    alloc: Global,
-    schema: &str,
-    writes: &[Written],
-) -> Result<Text, NoMemory> {
-    last_shown(rt, alloc, &SIZES, schema, writes, Shown::All)
-}
-
-/// Those of them that are shown, of a tree with these sizes.
-fn last_shown(
     rt: &impl Abort,
     alloc: Global,
     sizes: &Sizes,
     schema: &str,
     writes: &[Written],
     shown: Shown,
-) -> Result<Text, NoMemory>
+) -> Text
     requires { 0 < sizes.now.passes }
 {
-    let mut world = World::open(alloc, sizes, 0)?;
+    let mut world = opened(rt, alloc, sizes);
     let schema = Schema::parse(schema).expect(rt, "a schema");
     let (mut room, mut limbo) = empty(sizes);
     let mut stepper = world.at(0);
@@ -179,133 +164,93 @@ fn last_shown(
         let key = key_of(rt, &schema, *number);
         text = steps_of(rt, &mut stepper, &mut room, &mut limbo, &key, *value, shown);
     }
-    Ok(text)
+    text
+}
+
+/// These are the steps of the last of these writes, from an empty tree on.
+fn check_steps(rt: &impl Abort, alloc: Global, schema: &str, writes: &[Written], wanted: &str) {
+    let text = last_steps(rt, alloc, &SIZES, schema, writes, Shown::All);
+    assert_eq!(rt; text.as_str(), wanted);
 }
 
 #[test]
-fn an_insert_into_the_empty_anchor(rt: HostRuntime) -> Result<(), Fail> {
-    let text = last_steps(&rt, rt.alloc(), "u8", &[(1, Some(1))])?;
-    assert_eq!(rt; text.as_str(), expected::INTO_THE_EMPTY_ANCHOR);
-    Ok(())
+fn an_insert_into_the_empty_anchor(rt: HostRuntime) {
+    let writes = [(1, Some(1))];
+    check_steps(&rt, rt.alloc(), "u8", &writes, INTO_THE_EMPTY_ANCHOR);
 }
 
 #[test]
-fn an_insert_of_a_key_that_is_there(rt: HostRuntime) -> Result<(), Fail> {
-    let text = last_steps(&rt, rt.alloc(), "u8", &[(1, Some(1)), (1, Some(9))])?;
-    assert_eq!(rt; text.as_str(), expected::OF_A_KEY_THAT_IS_THERE);
-    Ok(())
+fn an_insert_of_a_key_that_is_there(rt: HostRuntime) {
+    let writes = [(1, Some(1)), (1, Some(9))];
+    check_steps(&rt, rt.alloc(), "u8", &writes, OF_A_KEY_THAT_IS_THERE);
 }
 
 #[test]
-fn an_insert_where_another_leaf_stands(rt: HostRuntime) -> Result<(), Fail> {
-    let text = last_steps(&rt, rt.alloc(), "u8", &[(1, Some(1)), (5, Some(5))])?;
-    assert_eq!(rt; text.as_str(), expected::WHERE_ANOTHER_LEAF_STANDS);
-    Ok(())
+fn an_insert_where_another_leaf_stands(rt: HostRuntime) {
+    let writes = [(1, Some(1)), (5, Some(5))];
+    check_steps(&rt, rt.alloc(), "u8", &writes, WHERE_ANOTHER_LEAF_STANDS);
 }
 
 #[test]
-fn an_insert_at_a_free_entry(rt: HostRuntime) -> Result<(), Fail> {
-    let text = last_steps(
-        &rt,
-        rt.alloc(),
-        "u8",
-        &[(1, Some(1)), (5, Some(5)), (3, Some(3))],
-    )?;
-    assert_eq!(rt; text.as_str(), expected::AT_A_FREE_ENTRY);
-    Ok(())
+fn an_insert_at_a_free_entry(rt: HostRuntime) {
+    let writes = [(1, Some(1)), (5, Some(5)), (3, Some(3))];
+    check_steps(&rt, rt.alloc(), "u8", &writes, AT_A_FREE_ENTRY);
 }
 
 #[test]
-fn an_insert_into_a_full_node4(rt: HostRuntime) -> Result<(), Fail> {
-    let text = last_steps(
-        &rt,
-        rt.alloc(),
-        "u8",
-        &[
-            (1, Some(1)),
-            (2, Some(2)),
-            (3, Some(3)),
-            (4, Some(4)),
-            (5, Some(5)),
-        ],
-    )?;
-    assert_eq!(rt; text.as_str(), expected::INTO_A_FULL_NODE4);
-    Ok(())
+fn an_insert_into_a_full_node4(rt: HostRuntime) {
+    let writes = [
+        (1, Some(1)),
+        (2, Some(2)),
+        (3, Some(3)),
+        (4, Some(4)),
+        (5, Some(5)),
+    ];
+    check_steps(&rt, rt.alloc(), "u8", &writes, INTO_A_FULL_NODE4);
 }
 
 #[test]
-fn an_insert_where_the_prefix_differs(rt: HostRuntime) -> Result<(), Fail> {
-    let text = last_steps(
-        &rt,
-        rt.alloc(),
-        "u16",
-        &[(257, Some(1)), (258, Some(2)), (515, Some(3))],
-    )?;
-    assert_eq!(rt; text.as_str(), expected::WHERE_THE_PREFIX_DIFFERS);
-    Ok(())
+fn an_insert_where_the_prefix_differs(rt: HostRuntime) {
+    let writes = [(257, Some(1)), (258, Some(2)), (515, Some(3))];
+    check_steps(&rt, rt.alloc(), "u16", &writes, WHERE_THE_PREFIX_DIFFERS);
 }
 
 #[test]
-fn a_removal_of_the_root_leaf(rt: HostRuntime) -> Result<(), Fail> {
-    let text = last_steps(&rt, rt.alloc(), "u8", &[(1, Some(1)), (1, None)])?;
-    assert_eq!(rt; text.as_str(), expected::OF_THE_ROOT_LEAF);
-    Ok(())
+fn a_removal_of_the_root_leaf(rt: HostRuntime) {
+    let writes = [(1, Some(1)), (1, None)];
+    check_steps(&rt, rt.alloc(), "u8", &writes, OF_THE_ROOT_LEAF);
 }
 
 #[test]
-fn a_removal_that_leaves_a_leaf(rt: HostRuntime) -> Result<(), Fail> {
-    let text = last_steps(
-        &rt,
-        rt.alloc(),
-        "u8",
-        &[(1, Some(1)), (5, Some(5)), (5, None)],
-    )?;
-    assert_eq!(rt; text.as_str(), expected::THAT_LEAVES_A_LEAF);
-    Ok(())
+fn a_removal_that_leaves_a_leaf(rt: HostRuntime) {
+    let writes = [(1, Some(1)), (5, Some(5)), (5, None)];
+    check_steps(&rt, rt.alloc(), "u8", &writes, THAT_LEAVES_A_LEAF);
 }
 
 #[test]
-fn a_removal_that_leaves_an_inner_node(rt: HostRuntime) -> Result<(), Fail> {
-    let text = last_steps(
-        &rt,
-        rt.alloc(),
-        "u16",
-        &[(257, Some(1)), (258, Some(2)), (515, Some(3)), (515, None)],
-    )?;
-    assert_eq!(rt; text.as_str(), expected::THAT_LEAVES_AN_INNER_NODE);
-    Ok(())
+fn a_removal_that_leaves_an_inner_node(rt: HostRuntime) {
+    let writes = [(257, Some(1)), (258, Some(2)), (515, Some(3)), (515, None)];
+    check_steps(&rt, rt.alloc(), "u16", &writes, THAT_LEAVES_AN_INNER_NODE);
 }
 
 #[test]
-fn a_removal_of_one_of_three_rows(rt: HostRuntime) -> Result<(), Fail> {
-    let text = last_steps(
-        &rt,
-        rt.alloc(),
-        "u8",
-        &[(1, Some(1)), (2, Some(2)), (3, Some(3)), (3, None)],
-    )?;
-    assert_eq!(rt; text.as_str(), expected::OF_ONE_OF_THREE);
-    Ok(())
+fn a_removal_of_one_of_three_rows(rt: HostRuntime) {
+    let writes = [(1, Some(1)), (2, Some(2)), (3, Some(3)), (3, None)];
+    check_steps(&rt, rt.alloc(), "u8", &writes, OF_ONE_OF_THREE);
 }
 
 #[test]
-fn a_removal_that_shrinks_a_node16(rt: HostRuntime) -> Result<(), Fail> {
-    let text = last_steps(
-        &rt,
-        rt.alloc(),
-        "u8",
-        &[
-            (1, Some(1)),
-            (2, Some(2)),
-            (3, Some(3)),
-            (4, Some(4)),
-            (5, Some(5)),
-            (5, None),
-            (4, None),
-        ],
-    )?;
-    assert_eq!(rt; text.as_str(), expected::THAT_SHRINKS_A_NODE16);
-    Ok(())
+fn a_removal_that_shrinks_a_node16(rt: HostRuntime) {
+    let writes = [
+        (1, Some(1)),
+        (2, Some(2)),
+        (3, Some(3)),
+        (4, Some(4)),
+        (5, Some(5)),
+        (5, None),
+        (4, None),
+    ];
+    check_steps(&rt, rt.alloc(), "u8", &writes, THAT_SHRINKS_A_NODE16);
 }
 
 /// The row with this number, four to a node.
@@ -322,21 +267,15 @@ fn check_searches(rt: &impl Abort, alloc: Global, rows: usize, gone: Option<u8>,
     if let Some(number) = gone {
         writes[66] = (four_to_a_node(number), None);
     }
-    let text = last_shown(
-        rt,
-        alloc,
-        &WIDE,
-        "u16",
-        &writes[..rows.min(68)],
-        Shown::Numbers,
-    );
-    assert_eq!(rt; text.expect(rt, "memory").as_str(), wanted);
+    let writes = &writes[..rows.min(68)];
+    let text = last_steps(rt, alloc, &WIDE, "u16", writes, Shown::Numbers);
+    assert_eq!(rt; text.as_str(), wanted);
 }
 
 #[test]
 fn a_search_begins_where_a_number_was_found_or_went_back(rt: HostRuntime) {
     let alloc = rt.alloc();
-    check_searches(&rt, alloc, 65, None, expected::INTO_THE_NEXT_WORD);
-    check_searches(&rt, alloc, 67, None, expected::WHERE_ONE_WAS_FOUND);
-    check_searches(&rt, alloc, 68, Some(3), expected::WHERE_ONE_WENT_BACK);
+    check_searches(&rt, alloc, 65, None, INTO_THE_NEXT_WORD);
+    check_searches(&rt, alloc, 67, None, WHERE_ONE_WAS_FOUND);
+    check_searches(&rt, alloc, 68, Some(3), WHERE_ONE_WENT_BACK);
 }

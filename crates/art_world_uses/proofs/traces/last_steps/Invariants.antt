@@ -1,6 +1,6 @@
 use Rattle.std.proofs.Common.{◌≡◌}
 use Rattle.art_change.specs.Writes.{IsReady}
-use Rattle.art_world_uses.proofs.traces.last_shown.Given as goal
+use Rattle.art_world_uses.proofs.traces.last_steps.Given as goal
 use Rattle.art_epoch.specs.Limbo.{places_of}
 use Rattle.art_world.specs.Stepper.{sizes_of, view_of}
 
