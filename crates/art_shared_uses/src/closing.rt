@@ -1,15 +1,15 @@
 //! A table closes, and its numbers are counted: free, named in the tree, or waiting.
-ghost use Rattle.std.specs.Prelude.{◌≡◌, ◌<◌, ◌≤◌, length};
+ghost use Rattle.std.specs.Prelude.{◌<◌, ◌≤◌, length};
 ghost use Rattle.art_shared.specs.Ended.{words_of};
 ghost use Rattle.art_shared.specs.Tables.{IsPassOf};
 ghost use Rattle.art_shared_uses.specs.Clients.{AreOf};
 
 use art_cell::{Cell, Link, Node, Pool};
 use art_epoch::Limbo;
-use art_model::NoMemory;
 use art_shared::{Ended, Pass, Shared};
 use art_step::{Sizes, free_words, pool_of_layout};
 use std::alloc::Global;
+use std::process::Abort;
 
 /// All pools.
 pub(crate) const POOLS: [Pool; 5] = [Pool::Leaves, Pool::N4, Pool::N16, Pool::N48, Pool::N256];
@@ -78,33 +78,49 @@ pub(crate) struct Closed {
     words: Vec<u64>,
 }
 
+/// These passes and one more.
+pub(crate) fn with_last(
+    rt: &impl Abort,
+    shared: &Shared,
+    mut passes: Vec<Pass>,
+    last: Pass,
+) -> Vec<Pass>
+    requires passes { AreOf shared.now passes.items }
+    requires last { IsPassOf shared.now last }
+    ensures { AreOf shared.now result.items }
+{
+    let _ = shared.sizes();
+    passes.push(last).expect(rt, "room for a pass");
+    passes
+}
+
 /// The table, closed with these passes and another.
 pub(crate) fn ended(
+    rt: &impl Abort,
     alloc: Global,
     shared: Shared,
     passes: Vec<Pass>,
     last: Pass,
-) -> Result<Closed, NoMemory>
+) -> Closed
     requires passes { AreOf shared passes.items }
     requires last { IsPassOf shared last }
 {
     let sizes = shared.sizes();
-    let mut passes = passes;
-    passes.push(last)?;
+    let passes = with_last(rt, &shared, passes, last);
     let end = shared.close(passes);
-    let words = copied(alloc, &end, sizes.word_count())?;
-    Ok(Closed { sizes, words })
+    let words = copied(rt, alloc, &end, sizes.word_count());
+    Closed { sizes, words }
 }
 
 /// So many words of a table that is closed, from the first one on.
-pub(crate) fn copied(alloc: Global, end: &Ended, count: usize) -> Result<Vec<u64>, NoMemory>
+fn copied(rt: &impl Abort, alloc: Global, end: &Ended, count: usize) -> Vec<u64>
     requires { count ≤ length (words_of end.now) }
 {
-    let mut words = Vec::with_capacity(alloc, count)?;
+    let mut words = Vec::new(alloc);
     for place in 0..count {
-        words.push(end.word(place))?;
+        words.push(end.word(place)).expect(rt, "room for a word");
     }
-    Ok(words)
+    words
 }
 
 impl Closed {
@@ -126,21 +142,20 @@ impl Closed {
     }
 
     /// What the node's children are.
-    fn push_children(&self, node: Node, links: &mut Vec<Link>) -> Result<(), NoMemory> {
+    fn push_children(&self, rt: &impl Abort, node: Node, links: &mut Vec<Link>) {
         let end = node.layout.size();
         for place in end - node.layout.places()..end {
             if let Some(link) = Link::named_by(self.word(Cell::Node(node), place)) {
-                links.push(link)?;
+                links.push(link).expect(rt, "room for a link");
             }
         }
-        Ok(())
     }
 
     /// What is named in the tree, by a walk from the anchor on: as often as it is named.
-    pub(crate) fn in_tree(&self, alloc: Global) -> Result<Counts, NoMemory> {
+    pub(crate) fn in_tree(&self, rt: &impl Abort, alloc: Global) -> Counts {
         let mut links = Vec::new(alloc);
         if let Some(root) = Link::named_by(self.word(Cell::Anchor, 1)) {
-            links.push(root)?;
+            links.push(root).expect(rt, "room for a link");
         }
         let mut counts = Counts::none();
         for index in 0..MOST {
@@ -149,9 +164,9 @@ impl Closed {
             };
             counts.note(link);
             if let Link::Node(node) = link {
-                self.push_children(node, &mut links)?;
+                self.push_children(rt, node, &mut links);
             }
         }
-        Ok(counts)
+        counts
     }
 }

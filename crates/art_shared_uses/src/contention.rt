@@ -1,10 +1,10 @@
 //! Eight threads insert, remove and look up rows with the same few keys.
-ghost use Rattle.std.specs.Prelude.{◌≡◌, IfOk};
+ghost use Rattle.std.specs.Prelude.{IfOk};
 ghost use Rattle.art_shared.specs.Tables.{IsPassOf};
 ghost use Rattle.art_shared_uses.specs.Clients.{AreNew, AreOf, IsIdle, IsNew, Writes};
 
-use crate::clients::{asks, finds, key_of, last_of, puts, takes, two_bytes, writer_of};
-use crate::closing::{Counts, POOLS, ended};
+use crate::clients::{asks, check_find, last_of, opened, puts, takes, writer_of};
+use crate::closing::{Closed, Counts, POOLS, ended};
 use art_change::{Outcome, Writer};
 use art_find::Got;
 use art_shared::{Pass, Shared};
@@ -12,7 +12,6 @@ use art_step::Sizes;
 use std::alloc::AllocError;
 use std::process::Abort;
 use std::sync::{Mutex, Wait};
-use std::test::*;
 use std::thread;
 use std::thread::Threads;
 
@@ -82,15 +81,16 @@ impl Tally {
         self.waiting.add(&other.waiting);
     }
 
-    /// A row with the key was new at some time.
-    fn was_new(&self, number: u16) -> bool {
-        self.new[usize::from(number) % KEYS] > 0
-    }
-
-    /// How many rows with the key the calls left.
-    fn left(&self, number: u16) -> u32 {
+    /// What a get of the key finds after all calls: a row with it was new at some time, and one or none is left.
+    fn wanted(&self, rt: &impl Abort, number: u16) -> Got {
         let place = usize::from(number) % KEYS;
-        self.new[place].wrapping_sub(self.gone[place])
+        let left = self.new[place].wrapping_sub(self.gone[place]);
+        assert!(rt; self.new[place] > 0 && left < 2);
+        if left == 0 {
+            Got::Absent
+        } else {
+            Got::Found(u64::from(number))
+        }
     }
 }
 
@@ -107,11 +107,11 @@ fn call(
     requires { Writes shared.now pass.old writer.old }
     ensures { Writes shared.now pass.new writer.new }
 {
-    let key = key_of(rt, shared, number);
+    let value = u64::from(number);
     match kind {
-        0 => tally.saw(number, asks(shared, pass, writer, &key)),
-        1 => tally.wrote(number, takes(shared, pass, writer, &key)),
-        _ => tally.wrote(number, puts(shared, pass, writer, &key, u64::from(number))),
+        0 => tally.saw(number, asks(rt, shared, pass, writer, number)),
+        1 => tally.wrote(number, takes(rt, shared, pass, writer, number)),
+        _ => tally.wrote(number, puts(rt, shared, pass, writer, number, value)),
     }
 }
 
@@ -153,44 +153,37 @@ fn all_contend<R: Threads + Wait + Abort + Sync>(
     )
 }
 
-/// With how many keys rows were new, and as many are found as the calls left.
-fn counts(rt: &impl Abort, shared: &Shared, mut pass: Pass, tally: &Tally) -> (Pass, u32)
-    requires { IsIdle shared.now pass }
-    ensures { IsPassOf shared.now result.0 }
+/// With each key as many rows are found as the calls left.
+fn check_left(rt: &impl Abort, shared: &Shared, pass: &mut Pass, tally: &Tally)
+    requires { IsIdle shared.now pass.old }
+    ensures { IsIdle shared.now pass.new }
 {
-    let mut right = 0u32;
     for number in 0..50 {
-        let left = tally.left(number);
-        let wanted = if left == 0 {
-            Got::Absent
-        } else {
-            Got::Found(u64::from(number))
-        };
-        let found = finds(shared, &mut pass, &key_of(rt, shared, number), TURNS) == wanted;
-        if left < 2 && found && tally.was_new(number) {
-            right = right.saturating_add(1);
-        }
+        let wanted = tally.wanted(rt, number);
+        check_find(rt, shared, pass, number, TURNS, wanted);
     }
-    (pass, right)
 }
 
-#[test]
-fn eight_threads_agree_on_fifty_keys(rt: HostRuntime) -> Result<(), Fail> {
-    let (shared, mut passes) = Shared::open(rt.alloc(), two_bytes(&rt), &SIZES, 0)?;
-    let ninth = last_of(&shared, &mut passes).expect(&rt, "nine passes");
-    let total = Mutex::new(Tally::empty());
-    let passes = all_contend(&rt, &shared, passes, &total)?;
-    assert_eq!(rt; passes.len(), 8);
-    let tally = total.into_inner();
-    assert_eq!(rt; tally.strange, 0);
-    let (ninth, right) = counts(&rt, &shared, ninth, &tally);
-    assert_eq!(rt; right, 50);
-    let end = ended(rt.alloc(), shared, passes, ninth)?;
-    let in_tree = end.in_tree(rt.alloc())?;
+/// Each number of each pool is free, waits, or is in the tree.
+fn check_numbers(rt: &impl Abort, end: &Closed, in_tree: &Counts, waiting: &Counts) {
     for pool in POOLS {
-        let taken = in_tree.of(pool).saturating_add(tally.waiting.of(pool));
+        let taken = in_tree.of(pool).saturating_add(waiting.of(pool));
         let numbers = end.free(pool).saturating_add(taken);
         assert_eq!(rt; numbers, SIZES.pool_size(pool), "of {pool:?}");
     }
-    Ok(())
+}
+
+#[test]
+fn eight_threads_agree_on_fifty_keys(rt: HostRuntime) {
+    let (shared, mut passes) = opened(&rt, rt.alloc(), "u16", &SIZES, 0);
+    let mut ninth = last_of(&rt, &shared, &mut passes);
+    let total = Mutex::new(Tally::empty());
+    let passes = all_contend(&rt, &shared, passes, &total).expect(&rt, "room for the passes");
+    assert_eq!(rt; passes.len(), 8);
+    let tally = total.into_inner();
+    assert_eq!(rt; tally.strange, 0);
+    check_left(&rt, &shared, &mut ninth, &tally);
+    let end = ended(&rt, rt.alloc(), shared, passes, ninth);
+    let in_tree = end.in_tree(&rt, rt.alloc());
+    check_numbers(&rt, &end, &in_tree, &tally.waiting);
 }

@@ -1,22 +1,19 @@
 //! A mark goes over a channel, from a pass in one thread to a pass in another.
-ghost use Rattle.std.specs.Prelude.{◌≡◌, ℕ};
+ghost use Rattle.std.specs.Prelude.{◌≡◌};
 ghost use Rattle.art_shared.specs.Marks.{IsMarkOf};
 ghost use Rattle.art_shared.specs.Tables.{IsPassOf};
 ghost use Rattle.art_shared_uses.specs.Clients.{IsIdle, IsNew};
 ghost use Rattle.art_shared_uses.specs.Letters.{IsNamed, basis_of_mark, table_of_mark};
 
-use crate::clients::{last_of, two_bytes};
+use crate::clients::{last_of, opened};
 use crate::marks::{learns_and_finds, puts_and_marks};
-use art_change::Outcome;
-use art_find::Got;
 use art_shared::{Mark, Pass, Shared};
 use art_step::Sizes;
 use crossbeam_channel::{Receiver, Sender, bounded};
-use std::alloc::{AllocError, Global};
+use std::alloc::Global;
 use std::marker::{Brand, PhantomData};
 use std::process::Abort;
 use std::sync::Wait;
-use std::test::*;
 use std::thread::{Threads, join};
 
 /// More than one word of free numbers in each pool.
@@ -57,39 +54,32 @@ struct Letter<N: Naming> {
     ghost basis: { basis_of_mark mark ≡ N.basis },
 }
 
-/// The row with key 7 is inserted, and what was seen is sent: whether both went well.
-fn sends<N: Naming, R: Wait + Abort>(
-    rt: &R,
-    shared: &Shared,
-    pass: Pass,
-    sender: Sender<Letter<N>>,
-) -> bool
+/// The row with key 7 is inserted, and what was seen is sent.
+fn sends<N: Naming, R: Wait + Abort>(rt: &R, shared: &Shared, pass: Pass, sender: Sender<Letter<N>>)
     requires pass { IsNew shared.now pass }
     requires named { IsNamed shared.now N.table N.basis }
 {
-    let (_pass, outcome, mark) = puts_and_marks(rt, shared, pass, 7, 70);
+    let (_pass, mark) = puts_and_marks(rt, shared, pass, 7, 70);
     let letter: Letter<N> = Letter {
         mark,
         of: PhantomData,
     };
-    sender.send(rt, letter).is_ok() && outcome == Outcome::New
+    assert!(rt; sender.send(rt, letter).is_ok());
 }
 
-/// What was seen is learnt, and the row with key 7 looked up, where a letter comes.
+/// A letter comes, what was seen is learnt, and the row with key 7 found.
 fn receives<N: Naming, R: Wait + Abort>(
     rt: &R,
     shared: &Shared,
     pass: Pass,
     receiver: Receiver<Letter<N>>,
-) -> Option<Got>
+)
     requires pass { IsIdle shared.now pass }
     requires named { IsNamed shared.now N.table N.basis }
 {
-    let Ok(letter) = receiver.recv(rt) else {
-        return None;
-    };
+    let letter = receiver.recv(rt).ok().expect(rt, "a letter");
     let Letter { mark, of: _ } = letter;
-    Some(learns_and_finds(rt, shared, pass, mark, 7))
+    learns_and_finds(rt, shared, pass, mark, 7, 70);
 }
 
 /// One thread sends, and another receives.
@@ -99,26 +89,24 @@ fn over_a_channel<N: Naming + Send + Sync, R: Threads + Wait + Abort + Sync>(
     shared: &Shared,
     one: Pass,
     two: Pass,
-) -> Result<(bool, Option<Got>), AllocError>
+)
     requires one { IsNew shared.now one }
     requires two { IsIdle shared.now two }
     requires named { IsNamed shared.now N.table N.basis }
 {
-    let (sender, receiver) = bounded::<Letter<N>, Global>(alloc, 1)?;
-    Ok(join(
+    let channel = bounded::<Letter<N>, Global>(alloc, 1);
+    let (sender, receiver) = channel.expect(rt, "room for a channel");
+    join(
         rt,
         || sends::<N, R>(rt, shared, one, sender),
         || receives::<N, R>(rt, shared, two, receiver),
-    ))
+    );
 }
 
 #[test]
-fn a_mark_goes_over_a_channel(rt: HostRuntime) -> Result<(), Fail> {
-    let (shared, mut passes) = Shared::open(rt.alloc(), two_bytes(&rt), &SIZES, 0)?;
-    let one = last_of(&shared, &mut passes).expect(&rt, "two passes");
-    let two = last_of(&shared, &mut passes).expect(&rt, "one pass");
-    let (sent, got) = over_a_channel::<Brand, _>(&rt, rt.alloc(), &shared, one, two)?;
-    assert!(rt; sent);
-    assert_eq!(rt; got, Some(Got::Found(70)));
-    Ok(())
+fn a_mark_goes_over_a_channel(rt: HostRuntime) {
+    let (shared, mut passes) = opened(&rt, rt.alloc(), "u16", &SIZES, 0);
+    let one = last_of(&rt, &shared, &mut passes);
+    let two = last_of(&rt, &shared, &mut passes);
+    over_a_channel::<Brand, _>(&rt, rt.alloc(), &shared, one, two);
 }

@@ -1,15 +1,14 @@
 //! Looks over a table see one row after another, and tile their range.
-ghost use Rattle.std.specs.Prelude.{◌≡◌};
-ghost use Rattle.art_shared_uses.specs.Clients.{IsIdle, IsNew, Writes};
+ghost use Rattle.art_shared_uses.specs.Clients.{IsIdle};
 
-use crate::clients::{key_of, last_of, puts, writer_of};
+use crate::clients::{check_put, key_of, last_of, opened, writer_of};
 use art_change::Outcome;
 use art_epoch::{pin, unpin};
-use art_key::{Bound, Key, Schema};
+use art_key::{Bound, Key};
 use art_look::{Seen, look_from};
 use art_shared::{Pass, Shared};
 use art_step::Sizes;
-use std::test::*;
+use std::process::Abort;
 
 const TWO_PASSES: Sizes = Sizes {
     leaves: 4,
@@ -35,36 +34,42 @@ fn sees(shared: &Shared, pass: &mut Pass, lo: &Key) -> Option<Seen>
     seen
 }
 
+/// A look from the key of the number on sees all up to the bound, with this row.
+fn check_look(
+    rt: &impl Abort,
+    shared: &Shared,
+    pass: &mut Pass,
+    from: u16,
+    hi: Bound,
+    row: Option<(Key, u64)>,
+)
+    requires { IsIdle shared.now pass.old }
+    ensures { IsIdle shared.now pass.new }
+{
+    let lo = key_of(rt, shared, from);
+    let wanted = Seen { lo, hi, row };
+    assert_eq!(rt; sees(shared, pass, &wanted.lo), Some(wanted));
+}
+
 #[test]
-fn looks_tile_a_range(rt: HostRuntime) -> Result<(), Fail> {
-    let schema = Schema::parse("u8").expect(&rt, "a schema");
-    let (shared, mut passes) = Shared::open(rt.alloc(), schema, &TWO_PASSES, 0)?;
-    let mut looker = last_of(&shared, &mut passes).expect(&rt, "two passes");
-    let mut pass = last_of(&shared, &mut passes).expect(&rt, "one pass");
+fn looks_tile_a_range(rt: HostRuntime) {
+    let (shared, mut passes) = opened(&rt, rt.alloc(), "u8", &TWO_PASSES, 0);
+    let mut looker = last_of(&rt, &shared, &mut passes);
+    let mut pass = last_of(&rt, &shared, &mut passes);
     let mut writer = writer_of(&shared, &pass);
-    for number in [1, 5] {
-        let key = key_of(&rt, &shared, number);
-        let outcome = puts(&shared, &mut pass, &mut writer, &key, u64::from(number));
-        assert_eq!(rt; outcome, Outcome::New);
-    }
+    check_put(&rt, &shared, &mut pass, &mut writer, 1, 1, Outcome::New);
+    check_put(&rt, &shared, &mut pass, &mut writer, 5, 5, Outcome::New);
     let _ = writer.end();
-    let first = Seen {
-        lo: key_of(&rt, &shared, 0),
-        hi: Bound::At(key_of(&rt, &shared, 2)),
-        row: Some((key_of(&rt, &shared, 1), 1)),
-    };
-    assert_eq!(rt; sees(&shared, &mut looker, &first.lo), Some(first));
-    let second = Seen {
-        lo: key_of(&rt, &shared, 2),
-        hi: Bound::At(key_of(&rt, &shared, 6)),
-        row: Some((key_of(&rt, &shared, 5), 5)),
-    };
-    assert_eq!(rt; sees(&shared, &mut looker, &second.lo), Some(second));
-    let last = Seen {
-        lo: key_of(&rt, &shared, 6),
-        hi: Bound::End,
-        row: None,
-    };
-    assert_eq!(rt; sees(&shared, &mut looker, &last.lo), Some(last));
-    Ok(())
+    let (one, two) = (key_of(&rt, &shared, 1), key_of(&rt, &shared, 2));
+    check_look(&rt, &shared, &mut looker, 0, Bound::At(two), Some((one, 1)));
+    let (five, six) = (key_of(&rt, &shared, 5), key_of(&rt, &shared, 6));
+    check_look(
+        &rt,
+        &shared,
+        &mut looker,
+        2,
+        Bound::At(six),
+        Some((five, 5)),
+    );
+    check_look(&rt, &shared, &mut looker, 6, Bound::End, None);
 }

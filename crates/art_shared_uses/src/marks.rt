@@ -1,16 +1,14 @@
 //! What passes saw in two threads is learnt by passes in two others.
-ghost use Rattle.std.specs.Prelude.{◌≡◌};
 ghost use Rattle.art_shared.specs.Marks.{IsMarkOf};
 ghost use Rattle.art_shared.specs.Tables.{IsPassOf};
-ghost use Rattle.art_shared_uses.specs.Clients.{IsIdle, IsNew, Writes};
+ghost use Rattle.art_shared_uses.specs.Clients.{IsIdle, IsNew};
 
-use crate::clients::{finds, key_of, last_of, puts, two_bytes, writer_of};
+use crate::clients::{check_find, check_put, last_of, opened, writer_of};
 use art_change::Outcome;
 use art_find::Got;
 use art_shared::{Mark, Pass, Shared};
 use art_step::Sizes;
 use std::process::Abort;
-use std::test::*;
 use std::thread::{Threads, join};
 
 /// More than one word of free numbers in each pool, since either thread may lose a number to the other.
@@ -26,39 +24,47 @@ const SIZES: Sizes = Sizes {
 /// Turns enough for a get.
 const TURNS: u32 = 1_000;
 
-/// Inserts a row, and marks what was seen.
+/// Inserts a row, which is new, and marks what was seen.
 pub(crate) fn puts_and_marks(
     rt: &impl Abort,
     shared: &Shared,
     mut pass: Pass,
     number: u16,
     value: u64,
-) -> (Pass, Outcome, Mark)
+) -> (Pass, Mark)
     requires { IsNew shared.now pass }
     ensures pass { IsPassOf shared.now result.0 }
-    ensures mark { IsMarkOf shared.now result.2 }
+    ensures mark { IsMarkOf shared.now result.1 }
 {
     let mut writer = writer_of(shared, &pass);
-    let key = key_of(rt, shared, number);
-    let outcome = puts(shared, &mut pass, &mut writer, &key, value);
+    check_put(
+        rt,
+        shared,
+        &mut pass,
+        &mut writer,
+        number,
+        value,
+        Outcome::New,
+    );
     let _ = writer.end();
     let mark = shared.mark(&mut pass);
-    (pass, outcome, mark)
+    (pass, mark)
 }
 
-/// Learns a mark, and looks up a row.
+/// Learns a mark, and finds a row with its value.
 pub(crate) fn learns_and_finds(
     rt: &impl Abort,
     shared: &Shared,
     mut pass: Pass,
     mark: Mark,
     number: u16,
-) -> Got
+    value: u64,
+)
     requires pass { IsIdle shared.now pass }
     requires mark { IsMarkOf shared.now mark }
 {
     shared.learn(&mut pass, mark);
-    finds(shared, &mut pass, &key_of(rt, shared, number), TURNS)
+    check_find(rt, shared, &mut pass, number, TURNS, Got::Found(value));
 }
 
 /// A row from each of two threads.
@@ -67,11 +73,11 @@ fn both_put<R: Threads + Abort + Sync>(
     shared: &Shared,
     one: Pass,
     two: Pass,
-) -> ((Pass, Outcome, Mark), (Pass, Outcome, Mark))
+) -> ((Pass, Mark), (Pass, Mark))
     requires one { IsNew shared.now one }
     requires two { IsNew shared.now two }
-    ensures one { IsPassOf shared.now result.0.0 × IsMarkOf shared.now result.0.2 }
-    ensures two { IsPassOf shared.now result.1.0 × IsMarkOf shared.now result.1.2 }
+    ensures one { IsPassOf shared.now result.0.0 × IsMarkOf shared.now result.0.1 }
+    ensures two { IsPassOf shared.now result.1.0 × IsMarkOf shared.now result.1.1 }
 {
     join(
         rt,
@@ -80,13 +86,13 @@ fn both_put<R: Threads + Abort + Sync>(
     )
 }
 
-/// Each of two threads learns one of the marks.
+/// Each of two threads learns one of the marks, and finds the row.
 fn both_learn<R: Threads + Abort + Sync>(
     rt: &R,
     shared: &Shared,
     one: (Pass, Mark),
     two: (Pass, Mark),
-) -> (Got, Got)
+)
     requires one { IsIdle shared.now one.0 × IsMarkOf shared.now one.1 }
     requires two { IsIdle shared.now two.0 × IsMarkOf shared.now two.1 }
 {
@@ -94,26 +100,21 @@ fn both_learn<R: Threads + Abort + Sync>(
     let (four, other) = two;
     join(
         rt,
-        || learns_and_finds(rt, shared, three, mark, 7),
-        || learns_and_finds(rt, shared, four, other, 300),
-    )
+        || learns_and_finds(rt, shared, three, mark, 7, 70),
+        || learns_and_finds(rt, shared, four, other, 300, 3_000),
+    );
 }
 
 #[test]
-fn two_threads_learn_what_two_others_saw(rt: HostRuntime) -> Result<(), Fail> {
-    let (shared, mut passes) = Shared::open(rt.alloc(), two_bytes(&rt), &SIZES, 0)?;
-    let one = last_of(&shared, &mut passes).expect(&rt, "four passes");
-    let two = last_of(&shared, &mut passes).expect(&rt, "three passes");
-    let three = last_of(&shared, &mut passes).expect(&rt, "two passes");
-    let four = last_of(&shared, &mut passes).expect(&rt, "one pass");
-    let ((mut one, first, mark), (mut two, second, other)) = both_put(&rt, &shared, one, two);
-    assert_eq!(rt; first, Outcome::New);
-    assert_eq!(rt; second, Outcome::New);
-    let (got, found) = both_learn(&rt, &shared, (three, mark), (four, other));
-    assert_eq!(rt; got, Got::Found(70));
-    assert_eq!(rt; found, Got::Found(3_000));
+fn two_threads_learn_what_two_others_saw(rt: HostRuntime) {
+    let (shared, mut passes) = opened(&rt, rt.alloc(), "u16", &SIZES, 0);
+    let one = last_of(&rt, &shared, &mut passes);
+    let two = last_of(&rt, &shared, &mut passes);
+    let three = last_of(&rt, &shared, &mut passes);
+    let four = last_of(&rt, &shared, &mut passes);
+    let ((mut one, mark), (mut two, other)) = both_put(&rt, &shared, one, two);
+    both_learn(&rt, &shared, (three, mark), (four, other));
     shared.meet(&mut one, &mut two);
     let last = shared.mark(&mut one);
     shared.learn(&mut two, last);
-    Ok(())
 }

@@ -5,8 +5,8 @@ use Rattle.art_shared_uses.proofs.Lent.{writes_looked}
 use Rattle.art_shared_uses.proofs.clients.asks.Goals as goal
 
 pub returns : goal.returns
-returns c =
+returns g c =
     let t = c.args.shared.now in
     let at = c.at-stepper.ensures in
     subst (λ (p : Pass). Writes t p c.args.writer.now) (search rules)
-    (writes_looked t c.args.pass.now c.at-stepper.result c.looks_up.new.stepper c.requires.pass.of at.pass at.basis c.looks_up.ensures.only c.args.writer.now c.looks_up.ensures.may)
+    (writes_looked t c.args.pass.now c.at-stepper.result c.looks_up.new.stepper c.requires.of at.pass at.basis c.looks_up.ensures.only c.args.writer.now c.looks_up.ensures.may)

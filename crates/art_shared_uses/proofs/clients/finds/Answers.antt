@@ -5,9 +5,9 @@ use Rattle.art_shared_uses.proofs.Lent.{idle_again}
 use Rattle.art_shared_uses.proofs.clients.finds.Goals as goal
 
 pub returns : goal.returns
-returns c =
+returns g c =
     let t = c.args.shared.now in
     let at = c.at-stepper.ensures in
     let e = c.get.ensures in
     subst (λ (p : Pass). IsIdle t p) (search rules)
-    (idle_again t c.args.pass.now c.at-stepper.result c.get.new.steps c.requires.pass.of at.pass at.basis e.only e.idle.may)
+    (idle_again t c.args.pass.now c.at-stepper.result c.get.new.steps c.requires.of at.pass at.basis e.only e.idle.may)
