@@ -94,7 +94,6 @@ impl Write {
     ghost use Rattle.art_change.specs.Asking.{IsAllowed};
 
     /// By the pass `own`, in so many turns.
-    #[inline(always)]
     pub fn new(job: Job, own: u32, turns: u32, room: &Room, limbo: &Limbo) -> Write
         ensures job { result.job ≡ job }
         ensures turns { (result.turns ≡ turns) × (result.restarts ≡ 0) }
