@@ -7,7 +7,7 @@ use art_make::Answer as ChangeAnswer;
 use art_step::UpgradeFault;
 
 /// One step.
-#[derive(Clone, Copy, Debug, PartialEq, Eq)]
+#[derive(Clone, Copy)]
 pub enum Asked {
     /// A cell is looked at.
     Cell(art_find::Asked),
@@ -18,7 +18,7 @@ pub enum Asked {
 }
 
 /// What such a step answers.
-#[derive(Clone, Copy, Debug, PartialEq, Eq)]
+#[derive(Clone, Copy)]
 pub enum Answer {
     Cell(CellAnswer),
     /// The word that was found, and 0 where none is.

@@ -39,7 +39,7 @@ use art_place::{Finding, Stand, look};
 use art_step::{EpochSteps, Stamp, UpgradeFault};
 
 /// How an attempt of an insert ended.
-#[derive(Clone, Copy, Debug, PartialEq, Eq)]
+#[derive(Clone, Copy)]
 pub enum Entered {
     /// The row is in the tree.
     New,

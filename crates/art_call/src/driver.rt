@@ -35,7 +35,7 @@ use art_seek::{Stepped as Sought, finish as finish_seek, step as step_seek};
 use art_step::{EpochSteps, StepKind};
 
 /// A step that was made: of which kind it was, and whether it made the event of its call.
-#[derive(Clone, Copy, Debug, PartialEq, Eq)]
+#[derive(Clone, Copy)]
 pub struct Made {
     pub kind: StepKind,
     pub event: bool,

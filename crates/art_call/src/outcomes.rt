@@ -7,7 +7,7 @@ use art_frame::Blocker;
 use art_look::Seen;
 
 /// How a call ended.
-#[derive(Clone, Debug, PartialEq, Eq, Drop)]
+#[derive(Debug, PartialEq, Eq, Drop)]
 pub enum Outcome {
     /// The row is in the tree.
     New,

@@ -5,7 +5,7 @@ ghost use Rattle.art_change.specs.Asking.{attempt_in, word_in};
 use art_attempt::Answer as AttemptAnswer;
 
 /// One step.
-#[derive(Clone, Copy, Debug, PartialEq, Eq)]
+#[derive(Clone, Copy)]
 pub enum Asked {
     /// Of the opening, or of the close.
     Frame(art_epoch::Asked),
@@ -14,7 +14,7 @@ pub enum Asked {
 }
 
 /// What such a step answers.
-#[derive(Clone, Copy, Debug, PartialEq, Eq)]
+#[derive(Clone, Copy)]
 pub enum Answer {
     /// The word that was found, and 0 where none is.
     Word(u64),

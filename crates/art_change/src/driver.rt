@@ -24,7 +24,7 @@ use art_erase::make as make_removal;
 use art_step::EpochSteps;
 
 /// What was asked, and what was answered. It was one step, or none where the counter of a cell that was to be locked is at its end.
-#[derive(Clone, Copy, Debug, PartialEq, Eq)]
+#[derive(Clone, Copy)]
 pub struct Stepped {
     pub asked: Asked,
     pub answer: Answer,

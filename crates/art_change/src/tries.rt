@@ -16,7 +16,7 @@ use art_erase::{Erased, Erasing};
 use art_step::EpochSteps;
 
 /// What a write does.
-#[derive(Clone, Copy, Debug, PartialEq, Eq)]
+#[derive(Clone, Copy)]
 pub enum Job {
     /// The row of the room comes into the tree, if its key has none.
     Insert,
@@ -25,7 +25,7 @@ pub enum Job {
 }
 
 /// How an attempt ended.
-#[derive(Clone, Copy, Debug, PartialEq, Eq)]
+#[derive(Clone, Copy)]
 pub enum Tried {
     /// The row is in the tree.
     New,

@@ -15,7 +15,7 @@ use art_key::Key;
 use art_step::{EpochSteps, Sizes};
 
 /// How a write ended, and how often it tried anew.
-#[derive(Clone, Copy, Debug, PartialEq, Eq)]
+#[derive(Clone, Copy)]
 pub struct Written {
     pub outcome: Outcome,
     pub restarts: u64,

@@ -5,7 +5,7 @@ ghost use Rattle.art_choose.specs.Losses.{few_of, loss_in, loss_of};
 use art_cell::{Cell, Layout};
 
 /// What goes with the leaf, by the cell that names it.
-#[derive(Clone, Copy, Debug, PartialEq, Eq)]
+#[derive(Clone, Copy)]
 pub enum Loss {
     /// The leaf alone.
     Leaf,

@@ -7,7 +7,7 @@ use art_cell::{Layout, Node};
 use art_find::Verdict;
 
 /// What an insert needs, by where its key stands.
-#[derive(Clone, Copy, Debug, PartialEq, Eq)]
+#[derive(Clone, Copy)]
 pub struct Needs {
     /// The layout of the node that it makes, if it makes one.
     pub node: Option<Layout>,

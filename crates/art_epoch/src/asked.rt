@@ -5,7 +5,7 @@ use art_cell::{Link, Pool};
 use art_step::{EpochSteps, Number};
 
 /// One call of `EpochSteps`.
-#[derive(Clone, Copy, Debug, PartialEq, Eq)]
+#[derive(Clone, Copy)]
 pub enum Asked {
     /// The word of free numbers at an index of the pool, which loses the bit, if one is named.
     Clear(Pool, u32, Option<u32>),

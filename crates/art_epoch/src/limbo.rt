@@ -12,7 +12,7 @@ use art_step::{Number, Unlinked, spent};
 const PLACES: usize = 64;
 
 /// A number that waits, and its label: the epoch that was found after the commit which unlinked it.
-#[derive(Clone, Copy, Debug, PartialEq, Eq)]
+#[derive(Clone, Copy)]
 pub struct Place {
     pub link: Link,
     pub label: u64,
@@ -30,7 +30,7 @@ impl Default for Place {
 }
 
 /// The numbers that a pass unlinked and has not given back, at most 64, in the order in which they came.
-#[derive(Clone, Debug, Drop)]
+#[derive(Drop)]
 pub struct Limbo {
     places: ArrayVec<Place, PLACES>,
 }

@@ -35,7 +35,7 @@ use art_place::{Desk, Finding, Rereading, Stand};
 use art_step::{Sizes, UpgradeFault};
 
 /// How an attempt of a removal ended.
-#[derive(Clone, Copy, Debug, PartialEq, Eq)]
+#[derive(Clone, Copy)]
 pub enum Erased {
     /// The leaf is out of the tree; its row had this value.
     Gone(u64),

@@ -3,7 +3,7 @@ use art_cell::Cell;
 use art_step::{Changed, Locked, Stamp};
 
 /// One call of `Steps`.
-#[derive(Clone, Copy, Debug, PartialEq, Eq)]
+#[derive(Clone, Copy)]
 pub enum Asked {
     /// The version word of a cell.
     Begin(Cell),
@@ -18,7 +18,7 @@ pub enum Asked {
 }
 
 /// What such a call answers.
-#[derive(Clone, Copy, Debug, PartialEq, Eq)]
+#[derive(Clone, Copy)]
 pub enum Answer {
     Begun(Result<Stamp, Locked>),
     Word(u64),

@@ -21,7 +21,7 @@ use art_step::numbers_of;
 
 /// Closes an attempt: the epoch is noted, which labels what was unlinked; each number that is still in hand goes back; then the
 /// pass goes idle. The limbo and the numbers in hand stand beside it.
-#[derive(Clone, Copy, Debug, PartialEq, Eq)]
+#[derive(Clone, Copy)]
 pub enum Closing {
     /// The epoch is to be noted.
     Labelling,

@@ -7,7 +7,7 @@ use art_step::{Sizes, free_words};
 
 /// The word of free numbers of each pool at which a pass begins to search it: that of the number that it took or gave back last. So
 /// what comes back is taken again at once, and the words in use stay few.
-#[derive(Clone, Copy, Debug, PartialEq, Eq)]
+#[derive(Clone, Copy)]
 pub struct Hints {
     leaves: u32,
     n4: u32,

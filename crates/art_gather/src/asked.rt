@@ -6,7 +6,7 @@ use art_make::{LeafWrite, write_leaf};
 use art_step::EpochSteps;
 
 /// One step of a supplying.
-#[derive(Clone, Copy, Debug, PartialEq, Eq)]
+#[derive(Clone, Copy)]
 pub enum Asked {
     /// Of free numbers.
     Number(art_epoch::Asked),

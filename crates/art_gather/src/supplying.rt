@@ -35,7 +35,7 @@ pub struct Wants {
 }
 
 /// How a supplying ended.
-#[derive(Clone, Copy, Debug, PartialEq, Eq)]
+#[derive(Clone, Copy)]
 pub enum Supplied {
     /// All that is wanted is in hand.
     Ready,

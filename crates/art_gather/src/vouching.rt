@@ -18,7 +18,7 @@ use art_place::{Above, Desk, Rereading, Stand};
 use art_step::Steps;
 
 /// How a vouching ended.
-#[derive(Clone, Copy, Debug, PartialEq, Eq)]
+#[derive(Clone, Copy)]
 pub enum Vouched {
     /// All words are known, and each cell is as it was when its first word was read.
     Unchanged,

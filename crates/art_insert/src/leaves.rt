@@ -17,7 +17,7 @@ pub struct NewLeaf {
 }
 
 /// Where a key parts from what stands at a site.
-#[derive(Clone, Copy, Debug, PartialEq, Eq)]
+#[derive(Clone, Copy)]
 pub struct Parting {
     /// So many bytes of the key lead to the site.
     pub depth: usize,

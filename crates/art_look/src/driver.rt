@@ -17,7 +17,7 @@ use art_key::{Bound, Key};
 use art_step::{Deed, Steps};
 
 /// What a look has seen, or that all turns were used; and how often it began anew.
-#[derive(Clone, Debug, PartialEq, Eq, Drop)]
+#[derive(Debug, PartialEq, Eq, Drop)]
 pub struct Looked {
     pub seen: Option<Seen>,
     pub restarts: u32,

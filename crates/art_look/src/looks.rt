@@ -79,7 +79,7 @@ pub enum LookStage {
 }
 
 /// What a look has seen: at one step the rows from `lo` on, before `hi`, were exactly this one, or none.
-#[derive(Clone, Debug, PartialEq, Eq, Drop)]
+#[derive(Debug, PartialEq, Eq, Drop)]
 pub struct Seen {
     pub lo: Key,
     pub hi: Bound,

@@ -6,7 +6,7 @@ ghost use Rattle.art_cell.specs.Words.{byte_of};
 use art_key::Key;
 
 /// The bytes that a look has read, which stand beside it.
-#[derive(Clone, Drop)]
+#[derive(Drop)]
 pub struct Trail {
     /// The path to where it stands; in a node with the bytes of its prefix that were read.
     pub path: Key,

@@ -30,7 +30,7 @@ use art_place::{Above, Desk, Rereading, Stand};
 use art_step::Stamp;
 
 /// How a lowering ended.
-#[derive(Clone, Copy, Debug, PartialEq, Eq)]
+#[derive(Clone, Copy)]
 pub enum Lowered {
     /// All words of the three cells are known, and each cell is as it was when its first word was read. The lower node has this stamp.
     Unchanged(Stamp),

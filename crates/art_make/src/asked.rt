@@ -12,7 +12,7 @@ use art_plan::Change;
 use art_step::{Held, Number, Stamp, Steps, UpgradeFault, spent};
 
 /// One call of `Steps`.
-#[derive(Clone, Copy, Debug, PartialEq, Eq)]
+#[derive(Clone, Copy)]
 pub enum Asked {
     /// The stamp's cell is locked.
     Upgrade(Stamp),
@@ -27,7 +27,7 @@ pub enum Asked {
 }
 
 /// What such a call answers.
-#[derive(Clone, Copy, Debug, PartialEq, Eq)]
+#[derive(Clone, Copy)]
 pub enum Answer {
     Upgraded(Result<(), UpgradeFault>),
     Done,

@@ -12,14 +12,14 @@ use art_node::leaf_word;
 use art_step::{Number, Steps};
 
 /// A word of a leaf in hand, and its place.
-#[derive(Clone, Copy, Debug, PartialEq, Eq)]
+#[derive(Clone, Copy)]
 pub struct LeafWrite {
     pub place: usize,
     pub word: u64,
 }
 
 /// Writes the ten words of a leaf in hand, one after another; so many are written.
-#[derive(Clone, Copy, Debug, PartialEq, Eq)]
+#[derive(Clone, Copy)]
 pub struct Packing {
     place: usize,
 }

@@ -15,7 +15,7 @@ pub fn common(one: &[u8], other: &[u8]) -> usize
 }
 
 /// A prefix in three parts.
-#[derive(Clone, Debug, PartialEq, Eq, Drop)]
+#[derive(Debug, PartialEq, Eq, Drop)]
 pub struct Parts {
     /// The bytes before an index.
     pub front: Key,

@@ -9,7 +9,7 @@ use art_cell::{Body, Cell, Node, Writes};
 use art_step::{Deed, Stamp};
 
 /// A cell that a change locks under its stamp, and whether it becomes obsolete when it is released.
-#[derive(Clone, Copy, Debug, PartialEq, Eq)]
+#[derive(Clone, Copy)]
 pub struct Target {
     pub stamp: Stamp,
     pub obsolete: bool,
@@ -29,7 +29,7 @@ impl Default for Target {
 }
 
 /// A word that the target with this index gets at a place.
-#[derive(Clone, Copy, Debug, Default, PartialEq, Eq)]
+#[derive(Clone, Copy, Default)]
 pub struct Put {
     pub target: usize,
     pub place: usize,

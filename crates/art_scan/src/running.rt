@@ -18,7 +18,7 @@ use art_model::{Command, Row};
 use art_table::{Attempt, Fault, Job, Outcome, Pass, Progress, Table, start};
 
 /// How a command ended. The rows of a scan stand in the list that was lent to it.
-#[derive(Clone, Debug, PartialEq, Eq, Drop)]
+#[derive(Debug, PartialEq, Eq, Drop)]
 pub enum Ending {
     /// An insert, a removal or a get: its answer, or why it was refused.
     Call(Result<Outcome, Fault>),

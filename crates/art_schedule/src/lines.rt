@@ -7,7 +7,7 @@ ghost use Rattle.art_step.specs.StepNames.{step_name};
 use art_step::StepKind;
 
 /// What a step is waited for by.
-#[derive(Clone, Copy, Debug, PartialEq, Eq)]
+#[derive(Clone, Copy)]
 pub enum Mark {
     /// It is of this kind.
     Kind(StepKind),
@@ -16,7 +16,7 @@ pub enum Mark {
 }
 
 /// What a pass is to do.
-#[derive(Clone, Copy, Debug)]
+#[derive(Clone, Copy)]
 pub enum Order<'a> {
     /// The command that the text says is started, in so many turns.
     Start(u32, &'a [u8]),
@@ -29,7 +29,7 @@ pub enum Order<'a> {
 }
 
 /// A line of a schedule.
-#[derive(Clone, Copy, Debug)]
+#[derive(Clone, Copy)]
 pub struct Line<'a> {
     /// Which pass: A is 0, H is 7.
     pub pass: usize,

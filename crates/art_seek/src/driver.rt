@@ -20,7 +20,7 @@ use art_look::Trail;
 use art_step::{EpochSteps, Steps};
 
 /// Which kind of step was made.
-#[derive(Clone, Copy, Debug, PartialEq, Eq)]
+#[derive(Clone, Copy)]
 pub enum Stepped {
     /// One of the pin or of the close: it is not counted.
     Frame,
@@ -33,7 +33,7 @@ pub enum Stepped {
 }
 
 /// A step that was made: what was asked, and which kind of step it was.
-#[derive(Clone, Copy, Debug, PartialEq, Eq)]
+#[derive(Clone, Copy)]
 pub struct Made {
     pub asked: Asked,
     pub stepped: Stepped,

@@ -26,7 +26,7 @@ pub struct KeySought {
 }
 
 /// What a look has seen, or that all turns were used; and how often it began anew.
-#[derive(Clone, Debug, PartialEq, Eq, Drop)]
+#[derive(Debug, PartialEq, Eq, Drop)]
 pub struct RangeSought {
     pub seen: Option<Seen>,
     pub restarts: u64,

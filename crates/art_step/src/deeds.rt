@@ -3,7 +3,7 @@ use art_key::{Bound, Key};
 use art_model::Answer;
 
 /// A command, on byte keys.
-#[derive(Clone, Debug, Drop, PartialEq, Eq)]
+#[derive(Debug, Drop, PartialEq, Eq)]
 pub enum Act {
     Insert(Key, u64),
     Remove(Key),
@@ -11,7 +11,7 @@ pub enum Act {
 }
 
 /// A command with its answer, or a look of the range from a key on, before a bound, with the one row that it found, or none.
-#[derive(Clone, Debug, Drop, PartialEq, Eq)]
+#[derive(Debug, Drop, PartialEq, Eq)]
 pub enum Deed {
     Done(Act, Answer),
     Look(Key, Bound, Option<(Key, u64)>),
