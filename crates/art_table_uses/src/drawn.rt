@@ -1,16 +1,15 @@
 //! Drawn calls of one pass over small pools answer as a map of rows does.
 ghost use Rattle.art_table.specs.Tables.{IsPassOf};
 
-use crate::replies::{reply, reply_of_get, reply_of_insert, reply_of_remove};
+use crate::replies::{check_reply, reply_of_get, reply_of_insert, reply_of_remove};
 use crate::tables::{TURNS, alone, closed_alone};
-use art_key::{Bound, Schema, encode};
+use art_key::{Bound, Key, Schema, encode};
 use art_model::{Command, Reply, Row, SortedRows, Text, Tuple, Value};
-use art_table::{Config, Fault, Pass, Table, get, insert, look, remove};
+use art_table::{Config, Fault, Inserted, Pass, Table, get, insert, look, remove};
 use rand_pcg::Pcg32;
 use rand_pcg::rand_core::{Rng, SeedableRng};
 use std::alloc::Global;
 use std::process::Abort;
-use std::test::*;
 
 /// So few numbers that inserts are refused for want of leaves and of nodes.
 const SMALL: Config = Config {
@@ -70,6 +69,28 @@ impl Columns {
 }
 
 /// An insert that is refused finds no number, and is one of a row that is not there: whether it was refused.
+fn check_insert(
+    rt: &impl Abort,
+    rows: &mut SortedRows,
+    tuple: Tuple,
+    value: u64,
+    told: Result<Inserted, Fault>,
+) -> bool {
+    match told {
+        Ok(told) => {
+            let wanted = reply_of_insert(told);
+            check_reply(rt, rows, &Command::Insert(tuple, value), wanted);
+            false
+        }
+        Err(fault) => {
+            assert!(rt; matches!(fault, Fault::Full(_)));
+            check_reply(rt, rows, &Command::Get(tuple), Reply::Absent);
+            true
+        }
+    }
+}
+
+/// An insert answers as the map does, or is refused: whether it was.
 fn inserts(
     rt: &impl Abort,
     table: &Table,
@@ -81,19 +102,8 @@ fn inserts(
     requires { IsPassOf table.now pass.old }
     ensures { IsPassOf table.now pass.new }
 {
-    match insert(table, pass, &tuple, value, TURNS) {
-        Ok(told) => {
-            let wanted = reply(rt, rows, &Command::Insert(tuple, value));
-            assert_eq!(rt; reply_of_insert(told), wanted);
-            false
-        }
-        Err(fault) => {
-            assert!(rt; matches!(fault, Fault::Full(_)));
-            let wanted = reply(rt, rows, &Command::Get(tuple));
-            assert_eq!(rt; wanted, Reply::Absent);
-            true
-        }
-    }
+    let told = insert(table, pass, &tuple, value, TURNS);
+    check_insert(rt, rows, tuple, value, told)
 }
 
 /// A removal is never refused for want of a number.
@@ -102,8 +112,7 @@ fn removes(rt: &impl Abort, table: &Table, pass: &mut Pass, rows: &mut SortedRow
     ensures { IsPassOf table.now pass.new }
 {
     let told = remove(table, pass, &tuple, TURNS).expect(rt, "an answer");
-    let wanted = reply(rt, rows, &Command::Remove(tuple));
-    assert_eq!(rt; reply_of_remove(told), wanted);
+    check_reply(rt, rows, &Command::Remove(tuple), reply_of_remove(told));
 }
 
 /// A get finds what the map has.
@@ -112,30 +121,32 @@ fn gets(rt: &impl Abort, table: &Table, pass: &mut Pass, rows: &mut SortedRows, 
     ensures { IsPassOf table.now pass.new }
 {
     let told = get(table, pass, &tuple, TURNS).expect(rt, "an answer");
-    let wanted = reply(rt, rows, &Command::Get(tuple));
-    assert_eq!(rt; reply_of_get(told), wanted);
+    check_reply(rt, rows, &Command::Get(tuple), reply_of_get(told));
 }
 
-/// Whether the rows from the one bound on, before the other, are this one, or none.
-fn is_only_row(
+/// The key of a tuple of the schema.
+fn key_of(rt: &impl Abort, schema: &Schema, tuple: &Tuple) -> Key {
+    encode(schema, tuple).expect(rt, "a tuple of the schema")
+}
+
+/// The rows from the one bound on, before the other, are this one, or none.
+fn check_only_row(
     rt: &impl Abort,
     schema: &Schema,
     rows: &[Row],
     lo: &Bound,
     hi: &Bound,
     only: Option<&Row>,
-) -> bool {
+) {
     let mut left = only;
     for row in rows {
-        let at = Bound::At(encode(schema, &row.tuple).expect(rt, "a row of the schema"));
+        let at = Bound::At(key_of(rt, schema, &row.tuple));
         if !at.before(lo) && at.before(hi) {
-            if left != Some(row) {
-                return false;
-            }
+            assert_eq!(rt; left, Some(row));
             left = None;
         }
     }
-    left.is_none()
+    assert_eq!(rt; left, None);
 }
 
 /// A look from the tuple on sees the only row of its range, or none.
@@ -143,12 +154,12 @@ fn looks(rt: &impl Abort, table: &Table, pass: &mut Pass, rows: &mut SortedRows,
     requires { IsPassOf table.now pass.old }
     ensures { IsPassOf table.now pass.new }
 {
-    let mut from = Bound::At(encode(table.schema(), &tuple).expect(rt, "a tuple of the schema"));
-    let lo = from.clone().expect(rt, "memory");
+    let lo = Bound::At(key_of(rt, table.schema(), &tuple));
+    let mut from = Bound::At(key_of(rt, table.schema(), &tuple));
     let mut row = Row::default();
     let found = look(table, pass, &mut from, &Bound::End, TURNS, &mut row).expect(rt, "an answer");
     let only = if found { Some(&row) } else { None };
-    assert!(rt; is_only_row(rt, table.schema(), rows.rows(), &lo, &from, only));
+    check_only_row(rt, table.schema(), rows.rows(), &lo, &from, only);
 }
 
 /// A drawn call, an insert half of the time: whether it was refused.
@@ -172,8 +183,8 @@ fn calls(
     false
 }
 
-/// So many drawn calls, of which some are refused; the rows at the close are those of the map.
-fn agree(rt: &impl Abort, alloc: Global, columns: Columns, count: u32) {
+/// So many drawn calls, of which some are refused, answer as a map does; the rows at the close are those of the map.
+fn check_drawn(rt: &impl Abort, alloc: Global, columns: Columns, count: u32) {
     let (table, mut pass) = alone(rt, alloc, columns.text(), SMALL);
     let mut rows = SortedRows::new(alloc);
     let mut numbers = Pcg32::seed_from_u64(1);
@@ -190,19 +201,16 @@ fn agree(rt: &impl Abort, alloc: Global, columns: Columns, count: u32) {
 }
 
 #[test]
-fn drawn_calls_of_one_number_answer_as_a_map(rt: HostRuntime) -> Result<(), Fail> {
-    agree(&rt, rt.alloc(), Columns::Number, 20_000);
-    Ok(())
+fn drawn_calls_of_one_number_answer_as_a_map(rt: HostRuntime) {
+    check_drawn(&rt, rt.alloc(), Columns::Number, 20_000);
 }
 
 #[test]
-fn drawn_calls_of_three_numbers_answer_as_a_map(rt: HostRuntime) -> Result<(), Fail> {
-    agree(&rt, rt.alloc(), Columns::Numbers, 20_000);
-    Ok(())
+fn drawn_calls_of_three_numbers_answer_as_a_map(rt: HostRuntime) {
+    check_drawn(&rt, rt.alloc(), Columns::Numbers, 20_000);
 }
 
 #[test]
-fn drawn_calls_of_words_answer_as_a_map(rt: HostRuntime) -> Result<(), Fail> {
-    agree(&rt, rt.alloc(), Columns::Words, 20_000);
-    Ok(())
+fn drawn_calls_of_words_answer_as_a_map(rt: HostRuntime) {
+    check_drawn(&rt, rt.alloc(), Columns::Words, 20_000);
 }

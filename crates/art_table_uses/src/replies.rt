@@ -28,9 +28,19 @@ pub(crate) fn reply_of_get(told: Option<u64>) -> Reply {
 }
 
 /// What the map replies to the command, of which no scan lists more rows than one may.
-pub(crate) fn reply(rt: &impl Abort, rows: &mut SortedRows, command: &Command) -> Reply {
+fn reply(rt: &impl Abort, rows: &mut SortedRows, command: &Command) -> Reply {
     if let Command::Scan(_, _, limit) = command {
         assert!(rt; *limit <= 100);
     }
     rows.apply(command).expect(rt, "memory")
+}
+
+/// The map replies so to the command.
+pub(crate) fn check_reply(
+    rt: &impl Abort,
+    rows: &mut SortedRows,
+    command: &Command,
+    wanted: Reply,
+) {
+    assert_eq!(rt; reply(rt, rows, command), wanted);
 }

@@ -3,18 +3,17 @@ ghost use Rattle.art_table.specs.Tables.{IsPassOf};
 ghost use Rattle.art_table_uses.specs.Clients.{AreOf};
 
 use crate::tables::{
-    SIZES, TURNS, alone, check_find, check_put, check_take, closed, closed_alone, last_of, opened,
-    row_of, tuple_of, with_last,
+    SIZES, TURNS, alone, check_count, check_find, check_put, check_take, closed, closed_alone,
+    last_of, opened, row_of, schema_of, tuple_of, with_last,
 };
 use art_key::{Bound, ValueFault, encode};
 use art_model::{Row, Tuple, Value};
 use art_table::{
-    CloseFault, CloseRefusal, Config, Fault, Inserted, OpenFault, Pass, Seen, Table, close, get,
-    insert, look, open,
+    CloseFault, CloseRefusal, Closed, Config, Fault, Inserted, OpenFault, Pass, Seen, Table, close,
+    get, insert, look, open,
 };
 use std::alloc::Global;
 use std::process::Abort;
-use std::test::*;
 
 const TWO_PASSES: Config = Config { passes: 2, ..SIZES };
 
@@ -33,10 +32,13 @@ fn check_get(
     assert_eq!(rt; get(table, pass, tuple, turns), wanted);
 }
 
+/// The first row at the close was that of 5, with 9.
+fn check_first(rt: &impl Abort, end: &Closed) {
+    assert_eq!(rt; end.rows.first(), Some(&row_of(5, 9)));
+}
+
 #[test]
-fn a_get_takes_three_steps_of_an_empty_table_and_seven_to_a_leaf(
-    rt: HostRuntime,
-) -> Result<(), Fail> {
+fn a_get_takes_three_steps_of_an_empty_table_and_seven_to_a_leaf(rt: HostRuntime) {
     let (table, mut pass) = alone(&rt, rt.alloc(), "u64", SIZES);
     let five = tuple_of(5);
     check_get(&rt, &table, &mut pass, &five, 0, Err(Fault::Busy));
@@ -46,13 +48,12 @@ fn a_get_takes_three_steps_of_an_empty_table_and_seven_to_a_leaf(
     check_get(&rt, &table, &mut pass, &five, 6, Err(Fault::Busy));
     check_get(&rt, &table, &mut pass, &five, 7, Ok(Some(9)));
     let end = closed_alone(&rt, rt.alloc(), table, pass);
-    assert_eq!(rt; end.rows.first(), Some(&row_of(5, 9)));
-    assert_eq!(rt; end.rows.len(), 1);
-    Ok(())
+    check_first(&rt, &end);
+    check_count(&rt, &end, 1);
 }
 
 #[test]
-fn a_row_that_stands_keeps_its_value(rt: HostRuntime) -> Result<(), Fail> {
+fn a_row_that_stands_keeps_its_value(rt: HostRuntime) {
     let (table, mut pass) = alone(&rt, rt.alloc(), "u8", SIZES);
     check_put(&rt, &table, &mut pass, 5, u64::MAX, Ok(Inserted::New));
     check_put(
@@ -67,28 +68,45 @@ fn a_row_that_stands_keeps_its_value(rt: HostRuntime) -> Result<(), Fail> {
     check_take(&rt, &table, &mut pass, 5, Ok(Some(u64::MAX)));
     check_take(&rt, &table, &mut pass, 5, Ok(None));
     check_put(&rt, &table, &mut pass, 5, 10, Ok(Inserted::New));
-    Ok(())
+}
+
+/// An insert of the tuple with no turn is refused so.
+fn check_fault(rt: &impl Abort, table: &Table, pass: &mut Pass, tuple: &Tuple, wanted: Fault)
+    requires { IsPassOf table.now pass.old }
+    ensures { IsPassOf table.now pass.new }
+{
+    assert_eq!(rt; insert(table, pass, tuple, 1, 0), Err(wanted));
+}
+
+/// The tuple of one truth value.
+fn tuple_of_truth() -> Tuple {
+    let mut tuple = Tuple::new();
+    tuple.push(Value::Bool(true));
+    tuple
 }
 
 /// No step is made, so no turn is wanted.
 #[test]
-fn what_is_wrong_with_a_tuple_comes_first(rt: HostRuntime) -> Result<(), Fail> {
+fn what_is_wrong_with_a_tuple_comes_first(rt: HostRuntime) {
     let (table, mut pass) = alone(&rt, rt.alloc(), "u8", SIZES);
     let wide = Fault::Value(ValueFault::OutOfRange(0));
     check_get(&rt, &table, &mut pass, &tuple_of(256), 0, Err(wide));
-    assert_eq!(rt; insert(&table, &mut pass, &tuple_of(256), 1, 0), Err(wide));
+    check_fault(&rt, &table, &mut pass, &tuple_of(256), wide);
     let none = Fault::Value(ValueFault::WrongColumns);
     check_get(&rt, &table, &mut pass, &Tuple::new(), 0, Err(none));
-    let mut truth = Tuple::new();
-    truth.push(Value::Bool(true));
     let other = Fault::Value(ValueFault::WrongType(0));
-    check_get(&rt, &table, &mut pass, &truth, 0, Err(other));
+    check_get(&rt, &table, &mut pass, &tuple_of_truth(), 0, Err(other));
     check_get(&rt, &table, &mut pass, &tuple_of(255), 0, Err(Fault::Busy));
-    Ok(())
+}
+
+/// A table of these sizes does not open.
+fn check_bad_config(rt: &impl Abort, alloc: Global, config: Config) {
+    let fault = open(alloc, schema_of(rt, "u8"), config).err();
+    assert_eq!(rt; fault, Some(OpenFault::BadConfig));
 }
 
 #[test]
-fn a_size_out_of_its_range_is_refused(rt: HostRuntime) -> Result<(), Fail> {
+fn a_size_out_of_its_range_is_refused(rt: HostRuntime) {
     for config in [
         Config { leaves: 0, ..SIZES },
         Config {
@@ -104,11 +122,8 @@ fn a_size_out_of_its_range_is_refused(rt: HostRuntime) -> Result<(), Fail> {
             ..SIZES
         },
     ] {
-        let schema = crate::tables::schema_of(&rt, "u8");
-        let fault = open(rt.alloc(), schema, config).err();
-        assert_eq!(rt; fault, Some(OpenFault::BadConfig));
+        check_bad_config(&rt, rt.alloc(), config);
     }
-    Ok(())
 }
 
 /// The bound at the key of a number.
@@ -118,19 +133,19 @@ fn at(rt: &impl Abort, table: &Table, number: u64) -> Bound {
 }
 
 /// A look from the one number on, before the other: what it has seen.
-fn sees(rt: &impl Abort, table: &Table, pass: &mut Pass, lo: u64, hi: u64) -> Result<Seen, Fault>
+fn sees(rt: &impl Abort, table: &Table, pass: &mut Pass, lo: u64, hi: u64) -> Seen
     requires { IsPassOf table.now pass.old }
     ensures { IsPassOf table.now pass.new }
 {
     let (mut from, end) = (at(rt, table, lo), at(rt, table, hi));
     assert!(rt; from.before(&end));
     let mut row = Row::default();
-    let found = look(table, pass, &mut from, &end, TURNS, &mut row)?;
-    Ok(Seen {
+    let found = look(table, pass, &mut from, &end, TURNS, &mut row).expect(rt, "an answer");
+    Seen {
         lo: at(rt, table, lo),
         hi: from,
         row: if found { Some(row) } else { None },
-    })
+    }
 }
 
 /// A look from the one number on, before 10, sees the range from there to the key of `end`, with this row.
@@ -147,18 +162,22 @@ fn check_look(
 {
     let (lo, hi) = (at(rt, table, from), at(rt, table, end));
     let wanted = Seen { lo, hi, row };
-    assert_eq!(rt; sees(rt, table, pass, from, 10), Ok(wanted));
+    assert_eq!(rt; sees(rt, table, pass, from, 10), wanted);
 }
 
 #[test]
-fn three_looks_tile_a_range(rt: HostRuntime) -> Result<(), Fail> {
+fn three_looks_tile_a_range(rt: HostRuntime) {
     let (table, mut pass) = alone(&rt, rt.alloc(), "u8", SIZES);
     check_put(&rt, &table, &mut pass, 1, 1, Ok(Inserted::New));
     check_put(&rt, &table, &mut pass, 5, 5, Ok(Inserted::New));
     check_look(&rt, &table, &mut pass, 0, 2, Some(row_of(1, 1)));
     check_look(&rt, &table, &mut pass, 2, 6, Some(row_of(5, 5)));
     check_look(&rt, &table, &mut pass, 6, 10, None);
-    Ok(())
+}
+
+/// A close was refused since a pass was missing.
+fn check_missing(rt: &impl Abort, why: CloseRefusal) {
+    assert_eq!(rt; why, CloseRefusal::PassesMissing);
 }
 
 /// A close with the one pass alone: all comes back.
@@ -178,21 +197,31 @@ fn refused(
         .err()
         .expect(rt, "a pass is missing");
     let CloseFault { table, passes, why } = fault;
-    assert_eq!(rt; why, CloseRefusal::PassesMissing);
+    check_missing(rt, why);
     let passes = with_last(rt, &table, passes, other);
     (table, passes)
 }
 
+/// These are the numbers of the passes.
+fn check_numbers(rt: &impl Abort, one: &Pass, other: &Pass, wanted: (u32, u32)) {
+    assert_eq!(rt; (one.number(), other.number()), wanted);
+}
+
+/// So many leaves were linked at the close, and all others free.
+fn check_leaves(rt: &impl Abort, end: &Closed, linked: u32) {
+    let free = SIZES.leaves.wrapping_sub(linked);
+    assert_eq!(rt; (end.leaves.linked, end.leaves.free), (linked, free));
+}
+
 #[test]
-fn a_close_wants_all_passes(rt: HostRuntime) -> Result<(), Fail> {
+fn a_close_wants_all_passes(rt: HostRuntime) {
     let (table, mut passes) = opened(&rt, rt.alloc(), "u64", TWO_PASSES);
     let other = last_of(&rt, &table, &mut passes);
     let mut one = last_of(&rt, &table, &mut passes);
-    assert_eq!(rt; (one.number(), other.number()), (0, 1));
+    check_numbers(&rt, &one, &other, (0, 1));
     check_put(&rt, &table, &mut one, 5, 9, Ok(Inserted::New));
     let (table, passes) = refused(&rt, rt.alloc(), table, one, other);
     let end = closed(&rt, rt.alloc(), table, passes);
-    assert_eq!(rt; end.rows.first(), Some(&row_of(5, 9)));
-    assert_eq!(rt; (end.leaves.linked, end.leaves.free), (1, SIZES.leaves - 1));
-    Ok(())
+    check_first(&rt, &end);
+    check_leaves(&rt, &end, 1);
 }

@@ -104,6 +104,11 @@ pub(crate) fn closed_alone(rt: &impl Abort, alloc: Global, table: Table, pass: P
     closed(rt, alloc, table, passes)
 }
 
+/// So many rows stood at the close.
+pub(crate) fn check_count(rt: &impl Abort, end: &Closed, wanted: usize) {
+    assert_eq!(rt; end.rows.len(), wanted);
+}
+
 /// An insert of the row of a number.
 pub(crate) fn puts(
     table: &Table,
@@ -118,7 +123,7 @@ pub(crate) fn puts(
 }
 
 /// A removal of the row of a number.
-pub(crate) fn takes(table: &Table, pass: &mut Pass, number: u64) -> Result<Option<u64>, Fault>
+fn takes(table: &Table, pass: &mut Pass, number: u64) -> Result<Option<u64>, Fault>
     requires { IsPassOf table.now pass.old }
     ensures { IsPassOf table.now pass.new }
 {
@@ -126,7 +131,7 @@ pub(crate) fn takes(table: &Table, pass: &mut Pass, number: u64) -> Result<Optio
 }
 
 /// A get of the row of a number.
-pub(crate) fn finds(table: &Table, pass: &mut Pass, number: u64) -> Result<Option<u64>, Fault>
+fn finds(table: &Table, pass: &mut Pass, number: u64) -> Result<Option<u64>, Fault>
     requires { IsPassOf table.now pass.old }
     ensures { IsPassOf table.now pass.new }
 {

@@ -1,14 +1,10 @@
 //! Four threads, each with a pass of its own, insert rows, and all of them stand at the close.
-ghost use Rattle.std.specs.Prelude.{IfOk};
 ghost use Rattle.art_table.specs.Tables.{IsPassOf};
 ghost use Rattle.art_table_uses.specs.Clients.{AreOf};
 
 use crate::tables::{closed, opened, puts, row_of};
-use art_table::{Config, Fault, Inserted, Pass, Table};
-use std::alloc::AllocError;
+use art_table::{Closed, Config, Fault, Inserted, Pass, Table};
 use std::process::Abort;
-use std::sync::{Mutex, Wait};
-use std::test::*;
 use std::thread;
 use std::thread::Threads;
 
@@ -42,55 +38,55 @@ fn puts_in_time(table: &Table, pass: &mut Pass, number: u64) -> Result<Inserted,
     told
 }
 
-/// Inserts the rows of one thread, and counts those that were new.
-fn inserts<R: Wait + Abort>(rt: &R, table: &Table, mut pass: Pass, new: &Mutex<u32>) -> Pass
+/// The row is new.
+fn check_new(rt: &impl Abort, table: &Table, pass: &mut Pass, number: u64)
+    requires { IsPassOf table.now pass.old }
+    ensures { IsPassOf table.now pass.new }
+{
+    assert_eq!(rt; puts_in_time(table, pass, number), Ok(Inserted::New));
+}
+
+/// Inserts the rows of one thread, each of which is new.
+fn inserts(rt: &impl Abort, table: &Table, mut pass: Pass) -> Pass
     requires { IsPassOf table.now pass }
     ensures { IsPassOf table.now result }
 {
     let first = u64::from(pass.number()).wrapping_mul(ROWS);
-    let mut count = 0u32;
     for row in 0..ROWS {
-        let number = first.wrapping_add(row);
-        if puts_in_time(table, &mut pass, number) == Ok(Inserted::New) {
-            count = count.saturating_add(1);
-        }
+        check_new(rt, table, &mut pass, first.wrapping_add(row));
     }
-    let mut total = new.lock(rt);
-    *total = total.saturating_add(count);
     pass
 }
 
 /// Each pass inserts its rows, in a thread of its own.
-fn all_insert<R: Threads + Wait + Abort + Sync>(
-    rt: &R,
-    table: &Table,
-    passes: Vec<Pass>,
-    new: &Mutex<u32>,
-) -> Result<Vec<Pass>, AllocError>
+fn all_insert<R: Threads + Abort + Sync>(rt: &R, table: &Table, passes: Vec<Pass>) -> Vec<Pass>
     requires { AreOf table.now passes.items }
-    ensures { IfOk result (λ all. AreOf table.now all.items) }
+    ensures { AreOf table.now result.items }
 {
-    thread::map_vec(
+    let passes = thread::map_vec(
         rt,
         passes,
         &|pass: Pass| -> Pass
             requires { IsPassOf table.now pass }
             ensures { IsPassOf table.entry.now result }
-        { inserts(rt, table, pass, new) },
-    )
+        { inserts(rt, table, pass) },
+    );
+    passes.expect(rt, "room for the passes")
 }
 
-#[test]
-fn four_threads_insert_two_hundred_and_fifty_rows_each(rt: HostRuntime) -> Result<(), Fail> {
-    let (table, passes) = opened(&rt, rt.alloc(), "u16", MANY);
-    let new = Mutex::new(0u32);
-    let passes = all_insert(&rt, &table, passes, &new)?;
-    assert_eq!(rt; new.into_inner(), 1000);
-    let end = closed(&rt, rt.alloc(), table, passes);
+/// The rows of all threads stood at the close.
+fn check_all(rt: &impl Abort, end: &Closed) {
     assert_eq!(rt; end.rows.len(), 1000);
     for (number, row) in (0..1000).zip(end.rows.iter()) {
         assert_eq!(rt; row, &row_of(number, number));
     }
     assert_eq!(rt; end.leaves.linked, 1000);
-    Ok(())
+}
+
+#[test]
+fn four_threads_insert_two_hundred_and_fifty_rows_each(rt: HostRuntime) {
+    let (table, passes) = opened(&rt, rt.alloc(), "u16", MANY);
+    let passes = all_insert(&rt, &table, passes);
+    let end = closed(&rt, rt.alloc(), table, passes);
+    check_all(&rt, &end);
 }

@@ -3,12 +3,22 @@ ghost use Rattle.art_table.specs.Tables.{IsPassOf};
 ghost use Rattle.art_turns_uses.specs.Clients.{IsGoing};
 
 use crate::attempts::{begun, finished, stepped};
-use crate::tables::{SIZES, closed, last_of, opened, puts, takes, tuple_of, with_last};
+use crate::tables::{
+    SIZES, check_count, check_put, check_take, closed_by_two, last_of, opened, tuple_of,
+};
 use art_frame::Blocker;
 use art_step::StepKind;
 use art_table::{Attempt, Fault, Inserted, Job, Outcome, Pass, Progress, Table};
 use std::process::Abort;
-use std::test::*;
+
+/// The next step of the attempt is of this kind, and makes no event.
+fn check_step(rt: &impl Abort, table: &Table, attempt: &mut Attempt, kind: StepKind)
+    requires { IsGoing table.now attempt.old }
+    ensures { IsGoing table.now attempt.new }
+{
+    let wanted = Progress::Made(kind, false);
+    assert_eq!(rt; stepped(table, attempt), wanted);
+}
 
 /// A get of the row of a number, after its pin.
 fn pinned(rt: &impl Abort, table: &Table, pass: Pass, number: u64) -> Attempt
@@ -16,11 +26,24 @@ fn pinned(rt: &impl Abort, table: &Table, pass: Pass, number: u64) -> Attempt
     ensures { IsGoing table.now result }
 {
     let mut attempt = begun(table, pass, Job::Get(tuple_of(number)));
-    let epoch = Progress::Made(StepKind::Epoch, false);
-    assert_eq!(rt; stepped(table, &mut attempt), epoch);
-    let pin = Progress::Made(StepKind::Pin, false);
-    assert_eq!(rt; stepped(table, &mut attempt), pin);
+    check_step(rt, table, &mut attempt, StepKind::Epoch);
+    check_step(rt, table, &mut attempt, StepKind::Pin);
     attempt
+}
+
+/// The attempt never began anew.
+fn check_restarts(rt: &impl Abort, attempt: &Attempt) {
+    assert_eq!(rt; attempt.restarts(), 0);
+}
+
+/// All steps that are left of the attempt, which is answered so.
+fn ends(rt: &impl Abort, table: &Table, attempt: Attempt, wanted: Result<Outcome, Fault>) -> Pass
+    requires { IsGoing table.now attempt }
+    ensures { IsPassOf table.now result }
+{
+    let (pass, told) = finished(table, attempt);
+    assert_eq!(rt; told, wanted);
+    pass
 }
 
 /// So many times the row of a number is inserted and removed again.
@@ -29,14 +52,14 @@ fn comes_and_goes(rt: &impl Abort, table: &Table, pass: &mut Pass, number: u64, 
     ensures { IsPassOf table.now pass.new }
 {
     for _ in 0..times {
-        assert_eq!(rt; puts(table, pass, number, 1), Ok(Inserted::New));
-        assert_eq!(rt; takes(table, pass, number), Ok(Some(1)));
+        check_put(rt, table, pass, number, 1, Ok(Inserted::New));
+        check_take(rt, table, pass, number, Ok(Some(1)));
     }
 }
 
 /// A get is held after its pin: 61 numbers in limbo leave three places of 64, and four are needed.
 #[test]
-fn a_pass_that_stays_pinned_crowds_another(rt: HostRuntime) -> Result<(), Fail> {
+fn a_pass_that_stays_pinned_crowds_another(rt: HostRuntime) {
     let (table, mut passes) = opened(&rt, rt.alloc(), "u8", SIZES);
     let mut one = last_of(&rt, &table, &mut passes);
     let zero = last_of(&rt, &table, &mut passes);
@@ -44,14 +67,10 @@ fn a_pass_that_stays_pinned_crowds_another(rt: HostRuntime) -> Result<(), Fail> 
     comes_and_goes(&rt, &table, &mut one, 1, 61);
     let blocker = Blocker { pass: 0, epoch: 1 };
     let crowded = Err(Fault::Crowded(blocker));
-    assert_eq!(rt; puts(&table, &mut one, 1, 1), crowded);
-    assert_eq!(rt; attempt.restarts(), 0);
-    let (zero, got) = finished(&table, attempt);
-    assert_eq!(rt; got, Ok(Outcome::Absent));
-    assert_eq!(rt; puts(&table, &mut one, 1, 1), Ok(Inserted::New));
-    let passes = with_last(&rt, &table, passes, zero);
-    let passes = with_last(&rt, &table, passes, one);
-    let end = closed(&rt, rt.alloc(), table, passes);
-    assert_eq!(rt; end.rows.len(), 1);
-    Ok(())
+    check_put(&rt, &table, &mut one, 1, 1, crowded);
+    check_restarts(&rt, &attempt);
+    let zero = ends(&rt, &table, attempt, Ok(Outcome::Absent));
+    check_put(&rt, &table, &mut one, 1, 1, Ok(Inserted::New));
+    let end = closed_by_two(&rt, rt.alloc(), table, zero, one);
+    check_count(&rt, &end, 1);
 }

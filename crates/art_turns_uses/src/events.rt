@@ -1,6 +1,6 @@
 //! What passes did, as events of a history.
 use art_key::{Deed, Event, Schema, legal};
-use art_model::{Command, NoMemory, Reply, Row, SortedRows};
+use art_model::{Command, Reply, Row, SortedRows};
 use art_table::{Inserted, Job, Outcome, Seen};
 use std::alloc::Global;
 use std::process::Abort;
@@ -62,7 +62,7 @@ pub(crate) fn deed_of(rt: &impl Abort, job: Job, outcome: Outcome) -> Deed {
 }
 
 /// What the map replies to the command, of which no scan lists more rows than one may.
-pub(crate) fn reply(rt: &impl Abort, rows: &mut SortedRows, command: &Command) -> Reply {
+fn reply(rt: &impl Abort, rows: &mut SortedRows, command: &Command) -> Reply {
     if let Command::Scan(_, _, limit) = command {
         assert!(rt; *limit <= 100);
     }
@@ -80,16 +80,14 @@ fn rows_after(rt: &impl Abort, alloc: Global, events: &[Event]) -> SortedRows {
     rows
 }
 
-/// Whether the events, in this order, are a legal history, which leaves these rows.
-pub(crate) fn explains(
+/// The events, in this order, are a legal history, which leaves these rows.
+pub(crate) fn check_history(
     rt: &impl Abort,
     alloc: Global,
     schema: &Schema,
     events: &[Event],
     rows: &[Row],
-) -> Result<bool, NoMemory> {
-    if !legal(alloc, schema, events)? {
-        return Ok(false);
-    }
-    Ok(rows_after(rt, alloc, events).rows() == rows)
+) {
+    assert!(rt; legal(alloc, schema, events).expect(rt, "memory"));
+    assert!(rt; rows_after(rt, alloc, events).rows() == rows);
 }

@@ -6,19 +6,18 @@ ghost use Rattle.art_turns_uses.specs.Clients.{IsGoing};
 
 use crate::attempts::{begun, finished, given_up, stepped};
 use crate::events::{
-    deed_of, deed_of_look, explains, reply_of_get, reply_of_insert, reply_of_remove,
+    check_history, deed_of, deed_of_look, reply_of_get, reply_of_insert, reply_of_remove,
 };
 use crate::tables::{
-    SIZES, TURNS, closed, empties, fills, finds, last_of, opened, puts, schema_of, takes, tuple_of,
-    with_last,
+    SIZES, TURNS, check_count, check_find, closed_by_two, empties, fills, finds, last_of, opened,
+    puts, schema_of, takes, tuple_of,
 };
 use art_key::{Bound, Deed, Event, encode};
-use art_model::{Command, NoMemory, Reply, Row};
+use art_model::{Command, Reply, Row};
 use art_step::StepKind;
-use art_table::{Attempt, Fault, Job, Pass, Progress, Seen, Table, look};
+use art_table::{Attempt, Closed, Fault, Job, Pass, Progress, Seen, Table, look};
 use std::alloc::Global;
 use std::process::Abort;
-use std::test::*;
 
 /// More calls than an attempt makes steps.
 const MOST: u32 = 300;
@@ -142,6 +141,12 @@ fn notes<A>(rt: &impl Abort, told: Result<A, Fault>, held: u32) -> Option<A> {
     }
 }
 
+/// What a look from the one bound on has seen that was answered so, at the other.
+fn seen_by(told: Result<bool, Fault>, lo: Bound, hi: Bound, row: Row) -> Result<Seen, Fault> {
+    let row = if told? { Some(row) } else { None };
+    Ok(Seen { lo, hi, row })
+}
+
 /// A look from the number on: what it has seen.
 fn sees(rt: &impl Abort, table: &Table, pass: &mut Pass, number: u64) -> Result<Seen, Fault>
     requires { IsPassOf table.now pass.old }
@@ -150,12 +155,8 @@ fn sees(rt: &impl Abort, table: &Table, pass: &mut Pass, number: u64) -> Result<
     let mut from = at(rt, table, number);
     assert!(rt; from.before(&Bound::End));
     let mut row = Row::default();
-    let found = look(table, pass, &mut from, &Bound::End, TURNS, &mut row)?;
-    Ok(Seen {
-        lo: at(rt, table, number),
-        hi: from,
-        row: if found { Some(row) } else { None },
-    })
+    let told = look(table, pass, &mut from, &Bound::End, TURNS, &mut row);
+    seen_by(told, at(rt, table, number), from, row)
 }
 
 /// Each of the four calls, while another pass holds so many cells: what they did.
@@ -184,7 +185,7 @@ fn all_calls(rt: &impl Abort, table: &Table, pass: &mut Pass, log: &mut Vec<Even
 
 /// An attempt that stops after so many steps, the calls of another pass, and then the rest of it: what they did is a legal history,
 /// which leaves the rows that stand at the close.
-fn stops(rt: &impl Abort, alloc: Global, stopped: Stopped, count: u32) -> Result<Stop, NoMemory> {
+fn stops(rt: &impl Abort, alloc: Global, stopped: Stopped, count: u32) -> Stop {
     let (table, mut passes) = opened(rt, alloc, "u16", SIZES);
     let mut one = last_of(rt, &table, &mut passes);
     let mut zero = last_of(rt, &table, &mut passes);
@@ -198,69 +199,69 @@ fn stops(rt: &impl Abort, alloc: Global, stopped: Stopped, count: u32) -> Result
     let (zero, told) = finished(&table, attempt);
     let outcome = told.expect(rt, "an answer");
     let what = deed_of(rt, job_of(rt, &table, stopped), outcome);
-    log.insert(place, Event { pass: 0, what })?;
-    let passes = with_last(rt, &table, passes, zero);
-    let passes = with_last(rt, &table, passes, one);
-    let end = closed(rt, alloc, table, passes);
+    let event = Event { pass: 0, what };
+    log.insert(place, event).expect(rt, "memory");
+    let end = closed_by_two(rt, alloc, table, zero, one);
     let schema = schema_of(rt, "u16");
-    assert!(rt; explains(rt, alloc, &schema, log.as_slice(), end.rows.as_slice())?);
-    Ok(stop)
+    check_history(rt, alloc, &schema, log.as_slice(), end.rows.as_slice());
+    stop
 }
 
 /// The attempt is stopped after each of its steps: the kinds of these.
-fn all_stops(rt: &impl Abort, alloc: Global, stopped: Stopped) -> Result<Vec<StepKind>, NoMemory> {
+fn all_stops(rt: &impl Abort, alloc: Global, stopped: Stopped) -> Vec<StepKind> {
     let mut kinds = Vec::new(alloc);
     for count in 1..MOST {
-        let stop = stops(rt, alloc, stopped, count)?;
+        let stop = stops(rt, alloc, stopped, count);
         if stop.ended {
             break;
         }
-        kinds.push(stop.kind.expect(rt, "a step"))?;
+        let kind = stop.kind.expect(rt, "a step");
+        kinds.push(kind).expect(rt, "memory");
     }
-    Ok(kinds)
+    kinds
+}
+
+/// The attempt is stopped after steps of each of these kinds.
+fn check_stops(rt: &impl Abort, alloc: Global, stopped: Stopped, wanted: &[StepKind]) {
+    let kinds = all_stops(rt, alloc, stopped);
+    for kind in wanted {
+        assert_eq!(rt; (*kind, kinds.contains(kind)), (*kind, true));
+    }
 }
 
 #[test]
-fn a_write_is_stopped_after_each_kind_of_step(rt: HostRuntime) -> Result<(), Fail> {
-    for stopped in [Stopped::Insert, Stopped::Remove] {
-        let kinds = all_stops(&rt, rt.alloc(), stopped)?;
-        for kind in [
-            StepKind::Begin,
-            StepKind::Read,
-            StepKind::Check,
-            StepKind::Upgrade,
-            StepKind::Write,
-            StepKind::Commit,
-            StepKind::Release,
-            StepKind::Claim,
-            StepKind::Take,
-            StepKind::Give,
-            StepKind::Epoch,
-            StepKind::Pin,
-            StepKind::Advance,
-            StepKind::Watch,
-        ] {
-            assert_eq!(rt; (kind, kinds.contains(&kind)), (kind, true));
-        }
-    }
-    Ok(())
+fn a_write_is_stopped_after_each_kind_of_step(rt: HostRuntime) {
+    let kinds = [
+        StepKind::Begin,
+        StepKind::Read,
+        StepKind::Check,
+        StepKind::Upgrade,
+        StepKind::Write,
+        StepKind::Commit,
+        StepKind::Release,
+        StepKind::Claim,
+        StepKind::Take,
+        StepKind::Give,
+        StepKind::Epoch,
+        StepKind::Pin,
+        StepKind::Advance,
+        StepKind::Watch,
+    ];
+    check_stops(&rt, rt.alloc(), Stopped::Insert, &kinds);
+    check_stops(&rt, rt.alloc(), Stopped::Remove, &kinds);
 }
 
 #[test]
-fn a_read_is_stopped_after_each_kind_of_step(rt: HostRuntime) -> Result<(), Fail> {
-    for stopped in [Stopped::Get, Stopped::Look] {
-        let kinds = all_stops(&rt, rt.alloc(), stopped)?;
-        for kind in [
-            StepKind::Epoch,
-            StepKind::Pin,
-            StepKind::Begin,
-            StepKind::Read,
-            StepKind::Check,
-        ] {
-            assert_eq!(rt; (kind, kinds.contains(&kind)), (kind, true));
-        }
-    }
-    Ok(())
+fn a_read_is_stopped_after_each_kind_of_step(rt: HostRuntime) {
+    let kinds = [
+        StepKind::Epoch,
+        StepKind::Pin,
+        StepKind::Begin,
+        StepKind::Read,
+        StepKind::Check,
+    ];
+    check_stops(&rt, rt.alloc(), Stopped::Get, &kinds);
+    check_stops(&rt, rt.alloc(), Stopped::Look, &kinds);
 }
 
 /// The attempt is given up: it comes back exactly where it holds a cell or has made its event, and goes on to its end then. How many
@@ -292,6 +293,12 @@ fn gives_up(
     }
 }
 
+/// All numbers of leaves were accounted for at the close.
+fn check_leaves(rt: &impl Abort, end: &Closed) {
+    let used = end.leaves.linked.wrapping_add(end.leaves.in_limbo);
+    assert_eq!(rt; used.wrapping_add(end.leaves.free), SIZES.leaves);
+}
+
 /// An attempt that is given up after so many steps leaves the rows as before it, and all numbers accounted for; its pass goes on. It has
 /// ended before.
 fn abandons(rt: &impl Abort, alloc: Global, stopped: Stopped, count: u32) -> bool {
@@ -302,29 +309,30 @@ fn abandons(rt: &impl Abort, alloc: Global, stopped: Stopped, count: u32) -> boo
     let mut attempt = begun(&table, zero, job_of(rt, &table, stopped));
     let stop = steps(&table, &mut attempt, count);
     let (mut zero, left) = gives_up(rt, &table, attempt, stop, stopped);
-    assert_eq!(rt; finds(&table, &mut zero, 1), Ok(Some(1)));
-    let passes = with_last(rt, &table, passes, zero);
-    let passes = with_last(rt, &table, passes, one);
-    let end = closed(rt, alloc, table, passes);
-    assert_eq!(rt; end.rows.len(), left);
-    let used = end.leaves.linked.wrapping_add(end.leaves.in_limbo);
-    assert_eq!(rt; used.wrapping_add(end.leaves.free), SIZES.leaves);
+    check_find(rt, &table, &mut zero, 1, Ok(Some(1)));
+    let end = closed_by_two(rt, alloc, table, zero, one);
+    check_count(rt, &end, left);
+    check_leaves(rt, &end);
     stop.ended
 }
 
+/// The attempt is given up after each of its steps.
+fn check_given_up(rt: &impl Abort, alloc: Global, stopped: Stopped) {
+    for count in 0..MOST {
+        if abandons(rt, alloc, stopped, count) {
+            break;
+        }
+    }
+}
+
 #[test]
-fn an_attempt_is_given_up_where_it_holds_and_told_nothing(rt: HostRuntime) -> Result<(), Fail> {
+fn an_attempt_is_given_up_where_it_holds_and_told_nothing(rt: HostRuntime) {
     for stopped in [
         Stopped::Insert,
         Stopped::Remove,
         Stopped::Get,
         Stopped::Look,
     ] {
-        for count in 0..MOST {
-            if abandons(&rt, rt.alloc(), stopped, count) {
-                break;
-            }
-        }
+        check_given_up(&rt, rt.alloc(), stopped);
     }
-    Ok(())
 }

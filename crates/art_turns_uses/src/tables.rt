@@ -82,6 +82,27 @@ pub(crate) fn closed(rt: &impl Abort, alloc: Global, table: Table, passes: Vec<P
         .expect(rt, "all passes, and room for the rows")
 }
 
+/// What the table of two passes held.
+pub(crate) fn closed_by_two(
+    rt: &impl Abort,
+    alloc: Global,
+    table: Table,
+    zero: Pass,
+    one: Pass,
+) -> Closed
+    requires zero { IsPassOf table zero }
+    requires one { IsPassOf table one }
+{
+    let passes = with_last(rt, &table, Vec::new(alloc), zero);
+    let passes = with_last(rt, &table, passes, one);
+    closed(rt, alloc, table, passes)
+}
+
+/// So many rows stood at the close.
+pub(crate) fn check_count(rt: &impl Abort, end: &Closed, wanted: usize) {
+    assert_eq!(rt; end.rows.len(), wanted);
+}
+
 /// An insert of the row of a number.
 pub(crate) fn puts(
     table: &Table,
@@ -111,14 +132,57 @@ pub(crate) fn finds(table: &Table, pass: &mut Pass, number: u64) -> Result<Optio
     get(table, pass, &tuple_of(number), TURNS)
 }
 
+/// An insert of the row of a number is answered so.
+pub(crate) fn check_put(
+    rt: &impl Abort,
+    table: &Table,
+    pass: &mut Pass,
+    number: u64,
+    value: u64,
+    wanted: Result<Inserted, Fault>,
+)
+    requires { IsPassOf table.now pass.old }
+    ensures { IsPassOf table.now pass.new }
+{
+    assert_eq!(rt; puts(table, pass, number, value), wanted);
+}
+
+/// A removal of the row of a number is answered so.
+pub(crate) fn check_take(
+    rt: &impl Abort,
+    table: &Table,
+    pass: &mut Pass,
+    number: u64,
+    wanted: Result<Option<u64>, Fault>,
+)
+    requires { IsPassOf table.now pass.old }
+    ensures { IsPassOf table.now pass.new }
+{
+    assert_eq!(rt; takes(table, pass, number), wanted);
+}
+
+/// A get of the row of a number is answered so.
+pub(crate) fn check_find(
+    rt: &impl Abort,
+    table: &Table,
+    pass: &mut Pass,
+    number: u64,
+    wanted: Result<Option<u64>, Fault>,
+)
+    requires { IsPassOf table.now pass.old }
+    ensures { IsPassOf table.now pass.new }
+{
+    assert_eq!(rt; finds(table, pass, number), wanted);
+}
+
 /// The rows of the numbers from `first` on before `end` are inserted, with these as values: each is new, and found.
 pub(crate) fn fills(rt: &impl Abort, table: &Table, pass: &mut Pass, first: u64, end: u64)
     requires { IsPassOf table.now pass.old }
     ensures { IsPassOf table.now pass.new }
 {
     for number in first..end {
-        assert_eq!(rt; puts(table, pass, number, number), Ok(Inserted::New));
-        assert_eq!(rt; finds(table, pass, number), Ok(Some(number)));
+        check_put(rt, table, pass, number, number, Ok(Inserted::New));
+        check_find(rt, table, pass, number, Ok(Some(number)));
     }
 }
 
@@ -128,7 +192,7 @@ pub(crate) fn empties(rt: &impl Abort, table: &Table, pass: &mut Pass, first: u6
     ensures { IsPassOf table.now pass.new }
 {
     for number in first..end {
-        assert_eq!(rt; takes(table, pass, number), Ok(Some(number)));
-        assert_eq!(rt; finds(table, pass, number), Ok(None));
+        check_take(rt, table, pass, number, Ok(Some(number)));
+        check_find(rt, table, pass, number, Ok(None));
     }
 }

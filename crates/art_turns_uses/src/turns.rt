@@ -1,19 +1,18 @@
 //! Four attempts go on by drawn turns: what they did, in the order in which it was made, is a legal history.
 ghost use Rattle.art_table.specs.Jobs.{IsRange};
 ghost use Rattle.art_table.specs.Tables.{IsPassOf};
-ghost use Rattle.art_turns_uses.specs.Clients.{IsGoing};
+ghost use Rattle.art_turns_uses.specs.Clients.{AreOf, IsGoing};
 ghost use Rattle.art_turns_uses.specs.Turns.{AreGoing};
 
 use crate::attempts::{begun, finished, stepped};
-use crate::events::{deed_of, explains};
+use crate::events::{check_history, deed_of};
 use crate::tables::{SIZES, closed, last_of, opened, schema_of, tuple_of, with_last};
 use art_key::{Bound, Event, encode};
-use art_table::{Attempt, Config, Job, Pass, Progress, Table};
+use art_table::{Attempt, Closed, Config, Job, Pass, Progress, Table};
 use rand_pcg::Pcg32;
 use rand_pcg::rand_core::{Rng, SeedableRng};
 use std::alloc::Global;
 use std::process::Abort;
-use std::test::*;
 
 const FOUR_PASSES: Config = Config { passes: 4, ..SIZES };
 /// More steps than an attempt makes.
@@ -153,6 +152,25 @@ struct Four {
     three: Actor,
 }
 
+/// Four attempts, of which no step is made yet.
+fn all_begin(rt: &impl Abort, table: &Table, passes: Vec<Pass>) -> Four
+    requires { AreOf table.now passes.items }
+    ensures { AreGoing table.now result.zero.attempt result.one.attempt result.two.attempt result.three.attempt }
+{
+    let mut passes = passes;
+    let first = Wish::Get(0);
+    let three = begins(rt, table, last_of(rt, table, &mut passes), first);
+    let two = begins(rt, table, last_of(rt, table, &mut passes), first);
+    let one = begins(rt, table, last_of(rt, table, &mut passes), first);
+    let zero = begins(rt, table, last_of(rt, table, &mut passes), first);
+    Four {
+        zero,
+        one,
+        two,
+        three,
+    }
+}
+
 /// A turn of one of the four.
 fn turn_of(
     rt: &impl Abort,
@@ -199,14 +217,47 @@ fn turn_of(
     }
 }
 
+/// So many drawn turns.
+fn all_turn(rt: &impl Abort, table: &Table, four: Four, count: u32, log: &mut Log) -> Four
+    requires { AreGoing table.now four.zero.attempt four.one.attempt four.two.attempt four.three.attempt }
+    ensures { AreGoing table.now result.zero.attempt result.one.attempt result.two.attempt result.three.attempt }
+{
+    let mut numbers = Pcg32::seed_from_u64(1);
+    let mut four = four;
+    for _ in 0..count {
+        let next = draw(&mut numbers);
+        let which = numbers.next_u32() % 4;
+        four = turn_of(rt, table, four, which, next, log);
+    }
+    four
+}
+
 /// All that is left of an attempt.
-fn all_ends(rt: &impl Abort, table: &Table, actor: Actor, log: &mut Log) -> Pass
+fn rest_of(rt: &impl Abort, table: &Table, actor: Actor, log: &mut Log) -> Pass
     requires { IsGoing table.now actor.attempt }
     ensures { IsPassOf table.now result }
 {
     let mut actor = actor;
     runs_out(rt, table, &mut actor, log);
     ends(rt, table, actor, log)
+}
+
+/// All that is left of the four.
+fn all_end(rt: &impl Abort, alloc: Global, table: &Table, four: Four, log: &mut Log) -> Vec<Pass>
+    requires { AreGoing table.now four.zero.attempt four.one.attempt four.two.attempt four.three.attempt }
+    ensures { AreOf table.now result.items }
+{
+    let Four {
+        zero,
+        one,
+        two,
+        three,
+    } = four;
+    let passes = Vec::new(alloc);
+    let passes = with_last(rt, table, passes, rest_of(rt, table, zero, log));
+    let passes = with_last(rt, table, passes, rest_of(rt, table, one, log));
+    let passes = with_last(rt, table, passes, rest_of(rt, table, two, log));
+    with_last(rt, table, passes, rest_of(rt, table, three, log))
 }
 
 /// The events, of which each has come to its place.
@@ -219,41 +270,21 @@ fn events_of(rt: &impl Abort, alloc: Global, log: Log) -> Vec<Event> {
     events
 }
 
-#[test]
-fn four_attempts_by_drawn_turns_are_legal(rt: HostRuntime) -> Result<(), Fail> {
-    let (table, mut passes) = opened(&rt, rt.alloc(), "u8", FOUR_PASSES);
-    let mut numbers = Pcg32::seed_from_u64(1);
-    let mut log: Log = Vec::new(rt.alloc());
-    let first = Wish::Get(0);
-    let three = begins(&rt, &table, last_of(&rt, &table, &mut passes), first);
-    let two = begins(&rt, &table, last_of(&rt, &table, &mut passes), first);
-    let one = begins(&rt, &table, last_of(&rt, &table, &mut passes), first);
-    let zero = begins(&rt, &table, last_of(&rt, &table, &mut passes), first);
-    let mut four = Four {
-        zero,
-        one,
-        two,
-        three,
-    };
-    for _ in 0..10_000 {
-        let next = draw(&mut numbers);
-        let which = numbers.next_u32() % 4;
-        four = turn_of(&rt, &table, four, which, next, &mut log);
-    }
-    let Four {
-        zero,
-        one,
-        two,
-        three,
-    } = four;
-    let passes = with_last(&rt, &table, passes, all_ends(&rt, &table, zero, &mut log));
-    let passes = with_last(&rt, &table, passes, all_ends(&rt, &table, one, &mut log));
-    let passes = with_last(&rt, &table, passes, all_ends(&rt, &table, two, &mut log));
-    let passes = with_last(&rt, &table, passes, all_ends(&rt, &table, three, &mut log));
-    let end = closed(&rt, rt.alloc(), table, passes);
-    let events = events_of(&rt, rt.alloc(), log);
+/// What was done is a legal history, and leaves the rows at the close.
+fn check_log(rt: &impl Abort, alloc: Global, log: Log, end: &Closed) {
+    let events = events_of(rt, alloc, log);
     assert!(rt; events.len() > 50);
-    let schema = schema_of(&rt, "u8");
-    assert!(rt; explains(&rt, rt.alloc(), &schema, &events, end.rows.as_slice())?);
-    Ok(())
+    let schema = schema_of(rt, "u8");
+    check_history(rt, alloc, &schema, &events, end.rows.as_slice());
+}
+
+#[test]
+fn four_attempts_by_drawn_turns_are_legal(rt: HostRuntime) {
+    let (table, passes) = opened(&rt, rt.alloc(), "u8", FOUR_PASSES);
+    let mut log: Log = Vec::new(rt.alloc());
+    let four = all_begin(&rt, &table, passes);
+    let four = all_turn(&rt, &table, four, 10_000, &mut log);
+    let passes = all_end(&rt, rt.alloc(), &table, four, &mut log);
+    let end = closed(&rt, rt.alloc(), table, passes);
+    check_log(&rt, rt.alloc(), log, &end);
 }

@@ -1,4 +1,4 @@
-use Rattle.std.proofs.lemmas.Result.{IfErr-weaker, IfOk-weaker}
+use Rattle.std.proofs.lemmas.Result.{IfErr-weaker}
 use Rattle.art_turns_uses.proofs.commands.abandoned.Goals as goal
 
 pub abandon-requires : goal.abandon-requires
