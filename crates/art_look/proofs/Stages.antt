@@ -3,10 +3,10 @@ use Rattle.std.proofs.Common.{◌≡◌, ◌⊎◌, ℕ, ◌+◌, ◌*◌, ◌/�
 use Rattle.std.specs.Prelude.{Ok, ◌==◌}
 use Rattle.std.specs.List.{range_with_len}
 use Rattle.std.proofs.Math.Seq.{take-length}
-use Rattle.std.proofs.lemmas.Bool.{cases_Bool, cases_lt, eqb-false, eqb-true}
+use Rattle.std.proofs.lemmas.Bool.{cases_Bool, cases_lt, eqb-false, eqb-true, true≢false}
 use Rattle.std.proofs.lemmas.List.{take-append-le}
 use Rattle.std.proofs.lemmas.List.FromFn.{length-map-range_with_len}
-use Rattle.std.proofs.lemmas.Option.{same_Some}
+use Rattle.std.proofs.lemmas.Option.{none-some, same_Some}
 use Rattle.art_cell.specs.declared.cells.Cell.{Cell}
 use Rattle.art_cell.specs.declared.cells.Cell.TheVariants as cell
 use Rattle.art_cell.specs.declared.cells.Link.{Link}
@@ -716,7 +716,7 @@ still_reading z lo hi depth t (Value x l) u v going fits = fits.0.reads
 still_reading z lo hi depth t (Length x l value) u v going fits = fits.0.reads
 still_reading z lo hi depth t (Bytes seen i) u v going fits = fits.0.reads
 still_reading z lo hi depth t (Decided x r o) u v going fits = fits.0
-still_reading z lo hi depth t (Ended r o) u v going fits = cc
+still_reading z lo hi depth t (Ended r o) u v going fits = absurd (true≢false going)
 
 -- ---- what was seen is exact
 
@@ -724,19 +724,19 @@ pub settled_row : (z : Sizes) (lo : List ℕ) (hi : KeyBound) (t : Trail) (stage
     → (s : Cells) (m : ByteMap) → IsShape z s → HasRows (heap_of s) m → Settles lo t stage s → OnlyRow m seen.lo.items (bound_of seen.hi) seen.row
 settled_row z lo hi t (Decided y r o) x seen asked is s m shape rows row =
     subst (λ (a : Seen). OnlyRow m a.lo.items (bound_of a.hi) a.row) (same_Some {A = Seen} (seen_of lo hi t.path.items t.key.items r o) seen is) (row_is_exact s shape.tree m rows lo hi t.path.items t.key.items r o row)
-settled_row z lo hi t Start x seen asked is s m shape rows row = cc
-settled_row z lo hi t (Anchor y) x seen asked is s m shape rows row = cc
-settled_row z lo hi t (Child y d) x seen asked is s m shape rows row = cc
-settled_row z lo hi t (Below y n) x seen asked is s m shape rows row = cc
-settled_row z lo hi t (Both y a n) x seen asked is s m shape rows row = cc
-settled_row z lo hi t (Header y n) x seen asked is s m shape rows row = cc
-settled_row z lo hi t (Prefix a i) x seen asked is s m shape rows row = cc
-settled_row z lo hi t (Keys a f i) x seen asked is s m shape rows row = cc
-settled_row z lo hi t (Slot a) x seen asked is s m shape rows row = cc
-settled_row z lo hi t (Value y l) x seen asked is s m shape rows row = cc
-settled_row z lo hi t (Length y l value) x seen asked is s m shape rows row = cc
-settled_row z lo hi t (Bytes a i) x seen asked is s m shape rows row = cc
-settled_row z lo hi t (Ended r o) x seen asked is s m shape rows row = cc
+settled_row z lo hi t Start x seen asked is s m shape rows row = absurd (none-some seen is)
+settled_row z lo hi t (Anchor y) x seen asked is s m shape rows row = absurd (none-some seen is)
+settled_row z lo hi t (Child y d) x seen asked is s m shape rows row = absurd (none-some seen is)
+settled_row z lo hi t (Below y n) x seen asked is s m shape rows row = absurd (none-some seen is)
+settled_row z lo hi t (Both y a n) x seen asked is s m shape rows row = absurd (none-some seen is)
+settled_row z lo hi t (Header y n) x seen asked is s m shape rows row = absurd (none-some seen is)
+settled_row z lo hi t (Prefix a i) x seen asked is s m shape rows row = absurd (none-some seen is)
+settled_row z lo hi t (Keys a f i) x seen asked is s m shape rows row = absurd (none-some seen is)
+settled_row z lo hi t (Slot a) x seen asked is s m shape rows row = absurd (none-some seen is)
+settled_row z lo hi t (Value y l) x seen asked is s m shape rows row = absurd (none-some seen is)
+settled_row z lo hi t (Length y l value) x seen asked is s m shape rows row = absurd (none-some seen is)
+settled_row z lo hi t (Bytes a i) x seen asked is s m shape rows row = absurd (none-some seen is)
+settled_row z lo hi t (Ended r o) x seen asked is s m shape rows row = absurd (none-some (Settle x) asked)
 
 -- once it has ended
 pub look_ends : (z : Sizes) (lo : List ℕ) (hi : KeyBound) (depth : ℕ) (t : Trail) (stage : LookStage) (seen : Seen) (u v : View) → has_ended stage ≡ true → seen_at lo hi t stage ≡ Some seen → StageFits z lo hi depth stage t u v → LookEnds z lo hi u v (Some seen)
@@ -746,36 +746,36 @@ look_ends z lo hi depth t (Ended r o) seen u v ended is fits =
       fits.1,
       record { path = t.path.items; key = t.key.items; reach = r; value = o; stood = fits.2; is = sym same },
     )
-look_ends z lo hi depth t Start seen u v ended is fits = cc
-look_ends z lo hi depth t (Anchor y) seen u v ended is fits = cc
-look_ends z lo hi depth t (Child y d) seen u v ended is fits = cc
-look_ends z lo hi depth t (Below y n) seen u v ended is fits = cc
-look_ends z lo hi depth t (Both y a n) seen u v ended is fits = cc
-look_ends z lo hi depth t (Header y n) seen u v ended is fits = cc
-look_ends z lo hi depth t (Prefix a i) seen u v ended is fits = cc
-look_ends z lo hi depth t (Keys a f i) seen u v ended is fits = cc
-look_ends z lo hi depth t (Slot a) seen u v ended is fits = cc
-look_ends z lo hi depth t (Value y l) seen u v ended is fits = cc
-look_ends z lo hi depth t (Length y l value) seen u v ended is fits = cc
-look_ends z lo hi depth t (Bytes a i) seen u v ended is fits = cc
-look_ends z lo hi depth t (Decided y r o) seen u v ended is fits = cc
+look_ends z lo hi depth t Start seen u v ended is fits = absurd (true≢false (sym ended))
+look_ends z lo hi depth t (Anchor y) seen u v ended is fits = absurd (true≢false (sym ended))
+look_ends z lo hi depth t (Child y d) seen u v ended is fits = absurd (true≢false (sym ended))
+look_ends z lo hi depth t (Below y n) seen u v ended is fits = absurd (true≢false (sym ended))
+look_ends z lo hi depth t (Both y a n) seen u v ended is fits = absurd (true≢false (sym ended))
+look_ends z lo hi depth t (Header y n) seen u v ended is fits = absurd (true≢false (sym ended))
+look_ends z lo hi depth t (Prefix a i) seen u v ended is fits = absurd (true≢false (sym ended))
+look_ends z lo hi depth t (Keys a f i) seen u v ended is fits = absurd (true≢false (sym ended))
+look_ends z lo hi depth t (Slot a) seen u v ended is fits = absurd (true≢false (sym ended))
+look_ends z lo hi depth t (Value y l) seen u v ended is fits = absurd (true≢false (sym ended))
+look_ends z lo hi depth t (Length y l value) seen u v ended is fits = absurd (true≢false (sym ended))
+look_ends z lo hi depth t (Bytes a i) seen u v ended is fits = absurd (true≢false (sym ended))
+look_ends z lo hi depth t (Decided y r o) seen u v ended is fits = absurd (true≢false (sym ended))
 
 -- it has seen something then
 pub has_seen : (lo : List ℕ) (hi : KeyBound) (t : Trail) (stage : LookStage) → has_ended stage ≡ true → seen_at lo hi t stage ≡ None → ⊥
-has_seen lo hi t (Ended r o) ended none = cc
-has_seen lo hi t Start ended none = cc
-has_seen lo hi t (Anchor y) ended none = cc
-has_seen lo hi t (Child y d) ended none = cc
-has_seen lo hi t (Below y n) ended none = cc
-has_seen lo hi t (Both y a n) ended none = cc
-has_seen lo hi t (Header y n) ended none = cc
-has_seen lo hi t (Prefix a i) ended none = cc
-has_seen lo hi t (Keys a f i) ended none = cc
-has_seen lo hi t (Slot a) ended none = cc
-has_seen lo hi t (Value y l) ended none = cc
-has_seen lo hi t (Length y l value) ended none = cc
-has_seen lo hi t (Bytes a i) ended none = cc
-has_seen lo hi t (Decided y r o) ended none = cc
+has_seen lo hi t (Ended r o) ended none = none-some (seen_of lo hi t.path.items t.key.items r o) (sym none)
+has_seen lo hi t Start ended none = true≢false (sym ended)
+has_seen lo hi t (Anchor y) ended none = true≢false (sym ended)
+has_seen lo hi t (Child y d) ended none = true≢false (sym ended)
+has_seen lo hi t (Below y n) ended none = true≢false (sym ended)
+has_seen lo hi t (Both y a n) ended none = true≢false (sym ended)
+has_seen lo hi t (Header y n) ended none = true≢false (sym ended)
+has_seen lo hi t (Prefix a i) ended none = true≢false (sym ended)
+has_seen lo hi t (Keys a f i) ended none = true≢false (sym ended)
+has_seen lo hi t (Slot a) ended none = true≢false (sym ended)
+has_seen lo hi t (Value y l) ended none = true≢false (sym ended)
+has_seen lo hi t (Length y l value) ended none = true≢false (sym ended)
+has_seen lo hi t (Bytes a i) ended none = true≢false (sym ended)
+has_seen lo hi t (Decided y r o) ended none = true≢false (sym ended)
 
 -- what was seen goes on after the lower end, and not past the upper one
 pub seen_after : (z : Sizes) (lo : List ℕ) (hi : KeyBound) (seen : Seen) → AreBytes lo → IsBelow lo (bound_of hi) → IsSeen z lo hi seen → IsBelow lo (bound_of seen.hi)

@@ -2,3 +2,4 @@ pub mod LowerNames
 pub mod LowerOthers
 pub mod LowerSeen
 pub mod Lowers
+mod Rereads

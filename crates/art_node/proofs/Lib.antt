@@ -5,5 +5,6 @@ pub mod InOrder
 pub mod KeyBytes
 pub mod LeafWords
 pub mod Lookups
+pub mod OfLayout
 pub mod Prefixed
 pub mod SoughtWords

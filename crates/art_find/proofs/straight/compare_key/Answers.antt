@@ -81,3 +81,50 @@ returns-clause-goes g c = λ turns u start.
     went_on z z' (g.met.S.Steps.only_sizes l.steps c.read_leaf-word-2.new.self c.read_leaf-word-2.ensures.only) k turns u v w
     (at_stage c.args.depth (Bytes seen l.number l.beside)) c.read.new.self l.tally _ (ReadLeaf seen.stamp seen.leaf (2 + l.number)) (word_told word) before refl row (omega (arith, l.invariant.left)) refl refl
     c.read.ensures.steps c.read.ensures.going (c.read.ensures.fits z (get_done k) u v w (ReadLeaf seen.stamp seen.leaf (2 + l.number)) before.get.fits refl row)
+
+pub read_leaf-word-requires-clause-inside : goal.read_leaf-word-requires-clause-inside
+read_leaf-word-requires-clause-inside g c =
+    let l = c.loop-tally in
+    let b = l.invariant.going in
+    let k = c.args.key.now in
+    (allowed (g.S.Steps.sizes l.steps) k (get_done k) c.args.depth (Bytes c.args.seen l.number l.beside) b.1 (g.S.Steps.view l.steps) b.2.get.fits).0
+
+pub read_leaf-word-requires-2-clause-inside : goal.read_leaf-word-requires-2-clause-inside
+read_leaf-word-requires-2-clause-inside g c =
+    let l = c.loop-tally in
+    let b = l.invariant.going in
+    let k = c.args.key.now in
+    (allowed (g.S.Steps.sizes l.steps) k (get_done k) c.args.depth (Bytes c.args.seen l.number l.beside) b.1 (g.S.Steps.view l.steps) b.2.get.fits).0
+
+pub beside_word-beside-requires-clause-more : goal.beside_word-beside-requires-clause-more
+beside_word-beside-requires-clause-more g c = c.loop-tally.invariant.going.2.get.fits.2.more
+
+pub beside_word-beside-requires-clause-few : goal.beside_word-beside-requires-clause-few
+beside_word-beside-requires-clause-few g c = c.loop-tally.invariant.going.2.get.fits.2.few
+
+pub beside_word-beside-requires-clause-within : goal.beside_word-beside-requires-clause-within
+beside_word-beside-requires-clause-within g c = c.loop-tally.invariant.going.2.get.fits.2.within
+
+pub read-requires-clause-few : goal.read-requires-clause-few
+read-requires-clause-few g c = c.loop-tally.invariant.going.2.short
+
+pub loop-tally-init : goal.loop-tally-init
+loop-tally-init g c = record {
+  only = g.met.S.Steps.only_same c.args.steps.now;
+  left = c.requires.left;
+  less = omega arith;
+  going = c.requires.goes;
+  goes = λ turns u before. before;
+}
+
+pub loop-tally-smaller : goal.loop-tally-smaller
+loop-tally-smaller g c = omega (arith, c.loop-tally.invariant.left)
+
+pub returns-clause-only : goal.returns-clause-only
+returns-clause-only g c = g.met.S.Steps.only_then c.args.steps.now c.loop-tally.steps c.read_leaf-word-2.new.self c.loop-tally.invariant.only c.read_leaf-word-2.ensures.only
+
+pub returns-clause-left : goal.returns-clause-left
+returns-clause-left g c = omega (arith, c.loop-tally.invariant.left)
+
+pub returns-clause-less : goal.returns-clause-less
+returns-clause-less g c = omega (arith, c.loop-tally.invariant.less)

@@ -1,4 +1,4 @@
-use Rattle.std.proofs.Common.{sym, subst}
+use Rattle.std.proofs.Common.{arith, sym, subst}
 use Rattle.std.specs.Prelude.{Option}
 use Rattle.art_find.specs.Straight.{GetGoes, at_below, come_to}
 use Rattle.art_find.specs.declared.straight.Below.{Below}
@@ -62,3 +62,67 @@ pass-requires-clause-goes g c =
 pub returns-clause-goes : goal.returns-clause-goes
 returns-clause-goes g c = λ turns u before.
     c.pass.ensures.goes c.args.key.now turns u (c.in_ok-child.ensures.goes turns u (c.in_ok-place.ensures.goes turns u (c.in_ok-found.ensures.goes turns u (c.in_ok-check_above.ensures.goes c.args.key.now turns u (c.in_ok-stamp.ensures.goes c.args.key.now turns u before)))))
+
+pub returns-in_err-stamp-clause-only : goal.returns-in_err-stamp-clause-only
+returns-in_err-stamp-clause-only g c = c.in_err-stamp.ensures.only
+
+pub returns-in_err-stamp-clause-less : goal.returns-in_err-stamp-clause-less
+returns-in_err-stamp-clause-less g c = omega (arith, c.in_err-stamp.ensures.left)
+
+pub returns-in_err-stamp-clause-left : goal.returns-in_err-stamp-clause-left
+returns-in_err-stamp-clause-left g c = omega (arith, c.requires.left, c.in_err-stamp.ensures.left)
+
+pub returns-in_err-check_above-clause-only : goal.returns-in_err-check_above-clause-only
+returns-in_err-check_above-clause-only g c =
+    let next = g.met.S.Steps.only_then in
+    next c.args.steps.now c.stamp_node.new.steps c.check_above.new.steps c.in_ok-stamp.ensures.only c.in_err-check_above.ensures.only
+
+pub returns-in_err-check_above-clause-less : goal.returns-in_err-check_above-clause-less
+returns-in_err-check_above-clause-less g c = omega (arith, c.in_ok-stamp.ensures.left, c.in_err-check_above.ensures.left)
+
+pub returns-in_err-check_above-clause-left : goal.returns-in_err-check_above-clause-left
+returns-in_err-check_above-clause-left g c = omega (arith, c.requires.left, c.in_ok-stamp.ensures.left, c.in_err-check_above.ensures.left)
+
+pub returns-in_err-found-clause-only : goal.returns-in_err-found-clause-only
+returns-in_err-found-clause-only g c =
+    let next = g.met.S.Steps.only_then in
+    next c.args.steps.now c.check_above.new.steps c.search.new.steps (next c.args.steps.now c.stamp_node.new.steps c.check_above.new.steps c.in_ok-stamp.ensures.only c.in_ok-check_above.ensures.only) c.in_err-found.ensures.only
+
+pub returns-in_err-found-clause-less : goal.returns-in_err-found-clause-less
+returns-in_err-found-clause-less g c = omega (arith, c.in_ok-stamp.ensures.left, c.in_ok-check_above.ensures.left, c.in_err-found.ensures.left, c.in_err-found.ensures.less)
+
+pub returns-in_err-found-clause-left : goal.returns-in_err-found-clause-left
+returns-in_err-found-clause-left g c = omega (arith, c.requires.left, c.in_ok-stamp.ensures.left, c.in_ok-check_above.ensures.left, c.in_err-found.ensures.left, c.in_err-found.ensures.less)
+
+pub returns-in_err-place-clause-only : goal.returns-in_err-place-clause-only
+returns-in_err-place-clause-only g c =
+    let next = g.met.S.Steps.only_then in
+    next c.args.steps.now c.search.new.steps c.search_on.new.steps (next c.args.steps.now c.check_above.new.steps c.search.new.steps (next c.args.steps.now c.stamp_node.new.steps c.check_above.new.steps c.in_ok-stamp.ensures.only c.in_ok-check_above.ensures.only) c.in_ok-found.ensures.only) c.in_err-place.ensures.only
+
+pub returns-in_err-place-clause-less : goal.returns-in_err-place-clause-less
+returns-in_err-place-clause-less g c = omega (arith, c.in_ok-stamp.ensures.left, c.in_ok-check_above.ensures.left, c.in_ok-found.ensures.left, c.in_ok-found.ensures.less, c.in_err-place.ensures.left, c.in_err-place.ensures.less)
+
+pub returns-in_err-place-clause-left : goal.returns-in_err-place-clause-left
+returns-in_err-place-clause-left g c = omega (arith, c.requires.left, c.in_ok-stamp.ensures.left, c.in_ok-check_above.ensures.left, c.in_ok-found.ensures.left, c.in_ok-found.ensures.less, c.in_err-place.ensures.left, c.in_err-place.ensures.less)
+
+pub returns-in_err-child-clause-only : goal.returns-in_err-child-clause-only
+returns-in_err-child-clause-only g c =
+    let next = g.met.S.Steps.only_then in
+    next c.args.steps.now c.search_on.new.steps c.child_at.new.steps (next c.args.steps.now c.search.new.steps c.search_on.new.steps (next c.args.steps.now c.check_above.new.steps c.search.new.steps (next c.args.steps.now c.stamp_node.new.steps c.check_above.new.steps c.in_ok-stamp.ensures.only c.in_ok-check_above.ensures.only) c.in_ok-found.ensures.only) c.in_ok-place.ensures.only) c.in_err-child.ensures.only
+
+pub returns-in_err-child-clause-less : goal.returns-in_err-child-clause-less
+returns-in_err-child-clause-less g c = omega (arith, c.in_ok-stamp.ensures.left, c.in_ok-check_above.ensures.left, c.in_ok-found.ensures.left, c.in_ok-found.ensures.less, c.in_ok-place.ensures.left, c.in_ok-place.ensures.less, c.in_err-child.ensures.left)
+
+pub returns-in_err-child-clause-left : goal.returns-in_err-child-clause-left
+returns-in_err-child-clause-left g c = omega (arith, c.requires.left, c.in_ok-stamp.ensures.left, c.in_ok-check_above.ensures.left, c.in_ok-found.ensures.left, c.in_ok-found.ensures.less, c.in_ok-place.ensures.left, c.in_ok-place.ensures.less, c.in_err-child.ensures.left)
+
+pub returns-clause-only : goal.returns-clause-only
+returns-clause-only g c =
+    let next = g.met.S.Steps.only_then in
+    next c.args.steps.now c.child_at.new.steps c.pass.new.steps (next c.args.steps.now c.search_on.new.steps c.child_at.new.steps (next c.args.steps.now c.search.new.steps c.search_on.new.steps (next c.args.steps.now c.check_above.new.steps c.search.new.steps (next c.args.steps.now c.stamp_node.new.steps c.check_above.new.steps c.in_ok-stamp.ensures.only c.in_ok-check_above.ensures.only) c.in_ok-found.ensures.only) c.in_ok-place.ensures.only) c.in_ok-child.ensures.only) c.pass.ensures.only
+
+pub returns-clause-less : goal.returns-clause-less
+returns-clause-less g c = omega (arith, c.in_ok-stamp.ensures.left, c.in_ok-check_above.ensures.left, c.in_ok-found.ensures.left, c.in_ok-found.ensures.less, c.in_ok-place.ensures.left, c.in_ok-place.ensures.less, c.in_ok-child.ensures.left, c.pass.ensures.left)
+
+pub returns-clause-left : goal.returns-clause-left
+returns-clause-left g c = omega (arith, c.requires.left, c.in_ok-stamp.ensures.left, c.in_ok-check_above.ensures.left, c.in_ok-found.ensures.left, c.in_ok-found.ensures.less, c.in_ok-place.ensures.left, c.in_ok-place.ensures.less, c.in_ok-child.ensures.left, c.pass.ensures.left)

@@ -1,15 +1,19 @@
-use Rattle.std.proofs.Common.{None, refl, subst, arith}
-use Rattle.std.specs.Prelude.{Result, Ok}
+use Rattle.std.proofs.Common.{None, refl, sym, subst, arith}
+use Rattle.std.specs.Prelude.{Option, Result, Ok, Err}
 use Rattle.art_find.specs.Descents.{stage_below}
 use Rattle.art_find.specs.Driven.{get_done}
-use Rattle.art_find.specs.Straight.{at_child, at_stage}
+use Rattle.art_find.specs.Straight.{GetGoes, at_below, at_child, at_stage, come_to}
 use Rattle.art_find.specs.declared.asked.Answer.TheVariants.{Checked}
 use Rattle.art_find.specs.declared.asked.Asked.TheVariants.{Check}
+use Rattle.art_find.specs.declared.descents.Stage.TheVariants.{Child}
+use Rattle.art_find.specs.declared.straight.Below.{Below}
+use Rattle.art_find.proofs.Allowed.{allowed}
 use Rattle.art_find.proofs.Counting.{below_going, below_later}
-use Rattle.art_find.proofs.Going.{went_on}
-use Rattle.art_find.proofs.Stages.{link_fits}
+use Rattle.art_find.proofs.Going.{went_anew, went_on}
+use Rattle.art_find.proofs.Stages.{link_fits, reads_on}
 use Rattle.art_step.specs.Steps.Check as check
 use Rattle.art_step.specs.declared.faults.Changed.{Changed}
+use Rattle.art_step.proofs.Shows.{failed_rest}
 use Rattle.art_find.proofs.straight.pass.Goals as goal
 
 pub returns-in-Ok-clause-goes : goal.returns-in-Ok-clause-goes
@@ -22,3 +26,44 @@ returns-in-Ok-clause-goes g c = λ k turns u before.
     went_on z (g.S.Steps.sizes c.check.new.self) (g.met.S.Steps.only_sizes c.args.steps.now c.check.new.self c.check.ensures.only) k turns u v w
     (at_child x) (at_stage x.depth (stage_below x.stamp x.link)) c.args.tally.now _ (Check x.stamp) (Checked (Ok tt)) before refl row (omega (arith, c.requires.left)) refl refl (below_later x.depth x.stamp x.link)
     (below_going x.stamp x.link) (link_fits z k (get_done k) x.depth u v w x.stamp x.link before.get.fits row)
+
+pub check-requires-clause-may : goal.check-requires-clause-may
+check-requires-clause-may g c =
+    let b = c.requires.goes in
+    (allowed (g.S.Steps.sizes c.args.steps.now) b.0 (get_done b.0) c.args.child.depth (Child c.args.child.stamp c.args.child.link) b.1.1 (g.S.Steps.view c.args.steps.now) b.1.2.get.fits).1
+
+pub check-requires-clause-inside : goal.check-requires-clause-inside
+check-requires-clause-inside g c =
+    let b = c.requires.goes in
+    (allowed (g.S.Steps.sizes c.args.steps.now) b.0 (get_done b.0) c.args.child.depth (Child c.args.child.stamp c.args.child.link) b.1.1 (g.S.Steps.view c.args.steps.now) b.1.2.get.fits).0
+
+pub begin_anew-requires : goal.begin_anew-requires
+begin_anew-requires g c =
+    let few = c.requires.goes.1.2.few in
+    omega (arith, c.requires.left, few)
+
+pub returns-in-Ok-clause-only : goal.returns-in-Ok-clause-only
+returns-in-Ok-clause-only g c = c.check.ensures.only
+
+pub returns-in-Ok-clause-left : goal.returns-in-Ok-clause-left
+returns-in-Ok-clause-left g c = omega (arith, c.requires.left)
+
+pub returns-in-Err-clause-only : goal.returns-in-Err-clause-only
+returns-in-Err-clause-only g c = c.check.ensures.only
+
+pub returns-in-Err-clause-left : goal.returns-in-Err-clause-left
+returns-in-Err-clause-left g c = omega (arith, c.requires.left, c.begin_anew.ensures.left)
+
+pub returns-in-Err-clause-goes : goal.returns-in-Err-clause-goes
+returns-in-Err-clause-goes g c = λ k turns u before.
+    let z = g.S.Steps.sizes c.args.steps.now in
+    let v = g.S.Steps.view c.args.steps.now in
+    let w = g.S.Steps.view c.check.new.self in
+    let e = c.in-Err.field-0 in
+    let x = c.args.child in
+    let row = subst (λ (r : Result (Unit {0}) Changed). check.Outcome z v w x.stamp None r) c.in-Err.is c.check.ensures.row in
+    let z' = g.S.Steps.sizes c.check.new.self in
+    subst (λ (r : Option Below). GetGoes z' k turns u w (come_to at_below r c.begin_anew.new.descent) c.begin_anew.new.tally) (sym c.begin_anew.ensures.none)
+    (went_anew z z' (g.met.S.Steps.only_sizes c.args.steps.now c.check.new.self c.check.ensures.only) k turns u v w
+    (at_child x) c.begin_anew.new.descent c.args.tally.now c.begin_anew.new.tally (Check x.stamp) (Checked (Err e)) before refl row (omega (arith, c.begin_anew.ensures.left, c.requires.left)) refl c.begin_anew.ensures.restarts c.begin_anew.ensures.start
+    (reads_on u v w (failed_rest v w x.stamp e.found row.3) before.get.fits.0))

@@ -9,6 +9,7 @@ use Rattle.art_find.specs.declared.asked.Answer.TheVariants.{Word as word_told}
 use Rattle.art_find.specs.declared.asked.Asked.TheVariants.{Read}
 use Rattle.art_find.specs.declared.descents.NodeSeen.{NodeSeen}
 use Rattle.art_find.specs.declared.descents.Stage.TheVariants.{Header}
+use Rattle.art_find.proofs.Allowed.{allowed}
 use Rattle.art_find.proofs.Counting.{staged_first, staged_going}
 use Rattle.art_find.proofs.Going.{went_on}
 use Rattle.art_find.proofs.NodeWords.{past_prefix}
@@ -81,3 +82,38 @@ returns-clause-goes g c = λ turns u before.
     (at_stage depth (Header y n)) (at_stage depth (staged c.first_word.result seen)) c.args.tally.now _ (Read y 1) (word_told word) before refl row (omega (arith, c.requires.left)) refl refl
     (staged_first depth c.first_word.result seen) (staged_going c.first_word.result seen)
     (staged_fits z k (get_done k) depth u w seen (node_on z u v w y 1 word n fits.0 row) (IsHeader word) c.first_word.result deep small c.first_word.ensures past there)
+
+pub read-header-requires-clause-may : goal.read-header-requires-clause-may
+read-header-requires-clause-may g c =
+    let b = c.requires.goes in
+    (allowed (g.S.Steps.sizes c.args.steps.now) c.args.key.now (get_done c.args.key.now) c.args.depth (Header c.args.stamp c.args.node) b.1 (g.S.Steps.view c.args.steps.now) b.2.get.fits).1
+
+pub read-requires-clause-few : goal.read-requires-clause-few
+read-requires-clause-few g c = c.requires.goes.2.short
+
+pub pass_prefix-requires-clause-left : goal.pass_prefix-requires-clause-left
+pass_prefix-requires-clause-left g c = omega (arith, c.requires.left)
+
+pub returns-then-read_header-gt0-clause-only : goal.returns-then-read_header-gt0-clause-only
+returns-then-read_header-gt0-clause-only g c = g.met.S.Steps.only_then c.args.steps.now c.read-header.new.self c.pass_prefix.new.steps c.read-header.ensures.only c.pass_prefix.ensures.only
+
+pub returns-then-read_header-gt0-clause-less : goal.returns-then-read_header-gt0-clause-less
+returns-then-read_header-gt0-clause-less g c = omega (arith, c.requires.left, c.pass_prefix.ensures.less)
+
+pub returns-then-read_header-gt0-clause-left : goal.returns-then-read_header-gt0-clause-left
+returns-then-read_header-gt0-clause-left g c = c.pass_prefix.ensures.left
+
+pub returns-then-read_header-gt0-clause-deep : goal.returns-then-read_header-gt0-clause-deep
+returns-then-read_header-gt0-clause-deep g c = c.pass_prefix.ensures.deep
+
+pub returns-clause-only : goal.returns-clause-only
+returns-clause-only g c = c.read-header.ensures.only
+
+pub returns-clause-less : goal.returns-clause-less
+returns-clause-less g c = omega (arith, c.requires.left)
+
+pub returns-clause-left : goal.returns-clause-left
+returns-clause-left g c = omega (arith, c.requires.left)
+
+pub returns-clause-deep : goal.returns-clause-deep
+returns-clause-deep g c = c.if-depth-key.false

@@ -16,6 +16,9 @@ returns-in-Some-clause-tells c = (
       (c.loop-at.invariant w body has, c.in-Some.ensures.2 w here, c.in-Some.ensures.3 w body here),
 )
 
+pub loop-at-init : goal.loop-at-init
+loop-at-init c w body has b above below = has.1.1 b above (omega (arith, c.max-at.ensures, c.from-first.ensures, c.from.ensures))
+
 pub loop-at-preserved : goal.loop-at-preserved
 loop-at-preserved c w body has =
     none_from_more (child_of Node48 w) c.args.low c.loop-at.at (c.loop-at.at + 1) (omega arith) (c.loop-at.invariant w body has)

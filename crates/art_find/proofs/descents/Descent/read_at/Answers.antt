@@ -1,12 +1,23 @@
-use Rattle.std.proofs.Common.{◌+◌, ◌∙◌, refl}
+use Rattle.std.proofs.Common.{◌≡◌, ◌+◌, ◌<◌, ◌∙◌, ap, refl, sym, subst}
 use Rattle.art_cell.specs.declared.cells.Cell.TheVariants as cell
+use Rattle.art_find.specs.Descents.{most_steps, stands_on}
 use Rattle.art_find.specs.declared.asked.Answer.TheVariants.{Word as word_told}
 use Rattle.art_find.specs.declared.asked.Asked.TheVariants.{Read, ReadLeaf}
+use Rattle.art_find.specs.declared.descents.Descent.{Descent}
+use Rattle.art_find.specs.declared.descents.Stage.{Stage}
 use Rattle.art_find.specs.declared.descents.Stage.TheVariants.{Anchor, Header, Prefix, Keys, Slot, Value, Length, Bytes}
 use Rattle.art_step.specs.declared.views.Fact.TheVariants.{Word}
 use Rattle.art_step.proofs.Shows.{read_rest, read_stamp}
 use Rattle.art_find.proofs.Stages.{at_stage, leaf_on, leaf_still, leaf_word, node_noted, node_on, node_still, node_word, reads_on}
 use Rattle.art_find.proofs.descents.Descent.read_at.Goals as goal
+
+-- it stands at the stage that it is known to be at
+module _ (m : Descent) (now : Stage) (is : m.stage ≡ now) (m' : Descent) where
+  later : most_steps m.depth now < most_steps m'.depth m'.stage → most_steps m.depth m.stage < most_steps m'.depth m'.stage
+  later steps = subst (λ (t : Stage). most_steps m.depth t < most_steps m'.depth m'.stage) (sym is) steps
+
+  stays : stands_on m'.stage ≡ stands_on now → stands_on m'.stage ≡ stands_on m.stage
+  stays same = same ∙ sym (ap stands_on is)
 
 pub returns-in-Anchor-clause-fits : goal.returns-in-Anchor-clause-fits
 returns-in-Anchor-clause-fits c = λ z what u v w asked fits is row.
@@ -95,3 +106,115 @@ returns-in-Bytes-clause-fits c = λ z what u v w asked fits is row.
     let read = both.1 (ReadLeaf seen.stamp seen.leaf place) refl in
     c.see_bytes.ensures.fits z what u w (leaf_on z u v w seen.stamp place word seen.leaf both.0.0 read) (leaf_still z u v w seen.stamp place word seen.leaf _ read both.0.2.shows)
     (leaf_word z u v w seen.stamp place word seen.leaf read)
+
+pub returns-in-Anchor-clause-steps : goal.returns-in-Anchor-clause-steps
+returns-in-Anchor-clause-steps c =
+    let a = c.in-Anchor in
+    later c.args.self.now (Anchor a.stamp) (c.requires.at ∙ a.is) c.see_root.new.self c.see_root.ensures.steps
+
+pub returns-in-Anchor-clause-stays : goal.returns-in-Anchor-clause-stays
+returns-in-Anchor-clause-stays c =
+    let a = c.in-Anchor in
+    stays c.args.self.now (Anchor a.stamp) (c.requires.at ∙ a.is) c.see_root.new.self c.see_root.ensures.stays
+
+pub returns-in-Anchor-clause-going : goal.returns-in-Anchor-clause-going
+returns-in-Anchor-clause-going c = c.see_root.ensures.going
+
+pub returns-in-Anchor-clause-exact : goal.returns-in-Anchor-clause-exact
+returns-in-Anchor-clause-exact c = c.see_root.ensures.exact
+
+pub returns-in-Header-clause-steps : goal.returns-in-Header-clause-steps
+returns-in-Header-clause-steps c =
+    let a = c.in-Header in
+    later c.args.self.now (Header a.stamp a.node) (c.requires.at ∙ a.is) c.see_header.new.self c.see_header.ensures.steps
+
+pub returns-in-Header-clause-stays : goal.returns-in-Header-clause-stays
+returns-in-Header-clause-stays c =
+    let a = c.in-Header in
+    stays c.args.self.now (Header a.stamp a.node) (c.requires.at ∙ a.is) c.see_header.new.self c.see_header.ensures.stays
+
+pub returns-in-Header-clause-going : goal.returns-in-Header-clause-going
+returns-in-Header-clause-going c = c.see_header.ensures.going
+
+pub returns-in-Header-clause-exact : goal.returns-in-Header-clause-exact
+returns-in-Header-clause-exact c = c.see_header.ensures.exact
+
+pub returns-in-Prefix-clause-steps : goal.returns-in-Prefix-clause-steps
+returns-in-Prefix-clause-steps c =
+    let a = c.in-Prefix in
+    later c.args.self.now (Prefix a.seen a.number a.before) (c.requires.at ∙ a.is) c.see_prefix.new.self c.see_prefix.ensures.steps
+
+pub returns-in-Prefix-clause-stays : goal.returns-in-Prefix-clause-stays
+returns-in-Prefix-clause-stays c =
+    let a = c.in-Prefix in
+    stays c.args.self.now (Prefix a.seen a.number a.before) (c.requires.at ∙ a.is) c.see_prefix.new.self c.see_prefix.ensures.stays
+
+pub returns-in-Prefix-clause-going : goal.returns-in-Prefix-clause-going
+returns-in-Prefix-clause-going c = c.see_prefix.ensures.going
+
+pub returns-in-Prefix-clause-exact : goal.returns-in-Prefix-clause-exact
+returns-in-Prefix-clause-exact c = c.see_prefix.ensures.exact
+
+pub returns-in-Keys-clause-steps : goal.returns-in-Keys-clause-steps
+returns-in-Keys-clause-steps c =
+    let a = c.in-Keys in
+    later c.args.self.now (Keys a.seen a.number) (c.requires.at ∙ a.is) c.see_keys.new.self c.see_keys.ensures.steps
+
+pub returns-in-Keys-clause-stays : goal.returns-in-Keys-clause-stays
+returns-in-Keys-clause-stays c =
+    let a = c.in-Keys in
+    stays c.args.self.now (Keys a.seen a.number) (c.requires.at ∙ a.is) c.see_keys.new.self c.see_keys.ensures.stays
+
+pub returns-in-Keys-clause-going : goal.returns-in-Keys-clause-going
+returns-in-Keys-clause-going c = c.see_keys.ensures.going
+
+pub returns-in-Keys-clause-exact : goal.returns-in-Keys-clause-exact
+returns-in-Keys-clause-exact c = c.see_keys.ensures.exact
+
+pub returns-in-Slot-clause-steps : goal.returns-in-Slot-clause-steps
+returns-in-Slot-clause-steps c =
+    let a = c.in-Slot in
+    later c.args.self.now (Slot a.seen a.place) (c.requires.at ∙ a.is) c.see_slot.new.self c.see_slot.ensures.steps
+
+pub returns-in-Slot-clause-stays : goal.returns-in-Slot-clause-stays
+returns-in-Slot-clause-stays c =
+    let a = c.in-Slot in
+    stays c.args.self.now (Slot a.seen a.place) (c.requires.at ∙ a.is) c.see_slot.new.self c.see_slot.ensures.stays
+
+pub returns-in-Slot-clause-going : goal.returns-in-Slot-clause-going
+returns-in-Slot-clause-going c = c.see_slot.ensures.going
+
+pub returns-in-Slot-clause-exact : goal.returns-in-Slot-clause-exact
+returns-in-Slot-clause-exact c = c.see_slot.ensures.exact
+
+pub returns-in-Length-clause-steps : goal.returns-in-Length-clause-steps
+returns-in-Length-clause-steps c =
+    let a = c.in-Length in
+    later c.args.self.now (Length a.stamp a.leaf a.value) (c.requires.at ∙ a.is) c.see_length.new.self c.see_length.ensures.steps
+
+pub returns-in-Length-clause-stays : goal.returns-in-Length-clause-stays
+returns-in-Length-clause-stays c =
+    let a = c.in-Length in
+    stays c.args.self.now (Length a.stamp a.leaf a.value) (c.requires.at ∙ a.is) c.see_length.new.self c.see_length.ensures.stays
+
+pub returns-in-Length-clause-going : goal.returns-in-Length-clause-going
+returns-in-Length-clause-going c = c.see_length.ensures.going
+
+pub returns-in-Length-clause-exact : goal.returns-in-Length-clause-exact
+returns-in-Length-clause-exact c = c.see_length.ensures.exact
+
+pub returns-in-Bytes-clause-steps : goal.returns-in-Bytes-clause-steps
+returns-in-Bytes-clause-steps c =
+    let a = c.in-Bytes in
+    later c.args.self.now (Bytes a.seen a.number a.before) (c.requires.at ∙ a.is) c.see_bytes.new.self c.see_bytes.ensures.steps
+
+pub returns-in-Bytes-clause-stays : goal.returns-in-Bytes-clause-stays
+returns-in-Bytes-clause-stays c =
+    let a = c.in-Bytes in
+    stays c.args.self.now (Bytes a.seen a.number a.before) (c.requires.at ∙ a.is) c.see_bytes.new.self c.see_bytes.ensures.stays
+
+pub returns-in-Bytes-clause-going : goal.returns-in-Bytes-clause-going
+returns-in-Bytes-clause-going c = c.see_bytes.ensures.going
+
+pub returns-in-Bytes-clause-exact : goal.returns-in-Bytes-clause-exact
+returns-in-Bytes-clause-exact c = c.see_bytes.ensures.exact
