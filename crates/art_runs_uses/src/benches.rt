@@ -11,7 +11,6 @@ use crate::events::Notes;
 use crate::wishes::{Wish, key_of};
 use art_call::Caller;
 use art_key::{Bound, Schema};
-use art_model::NoMemory;
 use art_runs::{Op, run};
 use art_step::Sizes;
 use art_world::World;
@@ -79,18 +78,19 @@ pub(crate) fn opened(
     sizes: &Sizes,
     counter_start: u64,
     wish: Wish,
-) -> Result<Bench, NoMemory>
+) -> Bench
     requires counter { counter_start ≤ last_counter }
     requires passes { sizes.now.passes ≡ PASSES }
-    ensures { IfOk result (λ b. IsBench b.world b.ops.items) }
+    ensures { IsBench result.world result.ops.items }
 {
-    let world = World::open(alloc, sizes, counter_start)?;
+    let world = World::open(alloc, sizes, counter_start).expect(rt, "room for a world");
     let mut ops = Vec::new(alloc);
     for pass in 0..PASSES {
-        let caller = Box::new(alloc, Caller::new(pass, sizes))?;
-        ops.push(begun(rt, schema, caller, wish))?;
+        let caller = Box::new(alloc, Caller::new(pass, sizes)).expect(rt, "memory");
+        let op = begun(rt, schema, caller, wish);
+        ops.push(op).expect(rt, "memory");
     }
-    Ok(Bench { world, ops })
+    Bench { world, ops }
 }
 
 impl Bench {

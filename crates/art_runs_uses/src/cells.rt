@@ -3,7 +3,7 @@ use art_call::Caller;
 use art_cell::{Cell, Link, Node, Pool};
 use art_epoch::Limbo;
 use art_key::{Schema, decode};
-use art_model::{Command, NoMemory, Reply, SortedRows, Tuple};
+use art_model::{Command, Reply, SortedRows, Tuple};
 use art_step::pool_of_layout;
 use art_world::World;
 use std::alloc::Global;
@@ -23,33 +23,32 @@ fn pool_of(link: Link) -> Pool {
 }
 
 /// What the node's children are.
-fn push_children(world: &World, node: Node, links: &mut Vec<Link>) -> Result<(), NoMemory> {
+fn push_children(rt: &impl Abort, world: &World, node: Node, links: &mut Vec<Link>) {
     let pool = pool_of_layout(node.layout);
     if node.number >= world.sizes().pool_size(pool) {
-        return Ok(());
+        return;
     }
     let end = node.layout.size();
     for place in end - node.layout.places()..end {
         let word = world.word(Cell::Node(node), place);
         if let Some(link) = Link::named_by(word) {
-            links.push(link)?;
+            links.push(link).expect(rt, "memory");
         }
     }
-    Ok(())
 }
 
 /// All that is named in the tree, by a walk from the anchor on: as often as it is named.
-fn named(alloc: Global, world: &World) -> Result<Vec<Link>, NoMemory> {
+fn named(rt: &impl Abort, alloc: Global, world: &World) -> Vec<Link> {
     let mut links = Vec::new(alloc);
     if let Some(root) = Link::named_by(world.word(Cell::Anchor, 1)) {
-        links.push(root)?;
+        links.push(root).expect(rt, "memory");
     }
     for index in 0..MOST {
         if let Some(&Link::Node(node)) = links.get(index) {
-            push_children(world, node, &mut links)?;
+            push_children(rt, world, node, &mut links);
         }
     }
-    Ok(links)
+    links
 }
 
 /// How many numbers of the pool are free.
@@ -60,6 +59,19 @@ fn free(world: &World, pool: Pool) -> usize {
         count = count.wrapping_add(world.free_word(pool, index).count_ones() as usize);
     }
     count
+}
+
+/// This is the word of free numbers at an index of the pool.
+pub(crate) fn check_free_word(
+    rt: &impl Abort,
+    world: &World,
+    pool: Pool,
+    index: usize,
+    wanted: u64,
+) {
+    let words = (world.sizes().pool_size(pool) as usize + 63) / 64;
+    assert!(rt; index < words);
+    assert_eq!(rt; world.free_word(pool, index), wanted);
 }
 
 /// Whether numbers of the pool are not free.
@@ -100,18 +112,12 @@ fn account_for(rt: &impl Abort, world: &World, links: &[Link], pool: Pool, waiti
 }
 
 /// Of each pool as many numbers are free, named in the tree, or waiting as there are.
-pub(crate) fn account(
-    rt: &impl Abort,
-    alloc: Global,
-    world: &World,
-    callers: &[Box<Caller>],
-) -> Result<(), NoMemory> {
-    let links = named(alloc, world)?;
+pub(crate) fn account(rt: &impl Abort, alloc: Global, world: &World, callers: &[Box<Caller>]) {
+    let links = named(rt, alloc, world);
     for pool in POOLS {
         let waiting = waiting_in_all(callers, pool);
         account_for(rt, world, links.as_slice(), pool, waiting);
     }
-    Ok(())
 }
 
 /// The same of a world of one writer; and as many leaves are named as there are rows.
@@ -121,13 +127,12 @@ pub(crate) fn account_with_rows(
     world: &World,
     limbo: &Limbo,
     rows: usize,
-) -> Result<(), NoMemory> {
-    let links = named(alloc, world)?;
+) {
+    let links = named(rt, alloc, world);
     for pool in POOLS {
         account_for(rt, world, links.as_slice(), pool, waiting(limbo, pool));
     }
     assert_eq!(rt; named_of(links.as_slice(), Pool::Leaves), rows);
-    Ok(())
 }
 
 /// The bytes of the key of a leaf.
@@ -164,14 +169,14 @@ pub(crate) fn rows_of_tree(
     alloc: Global,
     world: &World,
     schema: &Schema,
-) -> Result<SortedRows, NoMemory> {
+) -> SortedRows {
     let mut rows = SortedRows::new(alloc);
-    for link in named(alloc, world)? {
+    for link in named(rt, alloc, world) {
         if let Link::Leaf(number) = link {
             let (tuple, value) = row_in(rt, alloc, world, schema, number);
-            let reply = rows.apply(&Command::Insert(tuple, value))?;
-            assert_eq!(rt; reply, Reply::Inserted);
+            let reply = rows.apply(&Command::Insert(tuple, value));
+            assert_eq!(rt; reply.expect(rt, "memory"), Reply::Inserted);
         }
     }
-    Ok(rows)
+    rows
 }

@@ -1,9 +1,8 @@
 //! Drawn inserts, removals and gets answer as a map of rows does, and all numbers are accounted for in the end.
-ghost use Rattle.std.specs.Prelude.{◌≡◌};
 ghost use Rattle.art_runs_uses.specs.Writes.{WritesFirst};
 
 use crate::cells::account_with_rows;
-use crate::clients::{finds, opened, puts, takes};
+use crate::clients::{check_find, check_put, check_take, opened};
 use art_change::{Outcome, Writer};
 use art_find::Got;
 use art_key::{Schema, encode};
@@ -12,8 +11,8 @@ use art_step::Sizes;
 use art_world::World;
 use rand_pcg::Pcg32;
 use rand_pcg::rand_core::{Rng, SeedableRng};
+use std::alloc::Global;
 use std::process::Abort;
-use std::test::*;
 
 const SIZES: Sizes = Sizes {
     leaves: 1024,
@@ -38,6 +37,31 @@ fn three_columns(numbers: &mut Pcg32) -> Tuple {
     tuple.push(Value::Int(i128::from(numbers.next_u32() % 150)));
     tuple.push(Value::Int(i128::from(numbers.next_u32() % 2)));
     tuple
+}
+
+/// The columns of the rows.
+#[derive(Clone, Copy)]
+enum Columns {
+    One,
+    Three,
+}
+
+impl Columns {
+    /// The schema, as text.
+    fn text(self) -> &'static str {
+        match self {
+            Columns::One => "u16",
+            Columns::Three => "u8,u16,u8",
+        }
+    }
+
+    /// A drawn tuple.
+    fn tuple(self, numbers: &mut Pcg32) -> Tuple {
+        match self {
+            Columns::One => one_column(numbers),
+            Columns::Three => three_columns(numbers),
+        }
+    }
 }
 
 /// How an insert or a removal ends whose map answers so, where leaves are left.
@@ -76,80 +100,82 @@ fn got_of(reply: &Reply) -> Option<Got> {
     }
 }
 
-/// One command of the tuple, in the tree and in the map.
-fn agree(
+/// What the map replies to the command, of which no scan lists more rows than one may.
+fn reply(rt: &impl Abort, rows: &mut SortedRows, command: &Command) -> Reply {
+    if let Command::Scan(_, _, limit) = command {
+        assert!(rt; *limit <= 100);
+    }
+    rows.apply(command).expect(rt, "memory")
+}
+
+/// How an insert or a removal ends, as the map has it.
+fn wanted_outcome(rt: &impl Abort, rows: &mut SortedRows, command: &Command) -> Outcome {
+    outcome_of(&reply(rt, rows, command)).expect(rt, "a reply to a write")
+}
+
+/// How a get ends, as the map has it.
+fn wanted_got(rt: &impl Abort, rows: &mut SortedRows, command: &Command) -> Got {
+    got_of(&reply(rt, rows, command)).expect(rt, "a reply to a get")
+}
+
+/// One command of the tuple ends in the tree as in the map.
+fn check_drawn(
     rt: &impl Abort,
     world: &mut World,
     writer: &mut Writer,
     rows: &mut SortedRows,
     schema: &Schema,
     tuple: Tuple,
-    command: Drawn,
+    drawn: Drawn,
 )
     requires { WritesFirst world.old writer.old }
-    ensures sizes { world.new.sizes ≡ world.old.sizes }
-    ensures writes { WritesFirst world.new writer.new }
+    ensures { WritesFirst world.new writer.new }
 {
     let key = encode(schema, &tuple).expect(rt, "a tuple of the schema");
-    match command {
+    match drawn {
         Drawn::Insert(value) => {
-            let told = rows.apply(&Command::Insert(tuple, value));
-            let reply = told.expect(rt, "memory");
-            assert_eq!(rt; Some(puts(world, writer, &key, value)), outcome_of(&reply));
+            let wanted = wanted_outcome(rt, rows, &Command::Insert(tuple, value));
+            check_put(rt, world, writer, &key, value, wanted);
         }
         Drawn::Remove => {
-            let reply = rows.apply(&Command::Remove(tuple)).expect(rt, "memory");
-            assert_eq!(rt; Some(takes(world, writer, &key)), outcome_of(&reply));
+            let wanted = wanted_outcome(rt, rows, &Command::Remove(tuple));
+            check_take(rt, world, writer, &key, wanted);
         }
         Drawn::Get => {
-            let reply = rows.apply(&Command::Get(tuple)).expect(rt, "memory");
-            assert_eq!(rt; Some(finds(world, writer, &key)), got_of(&reply));
+            let wanted = wanted_got(rt, rows, &Command::Get(tuple));
+            check_find(rt, world, writer, &key, wanted);
         }
     }
 }
 
-#[test]
-fn drawn_commands_of_one_column_answer_as_a_map(rt: HostRuntime) -> Result<(), Fail> {
-    let (mut world, mut writer) = opened(rt.alloc(), &SIZES, 0)?;
-    let schema = Schema::parse("u16").expect(&rt, "a schema");
-    let mut rows = SortedRows::new(rt.alloc());
+/// 10,000 drawn commands answer as a map of rows does, and all numbers are accounted for in the end.
+fn check_commands(rt: &impl Abort, alloc: Global, columns: Columns) {
+    let (mut world, mut writer) = opened(rt, alloc, &SIZES, 0);
+    let schema = Schema::parse(columns.text()).expect(rt, "a schema");
+    let mut rows = SortedRows::new(alloc);
     let mut numbers = Pcg32::seed_from_u64(1);
     for _ in 0..10000 {
-        let tuple = one_column(&mut numbers);
-        let command = draw(&mut numbers);
-        agree(
-            &rt,
+        let tuple = columns.tuple(&mut numbers);
+        let drawn = draw(&mut numbers);
+        check_drawn(
+            rt,
             &mut world,
             &mut writer,
             &mut rows,
             &schema,
             tuple,
-            command,
+            drawn,
         );
     }
-    account_with_rows(&rt, rt.alloc(), &world, &writer.end(), rows.rows().len())?;
-    Ok(())
+    account_with_rows(rt, alloc, &world, &writer.end(), rows.rows().len());
 }
 
 #[test]
-fn drawn_commands_of_three_columns_answer_as_a_map(rt: HostRuntime) -> Result<(), Fail> {
-    let (mut world, mut writer) = opened(rt.alloc(), &SIZES, 0)?;
-    let schema = Schema::parse("u8,u16,u8").expect(&rt, "a schema");
-    let mut rows = SortedRows::new(rt.alloc());
-    let mut numbers = Pcg32::seed_from_u64(1);
-    for _ in 0..10000 {
-        let tuple = three_columns(&mut numbers);
-        let command = draw(&mut numbers);
-        agree(
-            &rt,
-            &mut world,
-            &mut writer,
-            &mut rows,
-            &schema,
-            tuple,
-            command,
-        );
-    }
-    account_with_rows(&rt, rt.alloc(), &world, &writer.end(), rows.rows().len())?;
-    Ok(())
+fn drawn_commands_of_one_column_answer_as_a_map(rt: HostRuntime) {
+    check_commands(&rt, rt.alloc(), Columns::One);
+}
+
+#[test]
+fn drawn_commands_of_three_columns_answer_as_a_map(rt: HostRuntime) {
+    check_commands(&rt, rt.alloc(), Columns::Three);
 }

@@ -6,12 +6,10 @@ use crate::events::Notes;
 use crate::wishes::{Wish, schema_of_rows};
 use art_cell::{Cell, Layout, Node};
 use art_key::Schema;
-use art_model::NoMemory;
 use art_step::Sizes;
 use art_world::World;
 use std::alloc::Global;
 use std::process::Abort;
-use std::test::*;
 
 const SIZES: Sizes = Sizes {
     leaves: 8,
@@ -60,10 +58,10 @@ fn note_words(
 }
 
 /// Two rows, one, and two again: the node is claimed, released, upgraded, released as obsolete, claimed and released.
-fn check_two_lives(rt: &impl Abort, alloc: Global) -> Result<(), NoMemory> {
+fn check_two_lives(rt: &impl Abort, alloc: Global) {
     let schema = schema_of_rows(rt);
     let first = Wish::Insert(1, 1);
-    let mut bench = opened(rt, alloc, &schema, &SIZES, 0, first)?;
+    let mut bench = opened(rt, alloc, &schema, &SIZES, 0, first);
     let mut notes = Notes::new(rt, alloc, PASSES as usize, first);
     let mut words = Vec::new(alloc);
     note_words(rt, &schema, &mut bench, &mut notes, &mut words);
@@ -76,11 +74,9 @@ fn check_two_lives(rt: &impl Abort, alloc: Global) -> Result<(), NoMemory> {
     assert_eq!(rt; world.version(Cell::Anchor).word, 16);
     assert_eq!(rt; ops.len(), PASSES as usize);
     assert_eq!(rt; words.as_slice(), [1, 2, 4, 6, 9, 2, 4].as_slice());
-    Ok(())
 }
 
 #[test]
-fn a_node_begins_its_counter_anew_with_each_life(rt: HostRuntime) -> Result<(), Fail> {
-    check_two_lives(&rt, rt.alloc())?;
-    Ok(())
+fn a_node_begins_its_counter_anew_with_each_life(rt: HostRuntime) {
+    check_two_lives(&rt, rt.alloc());
 }

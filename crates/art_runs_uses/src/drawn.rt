@@ -10,14 +10,13 @@ use crate::wishes::{Wish, draw, schema_of_rows};
 use art_call::Outcome;
 use art_cell::Pool;
 use art_key::Schema;
-use art_model::NoMemory;
 use art_runs::{Op, run};
 use art_step::Sizes;
+use art_world::World;
 use rand_pcg::Pcg32;
 use rand_pcg::rand_core::{Rng, SeedableRng};
 use std::alloc::Global;
 use std::process::Abort;
-use std::test::*;
 
 /// Four words of free numbers in each pool: a call that loses a number to another looks in the next word.
 const LARGE: Sizes = Sizes {
@@ -34,22 +33,16 @@ const LAST: u64 = (1 << 62) - 8;
 
 /// All ops end, and what stands is checked: the history is legal, leaves the rows of the tree, and has events of each kind; each number
 /// is free, named in the tree, or waiting.
-fn closes(
-    rt: &impl Abort,
-    alloc: Global,
-    schema: &Schema,
-    bench: Bench,
-    notes: Notes,
-) -> Result<Tally, NoMemory> {
+fn closes(rt: &impl Abort, alloc: Global, schema: &Schema, bench: Bench, notes: Notes) -> Tally {
     let Bench { world, ops } = bench;
     let (events, tally) = notes.all(rt, alloc);
-    let rows = rows_of_tree(rt, alloc, &world, schema)?;
-    check_history(rt, alloc, schema, events.as_slice(), &rows)?;
+    let rows = rows_of_tree(rt, alloc, &world, schema);
+    check_history(rt, alloc, schema, events.as_slice(), &rows);
     check_kinds(rt, events.as_slice());
     assert!(rt; !rows.rows().is_empty());
     let callers = callers_of(rt, alloc, ops);
-    account(rt, alloc, &world, callers.as_slice())?;
-    Ok(tally)
+    account(rt, alloc, &world, callers.as_slice());
+    tally
 }
 
 /// 10,000 turns, drawn with the seed. A pass whose op has ended begins a drawn one: in the first 2,000 turns mostly an insert, in the
@@ -77,13 +70,13 @@ fn have_one_history(
     sizes: &Sizes,
     counter_start: u64,
     seed: u64,
-) -> Result<Tally, NoMemory>
+) -> Tally
     requires counter { counter_start ≤ last_counter }
     requires passes { sizes.now.passes ≡ PASSES }
 {
     let schema = schema_of_rows(rt);
     let first = Wish::Get(0);
-    let mut bench = opened(rt, alloc, &schema, sizes, counter_start, first)?;
+    let mut bench = opened(rt, alloc, &schema, sizes, counter_start, first);
     let mut notes = Notes::new(rt, alloc, PASSES as usize, first);
     turns(rt, &schema, &mut bench, &mut notes, seed);
     bench.runs_out(rt, &schema, &mut notes);
@@ -98,24 +91,39 @@ fn check_all_answered(rt: &impl Abort, tally: Tally) {
     assert!(rt; tally.restarts > 0);
 }
 
+/// Node16s were taken, and came back.
+fn check_changes(rt: &impl Abort, tally: Tally) {
+    assert!(rt; tally.node16_changes > 1);
+}
+
+/// Some ops were refused as full, and none as exhausted.
+fn check_full(rt: &impl Abort, tally: Tally) {
+    assert!(rt; tally.full > 0);
+    assert_eq!(rt; tally.exhausted, 0);
+}
+
+/// Some ops were refused as exhausted, and none as full.
+fn check_exhausted(rt: &impl Abort, tally: Tally) {
+    assert!(rt; tally.exhausted > 0);
+    assert_eq!(rt; tally.full, 0);
+}
+
 /// What four passes did by drawn turns, in the order in which it was made, is a legal history, which leaves the rows of the tree; none was
 /// refused, and nodes grew and shrank.
 #[test]
-fn four_passes_by_drawn_turns_have_one_history(rt: HostRuntime) -> Result<(), Fail> {
-    let tally = have_one_history(&rt, rt.alloc(), &LARGE, 0, 1)?;
+fn four_passes_by_drawn_turns_have_one_history(rt: HostRuntime) {
+    let tally = have_one_history(&rt, rt.alloc(), &LARGE, 0, 1);
     check_all_answered(&rt, tally);
-    assert!(rt; tally.node16_changes > 1);
-    Ok(())
+    check_changes(&rt, tally);
 }
 
 /// The same with ten other seeds.
 #[test]
-fn ten_other_seeds_have_one_history_each(rt: HostRuntime) -> Result<(), Fail> {
+fn ten_other_seeds_have_one_history_each(rt: HostRuntime) {
     for seed in 2..12 {
-        let tally = have_one_history(&rt, rt.alloc(), &LARGE, 0, seed)?;
+        let tally = have_one_history(&rt, rt.alloc(), &LARGE, 0, seed);
         check_all_answered(&rt, tally);
     }
-    Ok(())
 }
 
 /// Ten leaves, for twenty rows.
@@ -130,45 +138,45 @@ const SMALL: Sizes = Sizes {
 
 /// The same where pools are full at times: what was refused has no event, and each number stays in one place.
 #[test]
-fn small_pools_are_full_and_the_history_stays_legal(rt: HostRuntime) -> Result<(), Fail> {
-    let tally = have_one_history(&rt, rt.alloc(), &SMALL, 0, 1)?;
-    assert!(rt; tally.full > 0);
-    assert_eq!(rt; tally.exhausted, 0);
-    Ok(())
+fn small_pools_are_full_and_the_history_stays_legal(rt: HostRuntime) {
+    let tally = have_one_history(&rt, rt.alloc(), &SMALL, 0, 1);
+    check_full(&rt, tally);
 }
 
 /// The same where the anchor can be locked twice: for the first row, and for the node above the first two. Then no change of that node
 /// which wants the anchor is made any more.
 #[test]
-fn a_counter_near_its_end_is_exhausted_and_the_history_stays_legal(
-    rt: HostRuntime,
-) -> Result<(), Fail> {
-    let tally = have_one_history(&rt, rt.alloc(), &LARGE, LAST - 2, 1)?;
-    assert!(rt; tally.exhausted > 0);
-    assert_eq!(rt; tally.full, 0);
-    Ok(())
+fn a_counter_near_its_end_is_exhausted_and_the_history_stays_legal(rt: HostRuntime) {
+    let tally = have_one_history(&rt, rt.alloc(), &LARGE, LAST - 2, 1);
+    check_exhausted(&rt, tally);
 }
 
-/// How many of the four ended so.
-fn count_ended(ops: &[Op], outcome: &Outcome) -> usize {
-    ops.iter()
+/// So many of the four ended so.
+fn check_ended(rt: &impl Abort, ops: &[Op], outcome: &Outcome, wanted: usize) {
+    let ended = ops
+        .iter()
         .filter(|op| op.outcome().as_ref() == Some(outcome))
-        .count()
+        .count();
+    assert_eq!(rt; ended, wanted);
+}
+
+/// The tree has so many rows.
+fn check_count(rt: &impl Abort, alloc: Global, world: &World, schema: &Schema, wanted: usize) {
+    let rows = rows_of_tree(rt, alloc, world, schema);
+    assert_eq!(rt; rows.rows().len(), wanted);
 }
 
 /// Four passes insert one row, by lists of turns, of which one names no op: one is new, and the others find its value.
 #[test]
-fn of_four_inserts_of_one_row_one_is_new(rt: HostRuntime) -> Result<(), Fail> {
+fn of_four_inserts_of_one_row_one_is_new(rt: HostRuntime) {
     let schema = schema_of_rows(&rt);
     let wish = Wish::Insert(1, 10);
-    let mut bench = opened(&rt, rt.alloc(), &schema, &LARGE, 0, wish)?;
+    let mut bench = opened(&rt, rt.alloc(), &schema, &LARGE, 0, wish);
     for _ in 0..500 {
         run(&mut bench.world, bench.ops.as_mut_slice(), &[3, 2, 4, 1, 0]);
     }
     let Bench { world, ops } = bench;
-    assert_eq!(rt; count_ended(ops.as_slice(), &Outcome::New), 1);
-    assert_eq!(rt; count_ended(ops.as_slice(), &Outcome::Present(10)), 3);
-    let rows = rows_of_tree(&rt, rt.alloc(), &world, &schema)?;
-    assert_eq!(rt; rows.rows().len(), 1);
-    Ok(())
+    check_ended(&rt, ops.as_slice(), &Outcome::New, 1);
+    check_ended(&rt, ops.as_slice(), &Outcome::Present(10), 3);
+    check_count(&rt, rt.alloc(), &world, &schema, 1);
 }

@@ -3,7 +3,7 @@ use crate::wishes::{Wish, tuple_of};
 use art_call::{Made, Outcome};
 use art_key::{Bound, Deed, Event, Schema, decode, legal};
 use art_look::Seen;
-use art_model::{Command, NoMemory, Reply, Row, SortedRows};
+use art_model::{Command, Reply, Row, SortedRows};
 use std::alloc::Global;
 use std::process::Abort;
 
@@ -192,11 +192,10 @@ pub(crate) fn check_history(
     schema: &Schema,
     events: &[Event],
     rows: &SortedRows,
-) -> Result<(), NoMemory> {
-    assert!(rt; legal(alloc, schema, events)?);
+) {
+    assert!(rt; legal(alloc, schema, events).expect(rt, "memory"));
     let left = rows_after(rt, alloc, events);
     assert_eq!(rt; left.rows(), rows.rows());
-    Ok(())
 }
 
 /// Which kinds of event came.

@@ -1,9 +1,8 @@
 //! Rows that are inserted are found, those that stand keep their values, and a refusal has its cause.
-ghost use Rattle.std.specs.Prelude.{◌≡◌};
 ghost use Rattle.art_runs_uses.specs.Writes.{WritesFirst};
-ghost use Rattle.art_step.specs.WordPlaces.{HasFreeWord};
 
-use crate::clients::{finds, opened, puts, takes};
+use crate::cells::check_free_word;
+use crate::clients::{check_find, check_put, check_take, opened};
 use art_cell::{Cell, Pool};
 use art_change::{Outcome, Writer};
 use art_find::Got;
@@ -12,7 +11,6 @@ use art_model::{Tuple, Value};
 use art_step::Sizes;
 use art_world::World;
 use std::process::Abort;
-use std::test::*;
 
 const SIZES: Sizes = Sizes {
     leaves: 256,
@@ -23,36 +21,48 @@ const SIZES: Sizes = Sizes {
     passes: 8,
 };
 
-/// The key of a number, as a schema of one column spells it.
-pub(crate) fn key_of(rt: &impl Abort, schema: &Schema, number: i128) -> Key {
+/// The key of a number, as the schema of one column spells it that the text says.
+pub(crate) fn key_of(rt: &impl Abort, schema: &str, number: u16) -> Key {
+    let schema = Schema::parse(schema).expect(rt, "a schema");
     let mut tuple = Tuple::new();
-    tuple.push(Value::Int(number));
-    encode(schema, &tuple).expect(rt, "a number of the column")
+    tuple.push(Value::Int(i128::from(number)));
+    encode(&schema, &tuple).expect(rt, "a number of the column")
+}
+
+/// This is the word of the anchor.
+fn check_anchor(rt: &impl Abort, world: &World, wanted: u64) {
+    assert_eq!(rt; world.word(Cell::Anchor, 1), wanted);
+}
+
+/// What the anchor names is of this kind: 1 is a leaf, 2 a Node4, 3 a Node16, 4 a Node48, 5 a Node256.
+fn check_root(rt: &impl Abort, world: &World, kind: u64) {
+    assert_eq!(rt; world.word(Cell::Anchor, 1) % 8, kind);
+}
+
+/// Nothing waits in the limbo of the writer.
+fn check_limbo(rt: &impl Abort, writer: Writer) {
+    assert_eq!(rt; writer.end().room(), 64);
+}
+
+/// At most three numbers wait in the limbo of the writer.
+fn check_few_wait(rt: &impl Abort, writer: Writer) {
+    assert!(rt; writer.end().room() > 60);
 }
 
 #[test]
-fn rows_that_are_inserted_are_found(rt: HostRuntime) -> Result<(), Fail> {
-    let (mut world, mut writer) = opened(rt.alloc(), &SIZES, 0)?;
-    let schema = Schema::parse("u8").expect(&rt, "a schema");
-    let one = key_of(&rt, &schema, 1);
-    let five = key_of(&rt, &schema, 5);
-    assert_eq!(rt; finds(&mut world, &writer, &one), Got::Absent);
-    assert_eq!(rt; puts(&mut world, &mut writer, &one, 10), Outcome::New);
-    assert_eq!(rt; puts(&mut world, &mut writer, &five, 50), Outcome::New);
-    assert_eq!(rt;
-        puts(&mut world, &mut writer, &one, 11),
-        Outcome::Present(10)
-    );
-    assert_eq!(rt; finds(&mut world, &writer, &one), Got::Found(10));
-    assert_eq!(rt; finds(&mut world, &writer, &five), Got::Found(50));
-    assert_eq!(rt; world.word(Cell::Anchor, 1), 2);
-    assert_eq!(rt; writer.end().room(), 64);
-    Ok(())
-}
-
-/// What the anchor names: 1 is a leaf, 2 a Node4, 3 a Node16, 4 a Node48, 5 a Node256.
-fn root_kind(world: &World) -> u64 {
-    world.word(Cell::Anchor, 1) % 8
+fn rows_that_are_inserted_are_found(rt: HostRuntime) {
+    let (mut world, mut writer) = opened(&rt, rt.alloc(), &SIZES, 0);
+    let one = key_of(&rt, "u8", 1);
+    let five = key_of(&rt, "u8", 5);
+    let stands = Outcome::Present(10);
+    check_find(&rt, &mut world, &writer, &one, Got::Absent);
+    check_put(&rt, &mut world, &mut writer, &one, 10, Outcome::New);
+    check_put(&rt, &mut world, &mut writer, &five, 50, Outcome::New);
+    check_put(&rt, &mut world, &mut writer, &one, 11, stands);
+    check_find(&rt, &mut world, &writer, &one, Got::Found(10));
+    check_find(&rt, &mut world, &writer, &five, Got::Found(50));
+    check_anchor(&rt, &world, 2);
+    check_limbo(&rt, writer);
 }
 
 /// Rows with the numbers from `first` on before `end` are inserted: each is new, and found.
@@ -65,15 +75,13 @@ pub(crate) fn fills(
     end: u16,
 )
     requires { WritesFirst world.old writer.old }
-    ensures sizes { world.new.sizes ≡ world.old.sizes }
-    ensures writes { WritesFirst world.new writer.new }
+    ensures { WritesFirst world.new writer.new }
 {
-    let schema = Schema::parse(schema).expect(rt, "a schema");
     for number in first..end {
-        let key = key_of(rt, &schema, i128::from(number));
+        let key = key_of(rt, schema, number);
         let value = u64::from(number);
-        assert_eq!(rt; puts(world, writer, &key, value), Outcome::New);
-        assert_eq!(rt; finds(world, writer, &key), Got::Found(value));
+        check_put(rt, world, writer, &key, value, Outcome::New);
+        check_find(rt, world, writer, &key, Got::Found(value));
     }
 }
 
@@ -87,61 +95,55 @@ pub(crate) fn empties(
     end: u16,
 )
     requires { WritesFirst world.old writer.old }
-    ensures sizes { world.new.sizes ≡ world.old.sizes }
-    ensures writes { WritesFirst world.new writer.new }
+    ensures { WritesFirst world.new writer.new }
 {
-    let schema = Schema::parse(schema).expect(rt, "a schema");
     for number in first..end {
-        let key = key_of(rt, &schema, i128::from(number));
+        let key = key_of(rt, schema, number);
         let value = u64::from(number);
-        assert_eq!(rt; takes(world, writer, &key), Outcome::Gone(value));
-        assert_eq!(rt; finds(world, writer, &key), Got::Absent);
-        assert_eq!(rt; takes(world, writer, &key), Outcome::Absent);
+        check_take(rt, world, writer, &key, Outcome::Gone(value));
+        check_find(rt, world, writer, &key, Got::Absent);
+        check_take(rt, world, writer, &key, Outcome::Absent);
     }
 }
 
 #[test]
-fn nodes_shrink_at_thirty_six_twelve_three_and_one(rt: HostRuntime) -> Result<(), Fail> {
-    let (mut world, mut writer) = opened(rt.alloc(), &SIZES, 0)?;
+fn nodes_shrink_at_thirty_six_twelve_three_and_one(rt: HostRuntime) {
+    let (mut world, mut writer) = opened(&rt, rt.alloc(), &SIZES, 0);
     fills(&rt, &mut world, &mut writer, "u8", 0, 60);
-    empties(&rt, &mut world, &mut writer, "u8", 0, 23);
-    assert_eq!(rt; root_kind(&world), 5);
-    empties(&rt, &mut world, &mut writer, "u8", 23, 24);
-    assert_eq!(rt; root_kind(&world), 4);
-    empties(&rt, &mut world, &mut writer, "u8", 24, 47);
-    assert_eq!(rt; root_kind(&world), 4);
-    empties(&rt, &mut world, &mut writer, "u8", 47, 48);
-    assert_eq!(rt; root_kind(&world), 3);
-    empties(&rt, &mut world, &mut writer, "u8", 48, 56);
-    assert_eq!(rt; root_kind(&world), 3);
-    empties(&rt, &mut world, &mut writer, "u8", 56, 57);
-    assert_eq!(rt; root_kind(&world), 2);
-    empties(&rt, &mut world, &mut writer, "u8", 57, 59);
-    assert_eq!(rt; root_kind(&world), 1);
+    for (first, end, kind) in [
+        (0, 23, 5),
+        (23, 24, 4),
+        (24, 47, 4),
+        (47, 48, 3),
+        (48, 56, 3),
+        (56, 57, 2),
+        (57, 59, 1),
+    ] {
+        empties(&rt, &mut world, &mut writer, "u8", first, end);
+        check_root(&rt, &world, kind);
+    }
     empties(&rt, &mut world, &mut writer, "u8", 59, 60);
-    assert_eq!(rt; world.word(Cell::Anchor, 1), 0);
-    assert_eq!(rt; writer.end().room() > 60, true);
-    Ok(())
+    check_anchor(&rt, &world, 0);
+    check_few_wait(&rt, writer);
 }
 
 #[test]
-fn nodes_grow_at_five_seventeen_and_forty_nine(rt: HostRuntime) -> Result<(), Fail> {
-    let (mut world, mut writer) = opened(rt.alloc(), &SIZES, 0)?;
-    fills(&rt, &mut world, &mut writer, "u8", 0, 4);
-    assert_eq!(rt; root_kind(&world), 2);
-    fills(&rt, &mut world, &mut writer, "u8", 4, 5);
-    assert_eq!(rt; root_kind(&world), 3);
-    fills(&rt, &mut world, &mut writer, "u8", 5, 16);
-    assert_eq!(rt; root_kind(&world), 3);
-    fills(&rt, &mut world, &mut writer, "u8", 16, 17);
-    assert_eq!(rt; root_kind(&world), 4);
-    fills(&rt, &mut world, &mut writer, "u8", 17, 48);
-    assert_eq!(rt; root_kind(&world), 4);
-    fills(&rt, &mut world, &mut writer, "u8", 48, 200);
-    assert_eq!(rt; root_kind(&world), 5);
-    assert_eq!(rt; world.free_word(Pool::Leaves, 3), 0xffff_ffff_ffff_ff00);
-    assert_eq!(rt; writer.end().room(), 64);
-    Ok(())
+fn nodes_grow_at_five_seventeen_and_forty_nine(rt: HostRuntime) {
+    let (mut world, mut writer) = opened(&rt, rt.alloc(), &SIZES, 0);
+    for (first, end, kind) in [
+        (0, 4, 2),
+        (4, 5, 3),
+        (5, 16, 3),
+        (16, 17, 4),
+        (17, 48, 4),
+        (48, 200, 5),
+    ] {
+        fills(&rt, &mut world, &mut writer, "u8", first, end);
+        check_root(&rt, &world, kind);
+    }
+    let last_word = 0xffff_ffff_ffff_ff00;
+    check_free_word(&rt, &world, Pool::Leaves, 3, last_word);
+    check_limbo(&rt, writer);
 }
 
 const FEW: Sizes = Sizes {
@@ -154,18 +156,14 @@ const FEW: Sizes = Sizes {
 };
 
 #[test]
-fn a_third_row_finds_two_leaves_full(rt: HostRuntime) -> Result<(), Fail> {
-    let (mut world, mut writer) = opened(rt.alloc(), &FEW, 0)?;
+fn a_third_row_finds_two_leaves_full(rt: HostRuntime) {
+    let (mut world, mut writer) = opened(&rt, rt.alloc(), &FEW, 0);
     fills(&rt, &mut world, &mut writer, "u8", 0, 2);
-    let schema = Schema::parse("u8").expect(&rt, "a schema");
-    let third = key_of(&rt, &schema, 2);
-    assert_eq!(rt;
-        puts(&mut world, &mut writer, &third, 2),
-        Outcome::Full(Pool::Leaves)
-    );
-    assert_eq!(rt; finds(&mut world, &writer, &third), Got::Absent);
-    assert_eq!(rt; writer.end().room(), 64);
-    Ok(())
+    let third = key_of(&rt, "u8", 2);
+    let full = Outcome::Full(Pool::Leaves);
+    check_put(&rt, &mut world, &mut writer, &third, 2, full);
+    check_find(&rt, &mut world, &writer, &third, Got::Absent);
+    check_limbo(&rt, writer);
 }
 
 const NO_NODE16: Sizes = Sizes {
@@ -178,51 +176,40 @@ const NO_NODE16: Sizes = Sizes {
 };
 
 #[test]
-fn a_full_node4_finds_no_node16(rt: HostRuntime) -> Result<(), Fail> {
-    let (mut world, mut writer) = opened(rt.alloc(), &NO_NODE16, 0)?;
+fn a_full_node4_finds_no_node16(rt: HostRuntime) {
+    let (mut world, mut writer) = opened(&rt, rt.alloc(), &NO_NODE16, 0);
     fills(&rt, &mut world, &mut writer, "u8", 0, 4);
-    let schema = Schema::parse("u8").expect(&rt, "a schema");
-    let fifth = key_of(&rt, &schema, 4);
-    assert_eq!(rt;
-        puts(&mut world, &mut writer, &fifth, 4),
-        Outcome::Full(Pool::N16)
-    );
-    assert_eq!(rt; world.free_word(Pool::Leaves, 0), 0xf0);
-    assert_eq!(rt; writer.end().room(), 64);
-    Ok(())
+    let fifth = key_of(&rt, "u8", 4);
+    let full = Outcome::Full(Pool::N16);
+    check_put(&rt, &mut world, &mut writer, &fifth, 4, full);
+    check_free_word(&rt, &world, Pool::Leaves, 0, 0xf0);
+    check_limbo(&rt, writer);
 }
 
 /// The end of a counter.
 const LAST: u64 = (1 << 62) - 8;
 
 #[test]
-fn the_anchor_at_the_end_of_its_counter_is_exhausted(rt: HostRuntime) -> Result<(), Fail> {
-    let (mut world, mut writer) = opened(rt.alloc(), &SIZES, LAST)?;
-    let schema = Schema::parse("u8").expect(&rt, "a schema");
-    let one = key_of(&rt, &schema, 1);
-    assert_eq!(rt;
-        puts(&mut world, &mut writer, &one, 1),
-        Outcome::Exhausted(Cell::Anchor)
-    );
-    assert_eq!(rt; finds(&mut world, &writer, &one), Got::Absent);
-    assert_eq!(rt; world.free_word(Pool::Leaves, 0), u64::MAX);
-    assert_eq!(rt; writer.end().room(), 64);
-    Ok(())
+fn the_anchor_at_the_end_of_its_counter_is_exhausted(rt: HostRuntime) {
+    let (mut world, mut writer) = opened(&rt, rt.alloc(), &SIZES, LAST);
+    let one = key_of(&rt, "u8", 1);
+    let exhausted = Outcome::Exhausted(Cell::Anchor);
+    check_put(&rt, &mut world, &mut writer, &one, 1, exhausted);
+    check_find(&rt, &mut world, &writer, &one, Got::Absent);
+    check_free_word(&rt, &world, Pool::Leaves, 0, u64::MAX);
+    check_limbo(&rt, writer);
 }
 
 /// A node begins its counter anew, so it is changed below an anchor whose counter is at its end.
 #[test]
-fn a_node_below_an_anchor_at_its_end_is_changed(rt: HostRuntime) -> Result<(), Fail> {
-    let (mut world, mut writer) = opened(rt.alloc(), &SIZES, LAST - 2)?;
+fn a_node_below_an_anchor_at_its_end_is_changed(rt: HostRuntime) {
+    let (mut world, mut writer) = opened(&rt, rt.alloc(), &SIZES, LAST - 2);
     fills(&rt, &mut world, &mut writer, "u8", 0, 4);
-    let schema = Schema::parse("u8").expect(&rt, "a schema");
-    let fifth = key_of(&rt, &schema, 4);
-    let told = puts(&mut world, &mut writer, &fifth, 4);
-    assert_eq!(rt; told, Outcome::Exhausted(Cell::Anchor));
-    let third = key_of(&rt, &schema, 2);
-    let told = takes(&mut world, &mut writer, &third);
-    assert_eq!(rt; told, Outcome::Gone(2));
-    assert_eq!(rt; finds(&mut world, &writer, &third), Got::Absent);
-    assert_eq!(rt; writer.end().room() > 60, true);
-    Ok(())
+    let fifth = key_of(&rt, "u8", 4);
+    let exhausted = Outcome::Exhausted(Cell::Anchor);
+    check_put(&rt, &mut world, &mut writer, &fifth, 4, exhausted);
+    let third = key_of(&rt, "u8", 2);
+    check_take(&rt, &mut world, &mut writer, &third, Outcome::Gone(2));
+    check_find(&rt, &mut world, &writer, &third, Got::Absent);
+    check_few_wait(&rt, writer);
 }

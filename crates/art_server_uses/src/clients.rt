@@ -3,7 +3,7 @@ ghost use Rattle.art_server_uses.specs.Clients.{AreOf};
 ghost use Rattle.art_table.specs.Tables.{IsPassOf};
 
 use art_key::Schema;
-use art_server::{Counted, EndCause, session};
+use art_server::{Counted, EndCause, SessionEnd, session};
 use art_table::{Config, Pass, Table, open};
 use std::alloc::Global;
 use std::process::Abort;
@@ -51,6 +51,12 @@ pub(crate) fn alone(rt: &impl Abort, alloc: Global, columns: &str, config: Confi
     (table, pass)
 }
 
+/// A session ended with its input, and what it said is this.
+fn check_said(rt: &impl Abort, end: SessionEnd, heard: &[u8], want: &str) {
+    assert_eq!(rt; end.why, EndCause::Ended);
+    assert!(rt; heard == want.as_bytes());
+}
+
 /// The pass answers these lines, and what it says is this; all lines are answered.
 pub(crate) fn check_session(
     rt: &impl Abort,
@@ -66,7 +72,19 @@ pub(crate) fn check_session(
     let mut reader = Counted::new(said.as_bytes());
     let mut heard = Vec::new(alloc);
     let (pass, end) = session(alloc, table, pass, &mut reader, &mut heard);
-    assert_eq!(rt; end.why, EndCause::Ended);
-    assert!(rt; heard.as_slice() == want.as_bytes());
+    check_said(rt, end, heard.as_slice(), want);
     pass
+}
+
+/// A session on a new table of these columns and sizes says this; all lines are answered.
+pub(crate) fn check_alone(
+    rt: &impl Abort,
+    alloc: Global,
+    columns: &str,
+    config: Config,
+    said: &str,
+    want: &str,
+) {
+    let (table, pass) = alone(rt, alloc, columns, config);
+    let _ = check_session(rt, alloc, &table, pass, said, want);
 }

@@ -5,7 +5,16 @@ use art_model::{Command, Text, Tuple, Value};
 use art_server::lines_are_read_back;
 use std::alloc::Global;
 use std::process::Abort;
-use std::test::Fail;
+
+/// The line gives this command.
+fn check_command(rt: &impl Abort, alloc: Global, line: &[u8], command: Command) {
+    assert_eq!(rt; parse_line(alloc, line), Ok(command));
+}
+
+/// The line gives no command, for this fault.
+fn check_refused(rt: &impl Abort, alloc: Global, line: &[u8], fault: LineFault) {
+    assert_eq!(rt; parse_line(alloc, line), Err(fault));
+}
 
 fn one(number: u64) -> Tuple {
     let mut tuple = Tuple::new();
@@ -24,7 +33,7 @@ fn reads_commands(rt: HostRuntime) {
         ("[\"insert\",[],0]", Command::Insert(Tuple::new(), 0)),
         ("[\"scan\",[1],[2],3]", Command::Scan(one(1), one(2), 3)),
     ] {
-        assert_eq!(rt; parse_line(rt.alloc(), line.as_bytes()), Ok(command));
+        check_command(&rt, rt.alloc(), line.as_bytes(), command);
     }
 }
 
@@ -36,10 +45,7 @@ fn reads_values(rt: HostRuntime) {
     tuple.push(Value::Int(-9_223_372_036_854_775_808));
     tuple.push(Value::Int(18_446_744_073_709_551_615));
     let line = "[\"get\",[true,false,-9223372036854775808,18446744073709551615]]";
-    assert_eq!(rt;
-        parse_line(rt.alloc(), line.as_bytes()),
-        Ok(Command::Get(tuple))
-    );
+    check_command(&rt, rt.alloc(), line.as_bytes(), Command::Get(tuple));
 }
 
 fn text_tuple(rt: &impl Abort, text: &str) -> Tuple {
@@ -59,10 +65,8 @@ fn reads_texts_of_at_most_twenty_four_bytes(rt: HostRuntime) {
         ),
         ("[\"get\",[\"😀😀😀😀😀\\ud83d\\ude00\"]]", "😀😀😀😀😀😀"),
     ] {
-        assert_eq!(rt;
-            parse_line(rt.alloc(), line.as_bytes()),
-            Ok(Command::Get(text_tuple(&rt, text)))
-        );
+        let command = Command::Get(text_tuple(&rt, text));
+        check_command(&rt, rt.alloc(), line.as_bytes(), command);
     }
 }
 
@@ -99,10 +103,8 @@ fn an_element_that_is_no_value_is_told(rt: HostRuntime) {
             ValueFault::TextTooLong(0),
         ),
     ] {
-        assert_eq!(rt;
-            parse_line(rt.alloc(), line.as_bytes()),
-            Err(LineFault::Value(fault))
-        );
+        let fault = LineFault::Value(fault);
+        check_refused(&rt, rt.alloc(), line.as_bytes(), fault);
     }
 }
 
@@ -134,10 +136,7 @@ fn refuses_other_shapes(rt: HostRuntime) {
         "[\"insert\",[5],18446744073709551616]",
         "[\"insert\",[null],-1]",
     ] {
-        assert_eq!(rt;
-            parse_line(rt.alloc(), line.as_bytes()),
-            Err(LineFault::BadCommand)
-        );
+        check_refused(&rt, rt.alloc(), line.as_bytes(), LineFault::BadCommand);
     }
 }
 
@@ -153,15 +152,26 @@ fn refuses_what_is_no_json_text(rt: HostRuntime) {
         "[\"get\",[1e999]]",
         "[\"get\",[\"\\ud800\"]]",
     ] {
-        assert_eq!(rt; parse_line(alloc, line.as_bytes()), Err(LineFault::BadLine));
+        check_refused(&rt, alloc, line.as_bytes(), LineFault::BadLine);
     }
-    let bad_line = Err(LineFault::BadLine);
-    assert_eq!(rt; parse_line(alloc, b"[\"get\",[\"\xff\"]]"), bad_line);
-    assert_eq!(rt; parse_line(alloc, &[b'x'; 4096]), bad_line);
-    assert_eq!(rt;
-        parse_line(alloc, &[b'x'; 4097]),
-        Err(LineFault::LineTooLong)
-    );
+    let no_text = b"[\"get\",[\"\xff\"]]";
+    check_refused(&rt, alloc, no_text, LineFault::BadLine);
+    check_refused(&rt, alloc, &[b'x'; 4096], LineFault::BadLine);
+    check_refused(&rt, alloc, &[b'x'; 4097], LineFault::LineTooLong);
+}
+
+/// A text, so many arrays that are opened, and so many brackets that close.
+fn nested(rt: &impl Abort, alloc: Global, text: &str, opened: usize, closed: usize) -> Vec<u8> {
+    let mut line = Vec::new(alloc);
+    let front = line.extend_from_slice(text.as_bytes());
+    front.expect(rt, "room for a line");
+    for _ in 0..opened {
+        line.push(b'[').expect(rt, "room for a line");
+    }
+    for _ in 0..closed {
+        line.push(b']').expect(rt, "room for a line");
+    }
+    line
 }
 
 /// A text, so many arrays that are opened, and so many brackets that close, are refused so.
@@ -172,26 +182,21 @@ fn check_nested(
     opened: usize,
     closed: usize,
     fault: LineFault,
-) -> Result<(), Fail> {
-    let mut line = Vec::new(alloc);
-    line.extend_from_slice(text.as_bytes())?;
-    for _ in 0..opened {
-        line.push(b'[')?;
-    }
-    for _ in 0..closed {
-        line.push(b']')?;
-    }
-    assert_eq!(rt; parse_line(alloc, line.as_slice()), Err(fault));
-    Ok(())
+) {
+    let line = nested(rt, alloc, text, opened, closed);
+    check_refused(rt, alloc, line.as_slice(), fault);
 }
 
 #[test]
-fn arrays_nest_up_to_the_limit_of_the_reader(rt: HostRuntime) -> Result<(), Fail> {
-    let alloc = rt.alloc();
-    check_nested(&rt, alloc, "", 127, 127, LineFault::BadCommand)?;
-    check_nested(&rt, alloc, "", 128, 128, LineFault::BadLine)?;
+fn arrays_nest_up_to_the_limit_of_the_reader(rt: HostRuntime) {
     let element = LineFault::Value(ValueFault::WrongType(0));
-    check_nested(&rt, alloc, "[\"get\",", 126, 127, element)
+    for (text, opened, closed, fault) in [
+        ("", 127, 127, LineFault::BadCommand),
+        ("", 128, 128, LineFault::BadLine),
+        ("[\"get\",", 126, 127, element),
+    ] {
+        check_nested(&rt, rt.alloc(), text, opened, closed, fault);
+    }
 }
 
 #[test]

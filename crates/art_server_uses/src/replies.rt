@@ -11,34 +11,28 @@ use art_scan::ScanFault;
 use art_server::{Refusal, print_reply};
 use art_table::{CloseRefusal, Fault, OpenFault};
 use std::alloc::Global;
+use std::fmt::Display;
 use std::process::Abort;
-use std::test::Fail;
 
 /// The reply is printed so.
-fn check_text(
-    rt: &impl Abort,
-    alloc: Global,
-    reply: Result<Reply, Refusal>,
-    expected: &str,
-) -> Result<(), Fail>
+fn check_text(rt: &impl Abort, alloc: Global, reply: Result<Reply, Refusal>, expected: &str)
     requires { IsPrintable reply }
 {
-    let text = print_reply(alloc, &reply)?;
+    let text = print_reply(alloc, &reply).expect(rt, "room for a reply");
     assert!(rt; text.as_slice() == expected.as_bytes());
-    Ok(())
 }
 
 #[test]
-fn prints_short_replies(rt: HostRuntime) -> Result<(), Fail> {
+fn prints_short_replies(rt: HostRuntime) {
     let alloc = rt.alloc();
-    check_text(&rt, alloc, Ok(Reply::Inserted), "[\"inserted\"]\n")?;
-    check_text(&rt, alloc, Ok(Reply::Present(7)), "[\"present\",7]\n")?;
-    check_text(&rt, alloc, Ok(Reply::Removed(0)), "[\"removed\",0]\n")?;
-    check_text(&rt, alloc, Ok(Reply::Absent), "[\"absent\"]\n")?;
+    check_text(&rt, alloc, Ok(Reply::Inserted), "[\"inserted\"]\n");
+    check_text(&rt, alloc, Ok(Reply::Present(7)), "[\"present\",7]\n");
+    check_text(&rt, alloc, Ok(Reply::Removed(0)), "[\"removed\",0]\n");
+    check_text(&rt, alloc, Ok(Reply::Absent), "[\"absent\"]\n");
     let most = "[\"found\",18446744073709551615]\n";
-    check_text(&rt, alloc, Ok(Reply::Found(u64::MAX)), most)?;
+    check_text(&rt, alloc, Ok(Reply::Found(u64::MAX)), most);
     let refused = "[\"refused\",3,\"BadCommand\"]\n";
-    check_text(&rt, alloc, Err(Refusal::BadCommand), refused)
+    check_text(&rt, alloc, Err(Refusal::BadCommand), refused);
 }
 
 fn row_of(first: bool, second: i8, value: u64) -> Row
@@ -59,58 +53,60 @@ fn numbered(number: u64, value: u64) -> Row
 }
 
 #[test]
-fn prints_rows(rt: HostRuntime) -> Result<(), Fail> {
+fn prints_rows(rt: HostRuntime) {
     let alloc = rt.alloc();
     let mut rows = ArrayVec::new();
     rows.push(row_of(false, 127, 2));
     rows.push(row_of(true, -128, 1));
     let pairs = "[\"rows\",[[[false,127],2],[[true,-128],1]],false]\n";
-    check_text(&rt, alloc, Ok(Reply::Rows(rows, false)), pairs)?;
+    check_text(&rt, alloc, Ok(Reply::Rows(rows, false)), pairs);
     let mut rows = ArrayVec::new();
     rows.push(numbered(1, 1));
     rows.push(numbered(2, 2));
     let more = "[\"rows\",[[[1],1],[[2],2]],true]\n";
-    check_text(&rt, alloc, Ok(Reply::Rows(rows, true)), more)?;
+    check_text(&rt, alloc, Ok(Reply::Rows(rows, true)), more);
     let none = Ok(Reply::Rows(ArrayVec::new(), false));
-    check_text(&rt, alloc, none, "[\"rows\",[],false]\n")
+    check_text(&rt, alloc, none, "[\"rows\",[],false]\n");
 }
 
 #[test]
-fn prints_texts(rt: HostRuntime) -> Result<(), Fail> {
+fn prints_texts(rt: HostRuntime) {
     let mut tuple = Tuple::new();
     if let Some(text) = Text::new("a\"b") {
         tuple.push(Value::Text(text));
     }
     let mut rows = ArrayVec::new();
     rows.push(Row { tuple, value: 4 });
-    let text = print_reply(rt.alloc(), &Ok(Reply::Rows(rows, false)))?;
-    assert!(rt; text.as_slice() == "[\"rows\",[[[\"a\\\"b\"],4]],false]\n".as_bytes());
-    Ok(())
+    let wanted = "[\"rows\",[[[\"a\\\"b\"],4]],false]\n";
+    check_text(&rt, rt.alloc(), Ok(Reply::Rows(rows, false)), wanted);
+}
+
+/// The refusal has this number and this name.
+fn check_name(rt: &impl Abort, refusal: Refusal, number: u8, name: &str) {
+    assert_eq!(rt; refusal.number(), number);
+    assert!(rt; refusal.name() == name);
+}
+
+/// It is shown so.
+fn check_shown<T: Display>(rt: &impl Abort, alloc: Global, told: &T, expected: &str) {
+    let text = format!(in alloc; "{}", told).expect(rt, "room for a text");
+    assert!(rt; text.as_str() == expected);
 }
 
 #[test]
-fn names_refusals(rt: HostRuntime) -> Result<(), Fail> {
-    assert_eq!(rt; Refusal::PassesMissing.number(), 25);
-    assert!(rt; Refusal::PassesMissing.name() == "PassesMissing");
+fn names_refusals(rt: HostRuntime) {
+    check_name(&rt, Refusal::PassesMissing, 25, "PassesMissing");
     let alloc = rt.alloc();
+    check_shown(&rt, alloc, &Refusal::BadConfig, "refused 24 BadConfig");
+    check_shown(&rt, alloc, &LineFault::LineTooLong, "line too long");
     let wrong = LineFault::Value(ValueFault::WrongColumns);
-    for (text, expected) in [
-        (
-            format!(in alloc; "{}", Refusal::BadConfig)?,
-            "refused 24 BadConfig",
-        ),
-        (
-            format!(in alloc; "{}", LineFault::LineTooLong)?,
-            "line too long",
-        ),
-        (
-            format!(in alloc; "{}", wrong)?,
-            "the tuple has not one value for each column",
-        ),
-    ] {
-        assert!(rt; text.as_str() == expected);
-    }
-    Ok(())
+    let expected = "the tuple has not one value for each column";
+    check_shown(&rt, alloc, &wrong, expected);
+}
+
+/// The refusal is this one.
+fn check_refusal(rt: &impl Abort, refusal: Refusal, expected: Refusal) {
+    assert_eq!(rt; refusal, expected);
 }
 
 #[test]
@@ -145,6 +141,6 @@ fn faults_have_refusals(rt: HostRuntime) {
             Refusal::PassesMissing,
         ),
     ] {
-        assert_eq!(rt; refusal, expected);
+        check_refusal(&rt, refusal, expected);
     }
 }

@@ -1,5 +1,5 @@
 //! Scans in sessions.
-use crate::clients::{SIZES, alone, check_session};
+use crate::clients::{SIZES, check_alone};
 use art_table::Config;
 use std::alloc::Global;
 use std::process::Abort;
@@ -7,8 +7,7 @@ use std::process::Abort;
 /// A session on a new table of these columns, with three leaves, says this.
 fn check_scans(rt: &impl Abort, alloc: Global, columns: &str, said: &str, want: &str) {
     let config = Config { leaves: 3, ..SIZES };
-    let (table, pass) = alone(rt, alloc, columns, config);
-    let _ = check_session(rt, alloc, &table, pass, said, want);
+    check_alone(rt, alloc, columns, config, said, want);
 }
 
 #[test]

@@ -1,11 +1,10 @@
 //! Sessions over readers and writers that fail, are interrupted, or give and take a little at a time.
-use crate::clients::{SIZES, alone, check_session, last_of, opened};
+use crate::clients::{SIZES, alone, check_alone, check_session, last_of, opened};
 use art_server::{Counted, EndCause, SessionEnd, session};
 use art_table::Config;
 use std::alloc::Global;
 use std::io::{self, ErrorKind, Read, Write};
 use std::process::Abort;
-use std::test::Fail;
 
 /// Gives at most so many bytes at a read, and after so many reads fails.
 #[derive(Drop)]
@@ -112,61 +111,78 @@ fn ended(why: EndCause, answered: u64, pending: bool) -> SessionEnd {
     }
 }
 
+/// A session from the reader, on a table of one leaf, ends so, and what it says is this.
+fn check_end<R: Read>(
+    rt: &impl Abort,
+    alloc: Global,
+    reader: &mut Counted<R>,
+    wanted: SessionEnd,
+    want: &str,
+) {
+    let mut heard = Vec::new(alloc);
+    let end = end_of(rt, alloc, reader, &mut heard);
+    assert_eq!(rt; end, wanted);
+    assert!(rt; heard.as_slice() == want.as_bytes());
+}
+
 #[test]
 fn answers_lines_in_turn(rt: HostRuntime) {
     let said = b"[\"get\",[5]]\n[\"insert\",[5],9]\n[\"get\",[5]]\n[\"insert\",[5],10]\n\
         [\"remove\",[6]]\n[\"insert\",[6],1]\n[\"remove\",[5]]\n[\"get\",[5]]\n\
         [\"insert\",[6],1]\n[\"scan\",[1],[9],3]\n[\"get\",[null]]\n";
-    let mut reader = Counted::new(said.as_slice());
-    let mut heard = Vec::new(rt.alloc());
-    let end = end_of(&rt, rt.alloc(), &mut reader, &mut heard);
-    assert_eq!(rt; end, ended(EndCause::Ended, 11, false));
     let want = "[\"absent\"]\n[\"inserted\"]\n[\"found\",9]\n[\"present\",9]\n\
         [\"absent\"]\n[\"refused\",11,\"Full\"]\n[\"removed\",9]\n[\"absent\"]\n\
         [\"inserted\"]\n[\"rows\",[[[6],1]],false]\n[\"refused\",5,\"WrongType\"]\n";
-    assert!(rt; heard.as_slice() == want.as_bytes());
+    let mut reader = Counted::new(said.as_slice());
+    let end = ended(EndCause::Ended, 11, false);
+    check_end(&rt, rt.alloc(), &mut reader, end, want);
+}
+
+/// Three bad lines, one that is too long, and a get with no line feed behind it.
+fn bad_lines(rt: &impl Abort, alloc: Global) -> Vec<u8> {
+    let mut text = Vec::new(alloc);
+    for line in [
+        b"\n{\n[\"get\"]\n".as_slice(),
+        [b'x'; 4097].as_slice(),
+        b"\n[\"get\",[7]]".as_slice(),
+    ] {
+        let more = text.extend_from_slice(line);
+        more.expect(rt, "room for a line");
+    }
+    text
 }
 
 #[test]
-fn refuses_bad_lines_and_answers_the_last(rt: HostRuntime) -> Result<(), Fail> {
-    let mut text = Vec::new(rt.alloc());
-    text.extend_from_slice(b"\n{\n[\"get\"]\n")?;
-    text.extend_from_slice(&[b'x'; 4097])?;
-    text.extend_from_slice(b"\n[\"get\",[7]]")?;
+fn refuses_bad_lines_and_answers_the_last(rt: HostRuntime) {
+    let text = bad_lines(&rt, rt.alloc());
     let mut reader = Counted::new(Pieces {
         rest: text.as_slice(),
         most: 1000,
         reads: 99,
         fault: ErrorKind::Other,
     });
-    let mut heard = Vec::new(rt.alloc());
-    let end = end_of(&rt, rt.alloc(), &mut reader, &mut heard);
-    assert_eq!(rt; end, ended(EndCause::Ended, 5, false));
     let want = "[\"refused\",1,\"BadLine\"]\n[\"refused\",1,\"BadLine\"]\n\
         [\"refused\",3,\"BadCommand\"]\n[\"refused\",2,\"LineTooLong\"]\n[\"absent\"]\n";
-    assert!(rt; heard.as_slice() == want.as_bytes());
-    Ok(())
+    let end = ended(EndCause::Ended, 5, false);
+    check_end(&rt, rt.alloc(), &mut reader, end, want);
 }
 
-/// How a session ends of which the fourth read fails, in the middle of its second line.
-fn end_at_a_read(rt: &impl Abort, alloc: Global, fault: ErrorKind) -> (SessionEnd, Vec<u8>) {
+/// A session of which the fourth read fails, in the middle of its second line, ends behind the first.
+fn check_read_fault(rt: &impl Abort, alloc: Global, fault: ErrorKind) {
     let mut reader = Counted::new(Pieces {
         rest: b"[\"get\",[5]]\n[\"get\",[6]]\n",
         most: 7,
         reads: 3,
         fault,
     });
-    let mut heard = Vec::new(alloc);
-    let end = end_of(rt, alloc, &mut reader, &mut heard);
-    (end, heard)
+    let end = ended(EndCause::ReadFault, 1, false);
+    check_end(rt, alloc, &mut reader, end, "[\"absent\"]\n");
 }
 
 #[test]
 fn a_read_that_fails_or_is_interrupted_ends_behind_the_whole_lines(rt: HostRuntime) {
     for fault in [ErrorKind::BrokenPipe, ErrorKind::Interrupted] {
-        let (end, heard) = end_at_a_read(&rt, rt.alloc(), fault);
-        assert_eq!(rt; end, ended(EndCause::ReadFault, 1, false));
-        assert!(rt; heard.as_slice() == "[\"absent\"]\n".as_bytes());
+        check_read_fault(&rt, rt.alloc(), fault);
     }
 }
 
@@ -191,6 +207,14 @@ fn end_at_a_write(
     (end, cut.held, after)
 }
 
+/// A session whose writer has room for a reply and a part of the next ends there, and its change is made.
+fn check_write_fault(rt: &impl Abort, alloc: Global, fault: Option<ErrorKind>) {
+    let (end, held, after) = end_at_a_write(rt, alloc, fault);
+    assert_eq!(rt; end, ended(EndCause::WriteFault, 1, true));
+    assert!(rt; held.as_slice() == "[\"absent\"]\n[\"in".as_bytes());
+    assert!(rt; after.as_slice() == "[\"found\",9]\n".as_bytes());
+}
+
 #[test]
 fn a_write_that_fails_is_interrupted_or_takes_nothing_leaves_the_change(rt: HostRuntime) {
     for fault in [
@@ -198,34 +222,35 @@ fn a_write_that_fails_is_interrupted_or_takes_nothing_leaves_the_change(rt: Host
         Some(ErrorKind::Interrupted),
         None,
     ] {
-        let (end, held, after) = end_at_a_write(&rt, rt.alloc(), fault);
-        assert_eq!(rt; end, ended(EndCause::WriteFault, 1, true));
-        assert!(rt; held.as_slice() == "[\"absent\"]\n[\"in".as_bytes());
-        assert!(rt; after.as_slice() == "[\"found\",9]\n".as_bytes());
+        check_write_fault(&rt, rt.alloc(), fault);
     }
+}
+
+/// A session from an input with no end, of this byte alone, answers so many lines in so many bytes.
+fn check_endless(rt: &impl Abort, alloc: Global, byte: u8, answered: u64, bytes: u64) {
+    let mut reader = Counted::new(Endless { byte, reads: 0 });
+    let mut sink = Sink { bytes: 0 };
+    let end = end_of(rt, alloc, &mut reader, &mut sink);
+    assert_eq!(rt; end, ended(EndCause::ReadsUsed, answered, false));
+    assert_eq!(rt; reader.into_inner().reads, 1_000_000);
+    assert_eq!(rt; sink.bytes, bytes);
 }
 
 #[test]
 fn a_million_reads_are_made_of_an_input_with_no_end(rt: HostRuntime) {
     for (byte, answered, bytes) in [(b'x', 0, 0), (b'\n', 1_000_000, 24_000_000)] {
-        let mut reader = Counted::new(Endless { byte, reads: 0 });
-        let mut sink = Sink { bytes: 0 };
-        let end = end_of(&rt, rt.alloc(), &mut reader, &mut sink);
-        assert_eq!(rt; end, ended(EndCause::ReadsUsed, answered, false));
-        assert_eq!(rt; reader.into_inner().reads, 1_000_000);
-        assert_eq!(rt; sink.bytes, bytes);
+        check_endless(&rt, rt.alloc(), byte, answered, bytes);
     }
 }
 
 #[test]
 fn a_third_row_finds_no_leaf_of_two(rt: HostRuntime) {
     let config = Config { leaves: 2, ..SIZES };
-    let (table, pass) = alone(&rt, rt.alloc(), "u64", config);
     let said = "[\"insert\",[1],1]\n[\"insert\",[2],2]\n[\"insert\",[3],3]\n[\"insert\",[1],9]\n\
         [\"get\",[1]]\n[\"get\",[2]]\n";
     let want = "[\"inserted\"]\n[\"inserted\"]\n[\"refused\",11,\"Full\"]\n[\"present\",1]\n\
         [\"found\",1]\n[\"found\",2]\n";
-    let _ = check_session(&rt, rt.alloc(), &table, pass, said, want);
+    check_alone(&rt, rt.alloc(), "u64", config, said, want);
 }
 
 #[test]
@@ -234,10 +259,9 @@ fn a_counter_at_its_end_is_told(rt: HostRuntime) {
         counter_start: 4_611_686_018_427_387_896,
         ..SIZES
     };
-    let (table, pass) = alone(&rt, rt.alloc(), "u64", config);
     let said = "[\"insert\",[1],1]\n[\"get\",[1]]\n";
     let want = "[\"refused\",13,\"Exhausted\"]\n[\"absent\"]\n";
-    let _ = check_session(&rt, rt.alloc(), &table, pass, said, want);
+    check_alone(&rt, rt.alloc(), "u64", config, said, want);
 }
 
 /// The leaf of the row that the one pass removed waits in its limbo, so the other takes the second leaf.
