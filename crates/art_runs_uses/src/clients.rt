@@ -17,38 +17,42 @@ use std::process::Abort;
 /// More turns than any call needs.
 const TURNS: u32 = 1_000_000;
 
+/// A world, and the writer of its first pass.
+pub(crate) struct Client {
+    pub(crate) world: World,
+    pub(crate) writer: Writer,
+}
+
 /// A world whose counters begin there, and its writer.
-pub(crate) fn opened(
-    rt: &impl Abort,
-    alloc: Global,
-    sizes: &Sizes,
-    counter_start: u64,
-) -> (World, Writer)
+pub(crate) fn opened(rt: &impl Abort, alloc: Global, sizes: &Sizes, counter_start: u64) -> Client
     requires counter { counter_start ≤ last_counter }
     requires passes { 0 < sizes.now.passes }
-    ensures { WritesFirst result.0 result.1 }
+    ensures { WritesFirst result.world result.writer }
 {
     let world = World::open(alloc, sizes, counter_start).expect(rt, "room for a world");
     let writer = Writer::new(0, sizes);
-    (world, writer)
+    Client { world, writer }
 }
 
 /// How an insert of the row ends.
-fn puts(world: &mut World, writer: &mut Writer, key: &Key, value: u64) -> Outcome
-    requires { WritesFirst world.old writer.old }
-    ensures { WritesFirst world.new writer.new }
+fn puts(client: &mut Client, key: &Key, value: u64) -> Outcome
+    requires { WritesFirst client.old.world client.old.writer }
+    ensures { WritesFirst client.new.world client.new.writer }
 {
-    let mut stepper = world.at(0);
-    writer.insert(&mut stepper, key, value, TURNS).outcome
+    let mut stepper = client.world.at(0);
+    client
+        .writer
+        .insert(&mut stepper, key, value, TURNS)
+        .outcome
 }
 
 /// How a removal of the key ends.
-fn takes(world: &mut World, writer: &mut Writer, key: &Key) -> Outcome
-    requires { WritesFirst world.old writer.old }
-    ensures { WritesFirst world.new writer.new }
+fn takes(client: &mut Client, key: &Key) -> Outcome
+    requires { WritesFirst client.old.world client.old.writer }
+    ensures { WritesFirst client.new.world client.new.writer }
 {
-    let mut stepper = world.at(0);
-    writer.remove(&mut stepper, key, TURNS).outcome
+    let mut stepper = client.world.at(0);
+    client.writer.remove(&mut stepper, key, TURNS).outcome
 }
 
 /// How a get of the key ends, of the pass of the writer.
@@ -62,53 +66,40 @@ fn looks_up(stepper: &mut Stepper<'_>, writer: &Writer, key: &Key) -> Got
 }
 
 /// How a get of the key ends.
-fn finds(world: &mut World, writer: &Writer, key: &Key) -> Got
-    requires { WritesFirst world.old writer.now }
-    ensures { WritesFirst world.new writer.now }
+fn finds(client: &mut Client, key: &Key) -> Got
+    requires { WritesFirst client.old.world client.old.writer }
+    ensures { WritesFirst client.new.world client.new.writer }
 {
-    let mut stepper = world.at(0);
-    looks_up(&mut stepper, writer, key)
+    let mut stepper = client.world.at(0);
+    looks_up(&mut stepper, &client.writer, key)
 }
 
 /// An insert of the row ends so.
 pub(crate) fn check_put(
     rt: &impl Abort,
-    world: &mut World,
-    writer: &mut Writer,
+    client: &mut Client,
     key: &Key,
     value: u64,
     wanted: Outcome,
 )
-    requires { WritesFirst world.old writer.old }
-    ensures { WritesFirst world.new writer.new }
+    requires { WritesFirst client.old.world client.old.writer }
+    ensures { WritesFirst client.new.world client.new.writer }
 {
-    assert_eq!(rt; puts(world, writer, key, value), wanted);
+    assert_eq!(rt; puts(client, key, value), wanted);
 }
 
 /// A removal of the key ends so.
-pub(crate) fn check_take(
-    rt: &impl Abort,
-    world: &mut World,
-    writer: &mut Writer,
-    key: &Key,
-    wanted: Outcome,
-)
-    requires { WritesFirst world.old writer.old }
-    ensures { WritesFirst world.new writer.new }
+pub(crate) fn check_take(rt: &impl Abort, client: &mut Client, key: &Key, wanted: Outcome)
+    requires { WritesFirst client.old.world client.old.writer }
+    ensures { WritesFirst client.new.world client.new.writer }
 {
-    assert_eq!(rt; takes(world, writer, key), wanted);
+    assert_eq!(rt; takes(client, key), wanted);
 }
 
 /// A get of the key ends so.
-pub(crate) fn check_find(
-    rt: &impl Abort,
-    world: &mut World,
-    writer: &Writer,
-    key: &Key,
-    wanted: Got,
-)
-    requires { WritesFirst world.old writer.now }
-    ensures { WritesFirst world.new writer.now }
+pub(crate) fn check_find(rt: &impl Abort, client: &mut Client, key: &Key, wanted: Got)
+    requires { WritesFirst client.old.world client.old.writer }
+    ensures { WritesFirst client.new.world client.new.writer }
 {
-    assert_eq!(rt; finds(world, writer, key), wanted);
+    assert_eq!(rt; finds(client, key), wanted);
 }

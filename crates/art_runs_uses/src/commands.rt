@@ -2,13 +2,12 @@
 ghost use Rattle.art_runs_uses.specs.Writes.{WritesFirst};
 
 use crate::cells::account_with_rows;
-use crate::clients::{check_find, check_put, check_take, opened};
-use art_change::{Outcome, Writer};
+use crate::clients::{Client, check_find, check_put, check_take, opened};
+use art_change::Outcome;
 use art_find::Got;
 use art_key::{Schema, encode};
 use art_model::{Command, Reply, SortedRows, Tuple, Value};
 use art_step::Sizes;
-use art_world::World;
 use rand_pcg::Pcg32;
 use rand_pcg::rand_core::{Rng, SeedableRng};
 use std::alloc::Global;
@@ -23,45 +22,15 @@ const SIZES: Sizes = Sizes {
     passes: 2,
 };
 
-/// A drawn tuple of the schema of one column.
-fn one_column(numbers: &mut Pcg32) -> Tuple {
+/// A drawn tuple, of each column a number below its bound.
+fn draw_tuple(rt: &impl Abort, numbers: &mut Pcg32, bounds: &[u32]) -> Tuple {
     let mut tuple = Tuple::new();
-    tuple.push(Value::Int(i128::from(numbers.next_u32() % 900)));
-    tuple
-}
-
-/// A drawn tuple of the schema of three, of which the first has few values.
-fn three_columns(numbers: &mut Pcg32) -> Tuple {
-    let mut tuple = Tuple::new();
-    tuple.push(Value::Int(i128::from(numbers.next_u32() % 3)));
-    tuple.push(Value::Int(i128::from(numbers.next_u32() % 150)));
-    tuple.push(Value::Int(i128::from(numbers.next_u32() % 2)));
-    tuple
-}
-
-/// The columns of the rows.
-#[derive(Clone, Copy)]
-enum Columns {
-    One,
-    Three,
-}
-
-impl Columns {
-    /// The schema, as text.
-    fn text(self) -> &'static str {
-        match self {
-            Columns::One => "u16",
-            Columns::Three => "u8,u16,u8",
-        }
+    for bound in bounds {
+        let number = numbers.next_u32().checked_rem(*bound).unwrap_or(0);
+        let pushed = tuple.try_push(Value::Int(i128::from(number)));
+        assert!(rt; pushed.is_ok());
     }
-
-    /// A drawn tuple.
-    fn tuple(self, numbers: &mut Pcg32) -> Tuple {
-        match self {
-            Columns::One => one_column(numbers),
-            Columns::Three => three_columns(numbers),
-        }
-    }
+    tuple
 }
 
 /// How an insert or a removal ends whose map answers so, where leaves are left.
@@ -121,61 +90,53 @@ fn wanted_got(rt: &impl Abort, rows: &mut SortedRows, command: &Command) -> Got 
 /// One command of the tuple ends in the tree as in the map.
 fn check_drawn(
     rt: &impl Abort,
-    world: &mut World,
-    writer: &mut Writer,
+    client: &mut Client,
     rows: &mut SortedRows,
     schema: &Schema,
     tuple: Tuple,
     drawn: Drawn,
 )
-    requires { WritesFirst world.old writer.old }
-    ensures { WritesFirst world.new writer.new }
+    requires { WritesFirst client.old.world client.old.writer }
+    ensures { WritesFirst client.new.world client.new.writer }
 {
     let key = encode(schema, &tuple).expect(rt, "a tuple of the schema");
     match drawn {
         Drawn::Insert(value) => {
             let wanted = wanted_outcome(rt, rows, &Command::Insert(tuple, value));
-            check_put(rt, world, writer, &key, value, wanted);
+            check_put(rt, client, &key, value, wanted);
         }
         Drawn::Remove => {
             let wanted = wanted_outcome(rt, rows, &Command::Remove(tuple));
-            check_take(rt, world, writer, &key, wanted);
+            check_take(rt, client, &key, wanted);
         }
         Drawn::Get => {
             let wanted = wanted_got(rt, rows, &Command::Get(tuple));
-            check_find(rt, world, writer, &key, wanted);
+            check_find(rt, client, &key, wanted);
         }
     }
 }
 
 /// 10,000 drawn commands answer as a map of rows does, and all numbers are accounted for in the end.
-fn check_commands(rt: &impl Abort, alloc: Global, columns: Columns) {
-    let (mut world, mut writer) = opened(rt, alloc, &SIZES, 0);
-    let schema = Schema::parse(columns.text()).expect(rt, "a schema");
+fn check_commands(rt: &impl Abort, alloc: Global, columns: &str, bounds: &[u32]) {
+    let mut client = opened(rt, alloc, &SIZES, 0);
+    let schema = Schema::parse(columns).expect(rt, "a schema");
     let mut rows = SortedRows::new(alloc);
     let mut numbers = Pcg32::seed_from_u64(1);
     for _ in 0..10000 {
-        let tuple = columns.tuple(&mut numbers);
+        let tuple = draw_tuple(rt, &mut numbers, bounds);
         let drawn = draw(&mut numbers);
-        check_drawn(
-            rt,
-            &mut world,
-            &mut writer,
-            &mut rows,
-            &schema,
-            tuple,
-            drawn,
-        );
+        check_drawn(rt, &mut client, &mut rows, &schema, tuple, drawn);
     }
+    let Client { world, writer } = client;
     account_with_rows(rt, alloc, &world, &writer.end(), rows.rows().len());
 }
 
 #[test]
 fn drawn_commands_of_one_column_answer_as_a_map(rt: HostRuntime) {
-    check_commands(&rt, rt.alloc(), Columns::One);
+    check_commands(&rt, rt.alloc(), "u16", &[900]);
 }
 
 #[test]
 fn drawn_commands_of_three_columns_answer_as_a_map(rt: HostRuntime) {
-    check_commands(&rt, rt.alloc(), Columns::Three);
+    check_commands(&rt, rt.alloc(), "u8,u16,u8", &[3, 150, 2]);
 }

@@ -2,9 +2,9 @@
 ghost use Rattle.art_runs_uses.specs.Writes.{WritesFirst};
 
 use crate::cells::check_free_word;
-use crate::clients::{check_find, check_put, check_take, opened};
+use crate::clients::{Client, check_find, check_put, check_take, opened};
 use art_cell::{Cell, Pool};
-use art_change::{Outcome, Writer};
+use art_change::Outcome;
 use art_find::Got;
 use art_key::{Key, Schema, encode};
 use art_model::{Tuple, Value};
@@ -40,76 +40,64 @@ fn check_root(rt: &impl Abort, world: &World, kind: u64) {
 }
 
 /// Nothing waits in the limbo of the writer.
-fn check_limbo(rt: &impl Abort, writer: Writer) {
+fn check_limbo(rt: &impl Abort, client: Client) {
+    let Client { world: _, writer } = client;
     assert_eq!(rt; writer.end().room(), 64);
 }
 
 /// At most three numbers wait in the limbo of the writer.
-fn check_few_wait(rt: &impl Abort, writer: Writer) {
+fn check_few_wait(rt: &impl Abort, client: Client) {
+    let Client { world: _, writer } = client;
     assert!(rt; writer.end().room() > 60);
 }
 
 #[test]
 fn rows_that_are_inserted_are_found(rt: HostRuntime) {
-    let (mut world, mut writer) = opened(&rt, rt.alloc(), &SIZES, 0);
+    let mut client = opened(&rt, rt.alloc(), &SIZES, 0);
     let one = key_of(&rt, "u8", 1);
     let five = key_of(&rt, "u8", 5);
     let stands = Outcome::Present(10);
-    check_find(&rt, &mut world, &writer, &one, Got::Absent);
-    check_put(&rt, &mut world, &mut writer, &one, 10, Outcome::New);
-    check_put(&rt, &mut world, &mut writer, &five, 50, Outcome::New);
-    check_put(&rt, &mut world, &mut writer, &one, 11, stands);
-    check_find(&rt, &mut world, &writer, &one, Got::Found(10));
-    check_find(&rt, &mut world, &writer, &five, Got::Found(50));
-    check_anchor(&rt, &world, 2);
-    check_limbo(&rt, writer);
+    check_find(&rt, &mut client, &one, Got::Absent);
+    check_put(&rt, &mut client, &one, 10, Outcome::New);
+    check_put(&rt, &mut client, &five, 50, Outcome::New);
+    check_put(&rt, &mut client, &one, 11, stands);
+    check_find(&rt, &mut client, &one, Got::Found(10));
+    check_find(&rt, &mut client, &five, Got::Found(50));
+    check_anchor(&rt, &client.world, 2);
+    check_limbo(&rt, client);
 }
 
 /// Rows with the numbers from `first` on before `end` are inserted: each is new, and found.
-pub(crate) fn fills(
-    rt: &impl Abort,
-    world: &mut World,
-    writer: &mut Writer,
-    schema: &str,
-    first: u16,
-    end: u16,
-)
-    requires { WritesFirst world.old writer.old }
-    ensures { WritesFirst world.new writer.new }
+pub(crate) fn fills(rt: &impl Abort, client: &mut Client, schema: &str, first: u16, end: u16)
+    requires { WritesFirst client.old.world client.old.writer }
+    ensures { WritesFirst client.new.world client.new.writer }
 {
     for number in first..end {
         let key = key_of(rt, schema, number);
         let value = u64::from(number);
-        check_put(rt, world, writer, &key, value, Outcome::New);
-        check_find(rt, world, writer, &key, Got::Found(value));
+        check_put(rt, client, &key, value, Outcome::New);
+        check_find(rt, client, &key, Got::Found(value));
     }
 }
 
 /// Rows with the numbers from `first` on before `end` are removed: each had its value, and is absent then.
-pub(crate) fn empties(
-    rt: &impl Abort,
-    world: &mut World,
-    writer: &mut Writer,
-    schema: &str,
-    first: u16,
-    end: u16,
-)
-    requires { WritesFirst world.old writer.old }
-    ensures { WritesFirst world.new writer.new }
+pub(crate) fn empties(rt: &impl Abort, client: &mut Client, schema: &str, first: u16, end: u16)
+    requires { WritesFirst client.old.world client.old.writer }
+    ensures { WritesFirst client.new.world client.new.writer }
 {
     for number in first..end {
         let key = key_of(rt, schema, number);
         let value = u64::from(number);
-        check_take(rt, world, writer, &key, Outcome::Gone(value));
-        check_find(rt, world, writer, &key, Got::Absent);
-        check_take(rt, world, writer, &key, Outcome::Absent);
+        check_take(rt, client, &key, Outcome::Gone(value));
+        check_find(rt, client, &key, Got::Absent);
+        check_take(rt, client, &key, Outcome::Absent);
     }
 }
 
 #[test]
 fn nodes_shrink_at_thirty_six_twelve_three_and_one(rt: HostRuntime) {
-    let (mut world, mut writer) = opened(&rt, rt.alloc(), &SIZES, 0);
-    fills(&rt, &mut world, &mut writer, "u8", 0, 60);
+    let mut client = opened(&rt, rt.alloc(), &SIZES, 0);
+    fills(&rt, &mut client, "u8", 0, 60);
     for (first, end, kind) in [
         (0, 23, 5),
         (23, 24, 4),
@@ -119,17 +107,17 @@ fn nodes_shrink_at_thirty_six_twelve_three_and_one(rt: HostRuntime) {
         (56, 57, 2),
         (57, 59, 1),
     ] {
-        empties(&rt, &mut world, &mut writer, "u8", first, end);
-        check_root(&rt, &world, kind);
+        empties(&rt, &mut client, "u8", first, end);
+        check_root(&rt, &client.world, kind);
     }
-    empties(&rt, &mut world, &mut writer, "u8", 59, 60);
-    check_anchor(&rt, &world, 0);
-    check_few_wait(&rt, writer);
+    empties(&rt, &mut client, "u8", 59, 60);
+    check_anchor(&rt, &client.world, 0);
+    check_few_wait(&rt, client);
 }
 
 #[test]
 fn nodes_grow_at_five_seventeen_and_forty_nine(rt: HostRuntime) {
-    let (mut world, mut writer) = opened(&rt, rt.alloc(), &SIZES, 0);
+    let mut client = opened(&rt, rt.alloc(), &SIZES, 0);
     for (first, end, kind) in [
         (0, 4, 2),
         (4, 5, 3),
@@ -138,32 +126,12 @@ fn nodes_grow_at_five_seventeen_and_forty_nine(rt: HostRuntime) {
         (17, 48, 4),
         (48, 200, 5),
     ] {
-        fills(&rt, &mut world, &mut writer, "u8", first, end);
-        check_root(&rt, &world, kind);
+        fills(&rt, &mut client, "u8", first, end);
+        check_root(&rt, &client.world, kind);
     }
     let last_word = 0xffff_ffff_ffff_ff00;
-    check_free_word(&rt, &world, Pool::Leaves, 3, last_word);
-    check_limbo(&rt, writer);
-}
-
-const FEW: Sizes = Sizes {
-    leaves: 2,
-    n4: 1,
-    n16: 0,
-    n48: 1,
-    n256: 1,
-    passes: 1,
-};
-
-#[test]
-fn a_third_row_finds_two_leaves_full(rt: HostRuntime) {
-    let (mut world, mut writer) = opened(&rt, rt.alloc(), &FEW, 0);
-    fills(&rt, &mut world, &mut writer, "u8", 0, 2);
-    let third = key_of(&rt, "u8", 2);
-    let full = Outcome::Full(Pool::Leaves);
-    check_put(&rt, &mut world, &mut writer, &third, 2, full);
-    check_find(&rt, &mut world, &writer, &third, Got::Absent);
-    check_limbo(&rt, writer);
+    check_free_word(&rt, &client.world, Pool::Leaves, 3, last_word);
+    check_limbo(&rt, client);
 }
 
 const NO_NODE16: Sizes = Sizes {
@@ -175,15 +143,31 @@ const NO_NODE16: Sizes = Sizes {
     passes: 1,
 };
 
+const FEW: Sizes = Sizes {
+    leaves: 2,
+    ..NO_NODE16
+};
+
+#[test]
+fn a_third_row_finds_two_leaves_full(rt: HostRuntime) {
+    let mut client = opened(&rt, rt.alloc(), &FEW, 0);
+    fills(&rt, &mut client, "u8", 0, 2);
+    let third = key_of(&rt, "u8", 2);
+    let full = Outcome::Full(Pool::Leaves);
+    check_put(&rt, &mut client, &third, 2, full);
+    check_find(&rt, &mut client, &third, Got::Absent);
+    check_limbo(&rt, client);
+}
+
 #[test]
 fn a_full_node4_finds_no_node16(rt: HostRuntime) {
-    let (mut world, mut writer) = opened(&rt, rt.alloc(), &NO_NODE16, 0);
-    fills(&rt, &mut world, &mut writer, "u8", 0, 4);
+    let mut client = opened(&rt, rt.alloc(), &NO_NODE16, 0);
+    fills(&rt, &mut client, "u8", 0, 4);
     let fifth = key_of(&rt, "u8", 4);
     let full = Outcome::Full(Pool::N16);
-    check_put(&rt, &mut world, &mut writer, &fifth, 4, full);
-    check_free_word(&rt, &world, Pool::Leaves, 0, 0xf0);
-    check_limbo(&rt, writer);
+    check_put(&rt, &mut client, &fifth, 4, full);
+    check_free_word(&rt, &client.world, Pool::Leaves, 0, 0xf0);
+    check_limbo(&rt, client);
 }
 
 /// The end of a counter.
@@ -191,25 +175,25 @@ const LAST: u64 = (1 << 62) - 8;
 
 #[test]
 fn the_anchor_at_the_end_of_its_counter_is_exhausted(rt: HostRuntime) {
-    let (mut world, mut writer) = opened(&rt, rt.alloc(), &SIZES, LAST);
+    let mut client = opened(&rt, rt.alloc(), &SIZES, LAST);
     let one = key_of(&rt, "u8", 1);
     let exhausted = Outcome::Exhausted(Cell::Anchor);
-    check_put(&rt, &mut world, &mut writer, &one, 1, exhausted);
-    check_find(&rt, &mut world, &writer, &one, Got::Absent);
-    check_free_word(&rt, &world, Pool::Leaves, 0, u64::MAX);
-    check_limbo(&rt, writer);
+    check_put(&rt, &mut client, &one, 1, exhausted);
+    check_find(&rt, &mut client, &one, Got::Absent);
+    check_free_word(&rt, &client.world, Pool::Leaves, 0, u64::MAX);
+    check_limbo(&rt, client);
 }
 
 /// A node begins its counter anew, so it is changed below an anchor whose counter is at its end.
 #[test]
 fn a_node_below_an_anchor_at_its_end_is_changed(rt: HostRuntime) {
-    let (mut world, mut writer) = opened(&rt, rt.alloc(), &SIZES, LAST - 2);
-    fills(&rt, &mut world, &mut writer, "u8", 0, 4);
+    let mut client = opened(&rt, rt.alloc(), &SIZES, LAST - 2);
+    fills(&rt, &mut client, "u8", 0, 4);
     let fifth = key_of(&rt, "u8", 4);
     let exhausted = Outcome::Exhausted(Cell::Anchor);
-    check_put(&rt, &mut world, &mut writer, &fifth, 4, exhausted);
+    check_put(&rt, &mut client, &fifth, 4, exhausted);
     let third = key_of(&rt, "u8", 2);
-    check_take(&rt, &mut world, &mut writer, &third, Outcome::Gone(2));
-    check_find(&rt, &mut world, &writer, &third, Got::Absent);
-    check_few_wait(&rt, writer);
+    check_take(&rt, &mut client, &third, Outcome::Gone(2));
+    check_find(&rt, &mut client, &third, Got::Absent);
+    check_few_wait(&rt, client);
 }

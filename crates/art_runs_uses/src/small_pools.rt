@@ -2,10 +2,10 @@
 ghost use Rattle.art_runs_uses.specs.Writes.{WritesFirst};
 
 use crate::cells::account_with_rows;
-use crate::clients::{check_find, check_put, opened};
+use crate::clients::{Client, check_find, check_put, opened};
 use crate::rows::{empties, fills, key_of};
 use art_cell::{Cell, Layout, Node, Pool};
-use art_change::{Outcome, Writer};
+use art_change::Outcome;
 use art_find::Got;
 use art_step::Sizes;
 use art_world::World;
@@ -23,14 +23,14 @@ const SMALL: Sizes = Sizes {
 };
 
 /// The rows with the numbers from `first` on before `end` stand.
-fn check_rows(rt: &impl Abort, world: &mut World, writer: &Writer, first: u16, end: u16)
-    requires { WritesFirst world.old writer.now }
-    ensures { WritesFirst world.new writer.now }
+fn check_rows(rt: &impl Abort, client: &mut Client, first: u16, end: u16)
+    requires { WritesFirst client.old.world client.old.writer }
+    ensures { WritesFirst client.new.world client.new.writer }
 {
     for number in first..end {
         let key = key_of(rt, "u16", number);
         let found = Got::Found(u64::from(number));
-        check_find(rt, world, writer, &key, found);
+        check_find(rt, client, &key, found);
     }
 }
 
@@ -47,15 +47,16 @@ fn check_first_child(rt: &impl Abort, world: &World, child: u64) {
 
 /// A node of so many rows, beside one with `beside` rows that has the only smaller node, stays when `left` are left.
 fn check_stays(rt: &impl Abort, alloc: Global, many: u16, beside: u16, left: u16, child: u64) {
-    let (mut world, mut writer) = opened(rt, alloc, &SMALL, 0);
+    let mut client = opened(rt, alloc, &SMALL, 0);
     let end = 256u16.saturating_add(beside);
-    fills(rt, &mut world, &mut writer, "u16", 0, many);
-    fills(rt, &mut world, &mut writer, "u16", 256, end);
-    empties(rt, &mut world, &mut writer, "u16", left, many);
-    check_first_child(rt, &world, child);
-    check_rows(rt, &mut world, &writer, 0, left);
-    check_rows(rt, &mut world, &writer, 256, end);
+    fills(rt, &mut client, "u16", 0, many);
+    fills(rt, &mut client, "u16", 256, end);
+    empties(rt, &mut client, "u16", left, many);
+    check_first_child(rt, &client.world, child);
+    check_rows(rt, &mut client, 0, left);
+    check_rows(rt, &mut client, 256, end);
     let rows = usize::from(left).wrapping_add(usize::from(beside));
+    let Client { world, writer } = client;
     account_with_rows(rt, alloc, &world, &writer.end(), rows);
 }
 
@@ -74,20 +75,21 @@ fn check_unpinned(rt: &impl Abort, world: &World) {
 
 #[test]
 fn a_full_node4_waits_for_the_only_node16(rt: HostRuntime) {
-    let (mut world, mut writer) = opened(&rt, rt.alloc(), &SMALL, 0);
-    fills(&rt, &mut world, &mut writer, "u16", 0, 5);
-    fills(&rt, &mut world, &mut writer, "u16", 256, 260);
+    let mut client = opened(&rt, rt.alloc(), &SMALL, 0);
+    fills(&rt, &mut client, "u16", 0, 5);
+    fills(&rt, &mut client, "u16", 256, 260);
     let fifth = key_of(&rt, "u16", 260);
     let full = Outcome::Full(Pool::N16);
-    check_put(&rt, &mut world, &mut writer, &fifth, 260, full);
-    check_unpinned(&rt, &world);
-    account_with_rows(&rt, rt.alloc(), &world, writer.limbo(), 9);
-    check_find(&rt, &mut world, &writer, &fifth, Got::Absent);
-    check_rows(&rt, &mut world, &writer, 0, 5);
-    check_rows(&rt, &mut world, &writer, 256, 260);
-    empties(&rt, &mut world, &mut writer, "u16", 1, 5);
-    fills(&rt, &mut world, &mut writer, "u16", 260, 261);
-    check_rows(&rt, &mut world, &writer, 0, 1);
-    check_rows(&rt, &mut world, &writer, 256, 261);
+    check_put(&rt, &mut client, &fifth, 260, full);
+    check_unpinned(&rt, &client.world);
+    account_with_rows(&rt, rt.alloc(), &client.world, client.writer.limbo(), 9);
+    check_find(&rt, &mut client, &fifth, Got::Absent);
+    check_rows(&rt, &mut client, 0, 5);
+    check_rows(&rt, &mut client, 256, 260);
+    empties(&rt, &mut client, "u16", 1, 5);
+    fills(&rt, &mut client, "u16", 260, 261);
+    check_rows(&rt, &mut client, 0, 1);
+    check_rows(&rt, &mut client, 256, 261);
+    let Client { world, writer } = client;
     account_with_rows(&rt, rt.alloc(), &world, &writer.end(), 6);
 }
