@@ -1,7 +1,6 @@
 use Rattle.std.proofs.Common.{◌≡◌, ◌+◌, ◌<◌, ◌∙◌, ℕ, List, Option, Some, ap, refl, sym, arith}
 use Rattle.art_find.specs.Descents.{asks}
 use Rattle.art_find.specs.declared.asked.Asked.TheVariants.{Read}
-use Rattle.art_find.specs.declared.descents.Stage.{Stage}
 use Rattle.art_place.proofs.Hearing.{may_look}
 use Rattle.art_place.proofs.Keeping.{cell_fits}
 use Rattle.art_place.specs.Findings.{FindingFits}
