@@ -1,6 +1,4 @@
 pub mod ColumnLaws
-pub mod Dashes
-pub mod Descending
 pub mod Legality
 pub mod Looks
 pub mod Loops

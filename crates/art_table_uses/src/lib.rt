@@ -2,8 +2,6 @@
 #![tactic(auto)]
 
 #[cfg(test)]
-mod descending;
-#[cfg(test)]
 mod drawn;
 #[cfg(test)]
 mod letters;

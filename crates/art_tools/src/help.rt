@@ -42,7 +42,6 @@ Columns of a schema, one to eight names joined by commas:
   u8 u16 u32 u64             whole numbers from 0
   i8 i16 i32 i64             whole numbers, negative ones too
   text1 to text24            texts of at most so many bytes
-  u32-, and so each kind     the same values in reverse order, the greatest first
 
 ",
             $lines;
