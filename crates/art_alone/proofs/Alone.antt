@@ -79,18 +79,18 @@ alone_before t p q number starts alone =
 -- ---- what a history says
 
 pub legal_split : (schema : List Column) (rows : List Row) (log : List Event) (e : Event) → IsLegalFrom schema rows (log ++ e ∷ [])
-    → IsLegalFrom schema rows log × IsAnswered schema (run rows log) e.what
+    → IsLegalFrom schema rows log × IsAnswered schema (run schema rows log) e.what
 legal_split schema rows [] e legal = (tt, legal.0)
 legal_split schema rows (d ∷ log) e legal =
-    let split = legal_split schema (becomes rows d.what) log e legal.1 in
+    let split = legal_split schema (becomes schema rows d.what) log e legal.1 in
     ((legal.0, split.0), split.1)
 
-pub run_push : (rows : List Row) (log : List Event) (e : Event) → run rows (log ++ e ∷ []) ≡ becomes (run rows log) e.what
-run_push rows [] e = refl
-run_push rows (d ∷ log) e = run_push (becomes rows d.what) log e
+pub run_push : (schema : List Column) (rows : List Row) (log : List Event) (e : Event) → run schema rows (log ++ e ∷ []) ≡ becomes schema (run schema rows log) e.what
+run_push schema rows [] e = refl
+run_push schema rows (d ∷ log) e = run_push schema (becomes schema rows d.what) log e
 
 -- the rows that it leaves are sorted, and stand in the schema
-pub rows_spelled : (t : Table) (q : Pass) → IsPassOf t q → Spells (schema_in t) (bytes.replay (view_of q).seen) (replay (seen_by t q))
+pub rows_spelled : (t : Table) (q : Pass) → IsPassOf t q → Spells (schema_in t) (bytes.replay (view_of q).seen) (replay (schema_in t) (seen_by t q))
 rows_spelled t q is = (histories_are_typed (schema_in t) (view_of q).seen is.legal is.of.typed).1
 
 -- ---- an event of its own
@@ -120,11 +120,11 @@ module _ (t : Table) (p q : Pass) (what : Deed) (was : IsPassOf t p) (is : IsPas
   seen_is = made.seen ∙ ap (λ (l : List Event). l ++ event ∷ []) (ap (λ (l : List Event). seen_by t p ++ l) none_between ∙ append-nil (seen_by t p))
 
   -- it says what the rows answer, and leaves what they become
-  pub own_event : IsAnswered (schema_in t) (replay (seen_by t p)) what × (replay (seen_by t q) ≡ becomes (replay (seen_by t p)) what)
+  pub own_event : IsAnswered (schema_in t) (replay (schema_in t) (seen_by t p)) what × (replay (schema_in t) (seen_by t q) ≡ becomes (schema_in t) (replay (schema_in t) (seen_by t p)) what)
   unfolding event
   own_event = (
     (legal_split (schema_in t) [] (seen_by t p) event (subst (IsLegal (schema_in t)) seen_is legal)).1,
-    ap replay seen_is ∙ run_push [] (seen_by t p) event,
+    ap (replay (schema_in t)) seen_is ∙ run_push (schema_in t) [] (seen_by t p) event,
   )
 
 -- ---- the close
@@ -155,4 +155,4 @@ closed_alone t q closed is c =
     let alone = All-first (IsOf (number_of q)) (seen_by t q) starts.0 (subst (AllByRecursion (IsOf (number_of q))) starts.1 all) in
     let own = ap (length {A = ℕ}) (sym (c.tells.own q (inl refl))) ∙ all_placed_typed (number_of q) 0 log all in
     let mine = own_all t q is alone in
-    (alone, c.rows ∙ ap replay (same_history log (seen_by t q) starts.0 starts.1 (sym own ∙ mine)))
+    (alone, c.rows ∙ ap (replay (schema_in t)) (same_history log (seen_by t q) starts.0 starts.1 (sym own ∙ mine)))

@@ -40,11 +40,11 @@ use Rattle.art_table.specs.declared.tables.Table.{Table}
 -- the rows answered its event, and became what that makes of them; or it made none, and they stayed
 abbrev pub AnsweredBy : List Column → List Row → List Row → Option Deed → Type 0
 AnsweredBy schema rows after None = after ≡ rows
-AnsweredBy schema rows after (Some what) = IsAnswered schema rows what × (after ≡ becomes rows what)
+AnsweredBy schema rows after (Some what) = IsAnswered schema rows what × (after ≡ becomes schema rows what)
 
 sees_answered : (t : Table) (p q : Pass) → IsPassOf t p → IsPassOf t q → IsAlone t q → number_of q ≡ number_of p → IsLegal (schema_in t) (seen_by t q) → (told : Option Deed) → Sees t p q told
-    → AnsweredBy (schema_in t) (replay (seen_by t p)) (replay (seen_by t q)) told
-sees_answered t p q was is alone number legal None sees = ap replay sees.0
+    → AnsweredBy (schema_in t) (replay (schema_in t) (seen_by t p)) (replay (schema_in t) (seen_by t q)) told
+sees_answered t p q was is alone number legal None sees = ap (replay (schema_in t)) sees.0
 sees_answered t p q was is alone number legal (Some what) made = own_event t p q what was is alone number made legal
 
 -- ---- by its reply
@@ -54,7 +54,7 @@ module _ (schema : List Column) (rows after : List Row) (c : Command) (stands : 
   wants refusal want told same =
       subst (λ (r : Result Reply Refusal). MapAnswers schema c rows r after) (sym told) (subst (λ (o : Option Refusal). IsGround o refusal) (sym stands) want, same)
 
-  says : (x : Reply) → reply ≡ Ok x → IsAnswered schema rows (Done c x) × (after ≡ becomes rows (Done c x)) → MapAnswers schema c rows reply after
+  says : (x : Reply) → reply ≡ Ok x → IsAnswered schema rows (Done c x) × (after ≡ becomes schema rows (Done c x)) → MapAnswers schema c rows reply after
   says x told answered = subst (λ (r : Result Reply Refusal). MapAnswers schema c rows r after) (sym told) (stands, answered.0.1, answered.1)
 
 module _ (schema : List Column) (rows after : List Row) (tuple : Tuple) (fits : tuple_fault schema tuple.items ≡ None) (reply : Result Reply Refusal) where
@@ -111,10 +111,10 @@ number_kept t p q j given turns r e = sym q.seat.own ∙ (e.same.number ∙ p.se
 
 module _ (t : Table) (p q : Pass) (was : IsPassOf t p) (alone : IsAlone t q) (reply : Result Reply Refusal) where
   abbrev rows : List Row
-  rows = replay (seen_by t p)
+  rows = replay (schema_in t) (seen_by t p)
 
   abbrev after : List Row
-  after = replay (seen_by t q)
+  after = replay (schema_in t) (seen_by t q)
 
   called : (j : Job) (r : Result Outcome Fault) → HasEnded t j most_turns most_turns p r q → AnsweredBy (schema_in t) rows after (told_by j r)
   called j r e = sees_answered t p q was e.pass alone (number_kept t p q j most_turns most_turns r e) e.legal (told_by j r) e.sees
@@ -125,7 +125,7 @@ module _ (t : Table) (p q : Pass) (was : IsPassOf t p) (alone : IsAlone t q) (re
   refused c fault r is r_is same told =
       let said : reply ≡ Err (value_refusal fault) = subst (λ (x : Result Outcome Fault). IsReplyOf x reply) r_is told in
       subst (λ (x : Result Reply Refusal). MapAnswers (schema_in t) c rows x after) (sym said)
-      (subst (λ (o : Option Refusal). IsGround o (value_refusal fault)) (sym is) refl, ap (λ (x : Pass). replay (seen_by t x)) same)
+      (subst (λ (o : Option Refusal). IsGround o (value_refusal fault)) (sym is) refl, ap (λ (x : Pass). replay (schema_in t) (seen_by t x)) same)
 
   -- by the fault of its tuple, if it has one
   module _ (tuple : Tuple) where

@@ -20,29 +20,29 @@ use Rattle.art_table.specs.declared.passes.Pass.{Pass}
 use Rattle.art_table.specs.declared.tables.Table.{Table}
 
 module _ (t : Table) (p q : Pass) (was : IsPassOf t p) (alone : IsAlone t q) (reply : Result Reply Refusal) where
-  command_map : (c : Command) → AnswersCommand t c p reply q → MapAnswers (schema_in t) c (replay (seen_by t p)) reply (replay (seen_by t q))
+  command_map : (c : Command) → AnswersCommand t c p reply q → MapAnswers (schema_in t) c (replay (schema_in t) (seen_by t p)) reply (replay (schema_in t) (seen_by t q))
   command_map (Insert tuple value) a = inserted t p q was alone reply tuple value a
   command_map (Remove tuple) a = removed t p q was alone reply tuple a
   command_map (Get tuple) a = got t p q was alone reply tuple a
   command_map (Scan lo hi limit) a = scanned t p q was alone reply lo hi limit a
 
-  said_map : (said : Result Command LineFault) → AnswersSaid t said p reply q → MapAnswersSaid (schema_in t) said (replay (seen_by t p)) reply (replay (seen_by t q))
+  said_map : (said : Result Command LineFault) → AnswersSaid t said p reply q → MapAnswersSaid (schema_in t) said (replay (schema_in t) (seen_by t p)) reply (replay (schema_in t) (seen_by t q))
   said_map (Ok command) a = command_map command a
-  said_map (Err fault) a = (a.0, ap (λ (x : Pass). replay (seen_by t x)) a.1)
+  said_map (Err fault) a = (a.0, ap (λ (x : Pass). replay (schema_in t) (seen_by t x)) a.1)
 
-  line_map : (line : List ℕ) → AnswersLine t line p reply q → MapAnswersSaid (schema_in t) (line_says line) (replay (seen_by t p)) reply (replay (seen_by t q))
+  line_map : (line : List ℕ) → AnswersLine t line p reply q → MapAnswersSaid (schema_in t) (line_says line) (replay (schema_in t) (seen_by t p)) reply (replay (schema_in t) (seen_by t q))
   unfolding AnswersLine
   line_map line a = said_map (line_says line) a
 
 -- line by line, of a pass that has seen its own events alone at the end
 lines_map : (t : Table) (lines : List (List ℕ)) (p q : Pass) (replies : List (Result Reply Refusal)) → IsPassOf t p → AnswersLines t lines p replies q → IsAlone t q
-    → MapAnswersLines (schema_in t) lines (replay (seen_by t p)) replies (replay (seen_by t q))
-lines_map t [] p q replies was answers alone = (answers.0, ap (λ (x : Pass). replay (seen_by t x)) answers.1)
+    → MapAnswersLines (schema_in t) lines (replay (schema_in t) (seen_by t p)) replies (replay (schema_in t) (seen_by t q))
+lines_map t [] p q replies was answers alone = (answers.0, ap (λ (x : Pass). replay (schema_in t) (seen_by t x)) answers.1)
 lines_map t (line ∷ lines) p q replies was (reply, others, m, is, one, rest) alone =
     let first = line_goes t line p reply m was one in
     let others_go = lines_go t lines m others q first.pass rest in
     let alone_there = alone_before t m q others_go.number others_go.starts alone in
-    (reply, others, replay (seen_by t m), is, line_map t p m was alone_there reply line one, lines_map t lines m q others first.pass rest alone)
+    (reply, others, replay (schema_in t) (seen_by t m), is, line_map t p m was alone_there reply line one, lines_map t lines m q others first.pass rest alone)
 
 -- which the only pass of a table has
 pub sessions_alone_are_one_map : SessionsAloneAreOneMap

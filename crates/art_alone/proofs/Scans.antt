@@ -11,10 +11,10 @@ use Rattle.art_alone.proofs.Looks.{looks_alone}
 use Rattle.art_alone.specs.Laws.{IsAlone}
 use Rattle.art_alone.specs.Maps.{IsGround, MapAnswers}
 use Rattle.art_key.specs.Bounds.{is_before}
-use Rattle.art_key.specs.Columns.{tuple_fault}
+use Rattle.art_key.specs.Columns.{order_of, tuple_fault}
 use Rattle.art_key.specs.Histories.{bound_at, replay}
 use Rattle.art_key.specs.declared.faults.ValueFault.{ValueFault}
-use Rattle.art_model.specs.Rows.{Tuple, tuple_cmp}
+use Rattle.art_model.specs.Rows.{Order, Tuple, tuple_cmp}
 use Rattle.art_model.specs.declared.commands.Command.TheVariants.{Scan}
 use Rattle.art_model.specs.declared.commands.Reply.{Reply}
 use Rattle.art_model.specs.declared.commands.Reply.TheVariants.{Rows}
@@ -38,10 +38,10 @@ no_value : (o : Option ValueFault) (others : Option ScanFault) → or_value o ot
 no_value None others is = (refl, is)
 no_value (Some fault) others is = cc
 
-in_range : (lo hi : Tuple) (limit : ℕ) → range_fault lo hi limit ≡ None → (is_le (tuple_cmp lo hi) ≡ true) × (limit_fault limit ≡ None)
-in_range lo hi limit is = by (is_le (tuple_cmp lo hi)) refl
+in_range : (order : Order) (lo hi : Tuple) (limit : ℕ) → range_fault order lo hi limit ≡ None → (is_le (tuple_cmp order lo hi) ≡ true) × (limit_fault limit ≡ None)
+in_range order lo hi limit is = by (is_le (tuple_cmp order lo hi)) refl
   where
-    by : (b : Bool) → is_le (tuple_cmp lo hi) ≡ b → (is_le (tuple_cmp lo hi) ≡ true) × (limit_fault limit ≡ None)
+    by : (b : Bool) → is_le (tuple_cmp order lo hi) ≡ b → (is_le (tuple_cmp order lo hi) ≡ true) × (limit_fault limit ≡ None)
     by true e = (e, sym (ap (λ (c : Bool). if c then limit_fault limit else Some BadRange) e) ∙ is)
     by false e = let wrong = sym (ap (λ (c : Bool). if c then limit_fault limit else Some BadRange) e) ∙ is in cc
 
@@ -61,10 +61,10 @@ limits listed limit = by (listed == limit) refl
 
 module _ (t : Table) (p q : Pass) (was : IsPassOf t p) (alone : IsAlone t q) (reply : Result Reply Refusal) (lo hi : Tuple) (limit : ℕ) where
   abbrev rows : List Row
-  rows = replay (seen_by t p)
+  rows = replay (schema_in t) (seen_by t p)
 
   abbrev after : List Row
-  after = replay (seen_by t q)
+  after = replay (schema_in t) (seen_by t q)
 
   abbrev Answered : Type 0
   Answered = MapAnswers (schema_in t) (Scan lo hi limit) rows reply after
@@ -74,17 +74,17 @@ module _ (t : Table) (p q : Pass) (was : IsPassOf t p) (alone : IsAlone t q) (re
       let said : reply ≡ Err (scan_refusal fault) = subst (λ (x : Result More ScanFault). IsReplyOfScan listed x reply) r_is told in
       let ground = ap (option_map scan_refusal) is in
       subst (λ (x : Result Reply Refusal). MapAnswers (schema_in t) (Scan lo hi limit) rows x after) (sym said)
-      (subst (λ (o : Option Refusal). IsGround o (scan_refusal fault)) (sym ground) refl, ap (λ (x : Pass). replay (seen_by t x)) same)
+      (subst (λ (o : Option Refusal). IsGround o (scan_refusal fault)) (sym ground) refl, ap (λ (x : Pass). replay (schema_in t) (seen_by t x)) same)
 
   module _ (none : scan_fault (schema_in t) lo hi limit ≡ None) (listed : List Row) where
     stands : option_map scan_refusal (scan_fault (schema_in t) lo hi limit) ≡ None
     stands = ap (option_map scan_refusal) none
 
-    looked : (r : Result More ScanFault) (e : HasScanned t lo hi limit most_turns p listed r q) → AllByRecursion (λ state. state ≡ rows) (states_of e.tiles) × (after ≡ rows)
+    looked : (r : Result More ScanFault) (e : HasScanned t lo hi limit most_turns p listed r q) → AllByRecursion (λ state. state ≡ rows) (states_of (schema_in t) e.tiles) × (after ≡ rows)
     looked r e =
         let same : number_of q ≡ number_of p = sym q.seat.own ∙ (e.tiled.same.number ∙ p.seat.own) in
         let starts = looks_start (number_of p) e.tiles (seen_by t p) (own_of p) (seen_by t q) (own_of q) e.tiled.looks in
-        looks_alone (number_of p) e.tiles (seen_by t p) (own_of p) (seen_by t q) (own_of q) e.tiled.looks
+        looks_alone (schema_in t) (number_of p) e.tiles (seen_by t p) (own_of p) (seen_by t q) (own_of q) e.tiled.looks
         (own_all t p was (alone_before t p q same starts alone)) (own_all t q e.tiled.pass alone)
 
     ended : (r : Result More ScanFault) (e : HasScanned t lo hi limit most_turns p listed r q) → EndsAs t lo hi limit most_turns e.reached e.tiles p listed r q → IsReplyOfScan listed r reply → Answered
@@ -95,7 +95,7 @@ module _ (t : Table) (p q : Pass) (was : IsPassOf t p) (alone : IsAlone t q) (re
     ended (Ok more) e ends told =
         let first = no_value (tuple_fault (schema_in t) lo.items) _ none in
         let second = no_value (tuple_fault (schema_in t) hi.items) _ first.1 in
-        let third = in_range lo hi limit second.1 in
+        let third = in_range (order_of (schema_in t)) lo hi limit second.1 in
         let spelled = rows_spelled t p was in
         let looks = looked (Ok more) e in
         let low : is_before (bound_at (schema_in t) lo) ends.end ≡ true = ends.ends lo first.0 ∙ third.0 in

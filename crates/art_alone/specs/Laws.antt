@@ -27,7 +27,7 @@ pub record IsOnlyPass (t : Table) (p : Pass) : Type 0 where
 pub record IsOneMap (t : Table) (lines : List (List ℕ)) (p q : Pass) (replies : List (Result Reply Refusal)) : Type 0 where
   pub only : IsOnlyPass t q
   pub alone : IsAlone t q
-  pub map : MapAnswersLines (schema_in t) lines (replay (seen_by t p)) replies (replay (seen_by t q))
+  pub map : MapAnswersLines (schema_in t) lines (replay (schema_in t) (seen_by t p)) replies (replay (schema_in t) (seen_by t q))
 
 abbrev pub SessionsAloneAreOneMap : Type 0
 SessionsAloneAreOneMap = (t : Table) (lines : List (List ℕ)) (p q : Pass) (replies : List (Result Reply Refusal))
@@ -36,4 +36,4 @@ SessionsAloneAreOneMap = (t : Table) (lines : List (List ℕ)) (p q : Pass) (rep
 -- A table was closed with its one pass: that has seen its own events alone, and the rows are those that they leave.
 abbrev pub ClosedAlone : Type 0
 ClosedAlone = (t : Table) (q : Pass) (closed : Closed) → IsPassOf t q → IsClosed t (q ∷ []) closed
-    → IsAlone t q × (closed.rows.items ≡ replay (seen_by t q))
+    → IsAlone t q × (closed.rows.items ≡ replay (schema_in t) (seen_by t q))

@@ -1,7 +1,7 @@
 -- What one sorted map answers to lines, where the table may refuse a command for want of room or of turns.
 use Rattle.std.specs.Prelude.{◌≡◌, ℕ, List, [], ◌∷◌, Option, Some, None, Result, Ok, Err, ⊤}
 use Rattle.std.specs.Option.{option_map}
-use Rattle.art_key.specs.Columns.{tuple_fault}
+use Rattle.art_key.specs.Columns.{order_of, tuple_fault}
 use Rattle.art_key.specs.declared.columns.Column.{Column}
 use Rattle.art_model.specs.Answers.{answer}
 use Rattle.art_model.specs.declared.commands.Command.{Command}
@@ -38,7 +38,8 @@ IsGround None refusal = IsWant refusal
 -- the sorted map answers the command; or it is refused, and the map stays
 abbrev pub MapAnswers : List Column → Command → List Row → Result Reply Refusal → List Row → Type 0
 MapAnswers schema command rows (Ok reply) after =
-    (command_fault schema command ≡ None) × (reply ≡ (answer command rows).0) × (after ≡ (answer command rows).1)
+    (command_fault schema command ≡ None) × (reply ≡ (answer (order_of schema) command rows).0)
+    × (after ≡ (answer (order_of schema) command rows).1)
 MapAnswers schema command rows (Err refusal) after = IsGround (command_fault schema command) refusal × (after ≡ rows)
 
 abbrev pub MapAnswersSaid : List Column → Result Command LineFault → List Row → Result Reply Refusal → List Row → Type 0

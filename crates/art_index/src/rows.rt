@@ -169,6 +169,21 @@ fn scans_list_the_rows_of_their_range(rt: HostRuntime) {
 }
 
 #[test]
+fn scans_of_a_column_that_descends_list_the_greatest_first(rt: HostRuntime) {
+    let input = b"[\"insert\",[1],1]\n[\"insert\",[2],2]\n[\"insert\",[3],3]\n\
+        [\"scan\",[3],[1],2]\n[\"scan\",[1],[3],2]\n";
+    let expected = b"[\"inserted\"]\n[\"inserted\"]\n[\"inserted\"]\n\
+        [\"rows\",[[[3],3],[[2],2]],true]\n[\"refused\",8,\"BadRange\"]\n";
+    check_run(
+        &rt,
+        rt.alloc(),
+        ["--schema=u8-", "--leaves=9"],
+        input,
+        expected,
+    );
+}
+
+#[test]
 fn scans_of_two_columns_are_in_the_order_of_tuples(rt: HostRuntime) {
     let input = b"[\"insert\",[true,-128],1]\n[\"insert\",[false,127],2]\n\
         [\"scan\",[false,-128],[true,127],100]\n[\"get\",[true]]\n[\"get\",[1,0]]\n";

@@ -320,6 +320,7 @@ fn a_schema_that_is_none_ends_with_three(rt: HostRuntime) {
             "art_index: refused 21 TooManyColumns\n",
         ),
         ("--schema=u8,u24", "art_index: refused 23 BadColumn\n"),
+        ("--schema=u8--", "art_index: refused 23 BadColumn\n"),
         (
             "--schema=text24,text7",
             "art_index: refused 22 KeyTooWide\n",

@@ -1,4 +1,6 @@
 pub mod ColumnLaws
+pub mod Dashes
+pub mod Descending
 pub mod Legality
 pub mod Looks
 pub mod Loops

@@ -7,11 +7,11 @@ use Rattle.std.specs.Option.{option_map, option_or, option_and_then}
 use Rattle.std.specs.Cmp.Lexicographic.{slice_cmp}
 use Rattle.arrayvec.specs.ArrayVec.{ArrayVec}
 use Rattle.art_model.specs.declared.values.Value.{Value}
-use Rattle.art_model.specs.Values.{value_cmp}
+use Rattle.art_model.specs.Rows.{column_cmp, values_cmp}
 use Rattle.art_key.specs.declared.columns.Column.{Column}
 use Rattle.art_key.specs.declared.faults.ValueFault.{ValueFault}
 use Rattle.art_key.specs.declared.faults.ValueFault.TheVariants.{WrongColumns}
-use Rattle.art_key.specs.Columns.{total_width, value_fault, first_fault, tuple_fault}
+use Rattle.art_key.specs.Columns.{order_of, total_width, value_fault, first_fault, tuple_fault}
 use Rattle.art_key.specs.Spelling.{value_spelling, spelling, IsSpelling, front_value, tuple_spelled}
 use Rattle.art_key.specs.Laws.{KeysStandAsTuples, NoKeyBeginsAnother, TuplesAreReadBack, WhatIsReadIsSpelled, SpellingsAreBytes, SpellingsAreNarrow}
 use Rattle.art_key.specs.Numbers.{AreBytes-append, AreBytes_right}
@@ -39,7 +39,7 @@ or_none (Some f) p e = absurd cc
 -- ---- the order
 
 order : (cs : List Column) (place : ℕ) (a b : List Value) → length cs ≡ length a → length cs ≡ length b → first_fault place cs a ≡ None → first_fault place cs b ≡ None
-    → slice_cmp nat_cmp (spelling cs a) (spelling cs b) ≡ slice_cmp value_cmp a b
+    → slice_cmp nat_cmp (spelling cs a) (spelling cs b) ≡ values_cmp (order_of cs).items a b
 order [] place [] [] a-len b-len a-stands b-stands = refl
 order [] place [] (w ∷ b) a-len b-len a-stands b-stands = absurd (omega arith)
 order [] place (v ∷ a) b a-len b-len a-stands b-stands = absurd (omega arith)
@@ -49,7 +49,7 @@ order (c ∷ cs) place (v ∷ a) (w ∷ b) a-len b-len a-stands b-stands =
     let f = or_none (value_fault place c v) (first_fault (place + 1) cs a) a-stands in
     let g = or_none (value_fault place c w) (first_fault (place + 1) cs b) b-stands in
     (column_law c).order place place v w (spelling cs a) (spelling cs b) f.0 g.0
-    ∙ ap (ordering_then (value_cmp v w)) (order cs (place + 1) a b (omega arith) (omega arith) f.1 g.1)
+    ∙ ap (ordering_then (column_cmp c.descends v w)) (order cs (place + 1) a b (omega arith) (omega arith) f.1 g.1)
 
 pub keys_stand : KeysStandAsTuples
 keys_stand schema a b a-stands b-stands =

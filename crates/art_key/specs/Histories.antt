@@ -12,7 +12,7 @@ use Rattle.art_key.specs.declared.events.Deed.{Deed}
 use Rattle.art_key.specs.declared.events.Deed.TheVariants.{Done, Look}
 use Rattle.art_key.specs.declared.events.Event.{Event}
 use Rattle.art_key.specs.Bounds.{is_before}
-use Rattle.art_key.specs.Columns.{tuple_fault}
+use Rattle.art_key.specs.Columns.{order_of, tuple_fault}
 use Rattle.art_key.specs.Spelling.{spelling}
 
 -- ---- tuples and ranges
@@ -49,27 +49,27 @@ IsAdmitted schema (Scan lo hi limit) = ⊥
 
 -- what an event says is what the rows answer
 abbrev pub IsAnswered : List Column → List Row → Deed → Type 0
-IsAnswered schema rows (Done command reply) = IsAdmitted schema command × (reply ≡ (answer command rows).0)
+IsAnswered schema rows (Done command reply) = IsAdmitted schema command × (reply ≡ (answer (order_of schema) command rows).0)
 IsAnswered schema rows (Look lo hi found) = OnlyRow schema rows lo hi found
 
 -- the rows after an event: looks change nothing
-abbrev pub becomes : List Row → Deed → List Row
-becomes rows (Done command reply) = (answer command rows).1
-becomes rows (Look lo hi found) = rows
+abbrev pub becomes : List Column → List Row → Deed → List Row
+becomes schema rows (Done command reply) = (answer (order_of schema) command rows).1
+becomes schema rows (Look lo hi found) = rows
 
 -- the rows after events, from these rows on
-abbrev pub run : List Row → List Event → List Row
-run rows [] = rows
-run rows (e ∷ es) = run (becomes rows e.what) es
+abbrev pub run : List Column → List Row → List Event → List Row
+run schema rows [] = rows
+run schema rows (e ∷ es) = run schema (becomes schema rows e.what) es
 
 -- the rows after all events of a history, from no row
-abbrev pub replay : List Event → List Row
-replay log = run [] log
+abbrev pub replay : List Column → List Event → List Row
+replay schema log = run schema [] log
 
 -- each event says what the rows answer after the events before it, from these rows on
 abbrev pub IsLegalFrom : List Column → List Row → List Event → Type 0
 IsLegalFrom schema rows [] = ⊤
-IsLegalFrom schema rows (e ∷ es) = IsAnswered schema rows e.what × IsLegalFrom schema (becomes rows e.what) es
+IsLegalFrom schema rows (e ∷ es) = IsAnswered schema rows e.what × IsLegalFrom schema (becomes schema rows e.what) es
 
 -- the same from no row
 abbrev pub IsLegal : List Column → List Event → Type 0

@@ -13,7 +13,7 @@ use Rattle.art_model.specs.declared.values.Value.TheVariants as values
 use Rattle.art_model.specs.Values.{value_cmp}
 use Rattle.art_key.specs.declared.faults.ValueFault.{ValueFault}
 use Rattle.art_key.specs.declared.faults.ValueFault.TheVariants.{OutOfRange}
-use Rattle.art_key.specs.Kinds.{AreBytes, IsKind, truth, truth_fault, truth_spelling, front_truth, distance_fault, distance_spelling, whole_fault, whole_spelling, front_number, front_whole, whole}
+use Rattle.art_key.specs.Kinds.{AreBytes, IsCoding, truth, truth_fault, truth_spelling, front_truth, distance_fault, distance_spelling, whole_fault, whole_spelling, front_number, front_whole, whole}
 use Rattle.art_key.specs.Orders.{nat_cmp_less, nat_cmp_equal, nat_cmp_greater}
 use Rattle.art_key.specs.Numbers.{high_first_bytes, length-bytes_high_first, number_order, number_again, number_takes}
 
@@ -65,8 +65,8 @@ truth_narrow place (values.Bool true) stands = omega arith
 truth_narrow place (values.Int z) stands = zero-le
 truth_narrow place (values.Text t) stands = zero-le
 
-pub truth_is_kind : IsKind truth
-truth_is_kind = record { order = truth_order; again = truth_again; takes = truth_takes; bytes = truth_bytes; narrow = truth_narrow }
+pub truth_is_coding : IsCoding false truth
+truth_is_coding = record { order = truth_order; again = truth_again; takes = truth_takes; bytes = truth_bytes; narrow = truth_narrow }
 
 -- ---- whole numbers from a least one on
 
@@ -154,5 +154,5 @@ whole_narrow k least place (values.Bool b) stands = zero-le
 whole_narrow k least place (values.Int z) stands = distance_narrow k (z -ℤ least)
 whole_narrow k least place (values.Text t) stands = zero-le
 
-pub whole_is_kind : (k : ℕ) (least : ℤ) → IsKind (whole k least)
-whole_is_kind k least = record { order = whole_order k least; again = whole_again k least; takes = whole_takes k least; bytes = whole_bytes k least; narrow = whole_narrow k least }
+pub whole_is_coding : (k : ℕ) (least : ℤ) → IsCoding false (whole k least)
+whole_is_coding k least = record { order = whole_order k least; again = whole_again k least; takes = whole_takes k least; bytes = whole_bytes k least; narrow = whole_narrow k least }

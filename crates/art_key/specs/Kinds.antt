@@ -1,5 +1,5 @@
 -- The kinds of column: which values stand in one, and the bytes that spell them.
-use Rattle.std.specs.Prelude.{◌≡◌, ℕ, ◌+◌, ◌-◌, ◌*◌, ◌^◌, ◌<◌, ◌≤◌, List, [], ◌∷◌, ◌++◌, length, take, drop, true, false, ℤ, pos, negsuc, neg_ℤ, ◌+ℤ◌, ◌-ℤ◌, nat_lt, ◌==◌, if◌then◌else◌, Option, Some, None, flat_map}
+use Rattle.std.specs.Prelude.{◌≡◌, ℕ, ◌+◌, ◌-◌, ◌*◌, ◌^◌, ◌<◌, ◌≤◌, List, [], ◌∷◌, ◌++◌, length, take, drop, map, Bool, true, false, ℤ, pos, negsuc, neg_ℤ, ◌+ℤ◌, ◌-ℤ◌, nat_lt, ◌==◌, if◌then◌else◌, Option, Some, None, flat_map}
 use Rattle.std.specs.Option.{option_map, option_and_then}
 use Rattle.std.specs.Ordering.{nat_cmp, ordering_then}
 use Rattle.std.specs.Cmp.Lexicographic.{slice_cmp}
@@ -8,26 +8,26 @@ use Rattle.std.specs.List.{AllByRecursion}
 use Rattle.std.specs.Str.{is_utf8}
 use Rattle.art_model.specs.declared.values.Value.{Value}
 use Rattle.art_model.specs.declared.values.Value.TheVariants.{Bool as Truth, Int, Text}
-use Rattle.art_model.specs.Values.{value_cmp}
+use Rattle.art_model.specs.Rows.{column_cmp}
 use Rattle.art_key.specs.declared.faults.ValueFault.{ValueFault}
 use Rattle.art_key.specs.declared.faults.ValueFault.TheVariants.{WrongType, OutOfRange, TextTooLong}
 
 abbrev pub AreBytes : List ℕ → Type 0
 AreBytes bytes = AllByRecursion (λ b. b < 256) bytes
 
--- what a kind of column is: the longest spelling, what is wrong with a value at a place, the bytes that spell a
+-- how values are spelled: the longest spelling, what is wrong with a value at a place, the bytes that spell a
 -- value, and the value that the bytes at the front spell with the bytes after it
-pub record Kind : Type 0 where
+pub record Coding : Type 0 where
   pub width : ℕ
   pub fault : ℕ → Value → Option ValueFault
   pub spelling : Value → List ℕ
   pub front : List ℕ → Option (Value × List ℕ)
 
--- what makes it one: spellings stand as the values do and are read back, whatever comes after them; what is read
--- stands in the column and was its spelling; and a spelling is bytes, no more than the width
-pub record IsKind (k : Kind) : Type 0 where
+-- what makes it one: spellings stand as the values do, in reverse where these descend, and are read back, whatever comes
+-- after them; what is read is a value and was its spelling; and a spelling is bytes, no more than the width
+pub record IsCoding (descends : Bool) (k : Coding) : Type 0 where
   pub order : (place other : ℕ) (u v : Value) (x y : List ℕ) → k.fault place u ≡ None → k.fault other v ≡ None
-      → slice_cmp nat_cmp (k.spelling u ++ x) (k.spelling v ++ y) ≡ ordering_then (value_cmp u v) (slice_cmp nat_cmp x y)
+      → slice_cmp nat_cmp (k.spelling u ++ x) (k.spelling v ++ y) ≡ ordering_then (column_cmp descends u v) (slice_cmp nat_cmp x y)
   pub again : (place : ℕ) (v : Value) (rest : List ℕ) → k.fault place v ≡ None → k.front (k.spelling v ++ rest) ≡ Some (v, rest)
   pub takes : (place : ℕ) (v : Value) (bytes rest : List ℕ) → AreBytes bytes → k.front bytes ≡ Some (v, rest) → (k.fault place v ≡ None) × (bytes ≡ k.spelling v ++ rest)
   pub bytes : (place : ℕ) (v : Value) → k.fault place v ≡ None → AreBytes (k.spelling v)
@@ -50,7 +50,7 @@ abbrev pub front_truth : List ℕ → Option (Value × List ℕ)
 front_truth [] = None
 front_truth (b ∷ bytes) = if b == 0 then Some (Truth false, bytes) else if b == 1 then Some (Truth true, bytes) else None
 
-abbrev pub truth : Kind
+abbrev pub truth : Coding
 truth = record { width = 1; fault = truth_fault; spelling = truth_spelling; front = front_truth }
 
 -- ---- whole numbers from a least one on: how far a number is above the least, in so many bytes, highest byte first
@@ -86,18 +86,18 @@ front_number k bytes = if nat_lt (length bytes) k then None else Some (number_of
 abbrev pub front_whole : ℕ → ℤ → List ℕ → Option (Value × List ℕ)
 front_whole k least bytes = option_map (λ n. (Int (least +ℤ pos n.0), n.1)) (front_number k bytes)
 
-abbrev pub whole : ℕ → ℤ → Kind
+abbrev pub whole : ℕ → ℤ → Coding
 whole k least = record { width = k; fault = whole_fault k least; spelling = whole_spelling k least; front = front_whole k least }
 
 -- from 0 on
-abbrev pub unsigned : ℕ → Kind
+abbrev pub unsigned : ℕ → Coding
 unsigned k = whole k (pos 0)
 
 -- half of them below 0: two's complement with the highest bit flipped
 abbrev pub least_signed : ℕ → ℤ
 least_signed k = neg_ℤ (pos (2 ^ (8 * k - 1)))
 
-abbrev pub signed : ℕ → Kind
+abbrev pub signed : ℕ → Coding
 signed k = whole k (least_signed k)
 
 -- ---- texts of at most so many bytes: their UTF-8, where 0 is spelled 0 255, and then 0 0
@@ -132,5 +132,27 @@ short_text longest t = if nat_lt longest (length t.0) then None else if is_utf8 
 abbrev pub front_text : ℕ → List ℕ → Option (Value × List ℕ)
 front_text longest bytes = option_and_then (short_text longest) (unescaped bytes)
 
-abbrev pub text : ℕ → Kind
+abbrev pub text : ℕ → Coding
 text longest = record { width = 2 * longest + 2; fault = text_fault longest; spelling = text_spelling; front = front_text longest }
+
+-- ---- the values of a coding in an order: where they descend, each byte of a spelling is complemented
+
+abbrev pub complement : List ℕ → List ℕ
+complement bytes = map (λ b. 255 - b) bytes
+
+abbrev pub spelled_in : Bool → List ℕ → List ℕ
+spelled_in false bytes = bytes
+spelled_in true bytes = complement bytes
+
+-- the value that the complements spell, and the bytes after its spelling
+abbrev pub front_in : Bool → Coding → List ℕ → Option (Value × List ℕ)
+front_in false k bytes = k.front bytes
+front_in true k bytes = option_map (λ found. (found.0, drop (length (k.spelling found.0)) bytes)) (k.front (complement bytes))
+
+abbrev pub in_order : Bool → Coding → Coding
+in_order descends k = record {
+  width = k.width;
+  fault = k.fault;
+  spelling = λ v. spelled_in descends (k.spelling v);
+  front = front_in descends k;
+}

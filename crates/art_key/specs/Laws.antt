@@ -3,16 +3,16 @@ use Rattle.std.specs.Prelude.{◌≡◌, ℕ, ◌≤◌, List, [], ◌++◌, len
 use Rattle.std.specs.Ordering.{nat_cmp}
 use Rattle.std.specs.Cmp.Lexicographic.{slice_cmp}
 use Rattle.art_model.specs.declared.values.Value.{Value}
-use Rattle.art_model.specs.Values.{value_cmp}
+use Rattle.art_model.specs.Rows.{values_cmp}
 use Rattle.art_key.specs.declared.columns.Column.{Column}
-use Rattle.art_key.specs.Columns.{total_width, tuple_fault}
+use Rattle.art_key.specs.Columns.{order_of, total_width, tuple_fault}
 use Rattle.art_key.specs.Kinds.{AreBytes}
 use Rattle.art_key.specs.Spelling.{spelling, IsSpelling, tuple_spelled}
 
--- keys of one schema stand in byte order as their tuples stand in the order of tuples
+-- keys of one schema stand in byte order as their tuples stand in its order
 abbrev pub KeysStandAsTuples : Type 0
 KeysStandAsTuples = (schema : List Column) (a b : List Value) → tuple_fault schema a ≡ None → tuple_fault schema b ≡ None
-    → slice_cmp nat_cmp (spelling schema a) (spelling schema b) ≡ slice_cmp value_cmp a b
+    → slice_cmp nat_cmp (spelling schema a) (spelling schema b) ≡ values_cmp (order_of schema).items a b
 
 -- a key that begins another key of its schema is that key, of the same tuple
 abbrev pub NoKeyBeginsAnother : Type 0

@@ -1,32 +1,48 @@
 -- What the text of a schema names.
-use Rattle.std.specs.Prelude.{ℕ, ◌+◌, ◌++◌, List, [], ◌∷◌, length, map, find, nat_lt, nat_eq, ◌==◌, if◌then◌else◌, Option, Some, None, Result, Ok, Err, codes, decimal}
+use Rattle.std.specs.Prelude.{ℕ, ◌+◌, ◌++◌, List, [], ◌∷◌, length, map, find, Bool, true, false, nat_lt, nat_eq, ◌==◌, if◌then◌else◌, Option, Some, None, Result, Ok, Err, codes, decimal}
 use Rattle.std.specs.List.{range_with_len, slice_split}
 use Rattle.std.specs.Cmp.Lexicographic.{pointwise}
 use Rattle.art_key.specs.declared.columns.Column.{Column}
-use Rattle.art_key.specs.declared.columns.Column.TheVariants.{Bool, U8, U16, U32, U64, I8, I16, I32, I64, Text}
+use Rattle.art_key.specs.declared.columns.Kind.{Kind}
+use Rattle.art_key.specs.declared.columns.Kind.TheVariants.{Bool as Truth, U8, U16, U32, U64, I8, I16, I32, I64, Text}
 use Rattle.art_key.specs.declared.faults.SchemaFault.{SchemaFault}
 use Rattle.art_key.specs.declared.faults.SchemaFault.TheVariants.{NoColumns, TooManyColumns, KeyTooWide, BadColumn}
 use Rattle.art_key.specs.Columns.{total_width}
 
+abbrev pub kind_name : Kind → List ℕ
+kind_name Truth = codes "bool"
+kind_name U8 = codes "u8"
+kind_name U16 = codes "u16"
+kind_name U32 = codes "u32"
+kind_name U64 = codes "u64"
+kind_name I8 = codes "i8"
+kind_name I16 = codes "i16"
+kind_name I32 = codes "i32"
+kind_name I64 = codes "i64"
+kind_name (Text longest) = codes "text" ++ decimal longest
+
+-- the kinds of texts: of at most 1 byte to at most 24
+abbrev pub text_kinds : List Kind
+text_kinds = map Text (range_with_len 1 24)
+
+abbrev pub kinds : List Kind
+kinds = Truth ∷ U8 ∷ U16 ∷ U32 ∷ U64 ∷ I8 ∷ I16 ∷ I32 ∷ I64 ∷ text_kinds
+
+-- the first of kinds that has a name
+abbrev pub kind_among : List Kind → List ℕ → Option Kind
+kind_among ks name = find (λ k. pointwise nat_eq name (kind_name k)) ks
+
+-- the name of the kind, with a `-` after it where the values descend
 abbrev pub column_name : Column → List ℕ
-column_name Bool = codes "bool"
-column_name U8 = codes "u8"
-column_name U16 = codes "u16"
-column_name U32 = codes "u32"
-column_name U64 = codes "u64"
-column_name I8 = codes "i8"
-column_name I16 = codes "i16"
-column_name I32 = codes "i32"
-column_name I64 = codes "i64"
-column_name (Text longest) = codes "text" ++ decimal longest
+column_name c = if c.descends then kind_name c.kind ++ codes "-" else kind_name c.kind
 
--- the kinds of column for texts: of at most 1 byte to at most 24
-abbrev pub text_columns : List Column
-text_columns = map Text (range_with_len 1 24)
+-- a column of each kind
+abbrev pub columns_in : Bool → List Kind → List Column
+columns_in descends ks = map (λ k. record { kind = k; descends = descends }) ks
 
--- every kind of column
+-- every column
 abbrev pub columns : List Column
-columns = Bool ∷ U8 ∷ U16 ∷ U32 ∷ U64 ∷ I8 ∷ I16 ∷ I32 ∷ I64 ∷ text_columns
+columns = columns_in false kinds ++ columns_in true kinds
 
 -- the first of columns that has a name
 abbrev pub column_among : List Column → List ℕ → Option Column

@@ -3,11 +3,11 @@ use Rattle.std.specs.Prelude.{◌≡◌, ℕ, List, [], ◌∷◌, ◌++◌, Opt
 use Rattle.std.specs.Option.{option_and_then}
 use Rattle.art_model.specs.declared.values.Value.{Value}
 use Rattle.art_key.specs.declared.columns.Column.{Column}
-use Rattle.art_key.specs.Columns.{kind_of, tuple_fault}
+use Rattle.art_key.specs.Columns.{coding_of, tuple_fault}
 
 -- the bytes of a value in a column, and none where it does not stand there
 abbrev pub value_spelling : Column → Value → List ℕ
-value_spelling c v = (kind_of c).spelling v
+value_spelling c v = (coding_of c).spelling v
 
 -- the columns' bytes, one column after another
 abbrev pub spelling : List Column → List Value → List ℕ
@@ -26,7 +26,7 @@ IsKeyOf schema bytes = (tuple : List Value) × IsSpelling schema tuple bytes
 
 -- the value that the bytes at the front spell in a column, and the bytes after it
 abbrev pub front_value : Column → List ℕ → Option (Value × List ℕ)
-front_value c bytes = (kind_of c).front bytes
+front_value c bytes = (coding_of c).front bytes
 
 infixl 10 ◌>>=◌
 abbrev pub ◌>>=◌ : {A B : Type 0} → Option A → (A → Option B) → Option B

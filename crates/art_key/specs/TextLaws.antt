@@ -13,7 +13,7 @@ use Rattle.art_model.specs.declared.values.Value.{Value}
 use Rattle.art_model.specs.declared.values.Value.TheVariants as values
 use Rattle.art_model.specs.Values.{value_cmp}
 use Rattle.art_key.specs.declared.faults.ValueFault.TheVariants.{WrongType, TextTooLong}
-use Rattle.art_key.specs.Kinds.{AreBytes, IsKind, text_fault, escaped, text_spelling, with_byte, unescaped, short_text, front_text, text}
+use Rattle.art_key.specs.Kinds.{AreBytes, IsCoding, text_fault, escaped, text_spelling, with_byte, unescaped, short_text, front_text, text}
 use Rattle.art_key.specs.Orders.{ordering_then_assoc, nat_cmp_less, nat_cmp_greater}
 use Rattle.art_key.specs.Numbers.{AreBytes-append}
 
@@ -231,5 +231,5 @@ text_narrow longest place v stands =
     omega (arith, length-append (flat_map escaped a.0) (0 ∷ 0 ∷ []), length-escapes a.0)
     )
 
-pub text_is_kind : (longest : ℕ) → IsKind (text longest)
-text_is_kind longest = record { order = text_order longest; again = text_again longest; takes = text_takes longest; bytes = text_bytes longest; narrow = text_narrow longest }
+pub text_is_coding : (longest : ℕ) → IsCoding false (text longest)
+text_is_coding longest = record { order = text_order longest; again = text_again longest; takes = text_takes longest; bytes = text_bytes longest; narrow = text_narrow longest }

@@ -1,6 +1,7 @@
 //! What the passes of a table did, in order, and whether sorted rows answer so.
 ghost use Rattle.std.specs.Prelude.{◌≡◌, ◌↔◌, Any, IsTrue, IfOk, OnErr};
 ghost use Rattle.std.specs.Option.{option_copied};
+ghost use Rattle.art_key.specs.Columns.{order_of};
 ghost use Rattle.art_key.specs.Histories.{StandsIn, AllStandIn, IsAdmitted, IsAnswered, IsCommand, IsLegal, OnlyRow, becomes, is_in_range};
 
 use crate::{Bound, Schema, encode};
@@ -30,7 +31,7 @@ pub fn legal(alloc: Global, schema: &Schema, events: &[Event]) -> Result<bool, N
     ensures decides { IfOk result (λ b. IsTrue b ↔ IsLegal schema.now events.now) }
     ensures err { OnErr result (Any (λ e. IsCommand e.what) events.now) }
 {
-    let mut rows = SortedRows::new(alloc);
+    let mut rows = SortedRows::new(alloc, &schema.order());
     for event in events {
         if !is_answered(schema, &mut rows, &event.what)? {
             return Ok(false);
@@ -41,9 +42,11 @@ pub fn legal(alloc: Global, schema: &Schema, events: &[Event]) -> Result<bool, N
 
 /// Whether the rows answer what the pass did. Where they do, they are then the rows after it; else they may be any.
 fn is_answered(schema: &Schema, rows: &mut SortedRows, what: &Deed) -> Result<bool, NoMemory>
-    requires { AllStandIn schema.now rows.old }
-    ensures decides { IfOk result (λ b. IsTrue b ↔ IsAnswered schema.now rows.old what.now) }
-    ensures rows { IfOk result (λ b. IsTrue b → rows.new ≡ becomes rows.old what.now) }
+    requires order { rows.old.order ≡ order_of schema.now }
+    requires stand { AllStandIn schema.now rows.old.rows }
+    ensures decides { IfOk result (λ b. IsTrue b ↔ IsAnswered schema.now rows.old.rows what.now) }
+    ensures rows { IfOk result (λ b. IsTrue b → rows.new.rows ≡ becomes schema.now rows.old.rows what.now) }
+    ensures order { rows.new.order ≡ rows.old.order }
     ensures err { OnErr result (IsCommand what.now) }
 {
     match what {

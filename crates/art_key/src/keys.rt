@@ -22,23 +22,25 @@ pub fn encode(schema: &Schema, tuple: &Tuple) -> Result<Key, ValueFault>
     if columns.len() != values.len() {
         return Err(ValueFault::WrongColumns);
     }
-    spell(columns, values)
+    let mut key = Key::new();
+    spell(columns, values, &mut key)?;
+    Ok(key)
 }
 
-/// The spellings of the values, one for each column, one after another.
-fn spell(columns: &[Column], values: &[Value]) -> Result<Key, ValueFault>
+/// The spellings of the values, one for each column, one after another, into an empty key.
+fn spell(columns: &[Column], values: &[Value], key: &mut Key) -> Result<(), ValueFault>
+    requires empty { key.old.items ≡ [] }
     requires same_length { length columns.now ≡ length values.now }
     requires known { All IsColumn columns.now }
     requires narrow { total_width columns.now ≤ 64 }
     ensures stands { OnOk result (first_fault 0 columns.now values.now ≡ None) }
-    ensures bytes { IfOk result (λ key. key.items ≡ spelling columns.now values.now) }
+    ensures bytes { OnOk result (key.new.items ≡ spelling columns.now values.now) }
     ensures fault { IfErr result (λ f. first_fault 0 columns.now values.now ≡ Some f) }
 {
-    let mut key = Key::new();
     for (place, column) in columns.iter().enumerate() {
-        column.append(place, &values[place], &mut key)?;
+        column.append(place, &values[place], key)?;
     }
-    Ok(key)
+    Ok(())
 }
 
 /// The tuple that the bytes spell, all of the bytes.

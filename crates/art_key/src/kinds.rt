@@ -9,39 +9,40 @@ use crate::{Key, ValueFault};
 use arrayvec::ArrayVec;
 use art_model::{TEXT_BYTES, Text, Value};
 
-/// A kind of column.
-pub(crate) trait ColumnKind: Copy {
-    ghost use Rattle.art_key.specs.Kinds.{Kind, IsKind};
+/// A kind of values, and how it spells them.
+pub(crate) trait Codes: Copy {
+    ghost use Rattle.std.specs.Prelude.{false};
+    ghost use Rattle.art_key.specs.Kinds.{Coding, IsCoding};
 
-    ghost kind: { Self → Kind };
+    ghost coding: { Self → Coding };
 
     /// How many bytes a value has at most.
     fn width(self) -> usize
-        ensures { result ≡ (kind self).width };
+        ensures { result ≡ (coding self).width };
 
     /// Appends the bytes that spell the value at this place.
     fn append(self, place: usize, value: &Value, key: &mut Key) -> Result<(), ValueFault>
-        requires { array_vec_len key.old + (kind self).width ≤ 64 }
-        ensures stands { OnOk result ((kind self).fault place value.now ≡ None) }
-        ensures bytes { OnOk result (key.new.items ≡ key.old.items ++ (kind self).spelling value.now) }
-        ensures fault { IfErr result (λ f. (kind self).fault place value.now ≡ Some f) };
+        requires { array_vec_len key.old + (coding self).width ≤ 64 }
+        ensures stands { OnOk result ((coding self).fault place value.now ≡ None) }
+        ensures bytes { OnOk result (key.new.items ≡ key.old.items ++ (coding self).spelling value.now) }
+        ensures fault { IfErr result (λ f. (coding self).fault place value.now ≡ Some f) };
 
     /// The value that the bytes at the front spell, and the bytes after it.
     fn front(self, bytes: &[u8]) -> Option<(Value, &[u8])>
-        ensures { option_map (λ x. (x.0, x.1.now)) result ≡ (kind self).front bytes.now };
+        ensures { option_map (λ x. (x.0, x.1.now)) result ≡ (coding self).front bytes.now };
 
-    ghost lawful: { (k : Self) → IsKind (kind k) };
+    ghost lawful: { (k : Self) → IsCoding false (coding k) };
 }
 
 /// False and true.
 #[derive(Clone, Copy)]
 pub(crate) struct Truths;
 
-impl ColumnKind for Truths {
+impl Codes for Truths {
     ghost use Rattle.art_key.specs.Kinds.{truth};
-    ghost use Rattle.art_key.specs.KindLaws.{truth_is_kind};
+    ghost use Rattle.art_key.specs.KindLaws.{truth_is_coding};
 
-    ghost kind = { λ _. truth };
+    ghost coding = { λ _. truth };
 
     fn width(self) -> usize {
         1
@@ -63,7 +64,7 @@ impl ColumnKind for Truths {
         }
     }
 
-    ghost lawful = { λ _. truth_is_kind };
+    ghost lawful = { λ _. truth_is_coding };
 }
 
 /// Whole numbers from a least to a greatest one, as many as so many bytes tell apart.
@@ -96,11 +97,11 @@ impl Wholes {
     }
 }
 
-impl ColumnKind for Wholes {
+impl Codes for Wholes {
     ghost use Rattle.art_key.specs.Kinds.{whole};
-    ghost use Rattle.art_key.specs.KindLaws.{whole_is_kind};
+    ghost use Rattle.art_key.specs.KindLaws.{whole_is_coding};
 
-    ghost kind = { λ k. whole k.bytes k.least };
+    ghost coding = { λ k. whole k.bytes k.least };
 
     fn width(self) -> usize {
         self.bytes
@@ -124,7 +125,7 @@ impl ColumnKind for Wholes {
         Some((Value::Int(number), rest))
     }
 
-    ghost lawful = { λ k. whole_is_kind k.bytes k.least };
+    ghost lawful = { λ k. whole_is_coding k.bytes k.least };
 }
 
 /// The number that the bytes are, highest byte first.
@@ -156,11 +157,11 @@ impl Texts {
     }
 }
 
-impl ColumnKind for Texts {
+impl Codes for Texts {
     ghost use Rattle.art_key.specs.Kinds.{text};
-    ghost use Rattle.art_key.specs.TextLaws.{text_is_kind};
+    ghost use Rattle.art_key.specs.TextLaws.{text_is_coding};
 
-    ghost kind = { λ k. text k.longest };
+    ghost coding = { λ k. text k.longest };
 
     fn width(self) -> usize {
         2 * usize::from(self.longest) + 2
@@ -190,7 +191,7 @@ impl ColumnKind for Texts {
         Some((Value::Text(Text::new(text)?), rest))
     }
 
-    ghost lawful = { λ k. text_is_kind k.longest };
+    ghost lawful = { λ k. text_is_coding k.longest };
 }
 
 /// Appends the bytes, with 255 after each 0.

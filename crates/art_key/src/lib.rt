@@ -18,7 +18,7 @@ mod laws;
 mod schemas;
 
 pub use bounds::Bound;
-pub use columns::Column;
+pub use columns::{Column, Kind};
 pub use events::{Deed, Event, legal};
 pub use faults::{SchemaFault, ValueFault};
 pub use keys::{Key, decode, decode_into, encode};

@@ -1,11 +1,12 @@
 //! Schemas: the columns of a tuple, in order.
 ghost use Rattle.std.specs.Prelude.{◌≡◌, ◌≤◌, length, IfOk, MatchResult};
 ghost use Rattle.std.specs.List.{All};
-ghost use Rattle.art_key.specs.Columns.{total_width, IsColumn};
+ghost use Rattle.art_key.specs.Columns.{total_width, order_of, IsColumn};
 ghost use Rattle.art_key.specs.Schemas.{columns_of, parts, schema_of};
 
 use crate::{Column, SchemaFault};
 use arrayvec::ArrayVec;
+use art_model::Order;
 use std::marker::Model;
 
 /// The columns of a tuple: at most eight, and no key of theirs is longer than 64 bytes.
@@ -30,7 +31,8 @@ impl Model for Schema {
 }
 
 impl Schema {
-    /// The schema that the text names: the names of its columns, joined by commas, as `u32,text8`.
+    /// The schema that the text names: the names of its columns, joined by commas, as `u32,text8`. A kind
+    /// with one `-` after it is a column whose values descend, as `u32-`.
     pub fn parse(text: &str) -> Result<Self, SchemaFault>
         ensures { result ≡ schema_of text.now }
     {
@@ -45,6 +47,18 @@ impl Schema {
             return Err(SchemaFault::KeyTooWide);
         }
         Ok(Schema { columns })
+    }
+
+    /// For each column, whether its values descend.
+    pub fn order(&self) -> Order
+        ensures { result ≡ order_of self.now }
+    {
+        let columns = self.columns();
+        let mut order = Order::new();
+        for column in columns {
+            order.push(column.descends);
+        }
+        order
     }
 
     /// The columns, in order.

@@ -16,6 +16,13 @@ fn tuple_of(value: Value) -> Tuple {
     tuple
 }
 
+fn pair_of(first: Value, second: Value) -> Tuple {
+    let mut tuple = Tuple::new();
+    tuple.push(first);
+    tuple.push(second);
+    tuple
+}
+
 fn triple_of(first: Value, second: Value, third: Value) -> Tuple {
     let mut tuple = Tuple::new();
     tuple.push(first);
@@ -96,6 +103,22 @@ fn columns_stand_one_after_another(rt: HostRuntime) {
     check_key(&rt, "u32,i16,text8", &tuple, &bytes);
 }
 
+#[test]
+fn bytes_of_a_column_that_descends_are_complements(rt: HostRuntime) {
+    let one = tuple_of(Value::Int(1));
+    check_key(&rt, "u32-", &one, &[0xFF, 0xFF, 0xFF, 0xFE]);
+    check_key(&rt, "i16-", &tuple_of(Value::Int(-1)), &[0x80, 0]);
+    check_key(&rt, "bool-", &tuple_of(Value::Bool(true)), &[0xFE]);
+    let none = tuple_of(text_of(&rt, ""));
+    check_key(&rt, "text8-", &none, &[0xFF, 0xFF]);
+    let letter = tuple_of(text_of(&rt, "a"));
+    check_key(&rt, "text8-", &letter, &[0x9E, 0xFF, 0xFF]);
+    let with_zero = tuple_of(text_of(&rt, "a\0"));
+    check_key(&rt, "text8-", &with_zero, &[0x9E, 0xFF, 0, 0xFF, 0xFF]);
+    let two = pair_of(Value::Int(1), Value::Int(2));
+    check_key(&rt, "u8,u8-", &two, &[0x01, 0xFD]);
+}
+
 fn check_fault(rt: &impl Abort, schema: &str, tuple: &Tuple, wanted: ValueFault) {
     assert_eq!(rt; fault_of(rt, schema, tuple), wanted);
 }
@@ -142,6 +165,11 @@ fn bytes_of_no_tuple(rt: HostRuntime) {
     assert!(rt; spells_nothing(&rt, "text8", &[0x61, 0, 1]));
     assert!(rt; spells_nothing(&rt, "text8", &[0xFF, 0, 0]));
     assert!(rt; spells_nothing(&rt, "text1", &[0x61, 0x61, 0, 0]));
+    assert!(rt; spells_nothing(&rt, "u8-", &[]));
+    assert!(rt; spells_nothing(&rt, "u8-", &[0, 0]));
+    assert!(rt; spells_nothing(&rt, "bool-", &[1]));
+    assert!(rt; spells_nothing(&rt, "text8-", &[0x9E, 0, 0]));
+    assert!(rt; spells_nothing(&rt, "text8-", &[0x9E, 0xFF]));
     let long = [0x61; 40];
     assert!(rt; spells_nothing(&rt, "text24", &long));
 }

@@ -1,7 +1,7 @@
 //! The map answers worked examples.
 use crate::tuples::tuple_of;
 use arrayvec::ArrayVec;
-use art_model::{Command, NoMemory, Reply, Row, SortedRows, Text, Value};
+use art_model::{Command, NoMemory, Order, Reply, Row, SortedRows, Text, Value};
 use std::process::Abort;
 use std::test::Fail;
 
@@ -48,7 +48,7 @@ fn check_get(rt: &impl Abort, rows: &mut SortedRows, number: i128, wanted: &Repl
 
 #[test]
 fn an_inserted_row_is_found(rt: HostRuntime) {
-    let mut rows = SortedRows::new(rt.alloc());
+    let mut rows = SortedRows::new(rt.alloc(), &Order::new());
     check_insert(&rt, &mut rows, 5, 9, &Reply::Inserted);
     check_get(&rt, &mut rows, 5, &Reply::Found(9));
     assert_eq!(rt; rows.rows().len(), 1);
@@ -56,7 +56,7 @@ fn an_inserted_row_is_found(rt: HostRuntime) {
 
 #[test]
 fn a_row_that_stands_keeps_its_value(rt: HostRuntime) {
-    let mut rows = SortedRows::new(rt.alloc());
+    let mut rows = SortedRows::new(rt.alloc(), &Order::new());
     check_insert(&rt, &mut rows, 5, 9, &Reply::Inserted);
     check_insert(&rt, &mut rows, 5, 10, &Reply::Present(9));
     check_get(&rt, &mut rows, 5, &Reply::Found(9));
@@ -64,7 +64,7 @@ fn a_row_that_stands_keeps_its_value(rt: HostRuntime) {
 
 #[test]
 fn a_removed_row_is_absent(rt: HostRuntime) {
-    let mut rows = SortedRows::new(rt.alloc());
+    let mut rows = SortedRows::new(rt.alloc(), &Order::new());
     check_insert(&rt, &mut rows, 5, 9, &Reply::Inserted);
     check_remove(&rt, &mut rows, 5, &Reply::Removed(9));
     check_remove(&rt, &mut rows, 5, &Reply::Absent);
@@ -73,7 +73,7 @@ fn a_removed_row_is_absent(rt: HostRuntime) {
 
 #[test]
 fn a_scan_lists_the_first_rows_of_its_range(rt: HostRuntime) -> Result<(), Fail> {
-    let mut rows = SortedRows::new(rt.alloc());
+    let mut rows = SortedRows::new(rt.alloc(), &Order::new());
     for number in [3, 1, 2] {
         check_insert(&rt, &mut rows, number, 7, &Reply::Inserted);
     }
@@ -83,6 +83,27 @@ fn a_scan_lists_the_first_rows_of_its_range(rt: HostRuntime) -> Result<(), Fail>
     assert_eq!(rt; both_ends, listed(&rt, &[2, 3], false));
     let none = scan(&rt, &mut rows, 4, 9, 5)?;
     assert_eq!(rt; none, listed(&rt, &[], false));
+    Ok(())
+}
+
+#[test]
+fn rows_of_a_column_that_descends_are_listed_from_the_greatest(
+    rt: HostRuntime,
+) -> Result<(), Fail> {
+    let mut order = Order::new();
+    order.push(true);
+    let mut rows = SortedRows::new(rt.alloc(), &order);
+    for number in [3, 1, 2] {
+        check_insert(&rt, &mut rows, number, 7, &Reply::Inserted);
+    }
+    let two = scan(&rt, &mut rows, 9, 0, 2)?;
+    assert_eq!(rt; two, listed(&rt, &[3, 2], true));
+    let none = scan(&rt, &mut rows, 0, 9, 2)?;
+    assert_eq!(rt; none, listed(&rt, &[], false));
+    check_get(&rt, &mut rows, 2, &Reply::Found(7));
+    check_remove(&rt, &mut rows, 2, &Reply::Removed(7));
+    let others = scan(&rt, &mut rows, 3, 1, 100)?;
+    assert_eq!(rt; others, listed(&rt, &[3, 1], false));
     Ok(())
 }
 

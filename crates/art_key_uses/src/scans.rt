@@ -1,13 +1,13 @@
 //! What a scan owes while the map changes.
 use crate::tuples::tuple_of;
 use arrayvec::ArrayVec;
-use art_model::{Command, NoMemory, Reply, Row, SortedRows, scan_ok};
+use art_model::{Command, NoMemory, Order, Reply, Row, SortedRows, scan_ok};
 use std::alloc::Global;
 use std::process::Abort;
 use std::test::Fail;
 
 fn map_of(alloc: Global, rows: &[(i128, u64)]) -> Result<SortedRows, NoMemory> {
-    let mut map = SortedRows::new(alloc);
+    let mut map = SortedRows::new(alloc, &Order::new());
     for (number, value) in rows {
         map.apply(&Command::Insert(tuple_of(*number), *value))?;
     }
@@ -40,7 +40,8 @@ fn is_scan_of(
     }
     assert!(rt; !maps.is_empty());
     let (lo, hi) = (tuple_of(0), tuple_of(9));
-    Ok(scan_ok(&maps, &lo, &hi, limit, rows_of(rt, listed).as_slice()))
+    let listed = rows_of(rt, listed);
+    Ok(scan_ok(&Order::new(), &maps, &lo, &hi, limit, listed.as_slice()))
 }
 
 /// These rows are what a scan from 0 to 9 with this limit owes over the states, or are not.
@@ -139,7 +140,23 @@ fn what_one_map_answers_is_owed(rt: HostRuntime) -> Result<(), Fail> {
             panic!(rt; "a scan lists rows");
         };
         let listed = rows.as_slice();
-        assert!(rt; scan_ok(&states, &tuple_of(2), &tuple_of(9), limit, listed));
+        let (lo, hi) = (tuple_of(2), tuple_of(9));
+        assert!(rt; scan_ok(&Order::new(), &states, &lo, &hi, limit, listed));
     }
     Ok(())
+}
+
+#[test]
+fn a_scan_of_a_column_that_descends_is_owed_from_the_greatest(rt: HostRuntime) {
+    let mut order = Order::new();
+    order.push(true);
+    let state = map_of(rt.alloc(), &[(3, 7), (1, 7), (2, 7)]).expect(&rt, "room for the rows");
+    let states = [state];
+    let (lo, hi) = (tuple_of(9), tuple_of(2));
+    let falling = rows_of(&rt, &[(3, 7), (2, 7)]);
+    assert!(rt; scan_ok(&order, &states, &lo, &hi, 100, falling.as_slice()));
+    let rising = rows_of(&rt, &[(2, 7), (3, 7)]);
+    assert!(rt; !scan_ok(&order, &states, &lo, &hi, 100, rising.as_slice()));
+    assert!(rt; !scan_ok(&order, &states, &hi, &lo, 100, rising.as_slice()));
+    assert!(rt; scan_ok(&order, &states, &hi, &lo, 100, &[]));
 }

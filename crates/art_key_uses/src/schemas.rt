@@ -1,42 +1,66 @@
 //! Schemas by their names.
-use art_key::{Column, Schema, SchemaFault};
+use art_key::{Column, Kind, Schema, SchemaFault};
+use std::process::Abort;
 use std::test::*;
 
-#[test]
-fn narrow_columns_stand_in_order(rt: HostRuntime) -> Result<(), Fail> {
-    let schema = Schema::parse("bool,u8,u16,u32,u64,i8,i16,i32")
-        .ok()
-        .ok_or("a schema")?;
-    let columns = [
-        Column::Bool,
-        Column::U8,
-        Column::U16,
-        Column::U32,
-        Column::U64,
-        Column::I8,
-        Column::I16,
-        Column::I32,
-    ];
-    assert_eq!(rt; schema.columns(), columns.as_slice());
-    let schema = Schema::parse("i64").ok().ok_or("a schema")?;
-    assert_eq!(rt; schema.columns(), [Column::I64].as_slice());
-    Ok(())
+/// The schema has one column, of this kind.
+fn check_column(rt: &impl Abort, name: &str, kind: Kind, descends: bool) {
+    let schema = Schema::parse(name).ok().expect(rt, "a schema");
+    assert_eq!(rt; schema.columns(), [Column { kind, descends }].as_slice());
+    assert_eq!(rt; schema.order().as_slice(), [descends].as_slice());
 }
 
 #[test]
-fn text_columns_by_their_longest_texts(rt: HostRuntime) -> Result<(), Fail> {
-    for (name, longest) in [("text1", 1), ("text9", 9), ("text10", 10), ("text24", 24)] {
-        let schema = Schema::parse(name).ok().ok_or("a schema")?;
-        assert_eq!(rt; schema.columns(), [Column::Text(longest)].as_slice());
+fn columns_stand_in_order(rt: HostRuntime) {
+    let schema = Schema::parse("bool,u8-,text3").ok().expect(&rt, "a schema");
+    let (kinds, order) = ([Kind::Bool, Kind::U8, Kind::Text(3)], [false, true, false]);
+    assert_eq!(rt; schema.columns().len(), 3);
+    for (column, kind) in schema.columns().iter().zip(kinds.iter()) {
+        assert_eq!(rt; column.kind, *kind);
     }
-    Ok(())
+    assert_eq!(rt; schema.order().as_slice(), order.as_slice());
+}
+
+#[test]
+fn kinds_by_their_names(rt: HostRuntime) {
+    for (name, kind) in [
+        ("bool", Kind::Bool),
+        ("u8", Kind::U8),
+        ("u16", Kind::U16),
+        ("u32", Kind::U32),
+        ("u64", Kind::U64),
+        ("i8", Kind::I8),
+        ("i16", Kind::I16),
+        ("i32", Kind::I32),
+        ("i64", Kind::I64),
+        ("text1", Kind::Text(1)),
+        ("text9", Kind::Text(9)),
+        ("text10", Kind::Text(10)),
+        ("text24", Kind::Text(24)),
+    ] {
+        check_column(&rt, name, kind, false);
+    }
+}
+
+#[test]
+fn a_dash_reverses_any_kind(rt: HostRuntime) {
+    for (name, kind) in [
+        ("bool-", Kind::Bool),
+        ("u8-", Kind::U8),
+        ("u64-", Kind::U64),
+        ("i16-", Kind::I16),
+        ("text8-", Kind::Text(8)),
+        ("text24-", Kind::Text(24)),
+    ] {
+        check_column(&rt, name, kind, true);
+    }
 }
 
 #[test]
 fn names_of_no_kind(rt: HostRuntime) {
     let names = [
         "text0", "text", "text01", "text25", "text+1", "text 1", "Text1", "u128", " u8", "u24",
-        "text100",
+        "text100", "u8--", "-", "-u8", "u8 -", "u8- ", "text-", "text-8",
     ];
     for name in names {
         let fault = Schema::parse(name);
@@ -56,7 +80,7 @@ fn first_bad_column_is_told_at_its_place(rt: HostRuntime) {
             "at {text}"
         );
     }
-    for text in ["u8,u24", "u8,", "u8,,u9", "u8, u8"] {
+    for text in ["u8,u24", "u8,", "u8,,u9", "u8, u8", "u8,-", "u8-,u8--"] {
         let fault = Schema::parse(text);
         assert!(rt;
             matches!(fault, Err(SchemaFault::BadColumn(1))),
@@ -90,8 +114,9 @@ fn ninth_column_is_too_many(rt: HostRuntime) {
 #[test]
 fn sixty_four_bytes_pass(rt: HostRuntime) {
     assert!(rt; Schema::parse("text24,text6").is_ok());
+    assert!(rt; Schema::parse("text24-,text6-").is_ok());
     assert!(rt; Schema::parse("u64,u64,u64,u64,u64,u64,u64,u64").is_ok());
-    for text in ["text24,text7", "text24,text6,u8"] {
+    for text in ["text24,text7", "text24,text6,u8", "text24-,text7-"] {
         let fault = Schema::parse(text);
         assert!(rt; matches!(fault, Err(SchemaFault::KeyTooWide)), "at {text}");
     }

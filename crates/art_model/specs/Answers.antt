@@ -7,21 +7,21 @@ use Rattle.art_model.specs.declared.commands.Command.TheVariants.{Insert, Remove
 use Rattle.art_model.specs.declared.commands.Reply.{Reply}
 use Rattle.art_model.specs.declared.commands.Reply.TheVariants.{Inserted, Present, Removed, Absent, Found, Rows}
 use Rattle.art_model.specs.declared.rows.Row.{Row}
-use Rattle.art_model.specs.Rows.{Tuple, value_at, with_row, without_row, rows_between}
+use Rattle.art_model.specs.Rows.{Order, Tuple, value_at, with_row, without_row, rows_between}
 
 -- a reply, and the rows after it
 abbrev pub Outcome : Type 0
 Outcome = Reply × List Row
 
 -- An insert adds its row where none with the tuple stands; one that stands stays.
-abbrev pub insert_answer : List Row → Tuple → ℕ → Option ℕ → Outcome
-insert_answer rows t v None = (Inserted, with_row rows t v)
-insert_answer rows t v (Some there) = (Present there, rows)
+abbrev pub insert_answer : Order → List Row → Tuple → ℕ → Option ℕ → Outcome
+insert_answer order rows t v None = (Inserted, with_row order rows t v)
+insert_answer order rows t v (Some there) = (Present there, rows)
 
 -- A remove takes the row with the tuple out, where one stands.
-abbrev pub remove_answer : List Row → Tuple → Option ℕ → Outcome
-remove_answer rows t None = (Absent, rows)
-remove_answer rows t (Some there) = (Removed there, without_row rows t)
+abbrev pub remove_answer : Order → List Row → Tuple → Option ℕ → Outcome
+remove_answer order rows t None = (Absent, rows)
+remove_answer order rows t (Some there) = (Removed there, without_row order rows t)
 
 abbrev pub get_answer : List Row → Option ℕ → Outcome
 get_answer rows None = (Absent, rows)
@@ -31,11 +31,11 @@ get_answer rows (Some there) = (Found there, rows)
 abbrev pub scan_answer : List Row → List Row → ℕ → Outcome
 scan_answer rows listed limit = (Rows (record { items = listed }) (length listed == limit), rows)
 
-abbrev pub answer : Command → List Row → Outcome
-answer (Insert t v) rows = insert_answer rows t v (value_at rows t)
-answer (Remove t) rows = remove_answer rows t (value_at rows t)
-answer (Get t) rows = get_answer rows (value_at rows t)
-answer (Scan lo hi limit) rows = scan_answer rows (take limit (rows_between rows lo hi)) limit
+abbrev pub answer : Order → Command → List Row → Outcome
+answer order (Insert t v) rows = insert_answer order rows t v (value_at rows t)
+answer order (Remove t) rows = remove_answer order rows t (value_at rows t)
+answer order (Get t) rows = get_answer rows (value_at rows t)
+answer order (Scan lo hi limit) rows = scan_answer rows (take limit (rows_between order rows lo hi)) limit
 
 -- a scan asks for at most so many rows as a reply has places for
 abbrev pub HasRoomFor : Command → Type 0

@@ -3,38 +3,46 @@ use Rattle.std.specs.Prelude.{◌≡◌, ℕ, List, length, Some, None, Result, 
 use Rattle.std.specs.Cmp.{IsTotalOrder}
 use Rattle.std.specs.Cmp.Lexicographic.{slice_cmp}
 use Rattle.std.specs.List.Sorted.{IsSearchInRange, IsBinarySearchResult}
-use Rattle.std.specs.Ordering.{nat_cmp}
+use Rattle.std.specs.Ordering.{nat_cmp, is_eq}
 use Rattle.std.specs.Str.{IsUtf8, chars}
 use Rattle.art_model.specs.declared.rows.Row.{Row}
-use Rattle.art_model.specs.Rows.{Tuple, tuple_cmp, IsSortedRows, value_at, with_row, without_row}
+use Rattle.art_model.specs.Rows.{Order, Tuple, tuple_cmp, is_same, IsSortedRows, value_at, with_row, without_row}
 use Rattle.art_model.specs.Places.{IsPlaceOf, IsGapFor}
 
 -- texts stand by their bytes of UTF-8 as they stand by their code points
 abbrev pub TextsStandByCodePoints : Type 0
 TextsStandByCodePoints = (s t : List ℕ) → IsUtf8 s → IsUtf8 t → slice_cmp nat_cmp s t ≡ slice_cmp nat_cmp (chars s) (chars t)
 
-abbrev pub TuplesHaveOneOrder : Type 0
-TuplesHaveOneOrder = IsTotalOrder tuple_cmp
+-- whichever columns descend, the order of tuples is total
+abbrev pub OrdersAreTotal : Type 0
+OrdersAreTotal = (order : Order) → IsTotalOrder (tuple_cmp order)
+
+-- no order tells apart what has the same values, or takes for the same what has not
+abbrev pub OrdersTellTuplesApart : Type 0
+OrdersTellTuplesApart = (order : Order) (a b : Tuple) → is_eq (tuple_cmp order a b) ≡ is_same a b
 
 -- a binary search of sorted rows for a tuple ends at its row, or in the gap for it
 abbrev pub SearchesEndAtPlaces : Type 0
-SearchesEndAtPlaces = (rows : List Row) (t : Tuple) (r : Result ℕ ℕ) → IsSortedRows rows → IsSearchInRange r (length rows)
-    → IsBinarySearchResult (λ row. tuple_cmp row.tuple t) rows r → MatchResult r (IsPlaceOf rows t) (IsGapFor rows t)
+SearchesEndAtPlaces = (order : Order) (rows : List Row) (t : Tuple) (r : Result ℕ ℕ) → IsSortedRows order rows
+    → IsSearchInRange r (length rows) → IsBinarySearchResult (λ row. tuple_cmp order row.tuple t) rows r
+    → MatchResult r (IsPlaceOf order rows t) (IsGapFor order rows t)
 
 -- the row at the place has the tuple's value, and the rows without it are those but the one at the place
 abbrev pub RowsAnswerAtPlaces : Type 0
-RowsAnswerAtPlaces = (rows : List Row) (t : Tuple) (i : ℕ) → IsPlaceOf rows t i
-    → ((d : Row) → value_at rows t ≡ Some (slice_index_or rows i d).value) × (without_row rows t ≡ remove rows i)
+RowsAnswerAtPlaces = (order : Order) (rows : List Row) (t : Tuple) (i : ℕ) → IsPlaceOf order rows t i
+    → ((d : Row) → value_at rows t ≡ Some (slice_index_or rows i d).value) × (without_row order rows t ≡ remove rows i)
 
 -- no row has the tuple, and with one the rows are those with it in the gap
 abbrev pub RowsAnswerInGaps : Type 0
-RowsAnswerInGaps = (rows : List Row) (t : Tuple) (i : ℕ) → IsGapFor rows t i
-    → (value_at rows t ≡ None) × ((v : ℕ) → with_row rows t v ≡ insert rows i (record { tuple = t; value = v }))
+RowsAnswerInGaps = (order : Order) (rows : List Row) (t : Tuple) (i : ℕ) → IsGapFor order rows t i
+    → (value_at rows t ≡ None) × ((v : ℕ) → with_row order rows t v ≡ insert rows i (record { tuple = t; value = v }))
 
 -- rows stay sorted with one more in its gap
 abbrev pub RowsStaySorted : Type 0
-RowsStaySorted = (rows : List Row) (t : Tuple) (i v : ℕ) → IsSortedRows rows → IsGapFor rows t i → IsSortedRows (with_row rows t v)
+RowsStaySorted = (order : Order) (rows : List Row) (t : Tuple) (i v : ℕ) → IsSortedRows order rows → IsGapFor order rows t i
+    → IsSortedRows order (with_row order rows t v)
 
 -- rows stay sorted without the one at its place
 abbrev pub RowsStaySortedWithout : Type 0
-RowsStaySortedWithout = (rows : List Row) (t : Tuple) (i : ℕ) → IsSortedRows rows → IsPlaceOf rows t i → IsSortedRows (without_row rows t)
+RowsStaySortedWithout = (order : Order) (rows : List Row) (t : Tuple) (i : ℕ) → IsSortedRows order rows → IsPlaceOf order rows t i
+    → IsSortedRows order (without_row order rows t)

@@ -34,4 +34,4 @@ pub record HasTypedHistory (schema : List Column) (k l : Contents) : Type 0 wher
   pub one : HasOneHistory k l
   pub keys : AreAdmitted (IsKeyOf schema) one.log
   pub legal : IsLegalTyped schema (typed schema one.log)
-  pub rows : Spells schema (replay one.log) (typed_replay (typed schema one.log))
+  pub rows : Spells schema (replay one.log) (typed_replay schema (typed schema one.log))

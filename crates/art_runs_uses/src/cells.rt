@@ -170,7 +170,7 @@ pub(crate) fn rows_of_tree(
     world: &World,
     schema: &Schema,
 ) -> SortedRows {
-    let mut rows = SortedRows::new(alloc);
+    let mut rows = SortedRows::new(alloc, &schema.order());
     for link in named(rt, alloc, world) {
         if let Link::Leaf(number) = link {
             let (tuple, value) = row_in(rt, alloc, world, schema, number);

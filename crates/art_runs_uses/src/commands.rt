@@ -120,7 +120,7 @@ fn check_drawn(
 fn check_commands(rt: &impl Abort, alloc: Global, columns: &str, bounds: &[u32]) {
     let mut client = opened(rt, alloc, &SIZES, 0);
     let schema = Schema::parse(columns).expect(rt, "a schema");
-    let mut rows = SortedRows::new(alloc);
+    let mut rows = SortedRows::new(alloc, &schema.order());
     let mut numbers = Pcg32::seed_from_u64(1);
     for _ in 0..10000 {
         let tuple = draw_tuple(rt, &mut numbers, bounds);

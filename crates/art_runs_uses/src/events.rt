@@ -172,8 +172,8 @@ fn deed_of_look(rt: &impl Abort, schema: &Schema, seen: Seen) -> Deed {
 }
 
 /// The rows that the events leave.
-fn rows_after(rt: &impl Abort, alloc: Global, events: &[Event]) -> SortedRows {
-    let mut rows = SortedRows::new(alloc);
+fn rows_after(rt: &impl Abort, alloc: Global, schema: &Schema, events: &[Event]) -> SortedRows {
+    let mut rows = SortedRows::new(alloc, &schema.order());
     for event in events {
         if let Deed::Done(command, _) = &event.what {
             if let Command::Scan(_, _, limit) = command {
@@ -194,7 +194,7 @@ pub(crate) fn check_history(
     rows: &SortedRows,
 ) {
     assert!(rt; legal(alloc, schema, events).expect(rt, "memory"));
-    let left = rows_after(rt, alloc, events);
+    let left = rows_after(rt, alloc, schema, events);
     assert_eq!(rt; left.rows(), rows.rows());
 }
 

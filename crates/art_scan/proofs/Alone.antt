@@ -8,6 +8,7 @@ use Rattle.std.specs.Ordering.{is_le, is_lt, ordering_reverse}
 use Rattle.std.specs.declared.cmp.Ordering.{Ordering}
 use Rattle.std.specs.declared.cmp.Ordering.TheVariants.{Less, Equal, Greater}
 use Rattle.art_key.specs.Bounds.{is_before}
+use Rattle.art_key.specs.Columns.{order_of}
 use Rattle.art_key.specs.Histories.{OnlyRow, StandsIn, bound_at, is_in_range, rows_in}
 use Rattle.art_key.specs.declared.bounds.Bound.{Bound}
 use Rattle.art_key.specs.declared.columns.Column.{Column}
@@ -46,9 +47,9 @@ module _ (schema : List Column) where
 
   -- its key is after that of another
   abbrev IsLater : Row → Row → Type 0
-  IsLater first row = Stands row × (tuple_cmp first.tuple row.tuple ≡ Less)
+  IsLater first row = Stands row × (tuple_cmp (order_of schema) first.tuple row.tuple ≡ Less)
 
-  both_hold : (first : Row) (rows : List Row) → AllByRecursion Stands rows → AllByRecursion (λ (r : Row). tuple_cmp first.tuple r.tuple ≡ Less) rows → AllByRecursion (IsLater first) rows
+  both_hold : (first : Row) (rows : List Row) → AllByRecursion Stands rows → AllByRecursion (λ (r : Row). tuple_cmp (order_of schema) first.tuple r.tuple ≡ Less) rows → AllByRecursion (IsLater first) rows
   both_hold first [] stand later = tt
   both_hold first (row ∷ rows) stand later = ((stand.0, later.0), both_hold first rows stand.1 later.1)
 
@@ -71,7 +72,7 @@ module _ (schema : List Column) where
   before_up_to k b c before (inl same) = subst (λ (d : Bound). is_before k d ≡ true) same before
   before_up_to k b c before (inr less) = before_on k b c before less
 
-  split_rows : (rows : List Row) → IsSortedRows rows → AllByRecursion Stands rows → (a b c : Bound) → is_before a b ≡ true → up_to b c
+  split_rows : (rows : List Row) → IsSortedRows (order_of schema) rows → AllByRecursion Stands rows → (a b c : Bound) → is_before a b ≡ true → up_to b c
       → rows_in schema rows a c ≡ rows_in schema rows a b ++ rows_in schema rows b c
   unfolding IsStrictlySortedBy
   split_rows [] sorted stand a b c low high = refl
@@ -113,8 +114,8 @@ module _ (schema : List Column) where
   found rows lo hi None more only = ap (λ (l : List Row). l ++ more) (sym only)
   found rows lo hi (Some row) more only = ap (λ (l : List Row). l ++ more) (sym only.1)
 
-  listed : (rows : List Row) → IsSortedRows rows → AllByRecursion Stands rows → (tiles : List Tile) (from to : Bound) → AreTiles schema from to tiles
-      → AllByRecursion (λ state. state ≡ rows) (states_of tiles) → rows_of tiles ≡ rows_in schema rows from to
+  listed : (rows : List Row) → IsSortedRows (order_of schema) rows → AllByRecursion Stands rows → (tiles : List Tile) (from to : Bound) → AreTiles schema from to tiles
+      → AllByRecursion (λ state. state ≡ rows) (states_of schema tiles) → rows_of tiles ≡ rows_in schema rows from to
   listed rows sorted stand [] from to are same = sym (ap (rows_in schema rows from) (sym are) ∙ empty_range rows from)
   listed rows sorted stand (tile ∷ tiles) from to are same =
       let rest = listed rows sorted stand tiles tile.hi to are.1 same.1 in
@@ -127,8 +128,8 @@ module _ (schema : List Column) where
 
   -- ---- the rows of a scan
 
-  at_or_after : (s t : Tuple) → not (is_lt (tuple_cmp t s)) ≡ is_le (tuple_cmp s t)
-  at_or_after s t = by (tuple_cmp t s) ∙ ap is_le (sym (tuple_total.antisymm s t))
+  at_or_after : (s t : Tuple) → not (is_lt (tuple_cmp (order_of schema) t s)) ≡ is_le (tuple_cmp (order_of schema) s t)
+  at_or_after s t = by (tuple_cmp (order_of schema) t s) ∙ ap is_le (sym ((tuple_total (order_of schema)).antisymm s t))
     where
       by : (o : Ordering) → not (is_lt o) ≡ is_le (ordering_reverse o)
       by Less = refl
@@ -136,9 +137,9 @@ module _ (schema : List Column) where
       by Greater = refl
 
   between : (rows : List Row) (lo hi : Tuple) (end : Bound) → AllByRecursion Stands rows → StandsIn schema lo → EndsRange schema hi end
-      → rows_in schema rows (bound_at schema lo) end ≡ rows_between rows lo hi
+      → rows_in schema rows (bound_at schema lo) end ≡ rows_between (order_of schema) rows lo hi
   between rows lo hi end stand lo_stands ends =
-      same_kept Stands (λ (r : Row). is_in_range schema (bound_at schema lo) end r.tuple) (λ (r : Row). is_le (tuple_cmp lo r.tuple) && is_le (tuple_cmp r.tuple hi))
+      same_kept Stands (λ (r : Row). is_in_range schema (bound_at schema lo) end r.tuple) (λ (r : Row). is_le (tuple_cmp (order_of schema) lo r.tuple) && is_le (tuple_cmp (order_of schema) r.tuple hi))
       (λ r stands. ap₂ (λ (a b : Bool). a && b) (ap not (key_before schema r.tuple lo stands lo_stands) ∙ at_or_after lo r.tuple) (ends r.tuple stands)) rows stand
 
 -- where they stopped, the first rows are listed
@@ -148,17 +149,17 @@ first_rows limit all listed rest split few (inl none) =
 first_rows limit all listed rest split few (inr full) =
     sym (ap (take limit) split ∙ (take-append-le limit listed rest (omega (arith, full)) ∙ take_all limit listed few))
 
-module _ (schema : List Column) (rows : List Row) (lo hi : Tuple) (end reached : Bound) (limit : ℕ) (tiles : List Tile) (sorted : IsSortedRows rows)
+module _ (schema : List Column) (rows : List Row) (lo hi : Tuple) (end reached : Bound) (limit : ℕ) (tiles : List Tile) (sorted : IsSortedRows (order_of schema) rows)
     (stand : AllByRecursion (λ row. StandsIn schema row.tuple) rows) (lo_stands : StandsIn schema lo) (ends : EndsRange schema hi end)
     (low : is_before (bound_at schema lo) end ≡ true) (are : AreTiles schema (bound_at schema lo) reached tiles)
-    (same : AllByRecursion (λ state. state ≡ rows) (states_of tiles)) (stops : MayStop end reached limit tiles) (some : 0 < limit) where
+    (same : AllByRecursion (λ state. state ≡ rows) (states_of schema tiles)) (stops : MayStop end reached limit tiles) (some : 0 < limit) where
   abbrev from : Bound
   from = bound_at schema lo
 
   so_far : rows_of tiles ≡ rows_in schema rows from reached
   so_far = listed schema rows sorted stand tiles from reached are same
 
-  all : rows_in schema rows from end ≡ rows_between rows lo hi
+  all : rows_in schema rows from end ≡ rows_between (order_of schema) rows lo hi
   all = between schema rows lo hi end stand lo_stands ends
 
   -- where nothing was found, the scan has not come to its limit
@@ -169,26 +170,26 @@ module _ (schema : List Column) (rows : List Row) (lo hi : Tuple) (end reached :
   at_start is (inl past) = true≢false (sym (subst (λ (b : Bound). is_before b end ≡ true) is low) ∙ past)
   at_start is (inr full) = not_full (so_far ∙ ap (λ (b : Bound). rows_in schema rows b reached) is ∙ empty_range schema rows reached) full
 
-  at_end : reached ≡ end → rows_of tiles ≡ take limit (rows_between rows lo hi)
+  at_end : reached ≡ end → rows_of tiles ≡ take limit (rows_between (order_of schema) rows lo hi)
   at_end is =
-      first_rows limit (rows_between rows lo hi) (rows_of tiles) []
+      first_rows limit (rows_between (order_of schema) rows lo hi) (rows_of tiles) []
       (sym all ∙ (ap (rows_in schema rows from) (sym is) ∙ (sym so_far ∙ sym (append-nil (rows_of tiles))))) stops.few (inl refl)
 
-  inside : is_before reached end ≡ true → (is_before from reached ≡ true) → length (rows_of tiles) ≡ limit → rows_of tiles ≡ take limit (rows_between rows lo hi)
+  inside : is_before reached end ≡ true → (is_before from reached ≡ true) → length (rows_of tiles) ≡ limit → rows_of tiles ≡ take limit (rows_between (order_of schema) rows lo hi)
   inside before after full =
-      first_rows limit (rows_between rows lo hi) (rows_of tiles) (rows_in schema rows reached end)
+      first_rows limit (rows_between (order_of schema) rows lo hi) (rows_of tiles) (rows_in schema rows reached end)
       (sym all ∙ (split_rows schema rows sorted stand from reached end after (inr before) ∙ ap (λ (l : List Row). l ++ rows_in schema rows reached end) (sym so_far)))
       stops.few (inr full)
 
   by : (tiles ≡ []) ⊎ ((reached ≡ end) ⊎ (is_before reached end ≡ true)) → (is_before reached end ≡ false) ⊎ (length (rows_of tiles) ≡ limit)
-      → (from ≡ reached) ⊎ (is_before from reached ≡ true) → rows_of tiles ≡ take limit (rows_between rows lo hi)
+      → (from ≡ reached) ⊎ (is_before from reached ≡ true) → rows_of tiles ≡ take limit (rows_between (order_of schema) rows lo hi)
   by (inl none) stopped way = absurd (at_start (subst (λ (ts : List Tile). AreTiles schema from reached ts) none are) stopped)
   by (inr (inl is)) stopped way = at_end is
   by (inr (inr before)) (inl past) way = absurd (true≢false (sym before ∙ past))
   by (inr (inr before)) (inr full) (inl is) = absurd (at_start is (inr full))
   by (inr (inr before)) (inr full) (inr after) = inside before after full
 
-  they_are : rows_of tiles ≡ take limit (rows_between rows lo hi)
+  they_are : rows_of tiles ≡ take limit (rows_between (order_of schema) rows lo hi)
   they_are = by stops.within stops.stopped (tiles_up_to schema tiles from reached are)
 
 pub looks_at_one_state_are_answers : LooksAtOneStateAreAnswers

@@ -30,10 +30,10 @@ use Rattle.art_table.specs.declared.tables.Table.{Table}
 
 -- a legal history with one event more: the others are legal, and it says what the rows answer after them
 legal_split : (schema : List Column) (rows : List Row) (log : List Event) (e : Event) → IsLegalFrom schema rows (log ++ e ∷ [])
-    → IsLegalFrom schema rows log × IsAnswered schema (run rows log) e.what
+    → IsLegalFrom schema rows log × IsAnswered schema (run schema rows log) e.what
 legal_split schema rows [] e legal = (tt, legal.0)
 legal_split schema rows (d ∷ log) e legal =
-    let split = legal_split schema (becomes rows d.what) log e legal.1 in
+    let split = legal_split schema (becomes schema rows d.what) log e legal.1 in
     ((legal.0, split.0), split.1)
 
 tiles_push : (schema : List Column) (tiles : List Tile) (from to : Bound) (tile : Tile) → AreTiles schema from to tiles → IsTile schema to tile

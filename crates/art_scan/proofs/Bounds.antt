@@ -11,6 +11,7 @@ use Rattle.art_key.specs.declared.bounds.Bound.{Bound}
 use Rattle.art_key.specs.declared.bounds.Bound.TheVariants.{At, End}
 use Rattle.art_key.specs.declared.columns.Column.{Column}
 use Rattle.art_key.specs.Bounds.{is_before}
+use Rattle.art_key.specs.Columns.{order_of}
 use Rattle.art_key.specs.Histories.{StandsIn, bound_at}
 use Rattle.art_key.specs.Spelling.{spelling}
 use Rattle.art_key.proofs.TupleLaws.{keys_stand}
@@ -52,12 +53,12 @@ not_before b from to up high = false_from_ne_true (is_before b from) (λ low. tr
 -- ---- the keys of two tuples
 
 module _ (schema : List Column) (s t : Tuple) (s_stands : StandsIn schema s) (t_stands : StandsIn schema t) where
-  pub key_before : is_before (bound_at schema s) (bound_at schema t) ≡ is_lt (tuple_cmp s t)
+  pub key_before : is_before (bound_at schema s) (bound_at schema t) ≡ is_lt (tuple_cmp (order_of schema) s t)
   key_before = ap is_lt (keys_stand schema s.items t.items s_stands t_stands)
 
   -- a bound that the one is before and the other is not parts them
-  pub bound_parts : (b : Bound) → is_before (bound_at schema s) b ≡ true → is_before (bound_at schema t) b ≡ false → tuple_cmp s t ≡ Less
-  bound_parts b low high = less_from (tuple_cmp s t) (sym key_before ∙ parted (bound_at schema s) (bound_at schema t) b low high)
+  pub bound_parts : (b : Bound) → is_before (bound_at schema s) b ≡ true → is_before (bound_at schema t) b ≡ false → tuple_cmp (order_of schema) s t ≡ Less
+  bound_parts b low high = less_from (tuple_cmp (order_of schema) s t) (sym key_before ∙ parted (bound_at schema s) (bound_at schema t) b low high)
 
-  pub same_key : tuple_cmp s t ≡ Equal → bound_at schema s ≡ bound_at schema t
+  pub same_key : tuple_cmp (order_of schema) s t ≡ Equal → bound_at schema s ≡ bound_at schema t
   same_key e = ap (λ l. At (record { items = l })) (exact_bytes (spelling schema s.items) (spelling schema t.items) (keys_stand schema s.items t.items s_stands t_stands ∙ e))

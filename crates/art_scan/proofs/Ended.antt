@@ -4,6 +4,7 @@ use Rattle.std.proofs.lemmas.Bool.{and_parts}
 use Rattle.std.proofs.lemmas.Bool.Decides.{nat_tests}
 use Rattle.std.specs.Prelude.{Ok, Err}
 use Rattle.art_key.specs.Bounds.{is_before}
+use Rattle.art_key.specs.Columns.{order_of}
 use Rattle.art_key.specs.Histories.{StandsIn, bound_at}
 use Rattle.art_key.specs.Spelling.{spelling}
 use Rattle.art_key.specs.declared.bounds.Bound.{Bound}
@@ -112,7 +113,7 @@ module _ (t : Table) (lo hi : Tuple) (limit turns : ℕ) (p q : Pass) (rows : Li
       ends = s.ends;
       stops = stops;
       rows_are = on.rows_are;
-      owed = subst (λ (l : List Row). IsScanOf (states_of on.tiles) lo hi limit l) (sym on.rows_are)
+      owed = subst (λ (l : List Row). IsScanOf (order_of (schema_in t)) (states_of (schema_in t) on.tiles) lo hi limit l) (sym on.rows_are)
           (looks_that_tile_are_scans (schema_in t) lo hi end g.from limit on.tiles s.lo_stands s.ends on.tiled.tiles_are stops);
       more_is = is;
     }

@@ -7,6 +7,7 @@ use Rattle.std.specs.List.Sorted.{IsStrictlySortedBy}
 use Rattle.art_key.specs.declared.bounds.Bound.{Bound}
 use Rattle.art_key.specs.declared.columns.Column.{Column}
 use Rattle.art_key.specs.Bounds.{is_before}
+use Rattle.art_key.specs.Columns.{order_of}
 use Rattle.art_key.specs.Histories.{OnlyRow, StandsIn, bound_at, replay}
 use Rattle.art_model.specs.declared.rows.Row.{Row}
 use Rattle.art_model.specs.Rows.{IsSortedRows, Tuple, tuple_cmp, value_at}
@@ -39,17 +40,17 @@ module _ (schema : List Column) where
     upward : is_before from tile.hi ≡ true
     upward = subst (λ (b : Bound). is_before b tile.hi ≡ true) is.begins is.after
 
-    stands_there : (row : Row) → OnlyRow schema (replay tile.before) tile.lo tile.hi (Some row) → StandsFrom from tile.hi row
+    stands_there : (row : Row) → OnlyRow schema (replay schema tile.before) tile.lo tile.hi (Some row) → StandsFrom from tile.hi row
     stands_there row only =
-        let inside = and_parts _ _ (found_inside schema tile.lo tile.hi (replay tile.before) (replays_stand schema tile.before is.legal) row only) in
+        let inside = and_parts _ _ (found_inside schema tile.lo tile.hi (replay schema tile.before) (replays_stand schema tile.before is.legal) row only) in
         record {
           stands = only.0;
           low = subst (λ (b : Bound). is_before (bound_at schema row.tuple) b ≡ false) is.begins (not-true (is_before (bound_at schema row.tuple) tile.lo) inside.0);
           high = inside.1;
         }
 
-    stood_there : (row : Row) → OnlyRow schema (replay tile.before) tile.lo tile.hi (Some row) → value_at (replay tile.before) row.tuple ≡ Some row.value
-    stood_there row only = found_stood schema tile.lo tile.hi (replay tile.before) (replays_stand schema tile.before is.legal) row only
+    stood_there : (row : Row) → OnlyRow schema (replay schema tile.before) tile.lo tile.hi (Some row) → value_at (replay schema tile.before) row.tuple ≡ Some row.value
+    stood_there row only = found_stood schema tile.lo tile.hi (replay schema tile.before) (replays_stand schema tile.before is.legal) row only
 
     -- rows from its end on stand from where it began on
     earlier : (to : Bound) (rows : List Row) → AllByRecursion (StandsFrom tile.hi to) rows → AllByRecursion (StandsFrom from to) rows
@@ -67,39 +68,39 @@ module _ (schema : List Column) where
   listed_within [] from to are = tt
   listed_within (tile ∷ tiles) from to are = by (earlier from tile are.0 to (rows_of tiles) (listed_within tiles tile.hi to are.1)) tile.row are.0.exact
     where
-      by : AllByRecursion (StandsFrom from to) (rows_of tiles) → (found : Option Row) → OnlyRow schema (replay tile.before) tile.lo tile.hi found
+      by : AllByRecursion (StandsFrom from to) (rows_of tiles) → (found : Option Row) → OnlyRow schema (replay schema tile.before) tile.lo tile.hi found
           → AllByRecursion (StandsFrom from to) (cons_option found (rows_of tiles))
       by rest None only = rest
       by rest (Some row) only =
           let there = stands_there from tile are.0 row only in
           (record { stands = there.stands; low = there.low; high = before_end tiles (bound_at schema row.tuple) tile.hi to are.1 there.high }, rest)
 
-  pub listed_sorted : (tiles : List Tile) (from to : Bound) → AreTiles schema from to tiles → IsSortedRows (rows_of tiles)
+  pub listed_sorted : (tiles : List Tile) (from to : Bound) → AreTiles schema from to tiles → IsSortedRows (order_of schema) (rows_of tiles)
   unfolding IsStrictlySortedBy
   listed_sorted [] from to are = tt
   listed_sorted (tile ∷ tiles) from to are = by (listed_sorted tiles tile.hi to are.1) tile.row are.0.exact
     where
-      by : IsSortedRows (rows_of tiles) → (found : Option Row) → OnlyRow schema (replay tile.before) tile.lo tile.hi found → IsSortedRows (cons_option found (rows_of tiles))
+      by : IsSortedRows (order_of schema) (rows_of tiles) → (found : Option Row) → OnlyRow schema (replay schema tile.before) tile.lo tile.hi found → IsSortedRows (order_of schema) (cons_option found (rows_of tiles))
       by rest None only = rest
       by rest (Some row) only =
           let there = stands_there from tile are.0 row only in
           let after = λ (r : Row) (later : StandsFrom tile.hi to r). bound_parts schema row.tuple r.tuple there.stands later.stands tile.hi there.high later.low in
-          (All-each (StandsFrom tile.hi to) (λ (r : Row). tuple_cmp row.tuple r.tuple ≡ Less) after (rows_of tiles) (listed_within tiles tile.hi to are.1), rest)
+          (All-each (StandsFrom tile.hi to) (λ (r : Row). tuple_cmp (order_of schema) row.tuple r.tuple ≡ Less) after (rows_of tiles) (listed_within tiles tile.hi to are.1), rest)
 
-  pub listed_stood : (tiles : List Tile) (from to : Bound) → AreTiles schema from to tiles → AllByRecursion (HasStood (states_of tiles)) (rows_of tiles)
+  pub listed_stood : (tiles : List Tile) (from to : Bound) → AreTiles schema from to tiles → AllByRecursion (HasStood (states_of schema tiles)) (rows_of tiles)
   listed_stood [] from to are = tt
   listed_stood (tile ∷ tiles) from to are =
-      let later = stood_later (states_of tiles) (replay tile.before) in
-      by (All-each (HasStood (states_of tiles)) (HasStood (states_of (tile ∷ tiles))) later (rows_of tiles) (listed_stood tiles tile.hi to are.1)) tile.row are.0.exact
+      let later = stood_later (states_of schema tiles) (replay schema tile.before) in
+      by (All-each (HasStood (states_of schema tiles)) (HasStood (states_of schema (tile ∷ tiles))) later (rows_of tiles) (listed_stood tiles tile.hi to are.1)) tile.row are.0.exact
     where
-      by : AllByRecursion (HasStood (states_of (tile ∷ tiles))) (rows_of tiles) → (found : Option Row)
-          → OnlyRow schema (replay tile.before) tile.lo tile.hi found → AllByRecursion (HasStood (states_of (tile ∷ tiles))) (cons_option found (rows_of tiles))
+      by : AllByRecursion (HasStood (states_of schema (tile ∷ tiles))) (rows_of tiles) → (found : Option Row)
+          → OnlyRow schema (replay schema tile.before) tile.lo tile.hi found → AllByRecursion (HasStood (states_of schema (tile ∷ tiles))) (cons_option found (rows_of tiles))
       by rest None only = rest
-      by rest (Some row) only = (stood_first (states_of tiles) (replay tile.before) row (stood_there from tile are.0 row only), rest)
+      by rest (Some row) only = (stood_first (states_of schema tiles) (replay schema tile.before) row (stood_there from tile are.0 row only), rest)
 
   -- a tuple between the bounds that has a row at each look is listed
   pub stayed_listed : (tiles : List Tile) (from to : Bound) (t : Tuple) → AreTiles schema from to tiles → StandsIn schema t
-      → is_before (bound_at schema t) from ≡ false → is_before (bound_at schema t) to ≡ true → AllByRecursion (λ (rows : List Row). IsSome (value_at rows t)) (states_of tiles)
+      → is_before (bound_at schema t) from ≡ false → is_before (bound_at schema t) to ≡ true → AllByRecursion (λ (rows : List Row). IsSome (value_at rows t)) (states_of schema tiles)
       → IsSome (value_at (rows_of tiles) t)
   stayed_listed [] from to t are stands low high stayed = absurd (false≢true (sym low ∙ (ap (is_before (bound_at schema t)) are ∙ high)))
   stayed_listed (tile ∷ tiles) from to t are stands low high stayed =
@@ -108,5 +109,5 @@ module _ (schema : List Column) where
       by : (is_before (bound_at schema t) tile.hi ≡ false → IsSome (value_at (rows_of tiles) t)) → (b : Bool) → is_before (bound_at schema t) tile.hi ≡ b → IsSome (value_at (rows_of (tile ∷ tiles)) t)
       by rest true e =
           let from_lo : is_before (bound_at schema t) tile.lo ≡ false = subst (λ (b : Bound). is_before (bound_at schema t) b ≡ false) (sym are.0.begins) low in
-          is_found schema tile.lo tile.hi (replay tile.before) (replays_stand schema tile.before are.0.legal) t stands (in_range schema tile.lo tile.hi t from_lo e) stayed.0 tile.row are.0.exact (rows_of tiles)
+          is_found schema tile.lo tile.hi (replay schema tile.before) (replays_stand schema tile.before are.0.legal) t stands (in_range schema tile.lo tile.hi t from_lo e) stayed.0 tile.row are.0.exact (rows_of tiles)
       by rest false e = is_listed tile.row (rows_of tiles) t (rest e)

@@ -8,9 +8,9 @@ use Rattle.art_key.specs.Histories.{AllStandIn, IsLegal, IsLegalFrom, StandsIn, 
 use Rattle.art_key.proofs.Legality.{become_standing}
 use Rattle.art_model.specs.declared.rows.Row.{Row}
 
-runs_stand : (schema : List Column) (log : List Event) (rows : List Row) → AllStandIn schema rows → IsLegalFrom schema rows log → AllStandIn schema (run rows log)
+runs_stand : (schema : List Column) (log : List Event) (rows : List Row) → AllStandIn schema rows → IsLegalFrom schema rows log → AllStandIn schema (run schema rows log)
 runs_stand schema [] rows stand legal = stand
-runs_stand schema (e ∷ log) rows stand legal = runs_stand schema log (becomes rows e.what) (become_standing schema rows e.what stand legal.0) legal.1
+runs_stand schema (e ∷ log) rows stand legal = runs_stand schema log (becomes schema rows e.what) (become_standing schema rows e.what stand legal.0) legal.1
 
-pub replays_stand : (schema : List Column) (log : List Event) → IsLegal schema log → AllByRecursion (λ (row : Row). StandsIn schema row.tuple) (replay log)
-replays_stand schema log legal = recursion_from_All (λ (row : Row). StandsIn schema row.tuple) (replay log) (runs_stand schema log [] (All-nil (λ (row : Row). StandsIn schema row.tuple)) legal)
+pub replays_stand : (schema : List Column) (log : List Event) → IsLegal schema log → AllByRecursion (λ (row : Row). StandsIn schema row.tuple) (replay schema log)
+replays_stand schema log legal = recursion_from_All (λ (row : Row). StandsIn schema row.tuple) (replay schema log) (runs_stand schema log [] (All-nil (λ (row : Row). StandsIn schema row.tuple)) legal)

@@ -2,6 +2,7 @@
 use Rattle.std.specs.Prelude.{ℕ, List}
 use Rattle.art_key.specs.declared.bounds.Bound.{Bound}
 use Rattle.art_key.specs.declared.columns.Column.{Column}
+use Rattle.art_key.specs.Columns.{order_of}
 use Rattle.art_key.specs.Histories.{StandsIn, bound_at}
 use Rattle.art_model.specs.Rows.{Tuple}
 use Rattle.art_model.specs.Scans.{IsScanOf}
@@ -13,4 +14,4 @@ abbrev pub LooksThatTileAreScans : Type 0
 LooksThatTileAreScans = (schema : List Column) (lo hi : Tuple) (end reached : Bound) (limit : ℕ) (tiles : List Tile)
     → StandsIn schema lo → EndsRange schema hi end
     → AreTiles schema (bound_at schema lo) reached tiles → MayStop end reached limit tiles
-    → IsScanOf (states_of tiles) lo hi limit (rows_of tiles)
+    → IsScanOf (order_of schema) (states_of schema tiles) lo hi limit (rows_of tiles)

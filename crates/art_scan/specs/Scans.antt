@@ -6,10 +6,10 @@ use Rattle.art_key.specs.declared.columns.Column.{Column}
 use Rattle.art_key.specs.declared.events.Deed.TheVariants.{Look}
 use Rattle.art_key.specs.declared.events.Event.{Event}
 use Rattle.art_key.specs.declared.faults.ValueFault.{ValueFault}
-use Rattle.art_key.specs.Columns.{tuple_fault}
+use Rattle.art_key.specs.Columns.{order_of, tuple_fault}
 use Rattle.art_key.specs.Histories.{bound_at}
 use Rattle.art_model.specs.declared.rows.Row.{Row}
-use Rattle.art_model.specs.Rows.{Tuple, tuple_cmp}
+use Rattle.art_model.specs.Rows.{Order, Tuple, tuple_cmp}
 use Rattle.art_model.specs.Scans.{IsScanOf}
 use Rattle.art_scan.specs.declared.faults.ScanFault.{ScanFault}
 use Rattle.art_scan.specs.declared.faults.ScanFault.TheVariants.{Value, BadRange, BadLimit, Busy}
@@ -28,8 +28,8 @@ use Rattle.art_table.specs.declared.tables.Table.{Table}
 abbrev pub limit_fault : ℕ → Option ScanFault
 limit_fault limit = if limit == 0 then Some BadLimit else if nat_lt 100 limit then Some BadLimit else None
 
-abbrev pub range_fault : Tuple → Tuple → ℕ → Option ScanFault
-range_fault lo hi limit = if is_le (tuple_cmp lo hi) then limit_fault limit else Some BadRange
+abbrev pub range_fault : Order → Tuple → Tuple → ℕ → Option ScanFault
+range_fault order lo hi limit = if is_le (tuple_cmp order lo hi) then limit_fault limit else Some BadRange
 
 abbrev pub or_value : Option ValueFault → Option ScanFault → Option ScanFault
 or_value (Some fault) others = Some (Value fault)
@@ -37,7 +37,8 @@ or_value None others = others
 
 -- the lower tuple's fault comes first, then the upper one's, then a range that ends before it begins, then the limit
 abbrev pub scan_fault : List Column → Tuple → Tuple → ℕ → Option ScanFault
-scan_fault schema lo hi limit = or_value (tuple_fault schema lo.items) (or_value (tuple_fault schema hi.items) (range_fault lo hi limit))
+scan_fault schema lo hi limit =
+    or_value (tuple_fault schema lo.items) (or_value (tuple_fault schema hi.items) (range_fault (order_of schema) lo hi limit))
 
 -- ---- what its pass saw
 
@@ -67,7 +68,7 @@ pub record HasListed (schema : List Column) (lo hi : Tuple) (limit : ℕ) (reach
   pub ends : EndsRange schema hi end
   pub stops : MayStop end reached limit tiles
   pub rows_are : rows ≡ rows_of tiles
-  pub owed : IsScanOf (states_of tiles) lo hi limit rows
+  pub owed : IsScanOf (order_of schema) (states_of schema tiles) lo hi limit rows
   pub more_is : more ≡ more_at (length rows) limit
 
 -- all turns were used, and are few beside the failures and the looks that were answered; three steps of each look are not counted

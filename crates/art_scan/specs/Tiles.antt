@@ -6,6 +6,7 @@ use Rattle.art_key.specs.declared.bounds.Bound.{Bound}
 use Rattle.art_key.specs.declared.columns.Column.{Column}
 use Rattle.art_key.specs.declared.events.Event.{Event}
 use Rattle.art_key.specs.Bounds.{is_before}
+use Rattle.art_key.specs.Columns.{order_of}
 use Rattle.art_key.specs.Histories.{IsLegal, OnlyRow, StandsIn, bound_at, replay}
 use Rattle.art_model.specs.declared.rows.Row.{Row}
 use Rattle.art_model.specs.Rows.{Tuple, tuple_cmp}
@@ -24,7 +25,7 @@ pub record IsTile (schema : List Column) (from : Bound) (tile : Tile) : Type 0 w
   pub begins : tile.lo ≡ from
   pub after : is_before tile.lo tile.hi ≡ true
   pub legal : IsLegal schema tile.before
-  pub exact : OnlyRow schema (replay tile.before) tile.lo tile.hi tile.row
+  pub exact : OnlyRow schema (replay schema tile.before) tile.lo tile.hi tile.row
 
 -- the looks cover the range from one bound to another, and each begins where the one before ended
 abbrev pub AreTiles : List Column → Bound → Bound → List Tile → Type 0
@@ -41,14 +42,14 @@ with_found rows (Some row) = rows ++ row ∷ []
 with_found rows None = rows
 
 -- the rows that stood at each look
-abbrev pub states_of : List Tile → List (List Row)
-states_of tiles = map (λ tile. replay tile.before) tiles
+abbrev pub states_of : List Column → List Tile → List (List Row)
+states_of schema tiles = map (λ tile. replay schema tile.before) tiles
 
 -- ---- the end of a scan
 
 -- the bound is the end of a scan up to hi, included: the keys of just the tuples that are not after hi are before it
 abbrev pub EndsRange : List Column → Tuple → Bound → Type 0
-EndsRange schema hi end = (t : Tuple) → StandsIn schema t → is_before (bound_at schema t) end ≡ is_le (tuple_cmp t hi)
+EndsRange schema hi end = (t : Tuple) → StandsIn schema t → is_before (bound_at schema t) end ≡ is_le (tuple_cmp (order_of schema) t hi)
 
 -- A scan up to the bound `end` may stop at `reached`: it found no more rows than the limit, it made no look or none past the end,
 -- and nothing of its range is left or it found as many rows as the limit.

@@ -6,10 +6,11 @@ use Rattle.std.proofs.lemmas.List.Elements.{All-from_recursion}
 use Rattle.std.specs.List.{AllByRecursion}
 use Rattle.std.specs.Option.{option_or}
 use Rattle.art_key.specs.declared.columns.Column.{Column}
-use Rattle.art_key.specs.declared.columns.Column.TheVariants as column
+use Rattle.art_key.specs.declared.columns.Kind.{Kind}
+use Rattle.art_key.specs.declared.columns.Kind.TheVariants as kind
 use Rattle.art_key.specs.declared.faults.ValueFault.{ValueFault}
 use Rattle.art_key.specs.declared.faults.ValueFault.TheVariants.{WrongColumns, OutOfRange}
-use Rattle.art_key.specs.Columns.{value_fault, first_fault}
+use Rattle.art_key.specs.Columns.{kind_coding, value_fault, first_fault}
 use Rattle.art_key.specs.Histories.{StandsIn, bound_at}
 use Rattle.art_key.specs.Kinds.{distance_fault, least_signed}
 use Rattle.art_model.proofs.Parts.{All-each}
@@ -48,19 +49,19 @@ whole_printable k least place z low high none =
     by : (unit n : ℕ) → (least +ℤ pos unit) ≤ℤ pos (2 ^ 64) → (z -ℤ least) ≡ pos n → n < unit → IsPrintableValue (Int z)
     by unit n high same less = (omega (arith, ints), omega (arith, ints))
 
-value_printable : (c : Column) (place : ℕ) (v : Value) → value_fault place c v ≡ None → IsPrintableValue v
-value_printable c place (Truth b) none = tt
-value_printable c place (Text s) none = tt
-value_printable column.Bool place (Int z) none = absurd cc
-value_printable column.U8 place (Int z) none = whole_printable 1 (pos 0) place z (omega (arith, ints)) (omega (arith, ints)) none
-value_printable column.U16 place (Int z) none = whole_printable 2 (pos 0) place z (omega (arith, ints)) (omega (arith, ints)) none
-value_printable column.U32 place (Int z) none = whole_printable 4 (pos 0) place z (omega (arith, ints)) (omega (arith, ints)) none
-value_printable column.U64 place (Int z) none = whole_printable 8 (pos 0) place z (omega (arith, ints)) (omega (arith, ints)) none
-value_printable column.I8 place (Int z) none = whole_printable 1 (least_signed 1) place z (omega (arith, ints)) (omega (arith, ints)) none
-value_printable column.I16 place (Int z) none = whole_printable 2 (least_signed 2) place z (omega (arith, ints)) (omega (arith, ints)) none
-value_printable column.I32 place (Int z) none = whole_printable 4 (least_signed 4) place z (omega (arith, ints)) (omega (arith, ints)) none
-value_printable column.I64 place (Int z) none = whole_printable 8 (least_signed 8) place z (omega (arith, ints)) (omega (arith, ints)) none
-value_printable (column.Text longest) place (Int z) none = absurd cc
+value_printable : (k : Kind) (place : ℕ) (v : Value) → (kind_coding k).fault place v ≡ None → IsPrintableValue v
+value_printable k place (Truth b) none = tt
+value_printable k place (Text s) none = tt
+value_printable kind.Bool place (Int z) none = absurd cc
+value_printable kind.U8 place (Int z) none = whole_printable 1 (pos 0) place z (omega (arith, ints)) (omega (arith, ints)) none
+value_printable kind.U16 place (Int z) none = whole_printable 2 (pos 0) place z (omega (arith, ints)) (omega (arith, ints)) none
+value_printable kind.U32 place (Int z) none = whole_printable 4 (pos 0) place z (omega (arith, ints)) (omega (arith, ints)) none
+value_printable kind.U64 place (Int z) none = whole_printable 8 (pos 0) place z (omega (arith, ints)) (omega (arith, ints)) none
+value_printable kind.I8 place (Int z) none = whole_printable 1 (least_signed 1) place z (omega (arith, ints)) (omega (arith, ints)) none
+value_printable kind.I16 place (Int z) none = whole_printable 2 (least_signed 2) place z (omega (arith, ints)) (omega (arith, ints)) none
+value_printable kind.I32 place (Int z) none = whole_printable 4 (least_signed 4) place z (omega (arith, ints)) (omega (arith, ints)) none
+value_printable kind.I64 place (Int z) none = whole_printable 8 (least_signed 8) place z (omega (arith, ints)) (omega (arith, ints)) none
+value_printable (kind.Text longest) place (Int z) none = absurd cc
 
 -- ---- one row
 
@@ -74,7 +75,7 @@ values_printable cs place [] same none = tt
 values_printable [] place (v ∷ vs) same none = absurd (omega arith)
 values_printable (c ∷ cs) place (v ∷ vs) same none =
     let parts = or_none (value_fault place c v) (first_fault (place + 1) cs vs) none in
-    (value_printable c place v parts.0, values_printable cs (place + 1) vs (omega arith) parts.1)
+    (value_printable c.kind place v parts.0, values_printable cs (place + 1) vs (omega arith) parts.1)
 
 tuple_printable : (cs : List Column) (vs : List Value) (same : Bool) → eqb (length cs) (length vs) ≡ same
     → cond same (first_fault 0 cs vs) (Some WrongColumns) ≡ None → AllByRecursion IsPrintableValue vs

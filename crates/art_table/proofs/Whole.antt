@@ -82,8 +82,8 @@ module _ (schema : List Column) (z : Sizes) (log : List ByteEvent) (legal : byte
   pub spells_tuples : SpellsTuples schema (heap_in z e)
   spells_tuples k v row = (histories_are_typed schema log legal keys).1.keys k v ((shows.rows k v).0 row)
 
-  pub rows_replay : (rows : List Row) → AreRowsOf schema (heap_in z e) rows → rows ≡ replay (typed schema log)
-  rows_replay rows are = maps_spell_one_list schema (bytes.replay log) rows (replay (typed schema log)) (are (bytes.replay log) shows.rows) (histories_are_typed schema log legal keys).1
+  pub rows_replay : (rows : List Row) → AreRowsOf schema (heap_in z e) rows → rows ≡ replay schema (typed schema log)
+  rows_replay rows are = maps_spell_one_list schema (bytes.replay log) rows (replay schema (typed schema log)) (are (bytes.replay log) shows.rows) (histories_are_typed schema log legal keys).1
 
 -- ---- what waits
 

@@ -83,6 +83,6 @@ pub record IsClosed (t : Table) (passes : List Pass) (c : Closed) : Type 0 where
   pub memory : Memory
   pub shows : ShowsReplay (sizes_in t) log memory.words
   pub tells : TellsAll t passes (typed (schema_in t) log)
-  pub rows : c.rows.items ≡ replay (typed (schema_in t) log)
+  pub rows : c.rows.items ≡ replay (schema_in t) (typed (schema_in t) log)
   pub accounted : IsAccounted (sizes_in t) memory (seats_of passes)
   pub counts : (p : Pool) → IsCounted (sizes_in t) memory (seats_of passes) p (count_of p c)

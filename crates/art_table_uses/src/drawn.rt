@@ -186,7 +186,7 @@ fn calls(
 /// So many drawn calls, of which some are refused, answer as a map does; the rows at the close are those of the map.
 fn check_drawn(rt: &impl Abort, alloc: Global, columns: Columns, count: u32) {
     let (table, mut pass) = alone(rt, alloc, columns.text(), SMALL);
-    let mut rows = SortedRows::new(alloc);
+    let mut rows = SortedRows::new(alloc, &table.schema().order());
     let mut numbers = Pcg32::seed_from_u64(1);
     let mut refused = 0u32;
     for _ in 0..count {

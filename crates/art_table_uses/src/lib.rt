@@ -2,6 +2,8 @@
 #![tactic(auto)]
 
 #[cfg(test)]
+mod descending;
+#[cfg(test)]
 mod drawn;
 #[cfg(test)]
 mod letters;

@@ -67,13 +67,13 @@ module _ (t : Table) (p q : Pass) (only : IsOnlyPass t p) (new : seen_by t p ≡
   one_map = sessions_alone_are_one_map t (take (begun e) (lines_of read)) p q is.lines.replies only is.lines.answers
 
   -- one sorted map gives the session's replies to the lines that were begun
-  pub map_answers : (schema : List Column) → schema_in t ≡ schema → MapAnswersLines schema (take (begun e) (lines_of read)) [] is.lines.replies (replay (seen_by t q))
+  pub map_answers : (schema : List Column) → schema_in t ≡ schema → MapAnswersLines schema (take (begun e) (lines_of read)) [] is.lines.replies (replay (schema_in t) (seen_by t q))
   map_answers schema schema_is =
-      subst (λ (s : List Column). MapAnswersLines s (take (begun e) (lines_of read)) [] is.lines.replies (replay (seen_by t q))) schema_is
-      (subst (λ (log : List Event). MapAnswersLines (schema_in t) (take (begun e) (lines_of read)) (replay log) is.lines.replies (replay (seen_by t q))) new one_map.map)
+      subst (λ (s : List Column). MapAnswersLines s (take (begun e) (lines_of read)) [] is.lines.replies (replay (schema_in t) (seen_by t q))) schema_is
+      (subst (λ (log : List Event). MapAnswersLines (schema_in t) (take (begun e) (lines_of read)) (replay (schema_in t) log) is.lines.replies (replay (schema_in t) (seen_by t q))) new one_map.map)
 
   -- and the rows at the close are that map's
-  pub closed_rows : (closed : Closed) → IsClosed t (q ∷ []) closed → closed.rows.items ≡ replay (seen_by t q)
+  pub closed_rows : (closed : Closed) → IsClosed t (q ∷ []) closed → closed.rows.items ≡ replay (schema_in t) (seen_by t q)
   closed_rows closed shut = (closed_alone t q closed one_map.only.pass shut).1
 
 module _ (t : Table) (p q : Pass) (only : IsOnlyPass t p) (new : seen_by t p ≡ []) (read written : List ℕ) (e : SessionEnd) (is : IsSession t read written p q e) (ended : e.why ≡ end.Ended) where
@@ -104,11 +104,11 @@ module _ (t : Table) (p q : Pass) (only : IsOnlyPass t p) (new : seen_by t p ≡
   unfolding lines
   has_output schema schema_is =
       let map = (sessions_alone_are_one_map t (lines_of read) p q is.lines.replies only answers).map in
-      let from_none = subst (λ (log : List Event). MapAnswersLines (schema_in t) (lines_of read) (replay log) is.lines.replies (replay (seen_by t q))) new map in
+      let from_none = subst (λ (log : List Event). MapAnswersLines (schema_in t) (lines_of read) (replay (schema_in t) log) is.lines.replies (replay (schema_in t) (seen_by t q))) new map in
       record {
         replies = is.lines.replies;
-        rows = replay (seen_by t q);
-        answers = subst (λ (s : List Column). MapAnswersLines s (lines_of read) [] is.lines.replies (replay (seen_by t q))) schema_is from_none;
+        rows = replay (schema_in t) (seen_by t q);
+        answers = subst (λ (s : List Column). MapAnswersLines s (lines_of read) [] is.lines.replies (replay (schema_in t) (seen_by t q))) schema_is from_none;
         text = wrote;
       }
 

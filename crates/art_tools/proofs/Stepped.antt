@@ -8,7 +8,7 @@ use Rattle.art_schedule.specs.Schedules.{ComeBack, RunsSchedule}
 use Rattle.art_schedule.specs.declared.stops.ScheduleEnd.{ScheduleEnd}
 use Rattle.art_key.specs.Histories.{replay}
 use Rattle.art_table.specs.Closing.{IsClosed}
-use Rattle.art_table.specs.Tables.{seen_by}
+use Rattle.art_table.specs.Tables.{schema_in, seen_by}
 use Rattle.art_table.specs.Opening.{IsOpened}
 use Rattle.art_table.specs.declared.closing.Closed.{Closed}
 use Rattle.art_table.specs.declared.configs.Config.{Config}
@@ -105,7 +105,7 @@ runs_ran (Ok schema) columns sizes left left_after held held_after t p q end r c
       end = end;
       opened = subst (λ (s : List Column). IsOpened s (of_one_pass sizes) t (p ∷ [])) same opened;
       runs = runs;
-      rows = replay (seen_by t q);
+      rows = replay (schema_in t) (seen_by t q);
       answers = map_answers t p q only new.seen runs.0 runs.1 end runs.4 schema (opened.schema_is ∙ same);
       closes = closed_rows t p q only new.seen runs.0 runs.1 end runs.4;
       told_is = told_of r (fault_at end.why) closed told none;

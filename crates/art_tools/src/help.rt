@@ -42,6 +42,7 @@ Columns of a schema, one to eight names joined by commas:
   u8 u16 u32 u64             whole numbers from 0
   i8 i16 i32 i64             whole numbers, negative ones too
   text1 to text24            texts of at most so many bytes
+  u32-, and so each kind     the same values in reverse order, the greatest first
 
 ",
             $lines;
@@ -76,10 +77,11 @@ Lines on standard input, and the reply to each on standard output:
 
 ",
     "\
-Examples:
+Examples, of which the last lists the newest row first:
   printf '[\"insert\",[\"a\",5],9]\\n[\"get\",[\"a\",5]]\\n' | art_index run --schema text8,u8
   printf '[\"insert\",[1],9]\\n[\"insert\",[2],9]\\n' | art_index run --leaves 1
-  printf '[\"insert\",[1],9]\\n[\"scan\",[0],[9],100]\\n' | art_index run"
+  printf '[\"insert\",[1],9]\\n[\"scan\",[0],[9],100]\\n' | art_index run
+  printf '[\"insert\",[1],9]\\n[\"insert\",[2],9]\\n[\"scan\",[2],[1],1]\\n' | art_index run --schema u32-"
 );
 
 /// The numbers of a schedule's table, the kinds of column, the lines of a schedule and what they print, the statuses and an example.

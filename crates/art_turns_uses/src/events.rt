@@ -70,8 +70,8 @@ fn reply(rt: &impl Abort, rows: &mut SortedRows, command: &Command) -> Reply {
 }
 
 /// The rows that the events leave.
-fn rows_after(rt: &impl Abort, alloc: Global, events: &[Event]) -> SortedRows {
-    let mut rows = SortedRows::new(alloc);
+fn rows_after(rt: &impl Abort, alloc: Global, schema: &Schema, events: &[Event]) -> SortedRows {
+    let mut rows = SortedRows::new(alloc, &schema.order());
     for event in events {
         if let Deed::Done(command, _) = &event.what {
             let _ = reply(rt, &mut rows, command);
@@ -89,5 +89,5 @@ pub(crate) fn check_history(
     rows: &[Row],
 ) {
     assert!(rt; legal(alloc, schema, events).expect(rt, "memory"));
-    assert!(rt; rows_after(rt, alloc, events).rows() == rows);
+    assert!(rt; rows_after(rt, alloc, schema, events).rows() == rows);
 }

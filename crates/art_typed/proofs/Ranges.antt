@@ -10,19 +10,20 @@ use Rattle.std.specs.List.Sorted.{IsStrictlySortedBy}
 use Rattle.std.specs.Cmp.Lexicographic.{slice_cmp}
 use Rattle.std.specs.declared.cmp.Ordering.{Ordering}
 use Rattle.std.specs.declared.cmp.Ordering.TheVariants.{Less, Equal, Greater}
-use Rattle.std.specs.Ordering.{is_eq, is_lt, nat_cmp, ordering_reverse}
+use Rattle.std.specs.Ordering.{is_lt, nat_cmp, ordering_reverse}
 use Rattle.std.specs.Prelude.{Option}
 use Rattle.arrayvec.specs.ArrayVec.{ArrayVec}
 use Rattle.art_key.specs.declared.bounds.Bound.{Bound as KeyBound}
 use Rattle.art_key.specs.declared.bounds.Bound.TheVariants.{At, End}
 use Rattle.art_key.specs.declared.columns.Column.{Column}
 use Rattle.art_key.specs.Bounds.{is_before}
+use Rattle.art_key.specs.Columns.{order_of}
 use Rattle.art_key.specs.Histories.{OnlyRow as OnlyTyped, StandsIn, bound_at, is_in_range, rows_in}
 use Rattle.art_key.specs.Spelling.{IsKeyOf, spelling, tuple_spelled}
 use Rattle.art_key.proofs.TupleLaws.{keys_stand, none_begins, read_back}
 use Rattle.art_model.specs.declared.rows.Row.{Row}
-use Rattle.art_model.specs.Rows.{IsSortedRows, Tuple, tuple_cmp, value_at}
-use Rattle.art_model.proofs.Order.{tuple_total}
+use Rattle.art_model.specs.Rows.{IsSortedRows, Order, Tuple, tuple_cmp, value_at}
+use Rattle.art_model.proofs.Order.{same_by, tuple_total}
 use Rattle.art_model.proofs.Parts.{All-first, All-second}
 use Rattle.art_model.proofs.Places.{gap_value, place_value}
 use Rattle.art_step.specs.Deeds.{bound_of, key_of}
@@ -61,22 +62,22 @@ both P Q (r ∷ rows) h g = ((h.0, g.0), both P Q rows h.1 g.1)
 
 -- ---- each row has its value
 
-itself : (t : Tuple) → tuple_cmp t t ≡ Equal
-itself t = by (tuple_cmp t t) (tuple_total.antisymm t t)
+itself : (order : Order) (t : Tuple) → tuple_cmp order t t ≡ Equal
+itself order t = by (tuple_cmp order t t) ((tuple_total order).antisymm t t)
   where
     by : (o : Ordering) → o ≡ ordering_reverse o → o ≡ Equal
     by Less e = absurd (cc)
     by Equal e = refl
     by Greater e = absurd (cc)
 
-pub have_values : (rows : List Row) → IsSortedRows rows → AllByRecursion (λ (r : Row). value_at rows r.tuple ≡ Some r.value) rows
+pub have_values : (order : Order) (rows : List Row) → IsSortedRows order rows → AllByRecursion (λ (r : Row). value_at rows r.tuple ≡ Some r.value) rows
 unfolding IsStrictlySortedBy
-have_values [] sorted = tt
-have_values (row ∷ rows) sorted = (
-  ap (λ o. cond (is_eq o) (Some row.value) (value_at rows row.tuple)) (itself row.tuple),
-  each (λ (r : Row). (tuple_cmp row.tuple r.tuple ≡ Less) × (value_at rows r.tuple ≡ Some r.value)) (λ (r : Row). value_at (row ∷ rows) r.tuple ≡ Some r.value)
-      (λ r h. ap (λ o. cond (is_eq o) (Some row.value) (value_at rows r.tuple)) h.0 ∙ h.1) rows
-      (both (λ (r : Row). tuple_cmp row.tuple r.tuple ≡ Less) (λ (r : Row). value_at rows r.tuple ≡ Some r.value) rows sorted.0 (have_values rows sorted.1)),
+have_values order [] sorted = tt
+have_values order (row ∷ rows) sorted = (
+  ap (λ b. cond b (Some row.value) (value_at rows row.tuple)) (same_by order row.tuple row.tuple (itself order row.tuple)),
+  each (λ (r : Row). (tuple_cmp order row.tuple r.tuple ≡ Less) × (value_at rows r.tuple ≡ Some r.value)) (λ (r : Row). value_at (row ∷ rows) r.tuple ≡ Some r.value)
+      (λ r h. ap (λ b. cond b (Some row.value) (value_at rows r.tuple)) (same_by order row.tuple r.tuple h.0) ∙ h.1) rows
+      (both (λ (r : Row). tuple_cmp order row.tuple r.tuple ≡ Less) (λ (r : Row). value_at rows r.tuple ≡ Some r.value) rows sorted.0 (have_values order rows sorted.1)),
 )
 
 -- ---- bounds
@@ -137,7 +138,7 @@ module _ (schema : List Column) (m : ByteMap) (rows : List Row) (r : Spells sche
   in_map : AllByRecursion (λ (row : Row). StandsIn schema row.tuple × (get m (spelling schema row.tuple.items) ≡ Some row.value)) rows
   in_map = each (λ (row : Row). StandsIn schema row.tuple × (value_at rows row.tuple ≡ Some row.value)) (λ (row : Row). StandsIn schema row.tuple × (get m (spelling schema row.tuple.items) ≡ Some row.value))
       (λ row h. (h.0, r.same row.tuple h.0 ∙ h.1)) rows
-      (both (λ (row : Row). StandsIn schema row.tuple) (λ (row : Row). value_at rows row.tuple ≡ Some row.value) rows r.stand (have_values rows r.sorted))
+      (both (λ (row : Row). StandsIn schema row.tuple) (λ (row : Row). value_at rows row.tuple ≡ Some row.value) rows r.stand (have_values (order_of schema) rows r.sorted))
 
   none_found : OnlyRow m lo.items (bound_of hi) None → rows_in schema rows (At lo) hi ≡ []
   none_found none = filter_none p rows (each (λ (row : Row). StandsIn schema row.tuple × (get m (spelling schema row.tuple.items) ≡ Some row.value)) (λ (row : Row). p row ≡ false)
@@ -154,31 +155,31 @@ module _ (schema : List Column) (m : ByteMap) (rows : List Row) (r : Spells sche
     has = sym (r.same t tells.0) ∙ (ap (get m) (sym tells.1) ∙ found.0)
 
     -- a row that is not at the tuple is not in the range
-    elsewhere : (row : Row) → StandsIn schema row.tuple → get m (spelling schema row.tuple.items) ≡ Some row.value → (tuple_cmp row.tuple t ≡ Equal → ⊥) → p row ≡ false
+    elsewhere : (row : Row) → StandsIn schema row.tuple → get m (spelling schema row.tuple.items) ≡ Some row.value → (tuple_cmp (order_of schema) row.tuple t ≡ Equal → ⊥) → p row ≡ false
     elsewhere row stands at other = out_of_range schema lo hi row.tuple (λ inside.
         let same : spelling schema row.tuple.items ≡ spelling schema t.items = found.2 (spelling schema row.tuple.items) row.value at inside ∙ tells.1 in
-        other (sym (keys_stand schema row.tuple.items t.items stands tells.0) ∙ (ap (λ (l : List ℕ). slice_cmp nat_cmp l (spelling schema t.items)) same ∙ (keys_stand schema t.items t.items tells.0 tells.0 ∙ itself t))))
+        other (sym (keys_stand schema row.tuple.items t.items stands tells.0) ∙ (ap (λ (l : List ℕ). slice_cmp nat_cmp l (spelling schema t.items)) same ∙ (keys_stand schema t.items t.items tells.0 tells.0 ∙ itself (order_of schema) t))))
 
     one_found : OnlyTyped schema rows (At lo) hi (Some (row_of schema (k, value)))
-    one_found = (tells.0, by (cut rows t r.sorted))
+    one_found = (tells.0, by (cut (order_of schema) rows t r.sorted))
       where
-        by : Cut rows t → rows_in schema rows (At lo) hi ≡ row_of schema (k, value) ∷ []
-        by (Gap front back is before after) = let none = sym has ∙ (ap (λ (l : List Row). value_at l t) is ∙ gap_value front back t before after) in absurd (cc)
+        by : Cut (order_of schema) rows t → rows_in schema rows (At lo) hi ≡ row_of schema (k, value) ∷ []
+        by (Gap front back is before after) = let none = sym has ∙ (ap (λ (l : List Row). value_at l t) is ∙ gap_value (order_of schema) front back t before after) in absurd (cc)
         by (Place front row back is before same after) =
             let all = subst (AllByRecursion (λ (x : Row). StandsIn schema x.tuple × (get m (spelling schema x.tuple.items) ≡ Some x.value))) is in_map in
             let first = All-first (λ (x : Row). StandsIn schema x.tuple × (get m (spelling schema x.tuple.items) ≡ Some x.value)) front (row ∷ back) all in
             let rest = All-second (λ (x : Row). StandsIn schema x.tuple × (get m (spelling schema x.tuple.items) ≡ Some x.value)) front (row ∷ back) all in
             let bytes : spelling schema row.tuple.items ≡ spelling schema t.items = exact_bytes _ _ (keys_stand schema row.tuple.items t.items rest.0.0 tells.0 ∙ same) in
             let tuple : row.tuple.items ≡ t.items = (none_begins schema row.tuple.items t.items [] rest.0.0 tells.0 (ends (spelling schema row.tuple.items) ∙ bytes)).0 in
-            let values : row.value ≡ value = same_Some row.value value (sym (ap (λ (l : List Row). value_at l t) is ∙ place_value front back t before after row same) ∙ has) in
+            let values : row.value ≡ value = same_Some row.value value (sym (ap (λ (l : List Row). value_at l t) is ∙ place_value (order_of schema) front back t before after row same) ∙ has) in
             let whole : row ≡ row_of schema (k, value) = λ i. record { tuple = record { items = tuple i }; value = values i } in
             let here : p row ≡ true = in_range schema lo hi row.tuple (subst (InRange lo.items (bound_of hi)) (tells.1 ∙ sym bytes) found.1) in
             ap (λ (l : List Row). rows_in schema l (At lo) hi) is ∙ (filter_one p front row back
-            (each (λ (x : Row). (tuple_cmp x.tuple t ≡ Less) × (StandsIn schema x.tuple × (get m (spelling schema x.tuple.items) ≡ Some x.value))) (λ (x : Row). p x ≡ false)
-            (λ x h. elsewhere x h.1.0 h.1.1 (λ e. let c = sym h.0 ∙ e in cc)) front (both (λ (x : Row). tuple_cmp x.tuple t ≡ Less) (λ (x : Row). StandsIn schema x.tuple × (get m (spelling schema x.tuple.items) ≡ Some x.value)) front before first))
+            (each (λ (x : Row). (tuple_cmp (order_of schema) x.tuple t ≡ Less) × (StandsIn schema x.tuple × (get m (spelling schema x.tuple.items) ≡ Some x.value))) (λ (x : Row). p x ≡ false)
+            (λ x h. elsewhere x h.1.0 h.1.1 (λ e. let c = sym h.0 ∙ e in cc)) front (both (λ (x : Row). tuple_cmp (order_of schema) x.tuple t ≡ Less) (λ (x : Row). StandsIn schema x.tuple × (get m (spelling schema x.tuple.items) ≡ Some x.value)) front before first))
             here
-            (each (λ (x : Row). (tuple_cmp x.tuple t ≡ Greater) × (StandsIn schema x.tuple × (get m (spelling schema x.tuple.items) ≡ Some x.value))) (λ (x : Row). p x ≡ false)
-            (λ x h. elsewhere x h.1.0 h.1.1 (λ e. let c = sym h.0 ∙ e in cc)) back (both (λ (x : Row). tuple_cmp x.tuple t ≡ Greater) (λ (x : Row). StandsIn schema x.tuple × (get m (spelling schema x.tuple.items) ≡ Some x.value)) back after rest.1))
+            (each (λ (x : Row). (tuple_cmp (order_of schema) x.tuple t ≡ Greater) × (StandsIn schema x.tuple × (get m (spelling schema x.tuple.items) ≡ Some x.value))) (λ (x : Row). p x ≡ false)
+            (λ x h. elsewhere x h.1.0 h.1.1 (λ e. let c = sym h.0 ∙ e in cc)) back (both (λ (x : Row). tuple_cmp (order_of schema) x.tuple t ≡ Greater) (λ (x : Row). StandsIn schema x.tuple × (get m (spelling schema x.tuple.items) ≡ Some x.value)) back after rest.1))
             ∙ ap (λ (x : Row). x ∷ []) whole)
           where
             ends : (l : List ℕ) → l ++ [] ≡ l

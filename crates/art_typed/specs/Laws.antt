@@ -10,4 +10,4 @@ use Rattle.art_typed.specs.Typed.{Spells, typed}
 -- a legal history of byte keys that spell tuples is one of typed rows, and leaves the spellings of the rows that this leaves
 abbrev pub HistoriesAreTyped : Type 0
 HistoriesAreTyped = (schema : List Column) (log : List ByteEvent) → IsLegal log → AreAdmitted (IsKeyOf schema) log
-    → IsLegalTyped schema (typed schema log) × Spells schema (replay log) (typed_replay (typed schema log))
+    → IsLegalTyped schema (typed schema log) × Spells schema (replay log) (typed_replay schema (typed schema log))

@@ -8,6 +8,7 @@ use Rattle.art_key.specs.declared.columns.Column.{Column}
 use Rattle.art_key.specs.declared.events.Deed.{Deed}
 use Rattle.art_key.specs.declared.events.Deed.TheVariants.{Done, Look}
 use Rattle.art_key.specs.declared.events.Event.{Event}
+use Rattle.art_key.specs.Columns.{order_of}
 use Rattle.art_key.specs.Histories.{StandsIn}
 use Rattle.art_key.specs.Spelling.{IsKeyOf, spelling, tuple_spelled}
 use Rattle.art_model.specs.declared.commands.Command.{Command}
@@ -52,7 +53,7 @@ typed schema log = map (event_of schema) log
 
 -- the map has the spellings of the rows' tuples, with their values, and no other keys
 pub record Spells (schema : List Column) (m : ByteMap) (rows : List Row) : Type 0 where
-  pub sorted : IsSortedRows rows
+  pub sorted : IsSortedRows (order_of schema) rows
   pub stand : AllByRecursion (λ (row : Row). StandsIn schema row.tuple) rows
   pub same : (t : Tuple) → StandsIn schema t → get m (spelling schema t.items) ≡ value_at rows t
   pub keys : (k : List ℕ) (value : ℕ) → get m k ≡ Some value → IsKeyOf schema k

@@ -2,7 +2,7 @@ use Rattle.std.proofs.Common.{◌≡◌, ◌&&◌, ◌∙◌, ℕ, Bool, Err, If
 use Rattle.std.proofs.lemmas.Option.{none-some}
 use Rattle.art_key.proofs.events.is_in_range.Goals as goal
 use Rattle.art_key.specs.Bounds.{is_before}
-use Rattle.art_key.specs.Histories.{bound_at, is_in_range}
+use Rattle.art_key.specs.Histories.{is_in_range}
 use Rattle.art_key.specs.Spelling.{IsSpelling}
 use Rattle.art_key.specs.declared.bounds.Bound.{Bound}
 use Rattle.art_key.specs.declared.bounds.Bound.TheVariants.{At}

@@ -5,8 +5,8 @@ use Rattle.art_model.proofs.laws.rows_answer_at_places.Goals as goal
 
 pub returns : goal.returns
 returns c = record {
-  place = λ rows t i place. (found_value rows t i place, found_without rows t i place);
-  gap = λ rows t i gap. (absent_value rows t i gap, added_with rows t i gap);
-  sorted = λ rows t i v sorted gap. subst IsSortedRows (sym (added_with rows t i gap v)) (added_sorted rows t i gap v sorted);
-  sorted_without = λ rows t i sorted place. subst IsSortedRows (sym (found_without rows t i place)) (found_sorted rows t i place sorted);
+  place = λ order rows t i place. (found_value order rows t i place, found_without order rows t i place);
+  gap = λ order rows t i gap. (absent_value order rows t i gap, added_with order rows t i gap);
+  sorted = λ order rows t i v sorted gap. subst (IsSortedRows order) (sym (added_with order rows t i gap v)) (added_sorted order rows t i gap v sorted);
+  sorted_without = λ order rows t i sorted place. subst (IsSortedRows order) (sym (found_without order rows t i place)) (found_sorted order rows t i place sorted);
 }

@@ -8,5 +8,5 @@ use Rattle.art_model.proofs.sorted_rows.place.Goals as goal
 pub returns : goal.returns
 returns c =
     let facts = c.binary_search_by.ensures in
-    let by_row = facts.position (λ row. tuple_cmp row.tuple c.args.tuple.now) (always_returns_same _ _ _ (λ a r g called. (search rules, search rules))) in
-    searched c.args.rows.now c.requires c.args.tuple.now _ facts.bound by_row
+    let by_row = facts.position (λ row. tuple_cmp c.args.order.now row.tuple c.args.tuple.now) (always_returns_same _ _ _ (λ a r g called. (search rules, search rules))) in
+    searched c.args.order.now c.args.rows.now c.requires c.args.tuple.now _ facts.bound by_row

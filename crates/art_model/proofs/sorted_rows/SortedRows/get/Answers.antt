@@ -4,7 +4,7 @@ use Rattle.art_model.proofs.Places.{there, nowhere}
 use Rattle.art_model.proofs.sorted_rows.SortedRows.get.Goals as goal
 
 pub returns-in-Ok : goal.returns-in-Ok
-returns-in-Ok c = sym (ap (λ o. (get_answer c.args.self.now o).0) (there c.deref.ensures.value c.self.view_is c.in-Ok.ensures c.index.ensures))
+returns-in-Ok c = sym (ap (λ o. (get_answer c.args.self.now.rows o).0) (there c.deref.ensures.value c.self.view_is c.in-Ok.ensures c.index.ensures))
 
 pub returns-in-Err : goal.returns-in-Err
-returns-in-Err c = sym (ap (λ o. (get_answer c.args.self.now o).0) (nowhere c.deref.ensures.value c.self.view_is c.in-Err.ensures))
+returns-in-Err c = sym (ap (λ o. (get_answer c.args.self.now.rows o).0) (nowhere c.deref.ensures.value c.self.view_is c.in-Err.ensures))

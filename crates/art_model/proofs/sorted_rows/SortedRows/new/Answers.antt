@@ -5,4 +5,4 @@ use Rattle.art_model.proofs.sorted_rows.SortedRows.new.Goals as goal
 
 pub invariant_of-result : goal.invariant_of-result
 unfolding IsStrictlySortedBy
-invariant_of-result c = subst IsSortedRows (sym c.new.ensures.items) tt
+invariant_of-result c = subst (IsSortedRows _) (sym c.new.ensures.items) tt

@@ -1,9 +1,9 @@
 use Rattle.std.proofs.Common.{◌≡◌, ◌++◌, codes, decimal, sym, arith}
 use Rattle.art_key.proofs.Names.{text_found}
-use Rattle.art_key.proofs.columns.text_column.Goals as goal
+use Rattle.art_key.proofs.columns.text_kind.Goals as goal
 
-pub returns-clause-column : goal.returns-clause-column
-returns-clause-column c =
+pub returns-clause-kind : goal.returns-clause-kind
+returns-clause-kind c =
     let prefix = c.in_ok-strip_prefix.ensures.cases in
     let found = c.in_ok-longest.ensures in
     let spelled : c.args.name.now ≡ codes "text" ++ decimal c.in_ok-longest.longest = cc in

@@ -2,7 +2,7 @@ use Rattle.std.proofs.Common.{◌≤◌, IsUtf8, ◌∙◌, ap, subst, arith, le
 use Rattle.art_key.specs.Kinds.{escaped, text_fault}
 use Rattle.art_key.specs.TextLaws.{length-escapes}
 use Rattle.art_key.proofs.Texts.{text_stands}
-use Rattle.art_key.proofs.kinds.TextsColumnKind.append.Goals as goal
+use Rattle.art_key.proofs.kinds.TextsCodes.append.Goals as goal
 
 pub append_bytes-requires : goal.append_bytes-requires
 append_bytes-requires c =

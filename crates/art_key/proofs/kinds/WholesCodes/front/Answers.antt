@@ -1,5 +1,5 @@
 use Rattle.art_key.proofs.Wholes.{sum_fits, seen_sum, front_whole_is}
-use Rattle.art_key.proofs.kinds.WholesColumnKind.front.Goals as goal
+use Rattle.art_key.proofs.kinds.WholesCodes.front.Goals as goal
 
 pub overflow_add-number : goal.overflow_add-number
 overflow_add-number c = rw (c.from.ensures) (sum_fits c.args.self.least c.number_of.result c.args.self.low c.args.self.high c.number_of.type_inv)

@@ -5,7 +5,7 @@ use mir.Syntax.{w128}
 use Rattle.art_model.specs.declared.values.Value.{Value}
 use Rattle.art_key.specs.Kinds.{whole_fault, whole_spelling}
 use Rattle.art_key.proofs.Wholes.{above_seen, sub_fits, seen_above, cast_fits, whole_stands, last_bytes}
-use Rattle.art_key.proofs.kinds.WholesColumnKind.append.Goals as goal
+use Rattle.art_key.proofs.kinds.WholesCodes.append.Goals as goal
 
 pub overflow_sub-above : goal.overflow_sub-above
 overflow_sub-above c =

@@ -1,6 +1,6 @@
 use Rattle.std.proofs.Common.{◌≤◌, ◌∙◌, sym, subst, arith, length, IsUtf8}
 use Rattle.art_key.proofs.Texts.{front_is_long, front_is_no_text, front_is_text}
-use Rattle.art_key.proofs.kinds.TextsColumnKind.front.Goals as goal
+use Rattle.art_key.proofs.kinds.TextsCodes.front.Goals as goal
 
 pub returns-in_err-text : goal.returns-in_err-text
 returns-in_err-text c = rw (c.from_residual.ensures) (sym (front_is_long c.args.self.longest c.args.bytes.now c.args.self.short c.in_err-text.ensures.none))
