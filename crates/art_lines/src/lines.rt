@@ -189,8 +189,8 @@ impl LineReader {
         }
     }
 
-    /// The command that was read last.
-    fn take(&mut self, verb: Verb) -> Command
+    /// The command that was read last, with the tuples that it left in the reader.
+    pub fn take(&mut self, verb: Verb) -> Command
         ensures { result ≡ command_of verb (lower_in self.old) (upper_in self.old) }
     {
         let lo = mem::take(&mut self.lo);

@@ -33,7 +33,7 @@ pub fn print_ending(alloc: Global, ending: &Ending, rows: &[Row]) -> Result<Vec<
 }
 
 /// The reply but for its rows, or the refusal.
-fn head_of(ending: &Ending) -> Result<ReplyHead, Refusal>
+pub(crate) fn head_of(ending: &Ending) -> Result<ReplyHead, Refusal>
     requires { EndsCommand ending.now }
     ensures { result ≡ head_of ending.now }
 {

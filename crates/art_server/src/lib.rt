@@ -5,6 +5,9 @@
 //! `Counted` reader, so that its contract can say which reads it makes: at most 1,000,000, and none after one that fails. `print_reply`
 //! gives the text of a reply, or of a numbered refusal, with its line feed.
 //!
+//! A `Gate` is told of each atomic step that a session makes, and of each reply: so a test can hold a session at any step, and see what the
+//! others do meanwhile. `NoGate` is told of nothing, and costs nothing.
+//!
 //! A command that is made step by step ends in an `Ending` of `art_scan`: `print_ending` gives the text of its reply. `write_text` writes a
 //! text and flushes it, for whoever writes lines of its own.
 #![tactic(auto)]
@@ -12,14 +15,17 @@
 mod accounts;
 mod counted;
 mod endings;
+mod gates;
 mod refusals;
 mod replies;
 mod sessions;
 mod streams;
 mod texts;
+mod watched;
 
 pub use counted::Counted;
 pub use endings::{endings_are_answers, print_ending};
+pub use gates::{Gate, NoGate};
 pub use refusals::Refusal;
 pub use replies::print_reply;
 pub use sessions::{EndCause, SessionEnd, session};

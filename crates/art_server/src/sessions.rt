@@ -7,29 +7,25 @@ ghost use Rattle.art_lines.specs.Verbs.{command_of};
 ghost use Rattle.art_server.specs.Counted.{reader_of, reads_of};
 ghost use Rattle.art_server.specs.Reads.{EndsAtInput, MakesReads};
 ghost use Rattle.art_server.specs.Replies.{IsPrintable, reply_of, reply_with};
-ghost use Rattle.art_server.specs.Sessions.{AnswersCommand, AnswersJob, AnswersScan, IsSamePass, RunsSession};
+ghost use Rattle.art_server.specs.Sessions.{IsSamePass, RunsSession};
 ghost use Rattle.art_server.specs.Steps.{SendsReply, SendsLine, AnswersBytes, Finishes};
 ghost use Rattle.art_table.specs.Tables.{IsPassOf};
-ghost use Rattle.art_table.specs.declared.jobs.Job.TheVariants as jobs;
 
 use crate::replies::{ReplyHead, print_rows};
 use crate::streams::write_whole;
 use crate::texts::{TEXT_BYTES, put_reply};
-use crate::{Counted, Refusal};
+use crate::watched::do_command;
+use crate::{Counted, Gate, Refusal};
 use arrayvec::ArrayVec;
 use art_lines::{LineFault, LineReader, Verb};
-use art_model::{Answer, NoMemory, Row, Tuple};
-use art_scan::{More, scan};
-use art_table::{Inserted, Pass, Table, get, insert, remove};
+use art_model::{Answer, NoMemory, Row};
+use art_table::{Pass, Table};
 use memchr::memchr;
 use std::alloc::Global;
 use std::io::{self, Read, Write};
 
 /// The most reads of one session.
 const READS: u32 = 1_000_000;
-
-/// The most turns of one command.
-const TURNS: u32 = 1_000_000;
 
 /// Why a session ended.
 #[derive(Clone, Copy, Debug, PartialEq, Eq)]
@@ -70,6 +66,12 @@ struct Stop {
     why: EndCause,
     pending: bool,
 }
+
+/// There was no memory to read a line, so nothing of it was done.
+const UNREAD: Stop = Stop {
+    why: EndCause::NoMemory,
+    pending: false,
+};
 
 impl Stop {
     fn after(self, answered: u64) -> SessionEnd
@@ -119,12 +121,16 @@ impl From<io::Error> for Stop {
 /// interruption too: a caller who wants another try makes it in the reader or the writer. So does a write that takes
 /// no byte. The replies to the lines of one read are flushed once, before the next read; a flush that fails leaves the last of them
 /// pending. Memory is taken for one line's reading, and for a reply that lists rows.
-pub fn session<R: Read, W: Write>(
+///
+/// The gate is told of each atomic step, where it watches them, and of each reply, once it was flushed. A session that nobody watches
+/// makes whole calls.
+pub fn session<R: Read, W: Write, G: Gate>(
     alloc: Global,
     table: &Table,
     pass: Pass,
     reader: &mut Counted<R>,
     writer: &mut W,
+    gate: &G,
 ) -> (Pass, SessionEnd)
     requires { IsPassOf table.now pass }
     ensures pass { IsPassOf table.now result.0 }
@@ -134,24 +140,23 @@ pub fn session<R: Read, W: Write>(
     ensures end { result.1.why ≡ EndCause.Ended → IsAtEnd (R.remaining (reader_of reader.new)) }
     ensures reads { MakesReads (reads_of reader.old) (reads_of reader.new) result.1.why }
 {
-    let mut pass = pass;
-    let end = answer_reads(alloc, table, &mut pass, reader, writer);
-    (pass, end)
+    answer_reads(alloc, table, pass, reader, writer, gate)
 }
 
-fn answer_reads<R: Read, W: Write>(
+fn answer_reads<R: Read, W: Write, G: Gate>(
     alloc: Global,
     table: &Table,
-    pass: &mut Pass,
+    pass: Pass,
     reader: &mut Counted<R>,
     writer: &mut W,
-) -> SessionEnd
-    requires { IsPassOf table.now pass.old }
-    ensures pass { IsPassOf table.now pass.new }
+    gate: &G,
+) -> (Pass, SessionEnd)
+    requires { IsPassOf table.now pass }
+    ensures pass { IsPassOf table.now result.0 }
     ensures session { RunsSession (R.remaining (reader_of reader.old)) (R.remaining (reader_of reader.new))
-        (W.contents writer.old) (W.contents writer.new) table.now pass.old pass.new result }
-    ensures end { result.why ≡ EndCause.Ended → IsAtEnd (R.remaining (reader_of reader.new)) }
-    ensures reads { MakesReads (reads_of reader.old) (reads_of reader.new) result.why }
+        (W.contents writer.old) (W.contents writer.new) table.now pass result.0 result.1 }
+    ensures end { result.1.why ≡ EndCause.Ended → IsAtEnd (R.remaining (reader_of reader.new)) }
+    ensures reads { MakesReads (reads_of reader.old) (reads_of reader.new) result.1.why }
 {
     let mut piece = [0u8; 4096];
     let mut buffers = Buffers {
@@ -159,21 +164,33 @@ fn answer_reads<R: Read, W: Write>(
         rows: ArrayVec::new(),
         reader: LineReader::new(alloc),
     };
+    let mut pass = pass;
     let mut answered = 0;
     'reads: for _ in 0..READS {
         match reader.read(&mut piece) {
-            Ok(0) => return finish(alloc, table, pass, &mut buffers, writer, answered),
+            Ok(0) => return finish(alloc, table, pass, &mut buffers, writer, gate, answered),
             Ok(count) => {
                 let bytes = &piece[..count];
-                match answer_bytes(alloc, table, pass, &mut buffers, bytes, writer, answered) {
+                let (back, taken) = answer_bytes(
+                    alloc,
+                    table,
+                    pass,
+                    &mut buffers,
+                    bytes,
+                    writer,
+                    gate,
+                    answered,
+                );
+                pass = back;
+                match taken {
                     Ok(more) => answered = more,
-                    Err(end) => return end,
+                    Err(end) => return (pass, end),
                 }
             }
-            Err(_) => return ended(EndCause::ReadFault, answered),
+            Err(_) => return (pass, ended(EndCause::ReadFault, answered)),
         }
     }
-    ended(EndCause::ReadsUsed, answered)
+    (pass, ended(EndCause::ReadsUsed, answered))
 }
 
 fn ended(why: EndCause, answered: u64) -> SessionEnd
@@ -198,92 +215,111 @@ fn flush_failed(answered: u64) -> SessionEnd
 }
 
 /// Answers the last line, if one stands with no line feed after it.
-fn finish<W: Write>(
+fn finish<W: Write, G: Gate>(
     alloc: Global,
     table: &Table,
-    pass: &mut Pass,
+    pass: Pass,
     buffers: &mut Buffers,
     writer: &mut W,
+    gate: &G,
     answered: u64,
-) -> SessionEnd
-    requires pass { IsPassOf table.now pass.old }
+) -> (Pass, SessionEnd)
+    requires pass { IsPassOf table.now pass }
     requires room { answered + 1 < 2 ^ 64 }
-    ensures pass { IsPassOf table.now pass.new }
-    ensures finishes { Finishes table.now (W.contents writer.old) (W.contents writer.new) pass.old pass.new
-        answered buffers.old.line.items result }
-    ensures cause { EndsAtInput result.why }
+    ensures pass { IsPassOf table.now result.0 }
+    ensures finishes { Finishes table.now (W.contents writer.old) (W.contents writer.new) pass result.0
+        answered buffers.old.line.items result.1 }
+    ensures cause { EndsAtInput result.1.why }
 {
     if buffers.line.is_empty() {
-        return ended(EndCause::Ended, answered);
+        return (pass, ended(EndCause::Ended, answered));
     }
-    if let Err(stop) = answer_line(alloc, table, pass, buffers, &[], writer) {
-        return stop.after(answered);
+    let (pass, sent) = answer_line(alloc, table, pass, buffers, &[], writer, gate);
+    if let Err(stop) = sent {
+        return (pass, stop.after(answered));
     }
     match writer.flush() {
-        Ok(()) => ended(EndCause::Ended, answered + 1),
-        Err(_) => flush_failed(answered),
+        Ok(()) => {
+            gate.answered(pass.number());
+            (pass, ended(EndCause::Ended, answered + 1))
+        }
+        Err(_) => (pass, flush_failed(answered)),
     }
 }
 
 /// Answers each line that ends in the bytes, keeps what stands after the last line feed, and flushes the replies once.
-fn answer_bytes<W: Write>(
+fn answer_bytes<W: Write, G: Gate>(
     alloc: Global,
     table: &Table,
-    pass: &mut Pass,
+    pass: Pass,
     buffers: &mut Buffers,
     bytes: &[u8],
     writer: &mut W,
+    gate: &G,
     answered: u64,
-) -> Result<u64, SessionEnd>
-    requires pass { IsPassOf table.now pass.old }
+) -> (Pass, Result<u64, SessionEnd>)
+    requires pass { IsPassOf table.now pass }
     requires room { answered + length bytes.now < 2 ^ 64 }
-    ensures pass { IsPassOf table.now pass.new }
-    ensures answers { AnswersBytes table.now bytes.now (W.contents writer.old) (W.contents writer.new) pass.old pass.new
-        answered buffers.old.line.items buffers.new.line.items result }
+    ensures pass { IsPassOf table.now result.0 }
+    ensures answers { AnswersBytes table.now bytes.now (W.contents writer.old) (W.contents writer.new) pass result.0
+        answered buffers.old.line.items buffers.new.line.items result.1 }
 {
-    let count = match answer_lines(alloc, table, pass, buffers, bytes, writer, answered) {
+    let (pass, taken) = answer_lines(alloc, table, pass, buffers, bytes, writer, gate, answered);
+    let count = match taken {
         Ok(count) => count,
         Err(end) => {
             // The lines before the one that stopped the session were answered: their replies go out, if they can.
-            if end.why != EndCause::WriteFault {
-                let _ = writer.flush();
+            if end.why != EndCause::WriteFault && writer.flush().is_ok() {
+                tell_answered(gate, pass.number(), answered, end.answered);
             }
-            return Err(end);
+            return (pass, Err(end));
         }
     };
     if answered < count && writer.flush().is_err() {
-        return Err(flush_failed(count - 1));
+        return (pass, Err(flush_failed(count - 1)));
     }
-    Ok(count)
+    tell_answered(gate, pass.number(), answered, count);
+    (pass, Ok(count))
+}
+
+/// Tells the gate of the replies from one count to another.
+fn tell_answered<G: Gate>(gate: &G, pass: u32, from: u64, to: u64) {
+    for _ in from..to {
+        gate.answered(pass);
+    }
 }
 
 /// Answers each line that ends in the bytes, and keeps what stands after the last line feed. The replies are not flushed.
-fn answer_lines<W: Write>(
+fn answer_lines<W: Write, G: Gate>(
     alloc: Global,
     table: &Table,
-    pass: &mut Pass,
+    pass: Pass,
     buffers: &mut Buffers,
     bytes: &[u8],
     writer: &mut W,
+    gate: &G,
     answered: u64,
-) -> Result<u64, SessionEnd>
-    requires pass { IsPassOf table.now pass.old }
+) -> (Pass, Result<u64, SessionEnd>)
+    requires pass { IsPassOf table.now pass }
     requires room { answered + length bytes.now < 2 ^ 64 }
-    ensures pass { IsPassOf table.now pass.new }
-    ensures answers { AnswersBytes table.now bytes.now (W.contents writer.old) (W.contents writer.new) pass.old pass.new
-        answered buffers.old.line.items buffers.new.line.items result }
+    ensures pass { IsPassOf table.now result.0 }
+    ensures answers { AnswersBytes table.now bytes.now (W.contents writer.old) (W.contents writer.new) pass result.0
+        answered buffers.old.line.items buffers.new.line.items result.1 }
 {
+    let mut pass = pass;
     let mut count = answered;
     let mut rest = bytes;
     'lines: while let Some(end) = memchr(b'\n', rest) {
-        match answer_line(alloc, table, pass, buffers, &rest[..end], writer) {
+        let (back, sent) = answer_line(alloc, table, pass, buffers, &rest[..end], writer, gate);
+        pass = back;
+        match sent {
             Ok(()) => count += 1,
-            Err(stop) => return Err(stop.after(count)),
+            Err(stop) => return (pass, Err(stop.after(count))),
         }
         rest = &rest[end + 1..];
     }
     keep(&mut buffers.line, rest);
-    Ok(count)
+    (pass, Ok(count))
 }
 
 /// A byte past the 4,097th changes no answer, and is dropped.
@@ -297,33 +333,37 @@ fn keep(line: &mut ArrayVec<u8, 4097>, part: &[u8])
 }
 
 /// Answers the line that the part ends. Nothing of it is kept then.
-fn answer_line<W: Write>(
+fn answer_line<W: Write, G: Gate>(
     alloc: Global,
     table: &Table,
-    pass: &mut Pass,
+    pass: Pass,
     buffers: &mut Buffers,
     part: &[u8],
     writer: &mut W,
-) -> Result<(), Stop>
-    requires { IsPassOf table.now pass.old }
-    ensures pass { IsPassOf table.now pass.new }
+    gate: &G,
+) -> (Pass, Result<(), Stop>)
+    requires { IsPassOf table.now pass }
+    ensures pass { IsPassOf table.now result.0 }
     ensures none { buffers.new.line.items ≡ [] }
     ensures sends { SendsLine table.now (buffers.old.line.items ++ part.now) (W.contents writer.old) (W.contents writer.new)
-        pass.old pass.new result }
+        pass result.0 result.1 }
 {
-    let head = match read_line(&mut buffers.reader, &mut buffers.line, part) {
-        Ok(verb) => run_command(table, pass, verb, &buffers.reader, &mut buffers.rows),
+    let (pass, head) = match read_line(&mut buffers.reader, &mut buffers.line, part) {
+        Ok(verb) => do_command(
+            table,
+            pass,
+            verb,
+            &mut buffers.reader,
+            &mut buffers.rows,
+            gate,
+        ),
         Err(fault) => match fault {
-            LineFault::NoMemory => {
-                return Err(Stop {
-                    why: EndCause::NoMemory,
-                    pending: false,
-                });
-            }
-            _ => Err(Refusal::from(fault)),
+            LineFault::NoMemory => return (pass, Err(UNREAD)),
+            _ => (pass, Err(Refusal::from(fault))),
         },
     };
-    send_reply(alloc, head, buffers.rows.as_slice(), writer)
+    let sent = send_reply(alloc, head, buffers.rows.as_slice(), writer);
+    (pass, sent)
 }
 
 /// What the line asks that the part ends, behind what is kept of it. It is copied only where something is.
@@ -375,84 +415,4 @@ fn send_answer<W: Write>(answer: Result<Answer, Refusal>, writer: &mut W) -> Res
     let start = put_reply(&mut room, answer);
     write_whole(writer, &room[start..])?;
     Ok(())
-}
-
-/// Does the command that was read, whose tuples stand in the reader, by a call of the pass, or a scan of it, whose rows are left beside
-/// the reply.
-fn run_command(
-    table: &Table,
-    pass: &mut Pass,
-    verb: Verb,
-    reader: &LineReader,
-    rows: &mut ArrayVec<Row, 100>,
-) -> Result<ReplyHead, Refusal>
-    requires { IsPassOf table.now pass.old }
-    ensures pass { IsPassOf table.now pass.new }
-    ensures answers { AnswersCommand table.now (command_of verb (lower_in reader.now) (upper_in reader.now)) pass.old
-        (reply_with rows.new.items result) pass.new }
-    ensures printable { IsPrintable (reply_with rows.new.items result) }
-{
-    let tuple = reader.lower();
-    match verb {
-        Verb::Insert(value) => Ok(ReplyHead::Answer(run_insert(table, pass, tuple, value)?)),
-        Verb::Remove => Ok(ReplyHead::Answer(run_remove(table, pass, tuple)?)),
-        Verb::Get => Ok(ReplyHead::Answer(run_get(table, pass, tuple)?)),
-        Verb::Scan(limit) => run_scan(table, pass, tuple, reader.upper(), limit, rows),
-    }
-}
-
-fn run_insert(table: &Table, pass: &mut Pass, tuple: &Tuple, value: u64) -> Result<Answer, Refusal>
-    requires { IsPassOf table.now pass.old }
-    ensures pass { IsPassOf table.now pass.new }
-    ensures answers { AnswersJob table.now (jobs.Insert tuple.now value) pass.old (reply_of result) pass.new }
-{
-    match insert(table, pass, tuple, value, TURNS) {
-        Ok(Inserted::New) => Ok(Answer::Inserted),
-        Ok(Inserted::Present(stored)) => Ok(Answer::Present(stored)),
-        Err(fault) => Err(Refusal::from(fault)),
-    }
-}
-
-fn run_remove(table: &Table, pass: &mut Pass, tuple: &Tuple) -> Result<Answer, Refusal>
-    requires { IsPassOf table.now pass.old }
-    ensures pass { IsPassOf table.now pass.new }
-    ensures answers { AnswersJob table.now (jobs.Remove tuple.now) pass.old (reply_of result) pass.new }
-{
-    match remove(table, pass, tuple, TURNS) {
-        Ok(Some(value)) => Ok(Answer::Removed(value)),
-        Ok(None) => Ok(Answer::Absent),
-        Err(fault) => Err(Refusal::from(fault)),
-    }
-}
-
-fn run_get(table: &Table, pass: &mut Pass, tuple: &Tuple) -> Result<Answer, Refusal>
-    requires { IsPassOf table.now pass.old }
-    ensures pass { IsPassOf table.now pass.new }
-    ensures answers { AnswersJob table.now (jobs.Get tuple.now) pass.old (reply_of result) pass.new }
-{
-    match get(table, pass, tuple, TURNS) {
-        Ok(Some(value)) => Ok(Answer::Found(value)),
-        Ok(None) => Ok(Answer::Absent),
-        Err(fault) => Err(Refusal::from(fault)),
-    }
-}
-
-fn run_scan(
-    table: &Table,
-    pass: &mut Pass,
-    lo: &Tuple,
-    hi: &Tuple,
-    limit: u64,
-    rows: &mut ArrayVec<Row, 100>,
-) -> Result<ReplyHead, Refusal>
-    requires { IsPassOf table.now pass.old }
-    ensures pass { IsPassOf table.now pass.new }
-    ensures answers { AnswersScan table.now lo.now hi.now limit pass.old (reply_with rows.new.items result) pass.new }
-    ensures printable { IsPrintable (reply_with rows.new.items result) }
-{
-    match scan(table, pass, lo, hi, limit, TURNS, rows) {
-        Ok(More::Limit) => Ok(ReplyHead::Rows(true)),
-        Ok(More::End) => Ok(ReplyHead::Rows(false)),
-        Err(fault) => Err(Refusal::from(fault)),
-    }
 }

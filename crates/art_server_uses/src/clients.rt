@@ -3,9 +3,10 @@ ghost use Rattle.art_server_uses.specs.Clients.{AreOf};
 ghost use Rattle.art_table.specs.Tables.{IsPassOf};
 
 use art_key::Schema;
-use art_server::{Counted, EndCause, SessionEnd, session};
+use art_server::{Counted, EndCause, Gate, NoGate, SessionEnd, session};
 use art_table::{Config, Pass, Table, open};
 use std::alloc::Global;
+use std::io::Read;
 use std::process::Abort;
 
 /// One of each, and one pass.
@@ -57,6 +58,26 @@ fn check_said(rt: &impl Abort, end: SessionEnd, heard: &[u8], want: &str) {
     assert!(rt; heard == want.as_bytes());
 }
 
+/// The pass answers the lines of the reader, with the gate told, and what it says is this; all lines are answered.
+pub(crate) fn check_watched<R: Read + Drop, G: Gate>(
+    rt: &impl Abort,
+    alloc: Global,
+    table: &Table,
+    pass: Pass,
+    reader: R,
+    gate: &G,
+    want: &str,
+) -> Pass
+    requires { IsPassOf table.now pass }
+    ensures { IsPassOf table.now result }
+{
+    let mut reader = Counted::new(reader);
+    let mut heard = Vec::new(alloc);
+    let (pass, end) = session(alloc, table, pass, &mut reader, &mut heard, gate);
+    check_said(rt, end, heard.as_slice(), want);
+    pass
+}
+
 /// The pass answers these lines, and what it says is this; all lines are answered.
 pub(crate) fn check_session(
     rt: &impl Abort,
@@ -69,11 +90,7 @@ pub(crate) fn check_session(
     requires { IsPassOf table.now pass }
     ensures { IsPassOf table.now result }
 {
-    let mut reader = Counted::new(said.as_bytes());
-    let mut heard = Vec::new(alloc);
-    let (pass, end) = session(alloc, table, pass, &mut reader, &mut heard);
-    check_said(rt, end, heard.as_slice(), want);
-    pass
+    check_watched(rt, alloc, table, pass, said.as_bytes(), &NoGate, want)
 }
 
 /// A session on a new table of these columns and sizes says this; all lines are answered.

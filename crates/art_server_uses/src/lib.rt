@@ -1,9 +1,11 @@
 //! Tests of what no clause of `art_server` says: the texts that clients see, lines as they write them, scans in
-//! sessions, and readers and writers that fail.
+//! sessions, readers and writers that fail, and what a gate is told.
 #![tactic(auto)]
 
 #[cfg(test)]
 mod clients;
+#[cfg(test)]
+mod gates;
 #[cfg(test)]
 mod lines;
 #[cfg(test)]

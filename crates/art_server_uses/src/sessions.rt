@@ -1,6 +1,6 @@
 //! Sessions over readers and writers that fail, are interrupted, or give and take a little at a time.
 use crate::clients::{SIZES, alone, check_alone, check_session, last_of, opened};
-use art_server::{Counted, EndCause, SessionEnd, session};
+use art_server::{Counted, EndCause, NoGate, SessionEnd, session};
 use art_table::Config;
 use std::alloc::Global;
 use std::io::{self, ErrorKind, Read, Write};
@@ -99,7 +99,7 @@ fn end_of<R: Read, W: Write>(
     writer: &mut W,
 ) -> SessionEnd {
     let (table, pass) = alone(rt, alloc, "u64", SIZES);
-    let (_, end) = session(alloc, &table, pass, reader, writer);
+    let (_, end) = session(alloc, &table, pass, reader, writer, &NoGate);
     end
 }
 
@@ -200,10 +200,10 @@ fn end_at_a_write(
         fault,
     };
     let mut reader = Counted::new(said.as_slice());
-    let (pass, end) = session(alloc, &table, pass, &mut reader, &mut cut);
+    let (pass, end) = session(alloc, &table, pass, &mut reader, &mut cut, &NoGate);
     let mut after = Vec::new(alloc);
     let mut reader = Counted::new(b"[\"get\",[5]]".as_slice());
-    let _ = session(alloc, &table, pass, &mut reader, &mut after);
+    let _ = session(alloc, &table, pass, &mut reader, &mut after, &NoGate);
     (end, cut.held, after)
 }
 

@@ -1,6 +1,6 @@
 //! Clients that send their next lines once the replies to those before have come through.
 use crate::clients::{SIZES, alone};
-use art_server::{Counted, EndCause, SessionEnd, session};
+use art_server::{Counted, EndCause, NoGate, SessionEnd, session};
 use std::alloc::Global;
 use std::cell::Cell;
 use std::io::{self, BufWriter, ErrorKind, Read, Write};
@@ -76,7 +76,7 @@ fn talk<'a>(
         heard,
     };
     let mut writer = BufWriter::new(alloc, line).expect(rt, "room for a buffer");
-    let (_, end) = session(alloc, &table, pass, &mut reader, &mut writer);
+    let (_, end) = session(alloc, &table, pass, &mut reader, &mut writer, &NoGate);
     let (line, _) = writer.into_parts();
     (end, line.held, line.writes)
 }

@@ -15,7 +15,7 @@ use Rattle.art_table.specs.declared.closing.CloseRefusal.TheVariants as close
 use Rattle.art_table.specs.declared.configs.Config.{Config}
 use Rattle.art_table.specs.declared.passes.Pass.{Pass}
 use Rattle.art_table.specs.declared.tables.Table.{Table}
-use Rattle.art_alone.specs.Laws.{IsOnlyPass}
+use Rattle.art_sessions.specs.Laws.{IsOnlyPass}
 use Rattle.art_step.specs.declared.views.Sizes.{Sizes}
 use Rattle.art_tools.specs.Outputs.{of_one_pass}
 use Rattle.art_tools.specs.Schedules.{AreEight, AreInPlace}

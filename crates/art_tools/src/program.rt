@@ -28,7 +28,7 @@ use crate::run_faults::RunFault;
 use crate::schedules::step;
 use crate::settings::{Settings, SettingsFault};
 use art_key::Schema;
-use art_server::{Counted, EndCause, Refusal, session};
+use art_server::{Counted, EndCause, NoGate, Refusal, session};
 use art_table::{Config, OpenFault, Pass, Table, close, open};
 use std::alloc::Global;
 use std::io::{self, Read, Write};
@@ -116,7 +116,7 @@ pub fn run<R: Read, W: Write>(
 {
     let schema = Schema::parse(schema)?;
     let (table, passes, pass) = empty_table(alloc, schema, sizes)?;
-    let (pass, end) = session(alloc, &table, pass, reader, writer);
+    let (pass, end) = session(alloc, &table, pass, reader, writer, &NoGate);
     let closed = give_back(alloc, table, passes, pass);
     outcome(end.why, closed)
 }

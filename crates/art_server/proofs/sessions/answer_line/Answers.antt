@@ -10,15 +10,15 @@ pub returns-clause-sends : goal.returns-clause-sends
 returns-clause-sends g c =
     let line = c.args.buffers.now.line.items ++ c.args.part.now in
     let table = c.args.table.now in
-    let p = c.args.pass.now in
-    let q = c.match-read_line.pass in
-    let reply = reply_with c.match-read_line.buffers.rows.items c.match-read_line.head in
+    let p = c.args.pass in
+    let q = c.match-read_line.pass.0 in
+    let reply = reply_with c.match-read_line.buffers.rows.items c.match-read_line.pass.1 in
     let answers : AnswersLine table line p reply q =
     elim c.match-read_line.branch [
-      | in-Ok w ↦ rw (w.head-is, w.buffers-is, w.pass-is)
-          (AnswersLine-said table line _ p _ _ w.in-Ok.ensures.said w.run_command-head.ensures.answers)
-      | in-Err+in_default w ↦ rw (w.head-is, w.pass-is, w.from.ensures)
+      | in-Ok w ↦ rw (w.buffers-is, w.pass-is)
+          (AnswersLine-said table line _ p _ _ w.in-Ok.ensures.said w.do_command.ensures.answers)
+      | in-Err+in_default w ↦ rw (w.buffers-is, w.pass-is, w.from.ensures)
           (AnswersLine-refused table line w.in-Err.fault p _ (w.in-Err.ensures.said w.in_default.not-NoMemory) refl)
     ] in
-    let sends = rw c.as_slice.ensures.value at c.send_reply.ensures in
+    let sends = rw c.as_slice.ensures.value at c.send_reply-sent.ensures in
     SendsLine-from_reply table line _ _ p q reply _ answers sends

@@ -9,8 +9,9 @@ lines-init g c = record { has = HasTaken-none _ _ _ _ _ _; of = c.requires.pass;
 pub returns-in-Err-clause-answers : goal.returns-in-Err-clause-answers
 returns-in-Err-clause-answers g c =
     let (first, passes) = c.in-Some.ensures in
+    let sends = rw c.in-Err.is at c.answer_line-back.ensures.sends in
     StopsAmong-at_feed _ c.args.bytes.now c.lines.rest.now c.in-Some.end _ _ _ _ _ _ _ _ _ _ c.in-Err.stop _
-    c.lines.invariant.has first passes c.in-Err.ensures.sends c.after.ensures
+    c.lines.invariant.has first passes sends c.after.ensures
 
 pub lines-preserved : goal.lines-preserved
 lines-preserved g c =
@@ -21,8 +22,8 @@ lines-preserved g c =
     let few = c.lines.invariant.few in
     rw (take_rest rest (end + 1)) record {
       has = HasTaken-feed _ c.args.bytes.now rest end _ _ _ _ _ _ _ _ _ _ _ c.in-Ok.field-0
-          c.lines.invariant.has first passes c.in-Ok.ensures.sends c.in-Ok.ensures.none;
-      of = c.in-Ok.ensures.pass;
+          c.lines.invariant.has first passes (rw c.in-Ok.is at c.answer_line-back.ensures.sends) c.answer_line-back.ensures.none;
+      of = c.answer_line-back.ensures.pass;
       few = omega (arith, length-drop (end + 1) rest);
     }
 

@@ -21,19 +21,19 @@ returns-in-Ok-eq0-clause-session g c =
     RunsSession-finish _ _ _ _ _ _ _ _ _ _ _ _ _ _ _ _ c.reads.invariant.read c.in-Ok-eq0.ensures.bytes.0 (omega arith)
     (omega arith) c.finish.ensures.finishes
 
-pub answer_bytes-requires-clause-room : goal.answer_bytes-requires-clause-room
-answer_bytes-requires-clause-room g c =
+pub answer_bytes-back-requires-clause-room : goal.answer_bytes-back-requires-clause-room
+answer_bytes-back-requires-clause-room g c =
     let most = answered-HasRead _ _ _ _ _ _ _ _ _ _ c.reads.invariant.read in
     let bound = c.in-Ok.ensures.bound in
     omega arith
 
-pub returns-in-Err-answer_bytes-clause-session : goal.returns-in-Err-answer_bytes-clause-session
-returns-in-Err-answer_bytes-clause-session g c =
+pub returns-in-Err-taken-clause-session : goal.returns-in-Err-taken-clause-session
+returns-in-Err-taken-clause-session g c =
     let has = c.reads.invariant.read in
     let bound = c.in-Ok.ensures.bound in
     let bytes = take c.in-Ok.count c.read.new.bytes in
     let few : length bytes ≤ 4096 = omega arith in
-    RunsSession-stop _ _ _ _ _ _ _ _ _ _ _ _ _ _ _ has c.in-Ok.ensures.bytes.0 (omega arith) few c.in-Err-answer_bytes.ensures.answers
+    RunsSession-stop _ _ _ _ _ _ _ _ _ _ _ _ _ _ _ has c.in-Ok.ensures.bytes.0 (omega arith) few (rw c.in-Err-taken.is at c.answer_bytes-back.ensures.answers)
 
 pub returns-in-Err-clause-session : goal.returns-in-Err-clause-session
 returns-in-Err-clause-session g c =
@@ -47,8 +47,8 @@ reads-preserved g c =
     let some : 0 < length bytes = omega arith in
     let few : length bytes ≤ 4096 = omega arith in
     record {
-      read = HasRead-more _ _ _ _ _ _ _ _ _ _ _ _ _ _ _ _ has.read some few c.in-Ok.ensures.bytes.0 c.in-Ok-answer_bytes.ensures.answers;
-      of = c.in-Ok-answer_bytes.ensures.pass;
+      read = HasRead-more _ _ _ _ _ _ _ _ _ _ _ _ _ _ _ _ has.read some few c.in-Ok.ensures.bytes.0 (rw c.in-Ok-taken.is at c.answer_bytes-back.ensures.answers);
+      of = c.answer_bytes-back.ensures.pass;
       room = omega arith;
       counted = HasCounted-more _ _ _ _ c.in-Ok.count has.counted c.in-Ok.ensures.count (omega arith) (omega arith);
     }
@@ -62,11 +62,11 @@ returns-in-Ok-eq0-clause-reads g c =
     MakesReads-finish _ _ _ _ c.in-Ok-eq0.field-0 _ c.reads.invariant.counted c.in-Ok-eq0.ensures.count (omega arith)
     (omega arith) c.finish.ensures.cause
 
-pub returns-in-Err-answer_bytes-clause-reads : goal.returns-in-Err-answer_bytes-clause-reads
-returns-in-Err-answer_bytes-clause-reads g c =
+pub returns-in-Err-taken-clause-reads : goal.returns-in-Err-taken-clause-reads
+returns-in-Err-taken-clause-reads g c =
     let bound = c.in-Ok.ensures.bound in
     MakesReads-stop _ _ _ _ c.in-Ok.count _ _ c.reads.invariant.counted c.in-Ok.ensures.count (omega arith) (omega arith)
-    (omega arith) c.in-Err-answer_bytes.ensures.answers.cause
+    (omega arith) (rw c.in-Err-taken.is at c.answer_bytes-back.ensures.answers).cause
 
 pub returns-in-Err-clause-reads : goal.returns-in-Err-clause-reads
 returns-in-Err-clause-reads g c =

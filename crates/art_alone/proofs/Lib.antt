@@ -1,6 +1,0 @@
-pub mod Alone
-pub mod Calls
-pub mod Goes
-pub mod Lines
-pub mod Looks
-pub mod Scans

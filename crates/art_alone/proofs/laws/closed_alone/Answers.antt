@@ -1,5 +1,0 @@
-use Rattle.art_alone.proofs.Alone.{closed_alone}
-use Rattle.art_alone.proofs.laws.closed_alone.Goals as goal
-
-pub returns : goal.returns
-returns c = closed_alone

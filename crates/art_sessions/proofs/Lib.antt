@@ -1,0 +1,11 @@
+pub mod Steps
+pub mod Alone
+pub mod Places
+pub mod Events
+pub mod Goes
+pub mod Calls
+pub mod Scans
+pub mod Points
+pub mod Talks
+pub mod Standing
+pub mod OneMap

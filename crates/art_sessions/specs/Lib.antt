@@ -1,0 +1,4 @@
+pub mod Maps
+pub mod Points
+pub mod Talks
+pub mod Laws
