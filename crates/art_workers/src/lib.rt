@@ -1,0 +1,26 @@
+//! Sessions over sockets, by a worker for each pass of a table.
+//!
+//! A server has a listener and some passes. Each pass gets a thread of its own, its worker: this claims the next session, accepts a
+//! connection for it, answers its lines, and goes on with its pass as the session left it.
+//!
+//! ```text
+//!   pass 0      session, session, session     back, 3
+//!   pass 1      session                       back, 1
+//! ```
+//!
+//! What is promised: the passes come back in their order. Each of them had talks, one after another, and each talk is a session as
+//! `art_server` tells it: the bytes that were read, the bytes that were written, how it ended, and the pass before and after. Where all
+//! went well every pass is back, and the number that is told is that of all their talks. These are the workers of which `art_sessions`
+//! says that all of them are of one sorted map. Where a worker fails, the others go on, and each pass comes back but one whose thread
+//! could not be started.
+//!
+//! What is not: nothing is said of the order in time between clients on different passes. Which client a worker gets, and what a socket
+//! carried, is in no contract but as bytes that the session read and wrote. As many sessions are claimed as are asked for, on one counter
+//! for all workers; no clause says so.
+#![tactic(auto)]
+
+mod faults;
+mod serving;
+
+pub use faults::ServeFault;
+pub use serving::serve;
