@@ -2,9 +2,11 @@
 use Rattle.std.specs.Prelude.{◌≡◌, ℕ, ◌<◌, ◌^◌, true, List, [], ◌∷◌, length, map, ◌⊎◌, Result, IfOk}
 use Rattle.std.specs.List.{AllZip, sum_by}
 use Rattle.std.specs.declared.thread.PromisedHandle.{PromisedHandle}
-use Rattle.art_sessions.specs.Talks.{HasTalks, Talk, Worker}
+use Rattle.art_sessions.specs.Talks.{AreOneMap, HasTalks, Talk, Worker}
 use Rattle.art_step.specs.Views.{Member}
+use Rattle.art_table.specs.Closing.{AreOf, IsClosed}
 use Rattle.art_table.specs.Tables.{IsPassOf}
+use Rattle.art_table.specs.declared.closing.Closed.{Closed}
 use Rattle.art_table.specs.declared.passes.Pass.{Pass}
 use Rattle.art_table.specs.declared.tables.Table.{Table}
 use Rattle.art_workers.specs.declared.faults.ServeFault.{ServeFault}
@@ -71,3 +73,11 @@ pub record HaveServed (t : Table) (given back : List Pass) (told : Result ℕ Se
   pub talks : (w : Worker) → Member w workers → HasTalks t w.before w.talks w.after
   pub all : length back ≡ length given → befores_of workers ≡ given
   pub whole : IfOk told (λ ended. (befores_of workers ≡ given) × (ended ≡ talks_of workers))
+
+-- ---- the close
+
+-- Passes of a table were served, and it was closed with those that came back: all that their workers' clients read and wrote is of one
+-- history, which leaves the rows of the close.
+abbrev pub ServedAreOneMap : Type 0
+ServedAreOneMap = (t : Table) (given back : List Pass) (told : Result ℕ ServeFault) (closed : Closed)
+    → AreOf t given → (served : HaveServed t given back told) → IsClosed t back closed → AreOneMap t served.workers closed

@@ -10,9 +10,9 @@
 //!
 //! What is promised: the passes come back in their order. Each of them had talks, one after another, and each talk is a session as
 //! `art_server` tells it: the bytes that were read, the bytes that were written, how it ended, and the pass before and after. Where all
-//! went well every pass is back, and the number that is told is that of all their talks. These are the workers of which `art_sessions`
-//! says that all of them are of one sorted map. Where a worker fails, the others go on, and each pass comes back but one whose thread
-//! could not be started.
+//! went well every pass is back, and the number that is told is that of all their talks. Once the table is
+//! closed with the passes that came back, all of it is of one sorted map (`served_are_one_map`). Where a worker fails, the others go on,
+//! and each pass comes back but one whose thread could not be started.
 //!
 //! What is not: nothing is said of the order in time between clients on different passes. Which client a worker gets, and what a socket
 //! carried, is in no contract but as bytes that the session read and wrote. As many sessions are claimed as are asked for, on one counter
@@ -20,7 +20,9 @@
 #![tactic(auto)]
 
 mod faults;
+mod laws;
 mod serving;
 
 pub use faults::ServeFault;
+pub use laws::served_are_one_map;
 pub use serving::serve;
