@@ -38,8 +38,8 @@ use Rattle.art_gather.specs.declared.vouching.Vouched.{Vouched}
 use Rattle.art_gather.specs.declared.vouching.Vouched.TheVariants.{Unchanged, Changed}
 use Rattle.art_gather.specs.declared.vouching.Vouching.{Vouching}
 use Rattle.art_gather.specs.declared.vouching.Vouching.TheVariants as vouches
-use Rattle.art_insert.specs.Cases.{IsInHand}
-use Rattle.art_insert.specs.Puts.{inserted}
+use Rattle.art_decide.specs.ArtInsert.Cases.{IsInHand}
+use Rattle.art_decide.specs.ArtInsert.Puts.{inserted}
 use Rattle.art_make.proofs.PackedLeaves.{packed_leaf}
 use Rattle.art_make.proofs.Told.{ends_as}
 use Rattle.art_make.specs.Making as making

@@ -29,8 +29,8 @@ use Rattle.art_gather.specs.Supplying.{HasAll, HasNone}
 use Rattle.art_gather.specs.Vouching as vouching
 use Rattle.art_gather.specs.Vouching.{passed}
 use Rattle.art_gather.specs.declared.asked.Asked.{Asked as SupplyAsked}
-use Rattle.art_insert.specs.Puts.{inserted}
-use Rattle.art_insert.specs.declared.leaves.NewLeaf.{NewLeaf}
+use Rattle.art_decide.specs.ArtInsert.Puts.{inserted}
+use Rattle.art_decide.specs.ArtInsert.declared.leaves.NewLeaf.{NewLeaf}
 use Rattle.art_make.specs.Making as making
 use Rattle.art_make.specs.Making.{HasFailed, fault_of, most_steps}
 use Rattle.art_make.specs.declared.asked.Asked.{Asked as ChangeAsked}

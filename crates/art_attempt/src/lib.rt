@@ -39,6 +39,9 @@ mod driver;
 mod inserting;
 mod rooms;
 
+pub use art_frame;
+pub use art_gather;
+pub use art_remove;
 pub use asked::{Answer, Asked, cell_in, change_in, steps_in, steps_of, word_in};
 pub use driver::make;
 pub use inserting::{Entered, Inserting, Stage, is_begun, nowhere, passed};

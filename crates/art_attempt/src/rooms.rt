@@ -8,11 +8,11 @@ ghost use Rattle.art_make.specs.Making.{linked};
 
 use arrayvec::ArrayVec;
 use art_cell::{Body, Layout, Reads, Writes};
+use art_decide::art_insert::NewLeaf;
 use art_decide::{Bodies, needed};
 use art_find::Verdict;
 use art_frame::Stock;
 use art_gather::Wants;
-use art_insert::NewLeaf;
 use art_key::{Bound, Key};
 use art_place::Desk;
 use art_plan::Change;

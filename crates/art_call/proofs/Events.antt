@@ -1,28 +1,28 @@
 -- What a step of a call adds to the view: one step, or none where a counter is at its end; and the event, if it makes it.
 use Rattle.std.proofs.Common.{◌≡◌, ◌⊎◌, ℕ, ◌+◌, Bool, true, false, if◌then◌else◌, None, inl, inr, refl, ap, arith}
 use Rattle.std.specs.Prelude.{Ok, Err}
-use Rattle.art_attempt.specs.Asking.{Answers as AttemptAnswers, IsAllowed as MayAttempt, steps_in}
-use Rattle.art_attempt.specs.declared.asked.Answer.{Answer as AttemptAnswer}
-use Rattle.art_attempt.specs.declared.asked.Answer.TheVariants as told
-use Rattle.art_attempt.specs.declared.asked.Asked.{Asked as AttemptAsked}
-use Rattle.art_attempt.specs.declared.asked.Asked.TheVariants.{Cell, Supply, Change}
+use Rattle.art_change.specs.ArtAttempt.Asking.{Answers as AttemptAnswers, IsAllowed as MayAttempt, steps_in}
+use Rattle.art_change.specs.ArtAttempt.declared.asked.Answer.{Answer as AttemptAnswer}
+use Rattle.art_change.specs.ArtAttempt.declared.asked.Answer.TheVariants as told
+use Rattle.art_change.specs.ArtAttempt.declared.asked.Asked.{Asked as AttemptAsked}
+use Rattle.art_change.specs.ArtAttempt.declared.asked.Asked.TheVariants.{Cell, Supply, Change}
 use Rattle.art_call.specs.Made.{MakesAny, tells}
 use Rattle.art_epoch.proofs.Counting.{answers_count as frame_counts}
-use Rattle.art_find.proofs.Counting.{answers_count as cell_counts}
-use Rattle.art_find.specs.Asking.{goes_on}
-use Rattle.art_find.specs.declared.asked.Answer.{Answer as CellAnswer}
-use Rattle.art_find.specs.declared.asked.Answer.TheVariants.{Begun, Word as word_told, Checked}
-use Rattle.art_find.specs.declared.asked.Asked.{Asked as CellAsked}
-use Rattle.art_find.specs.declared.asked.Asked.TheVariants.{Begin, Read, ReadLeaf, Check, Settle}
-use Rattle.art_gather.specs.Asking.{Answers as SupplyAnswers, IsAllowed as MaySupply}
-use Rattle.art_gather.specs.declared.asked.Asked.{Asked as SupplyAsked}
-use Rattle.art_gather.specs.declared.asked.Asked.TheVariants.{Number, Leaf}
-use Rattle.art_make.specs.Asking.{Answers as ChangeAnswers, IsAllowed as MayChange}
-use Rattle.art_make.specs.declared.asked.Answer.{Answer as ChangeAnswer}
-use Rattle.art_make.specs.declared.asked.Answer.TheVariants.{Upgraded, Done}
-use Rattle.art_make.specs.declared.asked.Asked.{Asked as ChangeAsked}
-use Rattle.art_make.specs.declared.asked.Asked.TheVariants.{Upgrade, Claim, Write, Commit, Release}
-use Rattle.art_plan.specs.declared.changes.Change.{Change as ChangeOf}
+use Rattle.art_change.proofs.ArtFind.Counting.{answers_count as cell_counts}
+use Rattle.art_change.specs.ArtFind.Asking.{goes_on}
+use Rattle.art_change.specs.ArtFind.declared.asked.Answer.{Answer as CellAnswer}
+use Rattle.art_change.specs.ArtFind.declared.asked.Answer.TheVariants.{Begun, Word as word_told, Checked}
+use Rattle.art_change.specs.ArtFind.declared.asked.Asked.{Asked as CellAsked}
+use Rattle.art_change.specs.ArtFind.declared.asked.Asked.TheVariants.{Begin, Read, ReadLeaf, Check, Settle}
+use Rattle.art_change.specs.ArtGather.Asking.{Answers as SupplyAnswers, IsAllowed as MaySupply}
+use Rattle.art_change.specs.ArtGather.declared.asked.Asked.{Asked as SupplyAsked}
+use Rattle.art_change.specs.ArtGather.declared.asked.Asked.TheVariants.{Number, Leaf}
+use Rattle.art_frame.specs.ArtMake.Asking.{Answers as ChangeAnswers, IsAllowed as MayChange}
+use Rattle.art_frame.specs.ArtMake.declared.asked.Answer.{Answer as ChangeAnswer}
+use Rattle.art_frame.specs.ArtMake.declared.asked.Answer.TheVariants.{Upgraded, Done}
+use Rattle.art_frame.specs.ArtMake.declared.asked.Asked.{Asked as ChangeAsked}
+use Rattle.art_frame.specs.ArtMake.declared.asked.Asked.TheVariants.{Upgrade, Claim, Write, Commit, Release}
+use Rattle.art_change.specs.ArtPlan.declared.changes.Change.{Change as ChangeOf}
 use Rattle.art_seek.proofs.Told.{cell_sees, frame_silent}
 use Rattle.art_seek.specs.Asking.{told_by, walked}
 use Rattle.art_seek.specs.declared.driver.Stepped.TheVariants as stepped

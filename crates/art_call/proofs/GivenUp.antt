@@ -14,7 +14,7 @@ use Rattle.art_change.specs.declared.writes.Write.{Write}
 use Rattle.art_epoch.specs.Limbo.{places_of}
 use Rattle.art_epoch.specs.declared.limbo.Place.{Place}
 use Rattle.art_key.specs.declared.bounds.Bound.{Bound}
-use Rattle.art_look.specs.declared.trails.Trail.{Trail}
+use Rattle.art_seek.specs.ArtLook.declared.trails.Trail.{Trail}
 use Rattle.art_seek.proofs.GivenUp.{busy_is_free}
 use Rattle.art_seek.specs.Seeks as seeks
 use Rattle.art_seek.specs.Walks.{aim_of}

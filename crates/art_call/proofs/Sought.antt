@@ -12,11 +12,11 @@ use Rattle.art_change.specs.Writes.{UsedTurns}
 use Rattle.art_epoch.specs.Limbo.{places_of}
 use Rattle.art_key.specs.Bounds.{is_before}
 use Rattle.art_key.specs.declared.bounds.Bound.{Bound}
-use Rattle.art_look.proofs.Driven.{sees_after, sees_within}
-use Rattle.art_look.specs.Driven.{LookEnds}
-use Rattle.art_look.specs.Seen.{bound_at, look_done}
-use Rattle.art_look.specs.declared.looks.Seen.{Seen as SeenOf}
-use Rattle.art_look.specs.declared.trails.Trail.{Trail}
+use Rattle.art_seek.proofs.ArtLook.Driven.{sees_after, sees_within}
+use Rattle.art_seek.specs.ArtLook.Driven.{LookEnds}
+use Rattle.art_seek.specs.ArtLook.Seen.{bound_at, look_done}
+use Rattle.art_seek.specs.ArtLook.declared.looks.Seen.{Seen as SeenOf}
+use Rattle.art_seek.specs.ArtLook.declared.trails.Trail.{Trail}
 use Rattle.art_seek.proofs.Answered.{ended_closed, ended_end, ended_sought, look_ends, look_told, seen_busy}
 use Rattle.art_seek.proofs.Ends.{key_not_seen, range_not_absent, range_not_found}
 use Rattle.art_seek.specs.Seeks as seeks

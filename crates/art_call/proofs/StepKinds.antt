@@ -3,14 +3,14 @@ use Rattle.std.proofs.Common.{ℕ, Bool, inl, inr}
 use Rattle.art_call.specs.Kinds.{CommitsBy, Releases, Writes}
 use Rattle.art_cell.specs.declared.cells.Cell.{Cell}
 use Rattle.art_cell.specs.declared.cells.Link.TheVariants.{Leaf as leaf}
-use Rattle.art_gather.specs.Asking.{Answers as SupplyAnswers, IsAllowed as MaySupply}
-use Rattle.art_gather.specs.declared.asked.Asked.TheVariants.{Leaf}
-use Rattle.art_make.specs.Asking.{Answers as ChangeAnswers, IsAllowed as MayChange}
-use Rattle.art_make.specs.declared.packing.LeafWrite.{LeafWrite}
-use Rattle.art_make.specs.declared.asked.Answer.{Answer as ChangeAnswer}
-use Rattle.art_make.specs.declared.asked.Answer.TheVariants.{Done, Upgraded}
-use Rattle.art_make.specs.declared.asked.Asked.TheVariants.{Commit, Release, Write}
-use Rattle.art_plan.specs.declared.changes.Change.{Change}
+use Rattle.art_change.specs.ArtGather.Asking.{Answers as SupplyAnswers, IsAllowed as MaySupply}
+use Rattle.art_change.specs.ArtGather.declared.asked.Asked.TheVariants.{Leaf}
+use Rattle.art_frame.specs.ArtMake.Asking.{Answers as ChangeAnswers, IsAllowed as MayChange}
+use Rattle.art_frame.specs.ArtMake.declared.packing.LeafWrite.{LeafWrite}
+use Rattle.art_frame.specs.ArtMake.declared.asked.Answer.{Answer as ChangeAnswer}
+use Rattle.art_frame.specs.ArtMake.declared.asked.Answer.TheVariants.{Done, Upgraded}
+use Rattle.art_frame.specs.ArtMake.declared.asked.Asked.TheVariants.{Commit, Release, Write}
+use Rattle.art_change.specs.ArtPlan.declared.changes.Change.{Change}
 use Rattle.art_step.specs.Views.{IsHolding}
 use Rattle.art_step.specs.declared.views.Sizes.{Sizes}
 use Rattle.art_step.specs.declared.views.View.{View}

@@ -1,6 +1,6 @@
 -- A step of a call is the one that its machine asked for.
 use Rattle.std.specs.Prelude.{◌≡◌, ◌<◌, ℕ, zero, suc, List, Some}
-use Rattle.art_attempt.specs.declared.rooms.Room.{Room}
+use Rattle.art_change.specs.ArtAttempt.declared.rooms.Room.{Room}
 use Rattle.art_call.specs.declared.callers.Call.{Call}
 use Rattle.art_call.specs.declared.callers.Call.TheVariants as call
 use Rattle.art_call.specs.declared.callers.Caller.{Caller}
@@ -12,7 +12,7 @@ use Rattle.art_change.specs.declared.writes.Write.{Write}
 use Rattle.art_epoch.specs.Limbo.{places_of}
 use Rattle.art_epoch.specs.declared.limbo.Place.{Place}
 use Rattle.art_key.specs.declared.bounds.Bound.{Bound}
-use Rattle.art_look.specs.declared.trails.Trail.{Trail}
+use Rattle.art_seek.specs.ArtLook.declared.trails.Trail.{Trail}
 use Rattle.art_seek.specs.Asking.{Answers as SeekAnswers}
 use Rattle.art_seek.specs.Seeks as seeks
 use Rattle.art_seek.specs.Walks.{deed_at}

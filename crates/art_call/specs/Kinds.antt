@@ -6,9 +6,9 @@ use Rattle.art_cell.specs.declared.cells.Cell.{Cell}
 use Rattle.art_cell.specs.declared.cells.Link.{Link}
 use Rattle.art_cell.specs.declared.cells.Node.{Node}
 use Rattle.art_cell.specs.declared.layouts.Pool.{Pool}
-use Rattle.art_make.specs.Asking.{Upgrades}
-use Rattle.art_plan.specs.Changes.{leaf_linked, unlinked}
-use Rattle.art_plan.specs.declared.changes.Change.{Change}
+use Rattle.art_frame.specs.ArtMake.Asking.{Upgrades}
+use Rattle.art_change.specs.ArtPlan.Changes.{leaf_linked, unlinked}
+use Rattle.art_change.specs.ArtPlan.declared.changes.Change.{Change}
 use Rattle.art_step.specs.Steps.Advance as advance
 use Rattle.art_step.specs.Steps.Anchor as anchor
 use Rattle.art_step.specs.Steps.Begin as begin

@@ -1,14 +1,14 @@
 -- A step that a call made.
 use Rattle.std.specs.Prelude.{◌≡◌, ◌+◌, Bool, true, false, Ok, None}
-use Rattle.art_attempt.specs.declared.asked.Answer.{Answer as AttemptAnswer}
-use Rattle.art_attempt.specs.declared.asked.Answer.TheVariants as told
-use Rattle.art_attempt.specs.declared.asked.Asked.{Asked as AttemptAsked}
-use Rattle.art_attempt.specs.declared.asked.Asked.TheVariants.{Cell, Change}
+use Rattle.art_change.specs.ArtAttempt.declared.asked.Answer.{Answer as AttemptAnswer}
+use Rattle.art_change.specs.ArtAttempt.declared.asked.Answer.TheVariants as told
+use Rattle.art_change.specs.ArtAttempt.declared.asked.Asked.{Asked as AttemptAsked}
+use Rattle.art_change.specs.ArtAttempt.declared.asked.Asked.TheVariants.{Cell, Change}
 use Rattle.art_call.specs.Kinds.{IsStep}
 use Rattle.art_call.specs.declared.driver.Made.{Made}
-use Rattle.art_find.specs.declared.asked.Answer.TheVariants.{Checked}
-use Rattle.art_find.specs.declared.asked.Asked.TheVariants.{Settle}
-use Rattle.art_make.specs.declared.asked.Asked.TheVariants.{Commit}
+use Rattle.art_change.specs.ArtFind.declared.asked.Answer.TheVariants.{Checked}
+use Rattle.art_change.specs.ArtFind.declared.asked.Asked.TheVariants.{Settle}
+use Rattle.art_frame.specs.ArtMake.declared.asked.Asked.TheVariants.{Commit}
 use Rattle.art_step.specs.Events.{MakesEvent, SeesEvent}
 use Rattle.art_step.specs.declared.deeds.Deed.{Deed}
 use Rattle.art_step.specs.declared.views.Sizes.{Sizes}

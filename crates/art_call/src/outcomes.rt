@@ -4,7 +4,7 @@ ghost use Rattle.art_call.specs.Outcomes.{of_seek, of_write};
 
 use art_cell::{Cell, Pool};
 use art_frame::Blocker;
-use art_look::Seen;
+use art_seek::art_look::Seen;
 
 /// How a call ended.
 #[derive(Debug, PartialEq, Eq, Drop)]

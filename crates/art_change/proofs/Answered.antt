@@ -2,15 +2,15 @@
 use Rattle.std.proofs.Common.{◌≡◌, ℕ, ◌++◌, true, List, [], ◌∷◌, length, Option, Some, None, sym, ap, ap₂, ◌∙◌, subst}
 use Rattle.art_change.proofs.EitherKind.{IsLeft, left_by, left_since}
 use Rattle.art_change.specs.Tries.{key_of, value_of}
-use Rattle.art_attempt.specs.declared.rooms.Room.{Room}
+use Rattle.art_erase.specs.ArtAttempt.declared.rooms.Room.{Room}
 use Rattle.art_change.specs.Writes.{HasAnswered, IsClosing, IsDone, gone_by, told_by}
 use Rattle.art_change.specs.declared.writes.Write.{Write}
 use Rattle.art_change.specs.declared.writes.Outcome.{Outcome}
 use Rattle.art_change.specs.declared.writes.Outcome.TheVariants.{New, Present, Gone, Absent, Full, Exhausted, Overlaps, Busy, Crowded}
 use Rattle.art_epoch.specs.declared.limbo.Place.{Place}
-use Rattle.art_frame.specs.Closings.{ClosingFits, IsClosed, is_ended}
-use Rattle.art_frame.specs.declared.closings.Closing.{Closing}
-use Rattle.art_frame.specs.declared.closings.Closing.TheVariants as closing
+use Rattle.art_erase.specs.ArtFrame.Closings.{ClosingFits, IsClosed, is_ended}
+use Rattle.art_erase.specs.ArtFrame.declared.closings.Closing.{Closing}
+use Rattle.art_erase.specs.ArtFrame.declared.closings.Closing.TheVariants as closing
 use Rattle.art_step.specs.Events.{MakesEvent, SeesEvent}
 use Rattle.art_step.specs.Histories.{IsLegal, event, places}
 use Rattle.art_step.specs.Tokens.{links_of}

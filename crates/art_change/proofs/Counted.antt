@@ -1,6 +1,6 @@
 -- How many steps a write that has ended made, and how many failures it met.
 use Rattle.std.proofs.Common.{◌≡◌, true, List, ap, subst, arith}
-use Rattle.art_attempt.specs.declared.rooms.Room.{Room}
+use Rattle.art_erase.specs.ArtAttempt.declared.rooms.Room.{Room}
 use Rattle.art_change.proofs.Answered.{closed_at}
 use Rattle.art_change.proofs.EitherKind.{left_by}
 use Rattle.art_change.specs.Tries.{EndsSo, key_of, value_of}
@@ -9,7 +9,7 @@ use Rattle.art_change.specs.declared.writes.Outcome.{Outcome}
 use Rattle.art_change.specs.declared.writes.Outcome.TheVariants.{New, Present, Gone, Absent, Full, Exhausted, Overlaps, Busy, Crowded}
 use Rattle.art_change.specs.declared.writes.Write.{Write}
 use Rattle.art_epoch.specs.declared.limbo.Place.{Place}
-use Rattle.art_frame.specs.Closings.{is_ended}
+use Rattle.art_erase.specs.ArtFrame.Closings.{is_ended}
 use Rattle.art_step.specs.declared.views.Sizes.{Sizes}
 use Rattle.art_step.specs.declared.views.View.{View}
 

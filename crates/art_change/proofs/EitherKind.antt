@@ -3,20 +3,20 @@ use Rattle.std.proofs.Common.{◌≡◌, ℕ, ◌+◌, ◌<◌, ◌≤◌, List,
 use Rattle.std.specs.Prelude.{⊤}
 use Rattle.std.specs.Option.{option_map}
 use Rattle.std.proofs.lemmas.Option.{same_Some}
-use Rattle.art_attempt.proofs.Counts as inserting
-use Rattle.art_attempt.proofs.Tries.{event_since, later_then}
-use Rattle.art_attempt.specs.Asking.{Answers as AttemptAnswers, steps_in}
-use Rattle.art_attempt.specs.Inserting as inserts
-use Rattle.art_attempt.specs.Trying.{IsLater, StillTries}
-use Rattle.art_attempt.specs.declared.asked.Answer.{Answer as AttemptAnswer}
-use Rattle.art_attempt.specs.declared.asked.Asked.{Asked as AttemptAsked}
-use Rattle.art_attempt.specs.declared.asked.Asked.TheVariants.{Change}
-use Rattle.art_attempt.specs.declared.inserting.Entered.{Entered}
-use Rattle.art_attempt.specs.declared.inserting.Entered.TheVariants as entered
-use Rattle.art_attempt.specs.declared.inserting.Inserting.{Inserting as Insertion}
-use Rattle.art_attempt.specs.declared.inserting.Stage.{Stage as InsertStage}
-use Rattle.art_attempt.specs.declared.inserting.Stage.TheVariants as insert
-use Rattle.art_attempt.specs.declared.rooms.Room.{Room}
+use Rattle.art_erase.proofs.ArtAttempt.Counts as inserting
+use Rattle.art_erase.proofs.ArtAttempt.Tries.{event_since, later_then}
+use Rattle.art_erase.specs.ArtAttempt.Asking.{Answers as AttemptAnswers, steps_in}
+use Rattle.art_erase.specs.ArtAttempt.Inserting as inserts
+use Rattle.art_erase.specs.ArtAttempt.Trying.{IsLater, StillTries}
+use Rattle.art_erase.specs.ArtAttempt.declared.asked.Answer.{Answer as AttemptAnswer}
+use Rattle.art_erase.specs.ArtAttempt.declared.asked.Asked.{Asked as AttemptAsked}
+use Rattle.art_erase.specs.ArtAttempt.declared.asked.Asked.TheVariants.{Change}
+use Rattle.art_erase.specs.ArtAttempt.declared.inserting.Entered.{Entered}
+use Rattle.art_erase.specs.ArtAttempt.declared.inserting.Entered.TheVariants as entered
+use Rattle.art_erase.specs.ArtAttempt.declared.inserting.Inserting.{Inserting as Insertion}
+use Rattle.art_erase.specs.ArtAttempt.declared.inserting.Stage.{Stage as InsertStage}
+use Rattle.art_erase.specs.ArtAttempt.declared.inserting.Stage.TheVariants as insert
+use Rattle.art_erase.specs.ArtAttempt.declared.rooms.Room.{Room}
 use Rattle.art_change.specs.Made.{IsMadeBy, key_by}
 use Rattle.art_change.specs.Tries.{EndFits, EndsSo, EraseEnds, Fits, HasHand, InsertEnds, IsRoom, asks, deed_at, ended_at, key_of, of_entered, of_erased, steps_left, value_of}
 use Rattle.art_change.specs.Writes.{HasOutcome, ended_left, gone_by, told_by}
@@ -38,8 +38,8 @@ use Rattle.art_erase.specs.declared.erasing.Erased.TheVariants as erased
 use Rattle.art_erase.specs.declared.erasing.Erasing.{Erasing as Erasure}
 use Rattle.art_erase.specs.declared.erasing.Stage.{Stage as EraseStage}
 use Rattle.art_erase.specs.declared.erasing.Stage.TheVariants as erase
-use Rattle.art_make.proofs.Told.{map_some}
-use Rattle.art_make.specs.declared.asked.Asked.{Asked as ChangeAsked}
+use Rattle.art_erase.proofs.ArtMake.Told.{map_some}
+use Rattle.art_erase.specs.ArtMake.declared.asked.Asked.{Asked as ChangeAsked}
 use Rattle.art_plan.specs.Changes.{unlinked}
 use Rattle.art_step.specs.Events.{SeesEvent}
 use Rattle.art_step.specs.Shows.{Rest}

@@ -2,10 +2,10 @@
 use Rattle.std.proofs.Common.{◌≡◌, ℕ, ◌+◌, ◌-◌, ◌<◌, ◌≤◌, ◌==◌, true, false, List, [], ◌∷◌, length, Option, Some, None, refl, ap, ◌∙◌, subst, arith, ⊎_elim}
 use Rattle.std.proofs.lemmas.Bool.{cases_Bool, eqb-true}
 use Rattle.std.proofs.lemmas.Option.{same_Some}
-use Rattle.art_attempt.proofs.Tries.{later_first, still_then}
-use Rattle.art_attempt.specs.Inserting.{tries_left}
-use Rattle.art_attempt.specs.Trying.{StillTries}
-use Rattle.art_attempt.specs.declared.rooms.Room.{Room}
+use Rattle.art_erase.proofs.ArtAttempt.Tries.{later_first, still_then}
+use Rattle.art_erase.specs.ArtAttempt.Inserting.{tries_left}
+use Rattle.art_erase.specs.ArtAttempt.Trying.{StillTries}
+use Rattle.art_erase.specs.ArtAttempt.declared.rooms.Room.{Room}
 use Rattle.art_change.proofs.EitherKind.{IsRefusal, anew_failed, left_by, left_since, refused_so}
 use Rattle.art_change.specs.Tries.{EndFits, EndsSo, HasHand, IsRoom, SameKey, key_of, value_of}
 use Rattle.art_change.specs.Writes.{HasBegun, HasOutcome, IsClosing, IsDone, IsOpening, ended_left, given, gone_by, or_busy, outcome_of}
@@ -21,10 +21,10 @@ use Rattle.std.specs.List.{cons_option}
 use Rattle.art_cell.specs.Children.{link_of}
 use Rattle.art_cell.specs.declared.cells.Link.{Link}
 use Rattle.art_epoch.specs.declared.limbo.Place.{Place}
-use Rattle.art_frame.proofs.Stocked.{at_most_five, stock_hinted, stock_same}
-use Rattle.art_frame.specs.Closings.{MayClose, begins, is_ended, steps_left}
-use Rattle.art_frame.specs.Openings.{IsOpened}
-use Rattle.art_frame.specs.declared.stocks.Stock.{Stock}
+use Rattle.art_erase.proofs.ArtFrame.Stocked.{at_most_five, stock_hinted, stock_same}
+use Rattle.art_erase.specs.ArtFrame.Closings.{MayClose, begins, is_ended, steps_left}
+use Rattle.art_erase.specs.ArtFrame.Openings.{IsOpened}
+use Rattle.art_erase.specs.ArtFrame.declared.stocks.Stock.{Stock}
 use Rattle.art_step.specs.Tokens.{links_of}
 use Rattle.art_step.specs.declared.views.Sizes.{Sizes}
 use Rattle.art_step.specs.declared.views.View.{View}

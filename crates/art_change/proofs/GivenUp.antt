@@ -5,12 +5,12 @@ use Rattle.std.proofs.lemmas.Option.{slice_get-get_or}
 use Rattle.std.specs.Prelude.{get_or}
 use Rattle.std.specs.Option.{option_map}
 use Rattle.arrayvec.specs.ArrayVec.{ArrayVec}
-use Rattle.art_attempt.specs.Inserting as inserts
-use Rattle.art_attempt.specs.Inserting.{is_begun}
-use Rattle.art_attempt.specs.declared.inserting.Inserting.{Inserting as Insertion}
-use Rattle.art_attempt.specs.declared.inserting.Stage.{Stage as InsertStage}
-use Rattle.art_attempt.specs.declared.inserting.Stage.TheVariants as insert
-use Rattle.art_attempt.specs.declared.rooms.Room.{Room}
+use Rattle.art_erase.specs.ArtAttempt.Inserting as inserts
+use Rattle.art_erase.specs.ArtAttempt.Inserting.{is_begun}
+use Rattle.art_erase.specs.ArtAttempt.declared.inserting.Inserting.{Inserting as Insertion}
+use Rattle.art_erase.specs.ArtAttempt.declared.inserting.Stage.{Stage as InsertStage}
+use Rattle.art_erase.specs.ArtAttempt.declared.inserting.Stage.TheVariants as insert
+use Rattle.art_erase.specs.ArtAttempt.declared.rooms.Room.{Room}
 use Rattle.art_cell.specs.declared.cells.Cell.TheVariants as cell
 use Rattle.art_cell.specs.declared.cells.Link.{Link}
 use Rattle.art_cell.specs.declared.cells.Node.{Node}
@@ -31,15 +31,15 @@ use Rattle.art_erase.specs.Erasing as erases
 use Rattle.art_erase.specs.declared.erasing.Erasing.{Erasing as Erasure}
 use Rattle.art_erase.specs.declared.erasing.Stage.{Stage as EraseStage}
 use Rattle.art_erase.specs.declared.erasing.Stage.TheVariants as erase
-use Rattle.art_frame.proofs.Opens.{opening_same}
-use Rattle.art_frame.specs.Closings.{ClosingFits}
-use Rattle.art_frame.specs.declared.closings.Closing.{Closing}
-use Rattle.art_frame.specs.declared.closings.Closing.TheVariants as closing
-use Rattle.art_frame.specs.declared.stocks.Stock.{Stock}
-use Rattle.art_make.proofs.Committing.{some_words}
-use Rattle.art_make.specs.Making.{Fits as MakeFits, at_claim, at_fill, at_release, ended_at as make_ended, so_many}
-use Rattle.art_make.specs.declared.making.Making.{Making}
-use Rattle.art_make.specs.declared.making.Making.TheVariants.{Upgrading, Claiming, Filling, Writing, Committing, Releasing, ReleasingNode, GivingUp, Ended}
+use Rattle.art_erase.proofs.ArtFrame.Opens.{opening_same}
+use Rattle.art_erase.specs.ArtFrame.Closings.{ClosingFits}
+use Rattle.art_erase.specs.ArtFrame.declared.closings.Closing.{Closing}
+use Rattle.art_erase.specs.ArtFrame.declared.closings.Closing.TheVariants as closing
+use Rattle.art_erase.specs.ArtFrame.declared.stocks.Stock.{Stock}
+use Rattle.art_erase.proofs.ArtMake.Committing.{some_words}
+use Rattle.art_erase.specs.ArtMake.Making.{Fits as MakeFits, at_claim, at_fill, at_release, ended_at as make_ended, so_many}
+use Rattle.art_erase.specs.ArtMake.declared.making.Making.{Making}
+use Rattle.art_erase.specs.ArtMake.declared.making.Making.TheVariants.{Upgrading, Claiming, Filling, Writing, Committing, Releasing, ReleasingNode, GivingUp, Ended}
 use Rattle.art_plan.specs.Changes.{filled_at, target_at, targets}
 use Rattle.art_plan.specs.Whole.{HoldsWhole, filled_ends, made_at}
 use Rattle.art_plan.specs.declared.changes.Change.{Change}

@@ -4,7 +4,7 @@ use Rattle.art_change.specs.Writes.{IsFresh, IsReady}
 use Rattle.art_epoch.specs.Limbo.{IsLimbo}
 use Rattle.art_epoch.specs.Pins.{MayPin}
 use Rattle.art_epoch.specs.declared.limbo.Place.{Place}
-use Rattle.art_frame.specs.declared.stocks.Stock.{Stock}
+use Rattle.art_erase.specs.ArtFrame.declared.stocks.Stock.{Stock}
 use Rattle.art_step.specs.Opening.{newcomer}
 use Rattle.art_step.specs.WordRows.{newcomers, view_at}
 use Rattle.art_step.specs.declared.views.Sizes.{Sizes}

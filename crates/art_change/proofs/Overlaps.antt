@@ -2,18 +2,18 @@
 use Rattle.std.proofs.Common.{◌≡◌, ◌≢◌, ◌∙◌, ◌==◌, ℕ, List, Some, refl, sym, ap, subst}
 use Rattle.std.proofs.lemmas.Bool.{cond_both}
 use Rattle.std.proofs.lemmas.Option.{same_Some}
-use Rattle.art_attempt.proofs.Overlaps as attempts
-use Rattle.art_attempt.specs.Asking as attempt_asking
-use Rattle.art_attempt.specs.Asking.{cell_in}
-use Rattle.art_attempt.specs.Inserting as inserts
-use Rattle.art_attempt.specs.declared.asked.Answer.{Answer as AttemptAnswer}
-use Rattle.art_attempt.specs.declared.asked.Answer.TheVariants as attempt_told
-use Rattle.art_attempt.specs.declared.asked.Asked.{Asked as AttemptAsked}
-use Rattle.art_attempt.specs.declared.asked.Asked.TheVariants.{Cell, Supply, Change}
-use Rattle.art_attempt.specs.declared.inserting.Entered.{Entered}
-use Rattle.art_attempt.specs.declared.inserting.Entered.TheVariants as entered
-use Rattle.art_attempt.specs.declared.inserting.Inserting.{Inserting as Insertion}
-use Rattle.art_attempt.specs.declared.rooms.Room.{Room}
+use Rattle.art_erase.proofs.ArtAttempt.Overlaps as attempts
+use Rattle.art_erase.specs.ArtAttempt.Asking as attempt_asking
+use Rattle.art_erase.specs.ArtAttempt.Asking.{cell_in}
+use Rattle.art_erase.specs.ArtAttempt.Inserting as inserts
+use Rattle.art_erase.specs.ArtAttempt.declared.asked.Answer.{Answer as AttemptAnswer}
+use Rattle.art_erase.specs.ArtAttempt.declared.asked.Answer.TheVariants as attempt_told
+use Rattle.art_erase.specs.ArtAttempt.declared.asked.Asked.{Asked as AttemptAsked}
+use Rattle.art_erase.specs.ArtAttempt.declared.asked.Asked.TheVariants.{Cell, Supply, Change}
+use Rattle.art_erase.specs.ArtAttempt.declared.inserting.Entered.{Entered}
+use Rattle.art_erase.specs.ArtAttempt.declared.inserting.Entered.TheVariants as entered
+use Rattle.art_erase.specs.ArtAttempt.declared.inserting.Inserting.{Inserting as Insertion}
+use Rattle.art_erase.specs.ArtAttempt.declared.rooms.Room.{Room}
 use Rattle.art_change.specs.Asking.{PassesAmong, attempt_in}
 use Rattle.art_change.specs.Tries as tries
 use Rattle.art_change.specs.Tries.{IsOverlapBy, ended_at, key_of, of_entered, of_erased}
@@ -38,7 +38,7 @@ use Rattle.art_erase.specs.Erasing as erases
 use Rattle.art_erase.specs.declared.erasing.Erased.{Erased}
 use Rattle.art_erase.specs.declared.erasing.Erased.TheVariants as erased
 use Rattle.art_erase.specs.declared.erasing.Erasing.{Erasing as Erasure}
-use Rattle.art_make.proofs.Told.{map_some}
+use Rattle.art_erase.proofs.ArtMake.Told.{map_some}
 use Rattle.art_step.specs.Histories.{AreApart}
 use Rattle.art_step.specs.declared.views.Sizes.{Sizes}
 use Rattle.art_step.specs.declared.views.View.{View}

@@ -1,8 +1,8 @@
 -- What a part of a write asked, and what it is told.
 use Rattle.std.proofs.Common.{◌≡◌, Option, Some, sym, subst}
 use Rattle.std.specs.Option.{option_map}
-use Rattle.art_attempt.specs.Asking.{Answers as AttemptAnswers}
-use Rattle.art_attempt.specs.declared.asked.Asked.{Asked as AttemptAsked}
+use Rattle.art_erase.specs.ArtAttempt.Asking.{Answers as AttemptAnswers}
+use Rattle.art_erase.specs.ArtAttempt.declared.asked.Asked.{Asked as AttemptAsked}
 use Rattle.art_change.specs.Asking.{Answers, attempt_in, word_in}
 use Rattle.art_change.specs.declared.asked.Answer.{Answer}
 use Rattle.art_change.specs.declared.asked.Answer.TheVariants as told
@@ -10,7 +10,7 @@ use Rattle.art_change.specs.declared.asked.Asked.{Asked}
 use Rattle.art_change.specs.declared.asked.Asked.TheVariants.{Frame, Attempt}
 use Rattle.art_epoch.specs.Asking.{Answers as FrameAnswers}
 use Rattle.art_epoch.specs.declared.asked.Asked.{Asked as FrameAsked}
-use Rattle.art_make.proofs.Told.{map_some}
+use Rattle.art_erase.proofs.ArtMake.Told.{map_some}
 use Rattle.art_plan.specs.declared.changes.Change.{Change}
 use Rattle.art_step.specs.declared.deeds.Deed.{Deed}
 use Rattle.art_step.specs.declared.views.Sizes.{Sizes}

@@ -1,7 +1,7 @@
 -- A pass that is ready for a write is so again after it.
 use Rattle.std.proofs.Common.{◌≡◌, ℕ, List, [], true, Option, Some, None, refl, sym, ap, ◌∙◌, subst}
 use Rattle.std.proofs.lemmas.Option.{same_Some}
-use Rattle.art_attempt.specs.declared.rooms.Room.{Room}
+use Rattle.art_erase.specs.ArtAttempt.declared.rooms.Room.{Room}
 use Rattle.art_cell.specs.declared.cells.Link.{Link}
 use Rattle.art_cell.specs.declared.cells.Link.TheVariants.{Leaf as leaf, Node as node}
 use Rattle.art_change.proofs.Answered.{answered, left_opened}
@@ -14,12 +14,12 @@ use Rattle.art_change.specs.declared.writes.Outcome.TheVariants.{New, Present, G
 use Rattle.art_change.specs.declared.writes.Stage.{Stage}
 use Rattle.art_change.specs.declared.writes.Stage.TheVariants as stage
 use Rattle.art_epoch.specs.declared.limbo.Place.{Place}
-use Rattle.art_frame.proofs.Stocked.{first_is_in, none_is_in}
-use Rattle.art_frame.specs.Closings.{ClosingFits, IsClosed, is_ended}
-use Rattle.art_frame.specs.Stocks.{HasStock, first_in}
-use Rattle.art_frame.specs.declared.closings.Closing.{Closing}
-use Rattle.art_frame.specs.declared.closings.Closing.TheVariants as closing
-use Rattle.art_frame.specs.declared.stocks.Stock.{Stock}
+use Rattle.art_erase.proofs.ArtFrame.Stocked.{first_is_in, none_is_in}
+use Rattle.art_erase.specs.ArtFrame.Closings.{ClosingFits, IsClosed, is_ended}
+use Rattle.art_erase.specs.ArtFrame.Stocks.{HasStock, first_in}
+use Rattle.art_erase.specs.ArtFrame.declared.closings.Closing.{Closing}
+use Rattle.art_erase.specs.ArtFrame.declared.closings.Closing.TheVariants as closing
+use Rattle.art_erase.specs.ArtFrame.declared.stocks.Stock.{Stock}
 use Rattle.art_step.specs.Tokens.{links_of}
 use Rattle.art_step.specs.Views.{Member}
 use Rattle.art_step.specs.declared.views.Sizes.{Sizes}

@@ -5,9 +5,9 @@ use Rattle.art_change.proofs.EitherKind.{try_few, try_key, try_makes}
 use Rattle.art_change.specs.Made.{IsMadeBy, key_by}
 use Rattle.art_change.specs.Tries.{key_of}
 use Rattle.art_change.specs.Tries as tries
-use Rattle.art_attempt.specs.declared.asked.Asked.{Asked as AttemptAsked}
-use Rattle.art_attempt.specs.declared.asked.Asked.TheVariants.{Change}
-use Rattle.art_attempt.specs.declared.rooms.Room.{Room}
+use Rattle.art_erase.specs.ArtAttempt.declared.asked.Asked.{Asked as AttemptAsked}
+use Rattle.art_erase.specs.ArtAttempt.declared.asked.Asked.TheVariants.{Change}
+use Rattle.art_erase.specs.ArtAttempt.declared.rooms.Room.{Room}
 use Rattle.art_change.proofs.Parts.{attempt_told, frame_told}
 use Rattle.art_change.specs.Asking.{Answers, attempt_in, word_in}
 use Rattle.art_change.specs.Writes.{Fits, StageFits, asks, asks_at, deed_at}
@@ -20,10 +20,10 @@ use Rattle.art_change.specs.declared.writes.Stage.TheVariants as stage
 use Rattle.art_epoch.proofs.Counting.{answers_count}
 use Rattle.art_epoch.specs.declared.asked.Asked.{Asked as FrameAsked}
 use Rattle.art_epoch.specs.declared.limbo.Place.{Place}
-use Rattle.art_frame.specs.Closings as closings
-use Rattle.art_frame.specs.Openings as openings
-use Rattle.art_make.proofs.Told.{map_some}
-use Rattle.art_make.specs.declared.asked.Asked.{Asked as ChangeAsked}
+use Rattle.art_erase.specs.ArtFrame.Closings as closings
+use Rattle.art_erase.specs.ArtFrame.Openings as openings
+use Rattle.art_erase.proofs.ArtMake.Told.{map_some}
+use Rattle.art_erase.specs.ArtMake.declared.asked.Asked.{Asked as ChangeAsked}
 use Rattle.art_step.specs.declared.views.Sizes.{Sizes}
 use Rattle.art_step.specs.declared.views.View.{View}
 

@@ -1,8 +1,8 @@
 -- What each step of a change needs of the pass's view, and what its answer says of the view after it.
 use Rattle.std.specs.Prelude.{ℕ, List, ⊤}
-use Rattle.art_attempt.specs.Asking as attempts
-use Rattle.art_attempt.specs.declared.asked.Answer.{Answer as AttemptAnswer}
-use Rattle.art_attempt.specs.declared.asked.Answer.TheVariants.{Word as word_told}
+use Rattle.art_erase.specs.ArtAttempt.Asking as attempts
+use Rattle.art_erase.specs.ArtAttempt.declared.asked.Answer.{Answer as AttemptAnswer}
+use Rattle.art_erase.specs.ArtAttempt.declared.asked.Answer.TheVariants.{Word as word_told}
 use Rattle.art_change.specs.declared.asked.Answer.{Answer}
 use Rattle.art_change.specs.declared.asked.Answer.TheVariants as told
 use Rattle.art_change.specs.declared.asked.Asked.{Asked}

@@ -1,10 +1,10 @@
 -- What an attempt of either kind makes.
 use Rattle.std.specs.Prelude.{◌≡◌, ℕ, List}
-use Rattle.art_attempt.specs.declared.rooms.Room.{Room}
+use Rattle.art_erase.specs.ArtAttempt.declared.rooms.Room.{Room}
 use Rattle.art_change.specs.declared.tries.Trying.{Trying}
 use Rattle.art_change.specs.declared.tries.Trying.TheVariants.{Inserting, Erasing}
-use Rattle.art_insert.specs.Puts.{inserted}
-use Rattle.art_remove.specs.Removals.{removed}
+use Rattle.art_erase.specs.ArtInsert.Puts.{inserted}
+use Rattle.art_erase.specs.ArtRemove.Removals.{removed}
 
 -- the key of its row
 abbrev pub key_by : Trying → Room → List ℕ

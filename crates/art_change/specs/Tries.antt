@@ -2,14 +2,14 @@
 use Rattle.std.specs.Prelude.{◌≡◌, ◌<◌, ◌≤◌, ℕ, Option, None, Bool}
 use Rattle.std.specs.Option.{option_map}
 use Rattle.arrayvec.specs.ArrayVec.{ArrayVec}
-use Rattle.art_attempt.specs.Inserting as inserts
-use Rattle.art_attempt.specs.Inserting.{HasEntered, IsExhausted, IsFull, IsOverlap, IsPresent, tries_left}
-use Rattle.art_attempt.specs.Trying.{HasSpent, IsKey, StillTries}
-use Rattle.art_attempt.specs.declared.asked.Asked.{Asked}
-use Rattle.art_attempt.specs.declared.inserting.Entered.{Entered}
-use Rattle.art_attempt.specs.declared.inserting.Entered.TheVariants as entered
-use Rattle.art_attempt.specs.declared.inserting.Inserting.{Inserting as Insertion}
-use Rattle.art_attempt.specs.declared.rooms.Room.{Room}
+use Rattle.art_erase.specs.ArtAttempt.Inserting as inserts
+use Rattle.art_erase.specs.ArtAttempt.Inserting.{HasEntered, IsExhausted, IsFull, IsOverlap, IsPresent, tries_left}
+use Rattle.art_erase.specs.ArtAttempt.Trying.{HasSpent, IsKey, StillTries}
+use Rattle.art_erase.specs.ArtAttempt.declared.asked.Asked.{Asked}
+use Rattle.art_erase.specs.ArtAttempt.declared.inserting.Entered.{Entered}
+use Rattle.art_erase.specs.ArtAttempt.declared.inserting.Entered.TheVariants as entered
+use Rattle.art_erase.specs.ArtAttempt.declared.inserting.Inserting.{Inserting as Insertion}
+use Rattle.art_erase.specs.ArtAttempt.declared.rooms.Room.{Room}
 use Rattle.art_change.specs.declared.tries.Job.{Job}
 use Rattle.art_change.specs.declared.tries.Job.TheVariants.{Insert, Remove}
 use Rattle.art_change.specs.declared.tries.Tried.{Tried}
@@ -22,7 +22,7 @@ use Rattle.art_erase.specs.declared.erasing.Erased.{Erased}
 use Rattle.art_erase.specs.declared.erasing.Erased.TheVariants as erased
 use Rattle.art_erase.specs.declared.erasing.Erasing.{Erasing as Erasure}
 use Rattle.art_find.specs.declared.asked.Answer.{Answer as CellAnswer}
-use Rattle.art_frame.specs.Stocks.{HasStock}
+use Rattle.art_erase.specs.ArtFrame.Stocks.{HasStock}
 use Rattle.art_step.specs.declared.deeds.Deed.{Deed}
 use Rattle.art_step.specs.declared.views.Sizes.{Sizes}
 use Rattle.art_step.specs.declared.views.View.{View}

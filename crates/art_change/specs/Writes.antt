@@ -2,11 +2,11 @@
 use Rattle.std.specs.Prelude.{◌≡◌, ◌≢◌, ◌⊎◌, ℕ, ◌+◌, ◌-◌, ◌*◌, ◌<◌, ◌≤◌, ◌==◌, Bool, true, false, List, [], length, Option, Some, None, if◌then◌else◌}
 use Rattle.arrayvec.specs.ArrayVec.{ArrayVec}
 use Rattle.std.specs.Option.{option_map}
-use Rattle.art_attempt.specs.Inserting.{present, tries_left}
-use Rattle.art_attempt.specs.Asking.{cell_in}
-use Rattle.art_attempt.specs.Trying.{IsLimited, StillTries}
-use Rattle.art_attempt.specs.declared.asked.Answer.{Answer as AttemptAnswer}
-use Rattle.art_attempt.specs.declared.rooms.Room.{Room}
+use Rattle.art_erase.specs.ArtAttempt.Inserting.{present, tries_left}
+use Rattle.art_erase.specs.ArtAttempt.Asking.{cell_in}
+use Rattle.art_erase.specs.ArtAttempt.Trying.{IsLimited, StillTries}
+use Rattle.art_erase.specs.ArtAttempt.declared.asked.Answer.{Answer as AttemptAnswer}
+use Rattle.art_erase.specs.ArtAttempt.declared.rooms.Room.{Room}
 use Rattle.art_cell.specs.declared.cells.Link.{Link}
 use Rattle.art_change.specs.Tries as tries
 use Rattle.art_change.specs.Tries.{EndFits, EndsSo, HasHand, IsRoom, key_of, value_of}
@@ -29,17 +29,17 @@ use Rattle.art_epoch.specs.declared.asked.Asked.{Asked as FrameAsked}
 use Rattle.art_epoch.specs.declared.asked.Asked.TheVariants.{Free}
 use Rattle.art_epoch.specs.declared.limbo.Place.{Place}
 use Rattle.art_erase.specs.Erasing.{absent}
-use Rattle.art_frame.specs.Closings as closings
-use Rattle.art_frame.specs.Closings.{ClosingFits}
-use Rattle.art_frame.specs.Openings as openings
-use Rattle.art_frame.specs.Openings.{IsCrowded, IsOpened, MayOpen, OpeningFits}
-use Rattle.art_frame.specs.Stocks.{first_in, hinted_at}
-use Rattle.art_frame.specs.declared.stocks.Stock.{Stock}
-use Rattle.art_insert.specs.Puts.{inserted}
-use Rattle.art_insert.specs.declared.leaves.NewLeaf.{NewLeaf}
+use Rattle.art_erase.specs.ArtFrame.Closings as closings
+use Rattle.art_erase.specs.ArtFrame.Closings.{ClosingFits}
+use Rattle.art_erase.specs.ArtFrame.Openings as openings
+use Rattle.art_erase.specs.ArtFrame.Openings.{IsCrowded, IsOpened, MayOpen, OpeningFits}
+use Rattle.art_erase.specs.ArtFrame.Stocks.{first_in, hinted_at}
+use Rattle.art_erase.specs.ArtFrame.declared.stocks.Stock.{Stock}
+use Rattle.art_erase.specs.ArtInsert.Puts.{inserted}
+use Rattle.art_erase.specs.ArtInsert.declared.leaves.NewLeaf.{NewLeaf}
 use Rattle.art_plan.specs.declared.changes.Change.{Change}
-use Rattle.art_remove.specs.Removals.{removed}
-use Rattle.art_remove.specs.declared.leaves.OldLeaf.{OldLeaf}
+use Rattle.art_erase.specs.ArtRemove.Removals.{removed}
+use Rattle.art_erase.specs.ArtRemove.declared.leaves.OldLeaf.{OldLeaf}
 use Rattle.art_step.specs.Events.{MakesEvent, SeesEvent}
 use Rattle.art_step.specs.Tokens.{links_of}
 use Rattle.art_step.specs.declared.deeds.Deed.{Deed}

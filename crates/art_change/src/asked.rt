@@ -2,7 +2,7 @@
 ghost use Rattle.std.specs.Prelude.{◌≡◌};
 ghost use Rattle.art_change.specs.Asking.{attempt_in, word_in};
 
-use art_attempt::Answer as AttemptAnswer;
+use art_erase::art_attempt::Answer as AttemptAnswer;
 
 /// One step.
 #[derive(Clone, Copy)]
@@ -10,7 +10,7 @@ pub enum Asked {
     /// Of the opening, or of the close.
     Frame(art_epoch::Asked),
     /// Of an attempt.
-    Attempt(art_attempt::Asked),
+    Attempt(art_erase::art_attempt::Asked),
 }
 
 /// What such a step answers.

@@ -1,7 +1,7 @@
 //! Makes the steps of a write.
 ghost use Rattle.std.specs.Prelude.{◌≡◌, ◌≢◌, ℕ, ◌+◌, ◌<◌, ◌≤◌, List, None, Some};
-ghost use Rattle.art_attempt.specs.declared.asked.Asked.{Asked as AttemptAsked};
-ghost use Rattle.art_attempt.specs.declared.asked.Asked.TheVariants.{Change as change_asked};
+ghost use Rattle.art_erase.specs.ArtAttempt.declared.asked.Asked.{Asked as AttemptAsked};
+ghost use Rattle.art_erase.specs.ArtAttempt.declared.asked.Asked.TheVariants.{Change as change_asked};
 ghost use Rattle.art_change.specs.Asking.{Answers, IsAllowed, PassesAmong};
 ghost use Rattle.art_change.specs.Tries.{IsRoom, SameKey, deed_at, key_of, value_of};
 ghost use Rattle.art_change.specs.Made.{IsMadeBy, key_by};
@@ -13,13 +13,13 @@ ghost use Rattle.art_change.specs.declared.writes.Outcome.{Outcome as OutcomeOf}
 ghost use Rattle.art_change.specs.declared.writes.Outcome.TheVariants.{Overlaps as overlaps};
 ghost use Rattle.art_epoch.specs.Limbo.{places_of};
 ghost use Rattle.art_epoch.specs.declared.limbo.Place.{Place};
-ghost use Rattle.art_make.specs.declared.asked.Asked.{Asked as ChangeAsked};
+ghost use Rattle.art_erase.specs.ArtMake.declared.asked.Asked.{Asked as ChangeAsked};
 ghost use Rattle.art_step.specs.Histories.{AreApart};
 ghost use Rattle.art_step.specs.declared.views.View.{View};
 
 use crate::{Answer, Asked, Job, Trying, Write, Written};
-use art_attempt::{Room, make as make_insert};
 use art_epoch::{Limbo, make as make_frame};
+use art_erase::art_attempt::{Room, make as make_insert};
 use art_erase::make as make_removal;
 use art_step::EpochSteps;
 

@@ -42,6 +42,8 @@ mod tries;
 mod writers;
 mod writes;
 
+pub use art_erase::{art_attempt, art_gather};
+pub use art_find;
 pub use asked::{Answer, Asked};
 pub use driver::{Stepped, finish, step};
 pub use tries::{Job, Tried, Trying};

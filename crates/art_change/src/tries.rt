@@ -1,17 +1,17 @@
 //! An attempt of an insert or of a removal.
 ghost use Rattle.std.specs.Prelude.{◌≡◌, ◌≢◌, ℕ, ◌+◌, ◌-◌, ◌<◌, ◌≤◌, None, Some, true};
 ghost use Rattle.art_change.specs.Made.{key_by};
-ghost use Rattle.art_attempt.specs.Asking.{Answers, IsAllowed, cell_in, steps_in};
-ghost use Rattle.art_attempt.specs.declared.asked.Asked.{Asked as AskedStep};
-ghost use Rattle.art_attempt.specs.declared.rooms.Room.{Room as RoomOf};
+ghost use Rattle.art_erase.specs.ArtAttempt.Asking.{Answers, IsAllowed, cell_in, steps_in};
+ghost use Rattle.art_erase.specs.ArtAttempt.declared.asked.Asked.{Asked as AskedStep};
+ghost use Rattle.art_erase.specs.ArtAttempt.declared.rooms.Room.{Room as RoomOf};
 ghost use Rattle.art_change.specs.Tries.{EndsSo, Fits, IsAnewBy, IsFirst, IsOverlapBy, SameKey, asks, deed_at, ended_at, is_free, of_entered, of_erased, steps_left};
 ghost use Rattle.art_change.specs.declared.tries.Job.{Job as JobOf};
 ghost use Rattle.art_change.specs.declared.tries.Tried.TheVariants.{Anew as anew, Overlaps as overlaps};
 ghost use Rattle.art_step.specs.declared.views.Sizes.{Sizes};
 ghost use Rattle.art_step.specs.declared.views.View.{View};
 
-use art_attempt::{Answer, Asked, Entered, Inserting, Room};
 use art_cell::{Cell, Pool};
+use art_erase::art_attempt::{Answer, Asked, Entered, Inserting, Room};
 use art_erase::{Erased, Erasing};
 use art_step::EpochSteps;
 

@@ -9,8 +9,8 @@ ghost use Rattle.art_step.specs.declared.views.View.{View};
 
 use crate::driver::write;
 use crate::{Job, Outcome};
-use art_attempt::Room;
 use art_epoch::Limbo;
+use art_erase::art_attempt::Room;
 use art_key::Key;
 use art_step::{EpochSteps, Sizes};
 

@@ -1,9 +1,9 @@
 //! A write, step by step: its opening, its attempts, its close.
 ghost use Rattle.std.specs.Prelude.{◌≡◌, ◌≢◌, ◌⊎◌, ℕ, ◌+◌, ◌-◌, ◌<◌, ◌≤◌, List, [], length, Some, None, true, false};
-ghost use Rattle.art_attempt.specs.Asking.{Answers as AttemptAnswers, steps_in};
-ghost use Rattle.art_attempt.specs.Inserting.{tries_left};
-ghost use Rattle.art_attempt.specs.declared.asked.Asked.{Asked as AttemptAsked};
-ghost use Rattle.art_attempt.specs.declared.rooms.Room.{Room as RoomOf};
+ghost use Rattle.art_erase.specs.ArtAttempt.Asking.{Answers as AttemptAnswers, steps_in};
+ghost use Rattle.art_erase.specs.ArtAttempt.Inserting.{tries_left};
+ghost use Rattle.art_erase.specs.ArtAttempt.declared.asked.Asked.{Asked as AttemptAsked};
+ghost use Rattle.art_erase.specs.ArtAttempt.declared.rooms.Room.{Room as RoomOf};
 ghost use Rattle.art_change.specs.Asking.{Answers, attempt_in};
 ghost use Rattle.art_change.specs.Tries.{EndFits, HasHand, IsFirst, IsRoom, SameKey, asks as attempt_asks, is_free, key_of, value_of};
 ghost use Rattle.art_change.specs.Tries as tries;
@@ -19,19 +19,19 @@ ghost use Rattle.art_epoch.specs.Asking.{Answers as FrameAnswers, IsAllowed as I
 ghost use Rattle.art_epoch.specs.Limbo.{places_of};
 ghost use Rattle.art_epoch.specs.declared.asked.Asked.{Asked as FrameAsked};
 ghost use Rattle.art_epoch.specs.declared.limbo.Place.{Place};
-ghost use Rattle.art_frame.specs.Closings.{asks as closing_asks, is_ended};
-ghost use Rattle.art_frame.specs.Openings.{asks as opening_asks};
-ghost use Rattle.art_frame.specs.declared.stocks.Stock.{Stock as StockOf};
+ghost use Rattle.art_erase.specs.ArtFrame.Closings.{asks as closing_asks, is_ended};
+ghost use Rattle.art_erase.specs.ArtFrame.Openings.{asks as opening_asks};
+ghost use Rattle.art_erase.specs.ArtFrame.declared.stocks.Stock.{Stock as StockOf};
 ghost use Rattle.art_step.specs.declared.deeds.Deed.{Deed};
 ghost use Rattle.art_step.specs.declared.views.Sizes.{Sizes};
 ghost use Rattle.art_step.specs.declared.views.View.{View};
 
 use crate::asked::{attempt_in, word_in};
 use crate::{Answer, Asked, Job, Tried, Trying};
-use art_attempt::{Answer as AttemptAnswer, Room, steps_in};
 use art_cell::{Cell, Pool};
 use art_epoch::{Asked as FrameStep, Limbo, make as make_frame};
-use art_frame::{Blocker, Closing, Opened, Opening};
+use art_erase::art_attempt::{Answer as AttemptAnswer, Room, steps_in};
+use art_erase::art_frame::{Blocker, Closing, Opened, Opening};
 use art_plan::Change;
 use art_step::EpochSteps;
 

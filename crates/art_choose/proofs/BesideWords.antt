@@ -10,7 +10,7 @@ use Rattle.art_cell.specs.declared.node_kinds.Entry.{Entry}
 use Rattle.art_cell.specs.declared.node_kinds.NextProbe.{NextProbe}
 use Rattle.art_cell.specs.declared.node_kinds.NextProbe.TheVariants.{Need, Entry as Told, None as Nothing}
 use Rattle.art_choose.specs.Others.{IsBeside, IsChildRead, IsLeast, IsReadOf}
-use Rattle.art_plan.proofs.ChildPlaces.{child_stands}
+use Rattle.art_decide.proofs.ArtPlan.ChildPlaces.{child_stands}
 
 after_header : (k : Layout) → 1 ≤ first_child k
 after_header Node4 = omega arith

@@ -18,17 +18,17 @@ use Rattle.art_decide.proofs.SeenBodies.{low_byte, seen_body, seen_child, stands
 use Rattle.art_decide.proofs.WholeCells.{IsWhole, node_whole}
 use Rattle.art_decide.specs.Bodies.{IsFilled, site_in}
 use Rattle.art_decide.specs.Seen.{WasSeen}
-use Rattle.art_find.specs.Verdicts.{IsFound, Says}
-use Rattle.art_find.specs.declared.verdicts.Verdict.{Verdict}
-use Rattle.art_find.specs.declared.verdicts.Verdict.TheVariants.{Found}
-use Rattle.art_place.specs.Desks.{above_of, node_of}
-use Rattle.art_place.specs.Findings.{IsStanding}
-use Rattle.art_place.specs.declared.desks.Desk.{Desk}
-use Rattle.art_place.specs.declared.findings.Above.{Above}
-use Rattle.art_place.specs.declared.findings.Stand.{Stand}
-use Rattle.art_plan.specs.Puts.{IsTaken}
-use Rattle.art_plan.specs.Seen.{HasBelow}
-use Rattle.art_plan.specs.declared.sites.Site.{Site}
+use Rattle.art_decide.specs.ArtFind.Verdicts.{IsFound, Says}
+use Rattle.art_decide.specs.ArtFind.declared.verdicts.Verdict.{Verdict}
+use Rattle.art_decide.specs.ArtFind.declared.verdicts.Verdict.TheVariants.{Found}
+use Rattle.art_decide.specs.ArtPlace.Desks.{above_of, node_of}
+use Rattle.art_decide.specs.ArtPlace.Findings.{IsStanding}
+use Rattle.art_decide.specs.ArtPlace.declared.desks.Desk.{Desk}
+use Rattle.art_decide.specs.ArtPlace.declared.findings.Above.{Above}
+use Rattle.art_decide.specs.ArtPlace.declared.findings.Stand.{Stand}
+use Rattle.art_decide.specs.ArtPlan.Puts.{IsTaken}
+use Rattle.art_decide.specs.ArtPlan.Seen.{HasBelow}
+use Rattle.art_decide.specs.ArtPlan.declared.sites.Site.{Site}
 use Rattle.art_remove.specs.Cases.{IsDrop, IsOldLeaf}
 use Rattle.art_remove.specs.declared.leaves.OldLeaf.{OldLeaf}
 use Rattle.art_step.specs.Shows.{HasChild, Shows}

@@ -15,10 +15,10 @@ use Rattle.art_choose.specs.Losses.{few_of, loss_at, loss_in, loss_of}
 use Rattle.art_choose.specs.declared.losses.Loss.TheVariants.{Leaf, Merges, Shrinks}
 use Rattle.art_decide.specs.Bodies.{IsFilled, site_by, site_in}
 use Rattle.art_node.specs.Sizes.{smaller}
-use Rattle.art_place.specs.Desks.{node_of}
-use Rattle.art_place.specs.declared.desks.Desk.{Desk}
-use Rattle.art_place.specs.declared.findings.Stand.{Stand}
-use Rattle.art_plan.specs.Puts.{HasChild}
+use Rattle.art_decide.specs.ArtPlace.Desks.{node_of}
+use Rattle.art_decide.specs.ArtPlace.declared.desks.Desk.{Desk}
+use Rattle.art_decide.specs.ArtPlace.declared.findings.Stand.{Stand}
+use Rattle.art_decide.specs.ArtPlan.Puts.{HasChild}
 use Rattle.art_remove.specs.Removals.{IsSparse, KeepsTwo}
 
 -- a node that stays has three children at least

@@ -1,3 +1,6 @@
+-- the crates below, for those above to name
+pub use Rattle.art_decide.proofs as ArtDecide
+pub use Rattle.art_remove.proofs as ArtRemove
 pub mod BesideWords
 pub mod FoundLeaves
 pub mod LedChildren

@@ -20,15 +20,15 @@ use Rattle.art_decide.proofs.SeenBodies.{seen_body, seen_child}
 use Rattle.art_decide.proofs.WholeCells.{IsWhole, filled_agrees, read_whole}
 use Rattle.art_decide.specs.Bodies.{IsFilled, site_in}
 use Rattle.art_path.specs.declared.prefixes.Parts.{Parts}
-use Rattle.art_place.specs.Desks.{above_of, node_of}
-use Rattle.art_place.specs.Findings.{IsStanding}
-use Rattle.art_place.specs.Rereadings.{AreKnown}
-use Rattle.art_place.specs.declared.desks.Desk.{Desk}
-use Rattle.art_place.specs.declared.findings.Above.{Above}
-use Rattle.art_place.specs.declared.findings.Stand.{Stand}
-use Rattle.art_plan.proofs.SiteWords.{children_read, not_own_child}
-use Rattle.art_plan.specs.Seen.{site_stamp}
-use Rattle.art_plan.specs.declared.sites.Site.{Site}
+use Rattle.art_decide.specs.ArtPlace.Desks.{above_of, node_of}
+use Rattle.art_decide.specs.ArtPlace.Findings.{IsStanding}
+use Rattle.art_decide.specs.ArtPlace.Rereadings.{AreKnown}
+use Rattle.art_decide.specs.ArtPlace.declared.desks.Desk.{Desk}
+use Rattle.art_decide.specs.ArtPlace.declared.findings.Above.{Above}
+use Rattle.art_decide.specs.ArtPlace.declared.findings.Stand.{Stand}
+use Rattle.art_decide.proofs.ArtPlan.SiteWords.{children_read, not_own_child}
+use Rattle.art_decide.specs.ArtPlan.Seen.{site_stamp}
+use Rattle.art_decide.specs.ArtPlan.declared.sites.Site.{Site}
 use Rattle.art_remove.proofs.GoneNodes.{fits_there}
 use Rattle.art_remove.specs.Cases.{IsMergeNode}
 use Rattle.art_remove.specs.Removals.{HasPair}

@@ -3,11 +3,11 @@ use Rattle.std.proofs.Common.{◌≡◌, ℕ, Some, None, sym, ap, ◌∙◌, su
 use Rattle.art_cell.specs.Children.{link_of}
 use Rattle.art_cell.specs.declared.cells.Link.{Link}
 use Rattle.art_choose.specs.Others.{NamesChild}
-use Rattle.art_find.specs.Descents.{WasNamed}
-use Rattle.art_place.specs.Desks.{node_of}
-use Rattle.art_place.specs.Kept.{IsKept}
-use Rattle.art_place.specs.declared.desks.Desk.{Desk}
-use Rattle.art_place.specs.declared.findings.Stand.{Stand}
+use Rattle.art_decide.specs.ArtFind.Descents.{WasNamed}
+use Rattle.art_decide.specs.ArtPlace.Desks.{node_of}
+use Rattle.art_decide.specs.ArtPlace.Kept.{IsKept}
+use Rattle.art_decide.specs.ArtPlace.declared.desks.Desk.{Desk}
+use Rattle.art_decide.specs.ArtPlace.declared.findings.Stand.{Stand}
 use Rattle.art_step.specs.Views.{IsChildWord, IsNumber}
 use Rattle.art_step.specs.declared.views.Fact.TheVariants.{Word}
 use Rattle.art_step.specs.declared.views.Sizes.{Sizes}

@@ -23,13 +23,13 @@ use Rattle.art_choose.specs.Seen.{AreSeen, IsSeen}
 use Rattle.art_choose.specs.declared.losses.Loss.TheVariants.{Merges}
 use Rattle.art_decide.proofs.SeenBodies.{low_byte, seen_child, word_named}
 use Rattle.art_decide.specs.Bodies.{HasWords, IsFilled, site_in}
-use Rattle.art_place.specs.Desks.{above_of, node_of}
-use Rattle.art_place.specs.Findings.{IsStanding}
-use Rattle.art_place.specs.Rereadings.{AreKnown}
-use Rattle.art_place.specs.declared.desks.Desk.{Desk}
-use Rattle.art_place.specs.declared.findings.Above.{Above}
-use Rattle.art_place.specs.declared.findings.Stand.{Stand}
-use Rattle.art_plan.specs.declared.sites.Site.{Site}
+use Rattle.art_decide.specs.ArtPlace.Desks.{above_of, node_of}
+use Rattle.art_decide.specs.ArtPlace.Findings.{IsStanding}
+use Rattle.art_decide.specs.ArtPlace.Rereadings.{AreKnown}
+use Rattle.art_decide.specs.ArtPlace.declared.desks.Desk.{Desk}
+use Rattle.art_decide.specs.ArtPlace.declared.findings.Above.{Above}
+use Rattle.art_decide.specs.ArtPlace.declared.findings.Stand.{Stand}
+use Rattle.art_decide.specs.ArtPlan.declared.sites.Site.{Site}
 use Rattle.art_remove.specs.Cases.{IsMergeLeaf}
 use Rattle.art_remove.specs.Removals.{HasPair}
 use Rattle.art_remove.specs.declared.leaves.OldLeaf.{OldLeaf}

@@ -15,14 +15,14 @@ use Rattle.art_choose.specs.Losses.{loss_at}
 use Rattle.art_choose.specs.Plans.{HasFound, HasSmaller}
 use Rattle.art_choose.specs.Seen.{AreSeen, IsSeen}
 use Rattle.art_choose.specs.declared.losses.Loss.TheVariants.{Shrinks}
-use Rattle.art_commit.specs.CommitLaws.{HasNode}
+use Rattle.art_remove.specs.ArtCommit.CommitLaws.{HasNode}
 use Rattle.art_decide.specs.Bodies.{IsFilled, site_in}
-use Rattle.art_place.specs.Desks.{above_of, node_of}
-use Rattle.art_place.specs.Findings.{IsStanding}
-use Rattle.art_place.specs.declared.desks.Desk.{Desk}
-use Rattle.art_place.specs.declared.findings.Above.{Above}
-use Rattle.art_place.specs.declared.findings.Stand.{Stand}
-use Rattle.art_plan.specs.declared.sites.Site.{Site}
+use Rattle.art_decide.specs.ArtPlace.Desks.{above_of, node_of}
+use Rattle.art_decide.specs.ArtPlace.Findings.{IsStanding}
+use Rattle.art_decide.specs.ArtPlace.declared.desks.Desk.{Desk}
+use Rattle.art_decide.specs.ArtPlace.declared.findings.Above.{Above}
+use Rattle.art_decide.specs.ArtPlace.declared.findings.Stand.{Stand}
+use Rattle.art_decide.specs.ArtPlan.declared.sites.Site.{Site}
 use Rattle.art_remove.specs.Cases.{IsShrink}
 use Rattle.art_remove.specs.Removals.{IsSparse, smaller_node}
 use Rattle.art_remove.specs.declared.leaves.OldLeaf.{OldLeaf}

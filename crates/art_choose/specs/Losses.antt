@@ -8,9 +8,9 @@ use Rattle.art_cell.specs.declared.layouts.Layout.TheVariants.{Node4, Node16, No
 use Rattle.art_choose.specs.declared.losses.Loss.{Loss}
 use Rattle.art_choose.specs.declared.losses.Loss.TheVariants.{Leaf, Merges, Shrinks}
 use Rattle.art_node.specs.Sizes.{smaller}
-use Rattle.art_place.specs.Desks.{node_of}
-use Rattle.art_place.specs.declared.desks.Desk.{Desk}
-use Rattle.art_place.specs.declared.findings.Stand.{Stand}
+use Rattle.art_decide.specs.ArtPlace.Desks.{node_of}
+use Rattle.art_decide.specs.ArtPlace.declared.desks.Desk.{Desk}
+use Rattle.art_decide.specs.ArtPlace.declared.findings.Stand.{Stand}
 
 -- with how many children a node gives way to a smaller one, which has places for more; the smallest does not
 abbrev pub few_of : Layout → ℕ

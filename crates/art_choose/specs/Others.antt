@@ -7,11 +7,11 @@ use Rattle.art_cell.specs.Words.{Words, first_child, size}
 use Rattle.art_cell.specs.declared.cells.Link.{Link}
 use Rattle.art_cell.specs.declared.layouts.Layout.{Layout}
 use Rattle.art_cell.specs.declared.node_kinds.Entry.{Entry}
-use Rattle.art_place.specs.Desks.{node_of}
-use Rattle.art_place.specs.Findings.{IsStanding}
-use Rattle.art_place.specs.Rereadings.{AreKnown}
-use Rattle.art_place.specs.declared.desks.Desk.{Desk}
-use Rattle.art_place.specs.declared.findings.Stand.{Stand}
+use Rattle.art_decide.specs.ArtPlace.Desks.{node_of}
+use Rattle.art_decide.specs.ArtPlace.Findings.{IsStanding}
+use Rattle.art_decide.specs.ArtPlace.Rereadings.{AreKnown}
+use Rattle.art_decide.specs.ArtPlace.declared.desks.Desk.{Desk}
+use Rattle.art_decide.specs.ArtPlace.declared.findings.Stand.{Stand}
 use Rattle.art_step.specs.Knowledge.{KnowsPath}
 use Rattle.art_step.specs.Views.{IsChildPlace, cell_named, size_of}
 use Rattle.art_step.specs.declared.views.Sizes.{Sizes}

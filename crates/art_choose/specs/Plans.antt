@@ -13,17 +13,17 @@ use Rattle.art_choose.specs.Losses.{loss_at}
 use Rattle.art_choose.specs.Seen.{AreSeen, IsSeen, StillKnown}
 use Rattle.art_choose.specs.declared.losses.Loss.TheVariants.{Shrinks}
 use Rattle.art_choose.specs.declared.lowers.Lower.{Lower}
-use Rattle.art_commit.specs.CommitLaws.{HasNode}
+use Rattle.art_remove.specs.ArtCommit.CommitLaws.{HasNode}
 use Rattle.art_decide.specs.Bodies.{HasWords}
-use Rattle.art_find.specs.declared.verdicts.Verdict.TheVariants.{Found}
+use Rattle.art_decide.specs.ArtFind.declared.verdicts.Verdict.TheVariants.{Found}
 use Rattle.art_path.specs.declared.prefixes.Parts.{Parts}
-use Rattle.art_place.specs.Desks.{node_of}
-use Rattle.art_place.specs.Findings.{IsStanding}
-use Rattle.art_place.specs.declared.desks.Desk.{Desk}
-use Rattle.art_place.specs.declared.findings.Above.{Above}
-use Rattle.art_place.specs.declared.findings.Stand.{Stand}
-use Rattle.art_plan.specs.Changes.{IsPlanned}
-use Rattle.art_plan.specs.declared.changes.Change.{Change}
+use Rattle.art_decide.specs.ArtPlace.Desks.{node_of}
+use Rattle.art_decide.specs.ArtPlace.Findings.{IsStanding}
+use Rattle.art_decide.specs.ArtPlace.declared.desks.Desk.{Desk}
+use Rattle.art_decide.specs.ArtPlace.declared.findings.Above.{Above}
+use Rattle.art_decide.specs.ArtPlace.declared.findings.Stand.{Stand}
+use Rattle.art_decide.specs.ArtPlan.Changes.{IsPlanned}
+use Rattle.art_decide.specs.ArtPlan.declared.changes.Change.{Change}
 use Rattle.art_remove.specs.Removals.{HasPair, IsTooLong}
 use Rattle.art_remove.specs.declared.leaves.OldLeaf.{OldLeaf}
 use Rattle.art_step.specs.declared.views.Sizes.{Sizes}

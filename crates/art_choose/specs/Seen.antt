@@ -3,12 +3,12 @@ use Rattle.std.specs.Prelude.{◌≡◌, ℕ, List, Option, Some}
 use Rattle.art_cell.specs.declared.cells.Cell.TheVariants as cells
 use Rattle.art_choose.specs.declared.lowers.Lower.{Lower}
 use Rattle.art_decide.specs.Seen.{WasSeen}
-use Rattle.art_place.specs.Desks.{above_of, node_of}
-use Rattle.art_place.specs.Kept.{HasPath, IsKept}
-use Rattle.art_place.specs.Rereadings.{AreKnown}
-use Rattle.art_place.specs.declared.desks.Desk.{Desk}
-use Rattle.art_place.specs.declared.findings.Above.{Above}
-use Rattle.art_place.specs.declared.findings.Stand.{Stand}
+use Rattle.art_decide.specs.ArtPlace.Desks.{above_of, node_of}
+use Rattle.art_decide.specs.ArtPlace.Kept.{HasPath, IsKept}
+use Rattle.art_decide.specs.ArtPlace.Rereadings.{AreKnown}
+use Rattle.art_decide.specs.ArtPlace.declared.desks.Desk.{Desk}
+use Rattle.art_decide.specs.ArtPlace.declared.findings.Above.{Above}
+use Rattle.art_decide.specs.ArtPlace.declared.findings.Stand.{Stand}
 use Rattle.art_step.specs.Knowledge.{HoldsAll, IsShape}
 use Rattle.art_step.specs.Shows.{HasStamp}
 use Rattle.art_step.specs.Views.{size_of}

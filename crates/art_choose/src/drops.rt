@@ -5,13 +5,13 @@ ghost use Rattle.art_choose.specs.Plans.{HasFound, IsNodeAt, PlansDrop};
 ghost use Rattle.art_choose.specs.Seen.{IsSeen};
 ghost use Rattle.art_choose.specs.declared.losses.Loss.TheVariants as losses;
 ghost use Rattle.art_decide.specs.Plans.{LocksOnly};
-ghost use Rattle.art_plan.specs.Changes.{targets};
+ghost use Rattle.art_decide.specs.ArtPlan.Changes.{targets};
 ghost use Rattle.art_remove.specs.Removals.{removed};
 ghost use Rattle.art_step.specs.declared.views.Sizes.{Sizes};
 
+use art_decide::art_place::{Desk, Stand};
+use art_decide::art_plan::Change;
 use art_decide::{Bodies, fill, site_at};
-use art_place::{Desk, Stand};
-use art_plan::Change;
 use art_remove::{OldLeaf, drop};
 
 /// The leaf goes, and the cell that names it stays: the anchor, or a node that keeps two children. All words of the cell were read

@@ -5,17 +5,17 @@ ghost use Rattle.art_cell.specs.declared.cells.Link.TheVariants.{Node as node_li
 ghost use Rattle.art_choose.specs.Plans.{ArePartsOf, HasFound, HasOther, IsAnyAt, MayNotMerge, PlansMergeNode};
 ghost use Rattle.art_choose.specs.Seen.{AreSeen, IsLowerSeen};
 ghost use Rattle.art_decide.specs.Plans.{LocksOnly};
-ghost use Rattle.art_place.specs.Desks.{node_of};
-ghost use Rattle.art_plan.specs.Changes.{targets};
+ghost use Rattle.art_decide.specs.ArtPlace.Desks.{node_of};
+ghost use Rattle.art_decide.specs.ArtPlan.Changes.{targets};
 ghost use Rattle.art_remove.specs.Removals.{removed};
 ghost use Rattle.art_step.specs.declared.views.Sizes.{Sizes};
 
 use art_cell::{Body, Cell, Node, Reads};
+use art_decide::art_place::{Desk, Stand};
+use art_decide::art_plan::{Below, Change};
 use art_decide::{Bodies, fill, site_at};
 use art_node::prefix;
 use art_path::Parts;
-use art_place::{Desk, Stand};
-use art_plan::{Below, Change};
 use art_remove::{OldLeaf, merge_node};
 use art_step::Stamp;
 

@@ -4,14 +4,14 @@ ghost use Rattle.art_cell.specs.declared.cells.Link.TheVariants.{Leaf as leaf_li
 ghost use Rattle.art_choose.specs.Plans.{HasFound, HasOther, IsEitherAt, PlansMerge};
 ghost use Rattle.art_choose.specs.Seen.{AreSeen};
 ghost use Rattle.art_decide.specs.Plans.{LocksOnly};
-ghost use Rattle.art_plan.specs.Changes.{targets};
+ghost use Rattle.art_decide.specs.ArtPlan.Changes.{targets};
 ghost use Rattle.art_remove.specs.Removals.{removed};
 ghost use Rattle.art_step.specs.declared.views.Sizes.{Sizes};
 
 use art_cell::Cell;
+use art_decide::art_place::{Desk, Stand};
+use art_decide::art_plan::{Below, Change};
 use art_decide::{Bodies, fill, site_at};
-use art_place::{Desk, Stand};
-use art_plan::{Below, Change};
 use art_remove::{OldLeaf, merge_leaf};
 
 /// The leaf goes from a node that has one other child, this leaf: that one takes the node's place in the cell above. All words of

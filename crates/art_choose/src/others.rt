@@ -7,13 +7,13 @@ ghost use Rattle.art_choose.specs.Others.{IsBeside, IsChildRead, IsLeast, IsRead
 ghost use Rattle.art_choose.specs.Plans.{HasFound, HasOther};
 ghost use Rattle.art_choose.specs.Seen.{IsSeen};
 ghost use Rattle.art_choose.specs.declared.losses.Loss.TheVariants as losses;
-ghost use Rattle.art_place.specs.Desks.{node_of};
-ghost use Rattle.art_place.specs.declared.desks.Desk.{Desk as DeskOf};
+ghost use Rattle.art_decide.specs.ArtPlace.Desks.{node_of};
+ghost use Rattle.art_decide.specs.ArtPlace.declared.desks.Desk.{Desk as DeskOf};
 ghost use Rattle.art_step.specs.declared.views.Sizes.{Sizes};
 
 use art_cell::{Cell, Entry, Layout, Link, NextProbe, Reads};
+use art_decide::art_place::{Desk, Stand};
 use art_node::{at_least, link_in};
-use art_place::{Desk, Stand};
 use art_remove::OldLeaf;
 
 /// The child of the node beside the leaf, with its byte, as the words that were read have it, checked or not. None where they have

@@ -6,14 +6,14 @@ ghost use Rattle.art_choose.specs.Plans.{HasFound, IsEitherAt, PlansShrink};
 ghost use Rattle.art_choose.specs.Seen.{AreSeen};
 ghost use Rattle.art_choose.specs.declared.losses.Loss.TheVariants as losses;
 ghost use Rattle.art_decide.specs.Plans.{LocksOnly};
-ghost use Rattle.art_plan.specs.Changes.{targets};
+ghost use Rattle.art_decide.specs.ArtPlan.Changes.{targets};
 ghost use Rattle.art_remove.specs.Removals.{removed};
 ghost use Rattle.art_step.specs.declared.views.Sizes.{Sizes};
 
 use art_cell::Cell;
+use art_decide::art_place::{Desk, Stand};
+use art_decide::art_plan::{Below, Change};
 use art_decide::{Bodies, byte_at, fill, site_at};
-use art_place::{Desk, Stand};
-use art_plan::{Below, Change};
 use art_remove::{OldLeaf, shrink};
 
 /// The leaf goes from a node that keeps few children: the next smaller one, which has this number, takes its place in the cell

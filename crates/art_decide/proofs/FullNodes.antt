@@ -8,7 +8,7 @@ use Rattle.art_cell.specs.declared.cells.Cell.TheVariants as cell
 use Rattle.art_cell.specs.declared.cells.Link.TheVariants.{Node as node}
 use Rattle.art_cell.specs.declared.cells.Node.{Node}
 use Rattle.art_cell.specs.declared.layouts.Layout.{Layout}
-use Rattle.art_commit.specs.CommitLaws.{HasNode}
+use Rattle.art_insert.specs.ArtCommit.CommitLaws.{HasNode}
 use Rattle.art_decide.specs.Bodies.{IsFilled, site_in}
 use Rattle.art_decide.specs.Needs.{needs_of}
 use Rattle.art_decide.specs.Plans.{HasNeeded}

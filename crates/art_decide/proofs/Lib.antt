@@ -1,3 +1,5 @@
+-- the crates below, for those above to name
+pub use Rattle.art_plan.proofs as ArtPlan
 pub mod AboveSites
 pub mod ChildSites
 pub mod EmptyTrees

@@ -1,7 +1,7 @@
 -- What the plan of an insert is, by where its key stands.
 use Rattle.std.specs.Prelude.{◌≡◌, ◌⊎◌, ℕ, true, Some, ⊤}
 use Rattle.art_cell.specs.declared.layouts.Layout.{Layout}
-use Rattle.art_commit.specs.CommitLaws.{HasNode}
+use Rattle.art_insert.specs.ArtCommit.CommitLaws.{HasNode}
 use Rattle.art_decide.specs.Needs.{needs_of}
 use Rattle.art_decide.specs.Seen.{IsSeen}
 use Rattle.art_find.specs.declared.verdicts.Verdict.{Verdict}

@@ -61,6 +61,9 @@ mod frees;
 mod needs;
 mod plans;
 
+pub use art_insert;
+pub use art_place;
+pub use art_plan;
 pub use bodies::{Bodies, byte_at, fill, site_at};
 pub use needs::{Needs, needed};
 pub use plans::plan_insert;

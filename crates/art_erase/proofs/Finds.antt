@@ -22,8 +22,8 @@ use Rattle.art_find.specs.declared.asked.Asked.{Asked}
 use Rattle.art_find.specs.declared.asked.Asked.TheVariants.{Settle}
 use Rattle.art_find.specs.declared.verdicts.Verdict.{Verdict}
 use Rattle.art_find.specs.declared.verdicts.Verdict.TheVariants.{Found, Empty, OtherLeaf, OtherPrefix, Free, Overlaps, Torn, Absent}
-use Rattle.art_frame.proofs.Stocked.{stock_same}
-use Rattle.art_gather.specs.Vouching.{passed}
+use Rattle.art_attempt.proofs.ArtFrame.Stocked.{stock_same}
+use Rattle.art_attempt.specs.ArtGather.Vouching.{passed}
 use Rattle.art_place.proofs.FoundPlaces.{standing_grows}
 use Rattle.art_place.proofs.Keeping.{passed_grows}
 use Rattle.art_place.specs.Findings.{IsStanding, stand_at}

@@ -12,11 +12,11 @@ use Rattle.art_erase.specs.declared.erasing.Erasing.{Erasing}
 use Rattle.art_erase.specs.declared.erasing.Stage.{Stage}
 use Rattle.art_erase.specs.declared.erasing.Stage.TheVariants as stage
 use Rattle.art_find.proofs.Stages.{still_reading}
-use Rattle.art_frame.proofs.Stocked.{stock_same}
-use Rattle.art_gather.specs.Vouching as vouching
-use Rattle.art_gather.specs.Vouching.{IsVouching}
-use Rattle.art_gather.specs.declared.vouching.Vouching.{Vouching}
-use Rattle.art_gather.specs.declared.vouching.Vouching.TheVariants as vouches
+use Rattle.art_attempt.proofs.ArtFrame.Stocked.{stock_same}
+use Rattle.art_attempt.specs.ArtGather.Vouching as vouching
+use Rattle.art_attempt.specs.ArtGather.Vouching.{IsVouching}
+use Rattle.art_attempt.specs.ArtGather.declared.vouching.Vouching.{Vouching}
+use Rattle.art_attempt.specs.ArtGather.declared.vouching.Vouching.TheVariants as vouches
 use Rattle.art_place.specs.declared.rereadings.Rereading.{Rereading}
 use Rattle.art_step.specs.Shows.{Rest, rest_of}
 use Rattle.art_step.specs.declared.views.Holding.{Holding}

@@ -15,16 +15,16 @@ use Rattle.art_cell.specs.declared.cells.Link.TheVariants.{Node as node}
 use Rattle.art_cell.specs.declared.cells.Node.{Node}
 use Rattle.art_cell.specs.declared.layouts.Layout.{Layout}
 use Rattle.art_cell.specs.declared.layouts.Layout.TheVariants.{Node4}
-use Rattle.art_choose.specs.Losses.{loss_at}
-use Rattle.art_choose.specs.Plans.{HasOther, HasSmaller, IsAnyAt, IsEitherAt, IsNodeAt, MayNotMerge}
-use Rattle.art_choose.specs.declared.losses.Loss.{Loss}
-use Rattle.art_choose.specs.declared.losses.Loss.TheVariants as loss
-use Rattle.art_choose.specs.declared.lowers.Lower.{Lower}
+use Rattle.art_lower.specs.ArtChoose.Losses.{loss_at}
+use Rattle.art_lower.specs.ArtChoose.Plans.{HasOther, HasSmaller, IsAnyAt, IsEitherAt, IsNodeAt, MayNotMerge}
+use Rattle.art_lower.specs.ArtChoose.declared.losses.Loss.{Loss}
+use Rattle.art_lower.specs.ArtChoose.declared.losses.Loss.TheVariants as loss
+use Rattle.art_lower.specs.ArtChoose.declared.lowers.Lower.{Lower}
 use Rattle.art_commit.specs.CommitLaws.{HasNode}
-use Rattle.art_choose.specs.Seen.{AreSeen, IsLowerSeen, IsSeen, StillKnown}
+use Rattle.art_lower.specs.ArtChoose.Seen.{AreSeen, IsLowerSeen, IsSeen, StillKnown}
 use Rattle.art_erase.specs.declared.erasing.Way.{Way}
 use Rattle.art_erase.specs.declared.erasing.Way.TheVariants as way
-use Rattle.art_decide.specs.Plans.{LocksOnly}
+use Rattle.art_attempt.specs.ArtDecide.Plans.{LocksOnly}
 use Rattle.art_erase.proofs.Joins.{may_merge}
 use Rattle.art_lower.proofs.LowerSeen.{ended_fits, ends_known, ends_seen}
 use Rattle.art_erase.proofs.Finds.{within_so}
@@ -37,15 +37,15 @@ use Rattle.art_find.specs.Descents.{IsReading}
 use Rattle.art_find.specs.declared.asked.Answer.{Answer as CellAnswer}
 use Rattle.art_find.specs.declared.asked.Asked.{Asked}
 use Rattle.art_find.specs.declared.asked.Asked.TheVariants.{Read}
-use Rattle.art_frame.proofs.Stocked.{linked_are_in, stock_commits}
-use Rattle.art_frame.specs.Stocks.{IsIn, node_in}
-use Rattle.art_gather.specs.Vouching as vouching
-use Rattle.art_gather.proofs.Vouches.{was_vouched}
-use Rattle.art_gather.specs.Vouching.{CheckedSince, IsVouched, IsVouching, written_above}
-use Rattle.art_gather.specs.declared.vouching.Vouched.{Vouched}
-use Rattle.art_gather.specs.declared.vouching.Vouched.TheVariants.{Unchanged, Changed}
-use Rattle.art_gather.specs.declared.vouching.Vouching.{Vouching}
-use Rattle.art_gather.specs.declared.vouching.Vouching.TheVariants as vouches
+use Rattle.art_attempt.proofs.ArtFrame.Stocked.{linked_are_in, stock_commits}
+use Rattle.art_attempt.specs.ArtFrame.Stocks.{IsIn, node_in}
+use Rattle.art_attempt.specs.ArtGather.Vouching as vouching
+use Rattle.art_attempt.proofs.ArtGather.Vouches.{was_vouched}
+use Rattle.art_attempt.specs.ArtGather.Vouching.{CheckedSince, IsVouched, IsVouching, written_above}
+use Rattle.art_attempt.specs.ArtGather.declared.vouching.Vouched.{Vouched}
+use Rattle.art_attempt.specs.ArtGather.declared.vouching.Vouched.TheVariants.{Unchanged, Changed}
+use Rattle.art_attempt.specs.ArtGather.declared.vouching.Vouching.{Vouching}
+use Rattle.art_attempt.specs.ArtGather.declared.vouching.Vouching.TheVariants as vouches
 use Rattle.art_lower.specs.Lowering as lowering
 use Rattle.art_lower.specs.declared.lowering.Lowered.{Lowered}
 use Rattle.art_lower.specs.declared.lowering.Lowered.TheVariants as lowered
@@ -64,7 +64,7 @@ use Rattle.art_plan.specs.Changes.{node_made}
 use Rattle.art_plan.specs.Whole.{twin_node}
 use Rattle.art_plan.specs.declared.changes.Twin.{Twin}
 use Rattle.art_plan.specs.declared.changes.Change.{Change}
-use Rattle.art_remove.specs.Removals.{removed}
+use Rattle.art_attempt.specs.ArtRemove.Removals.{removed}
 use Rattle.art_step.specs.Events.{MakesEvent}
 use Rattle.art_step.specs.Views.{size_of}
 use Rattle.art_step.specs.declared.views.Stamp.{Stamp}

@@ -11,11 +11,11 @@ use Rattle.art_cell.specs.declared.cells.Link.{Link}
 use Rattle.art_cell.specs.declared.cells.Link.TheVariants.{Leaf as leaf, Node as node}
 use Rattle.art_cell.specs.declared.cells.Node.{Node as NodeOf}
 use Rattle.art_cell.specs.declared.layouts.Layout.{Layout}
-use Rattle.art_choose.specs.Losses.{loss_at}
-use Rattle.art_choose.specs.Plans.{HasFound, HasOther, IsEitherAt, IsNodeAt}
-use Rattle.art_choose.specs.Seen.{IsSeen}
-use Rattle.art_choose.specs.declared.losses.Loss.TheVariants as loss
-use Rattle.art_decide.specs.Plans.{LocksOnly}
+use Rattle.art_lower.specs.ArtChoose.Losses.{loss_at}
+use Rattle.art_lower.specs.ArtChoose.Plans.{HasFound, HasOther, IsEitherAt, IsNodeAt}
+use Rattle.art_lower.specs.ArtChoose.Seen.{IsSeen}
+use Rattle.art_lower.specs.ArtChoose.declared.losses.Loss.TheVariants as loss
+use Rattle.art_attempt.specs.ArtDecide.Plans.{LocksOnly}
 use Rattle.art_erase.specs.declared.erasing.Erased.{Erased}
 use Rattle.art_erase.specs.declared.erasing.Erased.TheVariants.{Gone, Absent, Exhausted, Anew}
 use Rattle.art_erase.specs.declared.erasing.Erasing.{Erasing}
@@ -30,13 +30,13 @@ use Rattle.art_find.specs.declared.asked.Asked.{Asked as CellAsked}
 use Rattle.art_find.specs.declared.asked.Asked.TheVariants as cells
 use Rattle.art_find.specs.declared.verdicts.Verdict.{Verdict}
 use Rattle.art_find.specs.declared.verdicts.Verdict.TheVariants as verdict
-use Rattle.art_frame.specs.Stocks.{HasStock, node_in}
-use Rattle.art_frame.specs.declared.stocks.Stock.{Stock}
-use Rattle.art_gather.specs.Supplying as supplying
-use Rattle.art_gather.specs.Vouching as vouching
-use Rattle.art_gather.specs.Vouching.{IsVouching, KnowsHere}
-use Rattle.art_gather.specs.declared.asked.Asked.{Asked as SupplyAsked}
-use Rattle.art_gather.specs.declared.supplying.Wants.{Wants}
+use Rattle.art_attempt.specs.ArtFrame.Stocks.{HasStock, node_in}
+use Rattle.art_attempt.specs.ArtFrame.declared.stocks.Stock.{Stock}
+use Rattle.art_attempt.specs.ArtGather.Supplying as supplying
+use Rattle.art_attempt.specs.ArtGather.Vouching as vouching
+use Rattle.art_attempt.specs.ArtGather.Vouching.{IsVouching, KnowsHere}
+use Rattle.art_attempt.specs.ArtGather.declared.asked.Asked.{Asked as SupplyAsked}
+use Rattle.art_attempt.specs.ArtGather.declared.supplying.Wants.{Wants}
 use Rattle.art_lower.specs.Lowering as lowering
 use Rattle.art_lower.specs.Lowering.{CheckedBelow}
 use Rattle.art_lower.specs.declared.lowering.Lowered.TheVariants.{Unchanged}
@@ -54,8 +54,8 @@ use Rattle.art_place.specs.declared.findings.Finding.{Finding}
 use Rattle.art_place.specs.declared.findings.Stand.{Stand}
 use Rattle.art_place.specs.declared.rereadings.Rereading.{Rereading}
 use Rattle.art_plan.specs.Changes.{IsPlanned, unlinked}
-use Rattle.art_remove.specs.Removals.{removed}
-use Rattle.art_remove.specs.declared.leaves.OldLeaf.{OldLeaf}
+use Rattle.art_attempt.specs.ArtRemove.Removals.{removed}
+use Rattle.art_attempt.specs.ArtRemove.declared.leaves.OldLeaf.{OldLeaf}
 use Rattle.art_step.specs.Events.{MakesEvent}
 use Rattle.art_step.specs.Shows.{rest_of}
 use Rattle.art_step.specs.Steps.Commit.{all_retired}

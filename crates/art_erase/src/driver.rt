@@ -5,16 +5,16 @@ ghost use Rattle.art_attempt.specs.declared.asked.Asked.TheVariants.{Change as c
 ghost use Rattle.art_erase.specs.Erasing.{absent};
 ghost use Rattle.art_find.specs.Asking.{Answers as CellAnswers, PassesAmong as CellPassesAmong};
 ghost use Rattle.art_make.specs.declared.asked.Asked.{Asked as ChangeAsked};
-ghost use Rattle.art_remove.specs.Removals.{removed};
+ghost use Rattle.art_attempt.specs.ArtRemove.Removals.{removed};
 
+use art_attempt::art_gather::make as make_supply;
+use art_attempt::art_remove::OldLeaf;
 use art_attempt::{Answer, Asked};
 use art_find::{Answer as CellAnswer, Asked as CellAsked};
-use art_gather::make as make_supply;
 use art_key::Key;
 use art_make::make as make_change;
 use art_model::Answer as Reply;
 use art_plan::Change;
-use art_remove::OldLeaf;
 use art_step::{Act, Deed, EpochSteps, Steps};
 
 /// What a removal of the leaf's key does where no row has it.

@@ -45,5 +45,7 @@ mod erasing;
 mod hurry;
 mod making;
 
+pub use art_attempt;
+pub use art_attempt::{art_frame, art_gather};
 pub use driver::make;
 pub use erasing::{Erased, Erasing, Stage, Way};

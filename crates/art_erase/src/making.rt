@@ -2,7 +2,7 @@
 ghost use Rattle.std.specs.Prelude.{◌≡◌, ◌≢◌, ℕ, ◌-◌, ◌<◌, None, Some, true, false};
 ghost use Rattle.art_attempt.specs.Asking.{steps_of};
 ghost use Rattle.art_attempt.specs.Inserting.{is_begun, making_left};
-ghost use Rattle.art_decide.specs.Plans.{LocksOnly};
+ghost use Rattle.art_attempt.specs.ArtDecide.Plans.{LocksOnly};
 ghost use Rattle.art_erase.specs.Erasing.{EndsWithin, Fits, HasLower, HasMade, HasVouched, IsChecked, IsKept, IsLockedBy, IsRemoval, IsRoom};
 ghost use Rattle.art_erase.specs.Erasing.{absent, ended_at, erased_so, is_free, lower_asks, made_asks, steps_left, vouching_asks};
 ghost use Rattle.art_erase.specs.declared.erasing.Erased.TheVariants.{Anew as anew};
@@ -10,8 +10,8 @@ ghost use Rattle.art_erase.specs.declared.erasing.Stage.TheVariants as stages;
 ghost use Rattle.art_erase.specs.declared.erasing.Way.TheVariants as ways;
 ghost use Rattle.art_find.specs.Asking.{Answers as CellAnswers, goes_on};
 ghost use Rattle.art_find.specs.declared.asked.Asked.{Asked as CellAskedStep};
-ghost use Rattle.art_gather.specs.Vouching.{ended_at as vouched_at};
-ghost use Rattle.art_gather.specs.declared.vouching.Vouched.TheVariants.{Unchanged as unchanged};
+ghost use Rattle.art_attempt.specs.ArtGather.Vouching.{ended_at as vouched_at};
+ghost use Rattle.art_attempt.specs.ArtGather.declared.vouching.Vouched.TheVariants.{Unchanged as unchanged};
 ghost use Rattle.art_lower.specs.Lowering.{ended_at as lowered_at};
 ghost use Rattle.art_lower.specs.declared.lowering.Lowered.TheVariants.{Unchanged as lowered};
 ghost use Rattle.art_make.specs.Asking.{Answers as ChangeAnswers};
@@ -26,11 +26,11 @@ ghost use Rattle.art_step.specs.declared.views.View.{View};
 
 use crate::erasing::{Erased, Erasing, Stage, Way, given_up, goes};
 use art_attempt::Room;
+use art_attempt::art_gather::Vouched;
 use art_cell::Layout;
-use art_choose::{Lower, plan_drop, plan_merge_leaf, plan_merge_node, plan_shrink};
 use art_find::Answer as CellAnswer;
-use art_gather::Vouched;
 use art_lower::Lowered;
+use art_lower::art_choose::{Lower, plan_drop, plan_merge_leaf, plan_merge_node, plan_shrink};
 use art_make::{Answer as ChangeAnswer, Making};
 use art_step::{Stamp, UpgradeFault};
 

@@ -1,3 +1,5 @@
+-- the crates below, for those above to name
+pub use Rattle.art_make.proofs as ArtMake
 pub mod Blocking
 pub mod Closes
 pub mod Opens

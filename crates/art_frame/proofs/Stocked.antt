@@ -11,16 +11,16 @@ use Rattle.art_cell.specs.declared.cells.Node.{Node}
 use Rattle.art_cell.specs.declared.layouts.Layout.{Layout}
 use Rattle.art_cell.specs.declared.layouts.Layout.TheVariants.{Node4, Node16, Node48, Node256}
 use Rattle.art_cell.specs.declared.layouts.Pool.TheVariants.{Leaves}
-use Rattle.art_commit.specs.CommitLaws.{HasNode}
+use Rattle.art_make.specs.ArtCommit.CommitLaws.{HasNode}
 use Rattle.art_epoch.specs.Taking.{TookLowest}
 use Rattle.art_frame.specs.Stocks.{AreIn, HasStock, IsIn, count_in, first_in, hinted, hinted_at, node_in, node_link, nothing, one_of, set_node, with_leaf, with_node, without, without_all, words_written}
 use Rattle.art_frame.specs.declared.stocks.Hints.{Hints}
 use Rattle.art_frame.specs.declared.stocks.Stock.{Stock}
 use Rattle.art_make.specs.Making.{IsCommitted, linked}
 use Rattle.art_make.specs.Packing.{IsPacked}
-use Rattle.art_plan.specs.Changes.{node_made}
-use Rattle.art_plan.specs.Whole.{node_copied}
-use Rattle.art_plan.specs.declared.changes.Change.{Change}
+use Rattle.art_make.specs.ArtPlan.Changes.{node_made}
+use Rattle.art_make.specs.ArtPlan.Whole.{node_copied}
+use Rattle.art_make.specs.ArtPlan.declared.changes.Change.{Change}
 use Rattle.art_step.specs.Steps.Give.{HandsOver}
 use Rattle.art_step.specs.Steps.Take.{word_count_of}
 use Rattle.art_step.specs.Views.{IsInHand, IsNotInHand, IsNumber, Member, pool_of_layout}

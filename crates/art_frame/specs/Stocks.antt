@@ -8,7 +8,7 @@ use Rattle.art_cell.specs.declared.layouts.Layout.{Layout}
 use Rattle.art_cell.specs.declared.layouts.Layout.TheVariants.{Node4, Node16, Node48, Node256}
 use Rattle.art_cell.specs.declared.layouts.Pool.{Pool}
 use Rattle.art_cell.specs.declared.layouts.Pool.TheVariants.{Leaves, N4, N16, N48, N256}
-use Rattle.art_commit.specs.CommitLaws.{HasNode}
+use Rattle.art_make.specs.ArtCommit.CommitLaws.{HasNode}
 use Rattle.art_frame.specs.declared.stocks.Hints.{Hints}
 use Rattle.art_frame.specs.declared.stocks.Stock.{Stock}
 use Rattle.art_make.specs.Packing.{IsPacked}

@@ -67,6 +67,7 @@ mod closings;
 mod openings;
 mod stocks;
 
+pub use art_make;
 pub use closings::Closing;
 pub use openings::{Blocker, Opened, Opening};
 pub use stocks::Stock;

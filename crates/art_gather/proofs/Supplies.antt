@@ -13,7 +13,7 @@ use Rattle.art_cell.specs.declared.layouts.Layout.{Layout}
 use Rattle.art_cell.specs.declared.layouts.Layout.TheVariants.{Node4, Node16, Node48, Node256}
 use Rattle.art_cell.specs.declared.layouts.Pool.{Pool}
 use Rattle.art_cell.specs.declared.layouts.Pool.TheVariants.{Leaves}
-use Rattle.art_commit.specs.CommitLaws.{HasNode}
+use Rattle.art_decide.specs.ArtCommit.CommitLaws.{HasNode}
 use Rattle.art_epoch.proofs.Searching.{around_inside, few_looks}
 use Rattle.art_epoch.specs.Asking.{Answers as NumberAnswers}
 use Rattle.art_epoch.specs.Taking.{NoneBefore, OnlyTakes, SearchFits, Takes, TookLowest, TookNone}
@@ -33,10 +33,10 @@ use Rattle.art_gather.specs.declared.asked.Asked.TheVariants.{Number as number_a
 use Rattle.art_gather.specs.declared.supplying.Supplying.{Supplying}
 use Rattle.art_gather.specs.declared.supplying.Supplying.TheVariants as stage
 use Rattle.art_gather.specs.declared.supplying.Wants.{Wants}
-use Rattle.art_make.proofs.PackedLeaves.{word_form}
-use Rattle.art_make.specs.Packing.{IsPacked, OnlyPacks, PackingFits, word_asked}
-use Rattle.art_make.specs.declared.packing.LeafWrite.{LeafWrite}
-use Rattle.art_make.specs.declared.packing.Packing.{Packing}
+use Rattle.art_frame.proofs.ArtMake.PackedLeaves.{word_form}
+use Rattle.art_frame.specs.ArtMake.Packing.{IsPacked, OnlyPacks, PackingFits, word_asked}
+use Rattle.art_frame.specs.ArtMake.declared.packing.LeafWrite.{LeafWrite}
+use Rattle.art_frame.specs.ArtMake.declared.packing.Packing.{Packing}
 use Rattle.art_step.specs.Steps.Write as write
 use Rattle.art_step.specs.Tokens.{link_of_number}
 use Rattle.art_step.specs.Views.{IsInHand, Member, pool_of_layout}

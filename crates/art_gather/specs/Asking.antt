@@ -5,7 +5,7 @@ use Rattle.art_cell.specs.declared.cells.Link.TheVariants.{Leaf as leaf_link}
 use Rattle.art_epoch.specs.Asking as numbers
 use Rattle.art_gather.specs.declared.asked.Asked.{Asked}
 use Rattle.art_gather.specs.declared.asked.Asked.TheVariants.{Number, Leaf}
-use Rattle.art_make.specs.Packing.{IsLeafInHand}
+use Rattle.art_frame.specs.ArtMake.Packing.{IsLeafInHand}
 use Rattle.art_step.specs.Steps.Write as write
 use Rattle.art_step.specs.Views.{IsInHand, IsWordOf}
 use Rattle.art_step.specs.declared.views.InHand.{InHand}

@@ -17,9 +17,9 @@ use Rattle.art_gather.specs.declared.supplying.Supplied.TheVariants.{Ready, Full
 use Rattle.art_gather.specs.declared.supplying.Supplying.{Supplying}
 use Rattle.art_gather.specs.declared.supplying.Supplying.TheVariants.{Leaf, Packing, Node, Ended}
 use Rattle.art_gather.specs.declared.supplying.Wants.{Wants}
-use Rattle.art_make.specs.Packing.{PackingFits, word_asked}
-use Rattle.art_make.specs.declared.packing.LeafWrite.{LeafWrite}
-use Rattle.art_make.specs.declared.packing.Packing.{Packing as PackingOf}
+use Rattle.art_frame.specs.ArtMake.Packing.{PackingFits, word_asked}
+use Rattle.art_frame.specs.ArtMake.declared.packing.LeafWrite.{LeafWrite}
+use Rattle.art_frame.specs.ArtMake.declared.packing.Packing.{Packing as PackingOf}
 use Rattle.art_step.specs.Views.{pool_of_layout}
 use Rattle.art_step.specs.WordPlaces.{free_words, pool_size}
 use Rattle.art_step.specs.declared.views.Sizes.{Sizes}

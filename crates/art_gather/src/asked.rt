@@ -2,7 +2,7 @@
 ghost use Rattle.art_gather.specs.Asking.{Answers, IsAllowed};
 
 use art_epoch::make as make_number;
-use art_make::{LeafWrite, write_leaf};
+use art_frame::art_make::{LeafWrite, write_leaf};
 use art_step::EpochSteps;
 
 /// One step of a supplying.

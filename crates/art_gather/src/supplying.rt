@@ -18,7 +18,7 @@ use crate::Asked;
 use art_cell::{Layout, Link, Node, Pool};
 use art_epoch::Taking;
 use art_frame::Stock;
-use art_make::{Packing, write_leaf};
+use art_frame::art_make::{Packing, write_leaf};
 use art_step::{EpochSteps, Sizes, pool_of_layout, spent};
 
 /// The place of the last word of a leaf.

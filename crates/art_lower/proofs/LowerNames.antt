@@ -13,10 +13,10 @@ use Rattle.art_cell.specs.declared.cells.Cell.TheVariants as cell
 use Rattle.art_cell.specs.declared.cells.Link.TheVariants.{Node as node}
 use Rattle.art_cell.specs.declared.cells.Node.{Node}
 use Rattle.art_choose.proofs.NamedChildren.{named_there}
-use Rattle.art_decide.proofs.AboveSites.{led_there}
-use Rattle.art_decide.proofs.SeenBodies.{seen_body, seen_child, seen_prefix, stands}
-use Rattle.art_decide.proofs.WholeCells.{IsWhole, above_is, has_above, node_whole}
-use Rattle.art_decide.specs.Bodies.{HasWords, IsFilled}
+use Rattle.art_choose.proofs.ArtDecide.AboveSites.{led_there}
+use Rattle.art_choose.proofs.ArtDecide.SeenBodies.{seen_body, seen_child, seen_prefix, stands}
+use Rattle.art_choose.proofs.ArtDecide.WholeCells.{IsWhole, above_is, has_above, node_whole}
+use Rattle.art_choose.specs.ArtDecide.Bodies.{HasWords, IsFilled}
 use Rattle.art_find.proofs.Stages.{noted_names}
 use Rattle.art_lower.specs.Lowering.{HasLower, IsLed, IsLowering, IsParent, IsThird, WouldLead}
 use Rattle.art_place.proofs.Keeping.{path_passed}

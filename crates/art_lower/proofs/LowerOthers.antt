@@ -11,8 +11,8 @@ use Rattle.art_cell.specs.declared.cells.Link.{Link}
 use Rattle.art_cell.specs.declared.cells.Link.TheVariants.{Leaf as leaf, Node as node}
 use Rattle.art_cell.specs.declared.cells.Node.{Node}
 use Rattle.art_choose.specs.Plans.{HasOther}
-use Rattle.art_decide.proofs.WholeCells.{IsWhole, node_whole, read_whole}
-use Rattle.art_decide.specs.Bodies.{HasWords, IsFilled}
+use Rattle.art_choose.proofs.ArtDecide.WholeCells.{IsWhole, node_whole, read_whole}
+use Rattle.art_choose.specs.ArtDecide.Bodies.{HasWords, IsFilled}
 use Rattle.art_lower.proofs.LowerNames.{body_read, has_read}
 use Rattle.art_lower.proofs.LowerSeen.{ended_fits}
 use Rattle.art_lower.specs.Lowering.{Fits, HasLower, IsLowering, IsParent, ended_at}
@@ -22,10 +22,10 @@ use Rattle.art_place.specs.Desks.{node_of}
 use Rattle.art_place.specs.declared.desks.Desk.{Desk}
 use Rattle.art_place.specs.declared.findings.Stand.{Stand}
 use Rattle.art_plan.proofs.SiteWords.{children_read}
-use Rattle.art_remove.proofs.FewChildren.{no_third}
-use Rattle.art_remove.proofs.GoneNodes.{fits_there}
-use Rattle.art_remove.specs.Removals.{HasPair}
-use Rattle.art_remove.specs.declared.leaves.OldLeaf.{OldLeaf}
+use Rattle.art_choose.proofs.ArtRemove.FewChildren.{no_third}
+use Rattle.art_choose.proofs.ArtRemove.GoneNodes.{fits_there}
+use Rattle.art_choose.specs.ArtRemove.Removals.{HasPair}
+use Rattle.art_choose.specs.ArtRemove.declared.leaves.OldLeaf.{OldLeaf}
 use Rattle.art_step.specs.declared.views.Sizes.{Sizes}
 use Rattle.art_step.specs.declared.views.Stamp.{Stamp}
 use Rattle.art_step.specs.declared.views.View.{View}

@@ -12,9 +12,9 @@ use Rattle.art_cell.specs.declared.cells.Link.TheVariants.{Node as node}
 use Rattle.art_cell.specs.declared.cells.Node.{Node}
 use Rattle.art_choose.specs.Seen.{AreSeen, IsLowerSeen, StillKnown}
 use Rattle.art_choose.specs.declared.lowers.Lower.{Lower}
-use Rattle.art_decide.proofs.SeenBodies.{seen_body, seen_prefix}
-use Rattle.art_decide.proofs.WholeCells.{IsWhole, above_is, read_whole}
-use Rattle.art_decide.specs.Bodies.{HasWords, IsFilled}
+use Rattle.art_choose.proofs.ArtDecide.SeenBodies.{seen_body, seen_prefix}
+use Rattle.art_choose.proofs.ArtDecide.WholeCells.{IsWhole, above_is, read_whole}
+use Rattle.art_choose.specs.ArtDecide.Bodies.{HasWords, IsFilled}
 use Rattle.art_gather.proofs.Vouches.{was_vouched}
 use Rattle.art_lower.specs.Lowering.{Fits, IsBelow, IsLowered, IsLowering, IsReadBelow, JoinsShort, KnowsLower, ended_at}
 use Rattle.art_lower.specs.declared.lowering.Lowered.{Lowered}

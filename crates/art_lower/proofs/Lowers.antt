@@ -9,8 +9,8 @@ use Rattle.art_cell.specs.declared.bodies.Body.{Body}
 use Rattle.art_cell.specs.declared.cells.Cell.{Cell}
 use Rattle.art_cell.specs.declared.cells.Cell.TheVariants as cell
 use Rattle.art_cell.specs.declared.cells.Node.{Node}
-use Rattle.art_decide.proofs.WholeCells.{above_is}
-use Rattle.art_decide.specs.Bodies.{HasWords}
+use Rattle.art_choose.proofs.ArtDecide.WholeCells.{above_is}
+use Rattle.art_choose.specs.ArtDecide.Bodies.{HasWords}
 use Rattle.art_find.proofs.Allowed.{none_held}
 use Rattle.art_find.proofs.Stages.{reads_on}
 use Rattle.art_find.specs.Asking.{Answers, IsAllowed}

@@ -10,7 +10,7 @@ use Rattle.art_cell.specs.declared.cells.Cell.TheVariants as cell
 use Rattle.art_cell.specs.declared.cells.Link.TheVariants.{Node as node}
 use Rattle.art_cell.specs.declared.cells.Node.{Node}
 use Rattle.art_choose.specs.Others.{NamesChild}
-use Rattle.art_decide.specs.Bodies.{HasWords}
+use Rattle.art_choose.specs.ArtDecide.Bodies.{HasWords}
 use Rattle.art_find.specs.Descents.{IsReading}
 use Rattle.art_find.specs.declared.asked.Answer.{Answer}
 use Rattle.art_find.specs.declared.asked.Asked.{Asked}

@@ -54,4 +54,5 @@
 
 mod lowering;
 
+pub use art_choose;
 pub use lowering::{Lowered, Lowering};

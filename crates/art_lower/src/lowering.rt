@@ -18,7 +18,7 @@ ghost use Rattle.art_place.specs.Rereadings.{RereadingFits};
 ghost use Rattle.art_place.specs.declared.desks.Desk.{Desk as DeskOf};
 ghost use Rattle.art_place.specs.declared.findings.Above.{Above as AboveOf};
 ghost use Rattle.art_place.specs.declared.findings.Stand.{Stand as StandOf};
-ghost use Rattle.art_remove.specs.declared.leaves.OldLeaf.{OldLeaf as OldLeafOf};
+ghost use Rattle.art_choose.specs.ArtRemove.declared.leaves.OldLeaf.{OldLeaf as OldLeafOf};
 ghost use Rattle.art_step.specs.declared.deeds.Deed.{Deed};
 ghost use Rattle.art_step.specs.declared.views.Sizes.{Sizes};
 ghost use Rattle.art_step.specs.declared.views.Stamp.{Stamp as StampOf};

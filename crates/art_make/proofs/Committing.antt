@@ -12,8 +12,8 @@ use Rattle.art_cell.specs.declared.cells.Node.{Node}
 use Rattle.art_cell.specs.Words.{size}
 use Rattle.art_cell.specs.declared.layouts.Layout.{Layout}
 use Rattle.art_cell.specs.declared.layouts.Layout.TheVariants.{Node4, Node16, Node48, Node256}
-use Rattle.art_commit.specs.AnyChange.{IsClaimed}
-use Rattle.art_commit.proofs.Members.{claimed_nodes_come}
+use Rattle.art_plan.specs.ArtCommit.AnyChange.{IsClaimed}
+use Rattle.art_plan.proofs.ArtCommit.Members.{claimed_nodes_come}
 use Rattle.art_make.specs.Making.{Fails, GivesUp, HasFailed, IsCommitted, IsLocking, IsOver, IsReleasing, linked, so_many}
 use Rattle.art_make.proofs.Holding.{Fills, drop_holds, new_stays_linked, node_dropped, none_filled, none_held, target_low}
 use Rattle.art_make.proofs.Locking.{same_hand, same_limbo}

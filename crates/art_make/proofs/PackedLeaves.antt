@@ -7,7 +7,7 @@ use Rattle.art_cell.specs.declared.cells.Cell.TheVariants as cell
 use Rattle.art_cell.specs.Leaves.{leaf_word}
 use Rattle.art_cell.specs.Lemmas.LeafWords.{words_mean_leaf}
 use Rattle.art_cell.specs.declared.cells.Link.TheVariants.{Leaf as leaf}
-use Rattle.art_commit.specs.CommitLaws.{HasLeaf}
+use Rattle.art_plan.specs.ArtCommit.CommitLaws.{HasLeaf}
 use Rattle.art_make.specs.Packing.{IsPacked, OnlyPacks, word_asked}
 use Rattle.art_make.specs.declared.packing.LeafWrite.{LeafWrite}
 use Rattle.art_step.proofs.WordForms.{leaf_form}

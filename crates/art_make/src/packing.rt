@@ -26,7 +26,7 @@ pub struct Packing {
 
 impl Packing {
     ghost use Rattle.std.specs.Prelude.{List, None, Some, IfSome, ◌+◌, ◌==◌};
-    ghost use Rattle.art_commit.specs.CommitLaws.{HasLeaf};
+    ghost use Rattle.art_plan.specs.ArtCommit.CommitLaws.{HasLeaf};
     ghost use Rattle.art_make.specs.Packing.{PackingFits, word_asked};
     ghost use Rattle.art_make.specs.declared.packing.LeafWrite.{LeafWrite as Written};
     ghost use Rattle.art_step.specs.declared.views.Sizes.{Sizes};

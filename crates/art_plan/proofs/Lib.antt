@@ -1,3 +1,5 @@
+-- the crates below, for those above to name
+pub use Rattle.art_commit.proofs as ArtCommit
 pub mod BodyForms
 pub mod ChildPlaces
 pub mod MadeChanges

@@ -3,13 +3,13 @@ use Rattle.std.proofs.Common.{◌≡◌, ◌⊎◌, ℕ, ◌+◌, ◌<◌, ◌�
 use Rattle.std.proofs.lemmas.Bool.{ne_eqb}
 use Rattle.std.specs.Option.{option_map}
 use Rattle.arrayvec.specs.ArrayVec.{ArrayVec}
-use Rattle.art_attempt.proofs.Free.{free_so as insert_free}
-use Rattle.art_attempt.specs.Inserting as inserts
-use Rattle.art_attempt.specs.Trying.{StillTries}
-use Rattle.art_attempt.specs.declared.inserting.Inserting.{Inserting as Insertion}
-use Rattle.art_attempt.specs.declared.inserting.Stage.{Stage as InsertStage}
-use Rattle.art_attempt.specs.declared.inserting.Stage.TheVariants as insert
-use Rattle.art_attempt.specs.declared.rooms.Room.{Room}
+use Rattle.art_call.proofs.ArtAttempt.Free.{free_so as insert_free}
+use Rattle.art_call.specs.ArtAttempt.Inserting as inserts
+use Rattle.art_call.specs.ArtAttempt.Trying.{StillTries}
+use Rattle.art_call.specs.ArtAttempt.declared.inserting.Inserting.{Inserting as Insertion}
+use Rattle.art_call.specs.ArtAttempt.declared.inserting.Stage.{Stage as InsertStage}
+use Rattle.art_call.specs.ArtAttempt.declared.inserting.Stage.TheVariants as insert
+use Rattle.art_call.specs.ArtAttempt.declared.rooms.Room.{Room}
 use Rattle.art_call.specs.Calls.{GoesOn, Get, Insert, IsCalling, IsWriting, Look, Remove, Wish, told_by}
 use Rattle.art_call.specs.Outcomes.{of_write}
 use Rattle.art_call.specs.declared.callers.Call.{Call}
@@ -17,61 +17,61 @@ use Rattle.art_call.specs.declared.callers.Call.TheVariants as call
 use Rattle.art_call.specs.declared.callers.Caller.{Caller}
 use Rattle.art_call.specs.declared.outcomes.Outcome.{Outcome}
 use Rattle.art_call.specs.declared.outcomes.Outcome.TheVariants as outcome
-use Rattle.art_change.proofs.Answered.{answered, left_opened, sees_all}
-use Rattle.art_change.specs.Tries.{Fits as TryFits, ended_at as try_ended, key_of, of_entered, of_erased, value_of}
-use Rattle.art_change.specs.Writes as writes
-use Rattle.art_change.specs.Writes.{IsClosing, IsTrying, StageFits, gone_by}
-use Rattle.art_change.specs.declared.tries.Job.{Job}
-use Rattle.art_change.specs.declared.tries.Job.TheVariants as job
-use Rattle.art_change.specs.declared.tries.Trying.{Trying}
-use Rattle.art_change.specs.declared.tries.Trying.TheVariants.{Inserting, Erasing}
-use Rattle.art_change.specs.declared.writes.Outcome.{Outcome as WriteOutcome}
-use Rattle.art_change.specs.declared.writes.Outcome.TheVariants as write
-use Rattle.art_change.specs.declared.writes.Stage.{Stage}
-use Rattle.art_change.specs.declared.writes.Stage.TheVariants as stages
-use Rattle.art_change.specs.declared.writes.Write.{Write}
+use Rattle.art_call.proofs.ArtChange.Answered.{answered, left_opened, sees_all}
+use Rattle.art_call.specs.ArtChange.Tries.{Fits as TryFits, ended_at as try_ended, key_of, of_entered, of_erased, value_of}
+use Rattle.art_call.specs.ArtChange.Writes as writes
+use Rattle.art_call.specs.ArtChange.Writes.{IsClosing, IsTrying, StageFits, gone_by}
+use Rattle.art_call.specs.ArtChange.declared.tries.Job.{Job}
+use Rattle.art_call.specs.ArtChange.declared.tries.Job.TheVariants as job
+use Rattle.art_call.specs.ArtChange.declared.tries.Trying.{Trying}
+use Rattle.art_call.specs.ArtChange.declared.tries.Trying.TheVariants.{Inserting, Erasing}
+use Rattle.art_call.specs.ArtChange.declared.writes.Outcome.{Outcome as WriteOutcome}
+use Rattle.art_call.specs.ArtChange.declared.writes.Outcome.TheVariants as write
+use Rattle.art_call.specs.ArtChange.declared.writes.Stage.{Stage}
+use Rattle.art_call.specs.ArtChange.declared.writes.Stage.TheVariants as stages
+use Rattle.art_call.specs.ArtChange.declared.writes.Write.{Write}
 use Rattle.art_epoch.proofs.Pinned.{pinning_same}
 use Rattle.art_epoch.specs.Limbo.{places_of}
 use Rattle.art_epoch.specs.Pins.{Pins}
 use Rattle.art_epoch.specs.declared.limbo.Place.{Place}
-use Rattle.art_erase.proofs.Free.{free_so as erase_free}
-use Rattle.art_erase.specs.Erasing as erases
-use Rattle.art_erase.specs.declared.erasing.Erasing.{Erasing as Erasure}
-use Rattle.art_erase.specs.declared.erasing.Stage.{Stage as EraseStage}
-use Rattle.art_erase.specs.declared.erasing.Stage.TheVariants as erase
-use Rattle.art_find.proofs.Stages.{still_reading}
-use Rattle.art_find.specs.Descents as descents
-use Rattle.art_find.specs.Driven.{get_done}
-use Rattle.art_frame.proofs.Opens.{opening_same}
-use Rattle.art_frame.specs.Closings.{ClosingFits}
-use Rattle.art_frame.specs.declared.closings.Closing.{Closing}
-use Rattle.art_frame.specs.declared.closings.Closing.TheVariants as closing
-use Rattle.art_frame.specs.declared.stocks.Stock.{Stock}
-use Rattle.art_insert.specs.Puts.{inserted}
+use Rattle.art_call.proofs.ArtErase.Free.{free_so as erase_free}
+use Rattle.art_call.specs.ArtErase.Erasing as erases
+use Rattle.art_call.specs.ArtErase.declared.erasing.Erasing.{Erasing as Erasure}
+use Rattle.art_call.specs.ArtErase.declared.erasing.Stage.{Stage as EraseStage}
+use Rattle.art_call.specs.ArtErase.declared.erasing.Stage.TheVariants as erase
+use Rattle.art_call.proofs.ArtFind.Stages.{still_reading}
+use Rattle.art_call.specs.ArtFind.Descents as descents
+use Rattle.art_call.specs.ArtFind.Driven.{get_done}
+use Rattle.art_call.proofs.ArtFrame.Opens.{opening_same}
+use Rattle.art_call.specs.ArtFrame.Closings.{ClosingFits}
+use Rattle.art_call.specs.ArtFrame.declared.closings.Closing.{Closing}
+use Rattle.art_call.specs.ArtFrame.declared.closings.Closing.TheVariants as closing
+use Rattle.art_call.specs.ArtFrame.declared.stocks.Stock.{Stock}
+use Rattle.art_call.specs.ArtInsert.Puts.{inserted}
 use Rattle.art_key.specs.declared.bounds.Bound.{Bound}
-use Rattle.art_look.proofs.Stages.{still_reading as still_looking}
-use Rattle.art_look.specs.Looks as looks
-use Rattle.art_look.specs.Seen.{look_done}
-use Rattle.art_look.specs.declared.looks.Seen.{Seen as SeenOf}
-use Rattle.art_look.specs.declared.trails.Trail.{Trail}
-use Rattle.art_make.specs.Making.{Fits as MakeFits, ended_at as make_ended}
-use Rattle.art_make.specs.declared.making.Making.{Making}
-use Rattle.art_make.specs.declared.making.Making.TheVariants.{Upgrading, Claiming, Filling, Writing, Committing, Releasing, ReleasingNode, GivingUp, Ended}
-use Rattle.art_plan.specs.declared.changes.Change.{Change}
-use Rattle.art_remove.specs.Removals.{removed}
-use Rattle.art_seek.proofs.Closes.{closed_sought, over_told}
-use Rattle.art_seek.proofs.Ends.{key_not_seen, range_not_absent, range_not_found}
-use Rattle.art_seek.specs.Seeks as seeks
-use Rattle.art_seek.specs.Walks as walks
-use Rattle.art_seek.specs.Walks.{IsEnd, aim_of, of_value, told_of}
-use Rattle.art_seek.specs.declared.seeks.Seek.{Seek}
-use Rattle.art_seek.specs.declared.seeks.SeekStage.{SeekStage}
-use Rattle.art_seek.specs.declared.seeks.SeekStage.TheVariants as seek
-use Rattle.art_seek.specs.declared.walks.Aim.TheVariants as aim
-use Rattle.art_seek.specs.declared.walks.Outcome.{Outcome as SeekOutcome}
-use Rattle.art_seek.specs.declared.walks.Outcome.TheVariants.{Found, Absent, Seen, Busy}
-use Rattle.art_seek.specs.declared.walks.Walk.{Walk}
-use Rattle.art_seek.specs.declared.walks.Walk.TheVariants.{Key, Range}
+use Rattle.art_call.proofs.ArtLook.Stages.{still_reading as still_looking}
+use Rattle.art_call.specs.ArtLook.Looks as looks
+use Rattle.art_call.specs.ArtLook.Seen.{look_done}
+use Rattle.art_call.specs.ArtLook.declared.looks.Seen.{Seen as SeenOf}
+use Rattle.art_call.specs.ArtLook.declared.trails.Trail.{Trail}
+use Rattle.art_call.specs.ArtMake.Making.{Fits as MakeFits, ended_at as make_ended}
+use Rattle.art_call.specs.ArtMake.declared.making.Making.{Making}
+use Rattle.art_call.specs.ArtMake.declared.making.Making.TheVariants.{Upgrading, Claiming, Filling, Writing, Committing, Releasing, ReleasingNode, GivingUp, Ended}
+use Rattle.art_call.specs.ArtPlan.declared.changes.Change.{Change}
+use Rattle.art_call.specs.ArtRemove.Removals.{removed}
+use Rattle.art_call.proofs.ArtSeek.Closes.{closed_sought, over_told}
+use Rattle.art_call.proofs.ArtSeek.Ends.{key_not_seen, range_not_absent, range_not_found}
+use Rattle.art_call.specs.ArtSeek.Seeks as seeks
+use Rattle.art_call.specs.ArtSeek.Walks as walks
+use Rattle.art_call.specs.ArtSeek.Walks.{IsEnd, aim_of, of_value, told_of}
+use Rattle.art_call.specs.ArtSeek.declared.seeks.Seek.{Seek}
+use Rattle.art_call.specs.ArtSeek.declared.seeks.SeekStage.{SeekStage}
+use Rattle.art_call.specs.ArtSeek.declared.seeks.SeekStage.TheVariants as seek
+use Rattle.art_call.specs.ArtSeek.declared.walks.Aim.TheVariants as aim
+use Rattle.art_call.specs.ArtSeek.declared.walks.Outcome.{Outcome as SeekOutcome}
+use Rattle.art_call.specs.ArtSeek.declared.walks.Outcome.TheVariants.{Found, Absent, Seen, Busy}
+use Rattle.art_call.specs.ArtSeek.declared.walks.Walk.{Walk}
+use Rattle.art_call.specs.ArtSeek.declared.walks.Walk.TheVariants.{Key, Range}
 use Rattle.art_step.specs.Events.{MakesEvent, SeesEvent}
 use Rattle.art_step.specs.Shows.{OnlyReads, Rest}
 use Rattle.art_step.specs.Steps.Epoch as epoch

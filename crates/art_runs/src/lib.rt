@@ -32,5 +32,6 @@
 mod ops;
 mod runs;
 
+pub use art_call;
 pub use ops::Op;
 pub use runs::run;

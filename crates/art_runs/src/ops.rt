@@ -3,7 +3,7 @@ ghost use Rattle.std.specs.Prelude.{◌≡◌, ℕ, IfSome, true};
 ghost use Rattle.art_call.specs.Calls.{HasCalled, IsCaller, IsCalling, Wish, restarts_in};
 ghost use Rattle.art_call.specs.Calls.{Get as get_wish, Insert as insert_wish, Look as look_wish, Remove as remove_wish};
 ghost use Rattle.art_key.specs.Bounds.{is_before};
-ghost use Rattle.art_look.specs.Seen.{bound_at};
+ghost use Rattle.art_call.specs.ArtLook.Seen.{bound_at};
 ghost use Rattle.art_runs.specs.Ops.{caller_in, last_in, outcome_in};
 ghost use Rattle.art_step.specs.declared.views.Sizes.{Sizes as SizesOf};
 ghost use Rattle.art_step.specs.declared.views.View.{View};

@@ -4,8 +4,8 @@ use Rattle.std.proofs.lemmas.List.Edits.{length-insert, length-remove}
 use Rattle.std.proofs.lemmas.Option.{same_Some, slice_get_within}
 use Rattle.std.specs.Prelude.{slice_index_or}
 use Rattle.std.specs.List.{insert, remove, slice_get}
-use Rattle.art_call.specs.Calls.{IsCaller}
-use Rattle.art_call.specs.declared.callers.Caller.{Caller}
+use Rattle.art_runs.specs.ArtCall.Calls.{IsCaller}
+use Rattle.art_runs.specs.ArtCall.declared.callers.Caller.{Caller}
 use Rattle.art_change.proofs.Looked.{newcomer_fresh}
 use Rattle.art_change.specs.Writes.{IsFresh}
 use Rattle.art_runs.specs.Ops.{IsUnderWay}

@@ -1,3 +1,5 @@
+-- the crates below, for those above to name
+pub use Rattle.art_table.proofs as ArtTable
 pub mod Alone
 pub mod Begun
 pub mod Between

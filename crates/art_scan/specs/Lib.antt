@@ -1,3 +1,6 @@
+-- the crates below, for those above to name
+pub use Rattle.art_table.specs.ArtCall
+pub use Rattle.art_table.specs as ArtTable
 pub mod Alone
 pub mod Endings
 pub mod Ends

@@ -28,6 +28,7 @@ mod running;
 mod scans;
 mod tilings;
 
+pub use art_table;
 pub use ends::after_ends_range;
 pub use faults::ScanFault;
 pub use laws::{looks_at_one_state_are_answers, looks_that_tile_are_scans};

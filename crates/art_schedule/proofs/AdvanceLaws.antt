@@ -2,9 +2,9 @@
 use Rattle.std.proofs.Common.{◌≡◌, ◌≢◌, ◌↔◌, ℕ, false, true, List, [], ◌++◌, Result, Ok, Err, IfErr, refl, sym, subst, ap}
 use Rattle.arrayvec.specs.ArrayVec.{ArrayVec}
 use Rattle.art_model.specs.declared.rows.Row.{Row}
-use Rattle.art_scan.specs.Running.{view_in}
-use Rattle.art_scan.specs.declared.running.Ending.{Ending}
-use Rattle.art_scan.specs.declared.running.Running.{Running}
+use Rattle.art_server.specs.ArtScan.Running.{view_in}
+use Rattle.art_server.specs.ArtScan.declared.running.Ending.{Ending}
+use Rattle.art_server.specs.ArtScan.declared.running.Running.{Running}
 use Rattle.art_schedule.specs.Lines.{Said, start, until, step, end}
 use Rattle.art_schedule.specs.Orders.{EndsAfter, GoesOn, Leaves, Obeys}
 use Rattle.art_schedule.specs.Seats.{Advances, EndsThere, Finishes, IsIdle, MakesSome, RunsOut, is_idle}
@@ -16,10 +16,10 @@ use Rattle.art_schedule.specs.declared.seats.Seat.{Seat}
 use Rattle.art_schedule.specs.declared.seats.Seat.TheVariants.{Idle, Going, Away}
 use Rattle.art_schedule.specs.declared.stops.Stop.{Stop}
 use Rattle.art_schedule.specs.declared.stops.Stop.TheVariants.{BadLine, WriteFault, NoMemory}
-use Rattle.art_table.specs.Steps.{Made}
-use Rattle.art_table.specs.Tables.{sizes_in}
-use Rattle.art_table.specs.declared.passes.Pass.{Pass}
-use Rattle.art_table.specs.declared.tables.Table.{Table}
+use Rattle.art_server.specs.ArtTable.Steps.{Made}
+use Rattle.art_server.specs.ArtTable.Tables.{sizes_in}
+use Rattle.art_server.specs.ArtTable.declared.passes.Pass.{Pass}
+use Rattle.art_server.specs.ArtTable.declared.tables.Table.{Table}
 use Rattle.art_schedule.proofs.StepLaws.{KeepsRunning-none, KeepsRunning-step, MakesSteps-append}
 
 module _ (t : Table) where

@@ -6,15 +6,15 @@ use Rattle.std.proofs.lemmas.List.{get_or_default, length-map, set-get_or}
 use Rattle.std.proofs.lemmas.List.Elements.{All-map}
 use Rattle.arrayvec.specs.ArrayVec.{ArrayVec}
 use Rattle.art_model.specs.declared.rows.Row.{Row}
-use Rattle.art_scan.specs.declared.running.Ending.{Ending}
-use Rattle.art_table.specs.Tables.{IsPassOf}
+use Rattle.art_server.specs.ArtScan.declared.running.Ending.{Ending}
+use Rattle.art_server.specs.ArtTable.Tables.{IsPassOf}
 use Rattle.art_server.specs.Sessions.{IsSamePass}
 use Rattle.art_schedule.specs.Desks.{AreSeated, AreSettled, IsDesk, Places, SettlesAt}
 use Rattle.art_schedule.specs.Schedules.{ArePassesOf, ComeBack}
 use Rattle.art_schedule.specs.Seats.{EndsThere, IsSeat, IsIdle, SettlesTo}
 use Rattle.art_schedule.specs.declared.desks.Desk.{Desk}
-use Rattle.art_table.specs.declared.passes.Pass.{Pass}
-use Rattle.art_table.specs.declared.tables.Table.{Table}
+use Rattle.art_server.specs.ArtTable.declared.passes.Pass.{Pass}
+use Rattle.art_server.specs.ArtTable.declared.tables.Table.{Table}
 use Rattle.art_schedule.specs.declared.seats.Seat.{Seat}
 use Rattle.art_schedule.specs.declared.seats.Seat.TheVariants.{Idle, Going, Away}
 use Rattle.art_schedule.proofs.Ends.{IsSamePass-refl}

@@ -5,22 +5,22 @@ use Rattle.art_model.specs.Rows.{Tuple}
 use Rattle.art_model.specs.declared.commands.Command.{Command}
 use Rattle.art_model.specs.declared.commands.Command.TheVariants.{Insert, Remove, Get, Scan}
 use Rattle.art_model.specs.declared.rows.Row.{Row}
-use Rattle.art_scan.specs.Endings.{CommandEnds}
-use Rattle.art_scan.specs.Scans.{Scans, scan_fault}
-use Rattle.art_scan.specs.declared.faults.ScanFault.{ScanFault}
-use Rattle.art_scan.specs.declared.running.Ending.{Ending}
-use Rattle.art_scan.specs.declared.running.Ending.TheVariants as ending
-use Rattle.art_scan.specs.declared.scans.More.{More}
+use Rattle.art_server.specs.ArtScan.Endings.{CommandEnds}
+use Rattle.art_server.specs.ArtScan.Scans.{Scans, scan_fault}
+use Rattle.art_server.specs.ArtScan.declared.faults.ScanFault.{ScanFault}
+use Rattle.art_server.specs.ArtScan.declared.running.Ending.{Ending}
+use Rattle.art_server.specs.ArtScan.declared.running.Ending.TheVariants as ending
+use Rattle.art_server.specs.ArtScan.declared.scans.More.{More}
 use Rattle.art_server.specs.Sessions.{IsSamePass}
-use Rattle.art_table.specs.Calls.{Ends}
-use Rattle.art_table.specs.Jobs.{job_fault}
-use Rattle.art_table.specs.Tables.{schema_in}
-use Rattle.art_table.specs.declared.faults.Fault.{Fault}
-use Rattle.art_table.specs.declared.jobs.Job.{Job}
-use Rattle.art_table.specs.declared.jobs.Job.TheVariants as job
-use Rattle.art_table.specs.declared.jobs.Outcome.{Outcome}
-use Rattle.art_table.specs.declared.passes.Pass.{Pass}
-use Rattle.art_table.specs.declared.tables.Table.{Table}
+use Rattle.art_server.specs.ArtTable.Calls.{Ends}
+use Rattle.art_server.specs.ArtTable.Jobs.{job_fault}
+use Rattle.art_server.specs.ArtTable.Tables.{schema_in}
+use Rattle.art_server.specs.ArtTable.declared.faults.Fault.{Fault}
+use Rattle.art_server.specs.ArtTable.declared.jobs.Job.{Job}
+use Rattle.art_server.specs.ArtTable.declared.jobs.Job.TheVariants as job
+use Rattle.art_server.specs.ArtTable.declared.jobs.Outcome.{Outcome}
+use Rattle.art_server.specs.ArtTable.declared.passes.Pass.{Pass}
+use Rattle.art_server.specs.ArtTable.declared.tables.Table.{Table}
 
 pub IsSamePass-refl : (p : Pass) → IsSamePass p p
 IsSamePass-refl p = record { number = refl; table = refl; seat = refl; basis = refl; told = refl }

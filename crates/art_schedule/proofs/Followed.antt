@@ -8,7 +8,7 @@ use Rattle.art_schedule.specs.declared.lines.Mark.{Mark}
 use Rattle.art_schedule.specs.declared.orders.Told.{Told}
 use Rattle.art_schedule.specs.declared.orders.Told.TheVariants.{Nothing, At, Stepped, Ended}
 use Rattle.art_schedule.specs.declared.seats.Seat.{Seat}
-use Rattle.art_table.specs.declared.tables.Table.{Table}
+use Rattle.art_server.specs.ArtTable.declared.tables.Table.{Table}
 
 module _ (t : Table) (old between new : Seat) (rows rows_between rows_after : List Row) where
   pub until_ends : (mark : Mark) (n : ℕ) → GoesOn t old rows between rows_between (λ r s. ReachesOrStops t mark n r s rows_between false) → (told : Told)

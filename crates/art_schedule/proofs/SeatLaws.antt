@@ -2,17 +2,17 @@
 use Rattle.std.proofs.Common.{◌≡◌, ℕ, ◌^◌, ◌<◌, List, subst, ap, arith}
 use Rattle.art_model.specs.declared.commands.Command.{Command}
 use Rattle.art_model.specs.declared.rows.Row.{Row}
-use Rattle.art_scan.specs.Endings.{CommandEnds}
-use Rattle.art_table.specs.Tables.{IsPassOf, view_of}
-use Rattle.art_scan.specs.Running.{IsRunning, view_in}
+use Rattle.art_server.specs.ArtScan.Endings.{CommandEnds}
+use Rattle.art_server.specs.ArtTable.Tables.{IsPassOf, view_of}
+use Rattle.art_server.specs.ArtScan.Running.{IsRunning, view_in}
 use Rattle.art_server.specs.Sessions.{IsSamePass}
 use Rattle.art_step.specs.declared.views.View.{View}
 use Rattle.art_schedule.proofs.Ends.{IsSamePass-trans, same_after}
 use Rattle.art_schedule.specs.Seats.{IsGoing, IsSeat}
-use Rattle.art_scan.specs.declared.running.Ending.{Ending}
-use Rattle.art_table.specs.declared.passes.Pass.{Pass}
-use Rattle.art_scan.specs.declared.running.Running.{Running}
-use Rattle.art_table.specs.declared.tables.Table.{Table}
+use Rattle.art_server.specs.ArtScan.declared.running.Ending.{Ending}
+use Rattle.art_server.specs.ArtTable.declared.passes.Pass.{Pass}
+use Rattle.art_server.specs.ArtScan.declared.running.Running.{Running}
+use Rattle.art_server.specs.ArtTable.declared.tables.Table.{Table}
 use Rattle.art_schedule.specs.declared.seats.Seat.{Seat}
 use Rattle.art_schedule.specs.declared.seats.Seat.TheVariants.{Idle}
 

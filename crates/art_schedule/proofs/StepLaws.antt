@@ -4,30 +4,30 @@ use Rattle.std.proofs.lemmas.List.{length_push}
 use Rattle.std.proofs.lemmas.List.Sums.{sum_by-append}
 use Rattle.art_model.specs.declared.commands.Command.{Command}
 use Rattle.art_model.specs.declared.rows.Row.{Row}
-use Rattle.art_scan.specs.Running.{IsRunning, HasNoStep, view_in, GoesOn, IsLooking, pass_at}
-use Rattle.art_table.specs.Tables.{view_of, sizes_in, schema_in}
-use Rattle.art_table.specs.Steps.{Made, MakesStep}
+use Rattle.art_server.specs.ArtScan.Running.{IsRunning, HasNoStep, view_in, GoesOn, IsLooking, pass_at}
+use Rattle.art_server.specs.ArtTable.Tables.{view_of, sizes_in, schema_in}
+use Rattle.art_server.specs.ArtTable.Steps.{Made, MakesStep}
 use Rattle.art_step.specs.declared.views.View.{View}
 use Rattle.art_schedule.specs.Seats.{IsGoing, KeepsRunning}
 use Rattle.art_schedule.specs.Steps.{MakesSteps, MakesMany, MakesFewer, StepsOrStops, ReachesMark, MissesMark, is_marked, marked}
 use Rattle.art_step.specs.declared.views.Sizes.{Sizes}
 use Rattle.art_schedule.specs.declared.lines.Mark.{Mark}
-use Rattle.art_table.specs.declared.passes.Pass.{Pass}
-use Rattle.art_scan.specs.declared.running.Running.{Running}
-use Rattle.art_table.specs.declared.tables.Table.{Table}
+use Rattle.art_server.specs.ArtTable.declared.passes.Pass.{Pass}
+use Rattle.art_server.specs.ArtScan.declared.running.Running.{Running}
+use Rattle.art_server.specs.ArtTable.declared.tables.Table.{Table}
 use Rattle.art_key.specs.declared.faults.ValueFault.{ValueFault}
 use Rattle.art_model.specs.Rows.{Tuple}
 use Rattle.art_model.specs.declared.commands.Command.TheVariants.{Insert, Remove, Get, Scan}
-use Rattle.art_scan.specs.Scans.{Scans, scan_fault}
-use Rattle.art_scan.specs.declared.faults.ScanFault.{ScanFault}
-use Rattle.art_scan.specs.declared.looking.Looking.{Looking}
-use Rattle.art_scan.specs.declared.running.Stage.{Stage}
-use Rattle.art_scan.specs.declared.running.Stage.TheVariants as stage
-use Rattle.art_scan.specs.declared.scans.More.{More}
-use Rattle.art_table.specs.Calls.{IsAttempt}
-use Rattle.art_table.specs.declared.attempts.Attempt.{Attempt}
-use Rattle.art_table.specs.declared.jobs.Job.{Job}
-use Rattle.art_table.specs.declared.jobs.Job.TheVariants as job
+use Rattle.art_server.specs.ArtScan.Scans.{Scans, scan_fault}
+use Rattle.art_server.specs.ArtScan.declared.faults.ScanFault.{ScanFault}
+use Rattle.art_server.specs.ArtScan.declared.looking.Looking.{Looking}
+use Rattle.art_server.specs.ArtScan.declared.running.Stage.{Stage}
+use Rattle.art_server.specs.ArtScan.declared.running.Stage.TheVariants as stage
+use Rattle.art_server.specs.ArtScan.declared.scans.More.{More}
+use Rattle.art_server.specs.ArtTable.Calls.{IsAttempt}
+use Rattle.art_server.specs.ArtTable.declared.attempts.Attempt.{Attempt}
+use Rattle.art_server.specs.ArtTable.declared.jobs.Job.{Job}
+use Rattle.art_server.specs.ArtTable.declared.jobs.Job.TheVariants as job
 
 -- ---- lists of steps
 

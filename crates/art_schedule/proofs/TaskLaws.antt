@@ -18,7 +18,7 @@ use Rattle.art_schedule.specs.declared.orders.Told.{Told}
 use Rattle.art_schedule.specs.declared.seats.Seat.{Seat}
 use Rattle.art_schedule.specs.declared.stops.Stop.{Stop}
 use Rattle.art_schedule.specs.declared.stops.Stop.TheVariants.{BadLine, WriteFault, NoMemory}
-use Rattle.art_table.specs.declared.tables.Table.{Table}
+use Rattle.art_server.specs.ArtTable.declared.tables.Table.{Table}
 use Rattle.art_schedule.proofs.AdvanceLaws.{Advances-obeyed}
 use Rattle.art_schedule.proofs.DeskLaws.{read_twice}
 

@@ -16,8 +16,8 @@ use Rattle.art_schedule.specs.declared.stops.ScheduleEnd.TheVariants as ends
 use Rattle.art_schedule.specs.declared.stops.Stop.{Stop}
 use Rattle.art_schedule.specs.declared.stops.Stop.TheVariants.{BadLine, WriteFault, NoMemory}
 use Rattle.art_schedule.specs.declared.seats.Seat.TheVariants.{Idle}
-use Rattle.art_table.specs.declared.passes.Pass.{Pass}
-use Rattle.art_table.specs.declared.tables.Table.{Table}
+use Rattle.art_server.specs.ArtTable.declared.passes.Pass.{Pass}
+use Rattle.art_server.specs.ArtTable.declared.tables.Table.{Table}
 use Rattle.art_server.specs.Streams.{last_part, lines_of, whole_lines}
 use Rattle.art_server.proofs.StreamLaws.{length-whole_lines, lines_fed, lines_of-append, lines_of-last, lines_of-short, part_fed, part_none, split_lines-part, take_more_kept}
 use Rattle.art_schedule.proofs.TaskLaws.{DoesAll-append, DoesAll-push, StopsAt-later, line_order-take}

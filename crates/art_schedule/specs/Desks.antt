@@ -4,8 +4,8 @@ use Rattle.arrayvec.specs.ArrayVec.{ArrayVec}
 use Rattle.art_model.specs.declared.rows.Row.{Row}
 use Rattle.art_schedule.specs.Seats.{IsSeat, SettlesTo}
 use Rattle.art_schedule.specs.declared.desks.Desk.{Desk}
-use Rattle.art_table.specs.declared.passes.Pass.{Pass}
-use Rattle.art_table.specs.declared.tables.Table.{Table}
+use Rattle.art_server.specs.ArtTable.declared.passes.Pass.{Pass}
+use Rattle.art_server.specs.ArtTable.declared.tables.Table.{Table}
 use Rattle.art_schedule.specs.declared.seats.Seat.{Seat}
 use Rattle.art_schedule.specs.declared.seats.Seat.TheVariants.{Idle}
 

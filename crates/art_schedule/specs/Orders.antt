@@ -10,10 +10,10 @@ use Rattle.art_server.specs.Endings.{reply_of_ending}
 use Rattle.art_server.specs.Replies.{text_of_reply}
 use Rattle.art_schedule.specs.Seats.{Advances, BeginsThere, EndsThere, IsIdle, KeepsRunning}
 use Rattle.art_schedule.specs.Steps.{MakesFewer, MakesMany, MissesMark, ReachesMark}
-use Rattle.art_scan.specs.declared.running.Ending.{Ending}
+use Rattle.art_server.specs.ArtScan.declared.running.Ending.{Ending}
 use Rattle.art_lines.specs.declared.lines.LineFault.{LineFault}
-use Rattle.art_scan.specs.declared.running.Running.{Running}
-use Rattle.art_table.specs.declared.tables.Table.{Table}
+use Rattle.art_server.specs.ArtScan.declared.running.Running.{Running}
+use Rattle.art_server.specs.ArtTable.declared.tables.Table.{Table}
 use Rattle.art_schedule.specs.declared.orders.Told.{Told}
 use Rattle.art_schedule.specs.declared.orders.Told.TheVariants.{Nothing, At, Stepped, Ended}
 use Rattle.art_schedule.specs.declared.seats.Seat.{Seat}

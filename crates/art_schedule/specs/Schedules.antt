@@ -2,7 +2,7 @@
 use Rattle.std.specs.Prelude.{◌≡◌, ◌⊎◌, ℕ, ◌+◌, ◌*◌, ◌≤◌, List, [], ◌++◌, length, map, Option, Some, ⊤}
 use Rattle.std.specs.Io.KnownBytes.{Appends, Consumes}
 use Rattle.std.specs.List.{range_with_len, slice_get}
-use Rattle.art_table.specs.Tables.{IsPassOf}
+use Rattle.art_server.specs.ArtTable.Tables.{IsPassOf}
 use Rattle.art_server.specs.Sessions.{IsSamePass}
 use Rattle.art_server.specs.Streams.{lines_of, whole_lines}
 use Rattle.art_schedule.specs.Desks.{Places, Settles}
@@ -10,8 +10,8 @@ use Rattle.art_schedule.specs.Tasks.{DoesAll, StopsAt, Task, end_at, obey}
 use Rattle.art_schedule.specs.declared.seats.Seat.TheVariants.{Idle}
 use Rattle.art_schedule.specs.declared.stops.Stop.{Stop}
 use Rattle.art_schedule.specs.declared.stops.Stop.TheVariants as stop
-use Rattle.art_table.specs.declared.passes.Pass.{Pass}
-use Rattle.art_table.specs.declared.tables.Table.{Table}
+use Rattle.art_server.specs.ArtTable.declared.passes.Pass.{Pass}
+use Rattle.art_server.specs.ArtTable.declared.tables.Table.{Table}
 use Rattle.art_schedule.specs.declared.stops.ScheduleEnd.{ScheduleEnd}
 use Rattle.art_schedule.specs.declared.stops.ScheduleEnd.TheVariants.{Ended, BadLine, ReadFault, WriteFault, NoMemory, ReadsUsed}
 

@@ -2,16 +2,16 @@
 use Rattle.std.specs.Prelude.{◌≡◌, ℕ, ◌≤◌, ◌^◌, ◌<◌, List, Bool, true, false}
 use Rattle.art_model.specs.declared.commands.Command.{Command}
 use Rattle.art_model.specs.declared.rows.Row.{Row}
-use Rattle.art_scan.specs.Endings.{CommandEnds}
-use Rattle.art_scan.specs.Running.{HasNoStep, IsRunning, restarts_in, view_in}
-use Rattle.art_table.specs.Tables.{IsPassOf, sizes_in, view_of}
-use Rattle.art_table.specs.Steps.{Made}
+use Rattle.art_server.specs.ArtScan.Endings.{CommandEnds}
+use Rattle.art_server.specs.ArtScan.Running.{HasNoStep, IsRunning, restarts_in, view_in}
+use Rattle.art_server.specs.ArtTable.Tables.{IsPassOf, sizes_in, view_of}
+use Rattle.art_server.specs.ArtTable.Steps.{Made}
 use Rattle.art_server.specs.Sessions.{IsSamePass}
 use Rattle.art_schedule.specs.Steps.{MakesSteps}
-use Rattle.art_scan.specs.declared.running.Ending.{Ending}
-use Rattle.art_table.specs.declared.passes.Pass.{Pass}
-use Rattle.art_scan.specs.declared.running.Running.{Running}
-use Rattle.art_table.specs.declared.tables.Table.{Table}
+use Rattle.art_server.specs.ArtScan.declared.running.Ending.{Ending}
+use Rattle.art_server.specs.ArtTable.declared.passes.Pass.{Pass}
+use Rattle.art_server.specs.ArtScan.declared.running.Running.{Running}
+use Rattle.art_server.specs.ArtTable.declared.tables.Table.{Table}
 use Rattle.art_schedule.specs.declared.seats.Seat.{Seat}
 use Rattle.art_schedule.specs.declared.seats.Seat.TheVariants.{Idle, Going, Away}
 

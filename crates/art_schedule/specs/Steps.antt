@@ -1,14 +1,14 @@
 -- Steps that were made one after another, and the marks on them.
 use Rattle.std.specs.Prelude.{◌≡◌, ℕ, ◌+◌, ◌<◌, Bool, true, false, List, [], ◌∷◌, ◌++◌, length, count_by, bytes_eq}
 use Rattle.art_model.specs.declared.rows.Row.{Row}
-use Rattle.art_scan.specs.Running.{HasNoStep, view_in}
-use Rattle.art_table.specs.Tables.{sizes_in}
-use Rattle.art_table.specs.Steps.{Made, MakesStep}
+use Rattle.art_server.specs.ArtScan.Running.{HasNoStep, view_in}
+use Rattle.art_server.specs.ArtTable.Tables.{sizes_in}
+use Rattle.art_server.specs.ArtTable.Steps.{Made, MakesStep}
 use Rattle.art_step.specs.declared.views.View.{View}
 use Rattle.art_schedule.specs.declared.lines.Mark.{Mark}
 use Rattle.art_schedule.specs.declared.lines.Mark.TheVariants.{Kind, Event}
-use Rattle.art_scan.specs.declared.running.Running.{Running}
-use Rattle.art_table.specs.declared.tables.Table.{Table}
+use Rattle.art_server.specs.ArtScan.declared.running.Running.{Running}
+use Rattle.art_server.specs.ArtTable.declared.tables.Table.{Table}
 use Rattle.art_step.specs.declared.views.Sizes.{Sizes}
 use Rattle.art_step.specs.StepNames.{step_name}
 

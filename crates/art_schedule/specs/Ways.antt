@@ -9,7 +9,7 @@ use Rattle.art_schedule.specs.declared.stops.ScheduleEnd.{ScheduleEnd}
 use Rattle.art_schedule.specs.declared.stops.Stop.{Stop}
 use Rattle.art_schedule.specs.declared.stops.Stop.TheVariants.{BadLine, WriteFault, NoMemory}
 use Rattle.art_server.specs.Streams.{last_part, whole_lines}
-use Rattle.art_table.specs.declared.tables.Table.{Table}
+use Rattle.art_server.specs.ArtTable.declared.tables.Table.{Table}
 
 -- ---- one order, one task, some tasks
 

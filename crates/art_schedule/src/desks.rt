@@ -3,14 +3,14 @@ ghost use Rattle.std.specs.Prelude.{◌≡◌, ◌<◌, All, List, IfErr, IfOk, 
 ghost use Rattle.art_schedule.specs.Desks.{IsDesk, Settles, SettlesAt, places_of};
 ghost use Rattle.art_schedule.specs.Schedules.{ArePassesOf, ComeBack};
 ghost use Rattle.art_schedule.specs.Seats.{IsIdle};
-ghost use Rattle.art_table.specs.declared.passes.Pass.{Pass as PassOf};
-ghost use Rattle.art_table.specs.declared.tables.Table.{Table as TableOf};
+ghost use Rattle.art_server.specs.ArtTable.declared.passes.Pass.{Pass as PassOf};
+ghost use Rattle.art_server.specs.ArtTable.declared.tables.Table.{Table as TableOf};
 ghost use Rattle.art_schedule.specs.declared.seats.Seat.TheVariants.{Idle as idle};
 
 use crate::seats::{Room, Seat, end};
 use arrayvec::ArrayVec;
 use art_model::NoMemory;
-use art_table::{Pass, Table};
+use art_server::art_table::{Pass, Table};
 use std::alloc::Global;
 
 /// A place for each pass, and room for the rows of a scan at each.

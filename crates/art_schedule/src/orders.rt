@@ -4,15 +4,15 @@ ghost use Rattle.art_schedule.specs.Lines.{HasTimes, said_by, start as start_ord
 ghost use Rattle.art_schedule.specs.Orders.{EndsWith, GoesOn, Leaves, Obeys, fits};
 ghost use Rattle.art_schedule.specs.Steps.{ReachesOrStops, StepsOrStops};
 ghost use Rattle.art_schedule.specs.Seats.{IsSeat, is_idle};
-ghost use Rattle.art_table.specs.declared.passes.Pass.{Pass as PassOf};
+ghost use Rattle.art_server.specs.ArtTable.declared.passes.Pass.{Pass as PassOf};
 
 use crate::seats::{Room, Seat, begin, end};
 use crate::steps::{make_steps, make_until};
 use crate::stops::Stop;
 use crate::{Mark, Order};
 use art_lines::{LineFault, parse_line};
+use art_server::art_table::Table;
 use art_server::{Refusal, print_ending, print_reply};
-use art_table::Table;
 use std::alloc::Global;
 
 /// What is told of a pass that followed an order.

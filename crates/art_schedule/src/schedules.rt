@@ -9,7 +9,7 @@ ghost use Rattle.art_schedule.specs.Lines.{HasTimes, said_by};
 ghost use Rattle.art_schedule.specs.Schedules.{ArePassesOf, ComeBack, EndsAtInput, IsStop, RunsSchedule, rest_tasks};
 ghost use Rattle.art_schedule.specs.Tasks.{end_at, obey as obey_task};
 ghost use Rattle.art_schedule.specs.Ways.{EndsUnderWay, ObeysBytes, RunsFrom, Tries, TriesAll, TriesAt, TriesRest};
-ghost use Rattle.art_table.specs.declared.passes.Pass.{Pass as PassOf};
+ghost use Rattle.art_server.specs.ArtTable.declared.passes.Pass.{Pass as PassOf};
 
 use crate::desks::{Desk, close, open};
 use crate::orders::follow;
@@ -19,7 +19,7 @@ use crate::{Order, parse};
 use arrayvec::ArrayVec;
 use art_lines::LINE_BYTES;
 use art_server::Counted;
-use art_table::{Pass, Table};
+use art_server::art_table::{Pass, Table};
 use std::alloc::Global;
 use std::io::{Read, Write};
 

@@ -1,17 +1,17 @@
 //! The place of one pass: idle, or with a command under way.
 ghost use Rattle.std.specs.Prelude.{◌≡◌, ℕ, ◌<◌, Bool, true, false};
-ghost use Rattle.art_scan.specs.Endings.{CommandEnds};
-ghost use Rattle.art_scan.specs.Running.{HasNoStep, IsRunning, restarts_in};
-ghost use Rattle.art_table.specs.Tables.{IsPassOf};
+ghost use Rattle.art_server.specs.ArtScan.Endings.{CommandEnds};
+ghost use Rattle.art_server.specs.ArtScan.Running.{HasNoStep, IsRunning, restarts_in};
+ghost use Rattle.art_server.specs.ArtTable.Tables.{IsPassOf};
 ghost use Rattle.art_server.specs.Sessions.{IsSamePass};
 ghost use Rattle.art_schedule.specs.Seats.{BeginsThere, EndsThere, Finishes, HasEnding, IsGoing, IsSeat, is_idle};
-ghost use Rattle.art_table.specs.declared.passes.Pass.{Pass as PassOf};
+ghost use Rattle.art_server.specs.ArtTable.declared.passes.Pass.{Pass as PassOf};
 
 use crate::steps::make_steps;
 use arrayvec::ArrayVec;
 use art_model::{Command, Row};
-use art_scan::{Ending, Running, start_command};
-use art_table::{Pass, Table};
+use art_server::art_scan::{Ending, Running, start_command};
+use art_server::art_table::{Pass, Table};
 use std::mem::replace;
 
 /// Room for the rows that a scan lists.

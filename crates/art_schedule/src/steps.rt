@@ -2,13 +2,13 @@
 ghost use Rattle.std.specs.Prelude.{◌≡◌, ◌<◌};
 ghost use Rattle.art_schedule.specs.Seats.{IsGoing, KeepsRunning};
 ghost use Rattle.art_schedule.specs.Steps.{ReachesOrStops, StepsOrStops, is_marked};
-ghost use Rattle.art_table.specs.declared.passes.Pass.{Pass as PassOf};
+ghost use Rattle.art_server.specs.ArtTable.declared.passes.Pass.{Pass as PassOf};
 
 use crate::Mark;
 use crate::seats::Room;
-use art_scan::Running;
+use art_server::art_scan::Running;
+use art_server::art_table::{Progress, Table};
 use art_step::StepKind;
-use art_table::{Progress, Table};
 
 impl Mark {
     ghost use Rattle.std.specs.Prelude.{◌≡◌};

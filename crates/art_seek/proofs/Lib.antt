@@ -1,3 +1,5 @@
+-- the crates below, for those above to name
+pub use Rattle.art_look.proofs as ArtLook
 pub mod Answered
 pub mod Closes
 mod Counted

@@ -41,6 +41,7 @@ mod seeks;
 mod straight;
 mod walks;
 
+pub use art_look;
 pub use asked::{Answer, Asked};
 pub use driver::{Made, Stepped, finish, make, step};
 pub use seekers::{KeySought, RangeSought, Seeker};

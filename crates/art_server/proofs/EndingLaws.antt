@@ -7,18 +7,18 @@ use Rattle.art_model.specs.declared.rows.Row.{Row}
 use Rattle.art_scan.specs.Endings.{CommandEnds}
 use Rattle.art_scan.specs.declared.running.Ending.{Ending}
 use Rattle.art_scan.specs.declared.running.Ending.TheVariants.{Call, Scan}
-use Rattle.art_table.proofs.Answered.{get_ends, insert_ends, remove_ends}
-use Rattle.art_table.specs.Calls.{Ends, HasEnded}
-use Rattle.art_table.specs.Jobs.{IsOf, job_fault, of_got, of_inserted, of_removed}
-use Rattle.art_table.specs.Tables.{schema_in}
-use Rattle.art_table.specs.declared.calls.Inserted.TheVariants as inserted
-use Rattle.art_table.specs.declared.faults.Fault.{Fault}
-use Rattle.art_table.specs.declared.jobs.Job.{Job}
-use Rattle.art_table.specs.declared.jobs.Job.TheVariants as jobs
-use Rattle.art_table.specs.declared.jobs.Outcome.{Outcome}
-use Rattle.art_table.specs.declared.jobs.Outcome.TheVariants.{New, Present, Removed, Absent, Found, Seen}
-use Rattle.art_table.specs.declared.passes.Pass.{Pass}
-use Rattle.art_table.specs.declared.tables.Table.{Table}
+use Rattle.art_scan.proofs.ArtTable.Answered.{get_ends, insert_ends, remove_ends}
+use Rattle.art_scan.specs.ArtTable.Calls.{Ends, HasEnded}
+use Rattle.art_scan.specs.ArtTable.Jobs.{IsOf, job_fault, of_got, of_inserted, of_removed}
+use Rattle.art_scan.specs.ArtTable.Tables.{schema_in}
+use Rattle.art_scan.specs.ArtTable.declared.calls.Inserted.TheVariants as inserted
+use Rattle.art_scan.specs.ArtTable.declared.faults.Fault.{Fault}
+use Rattle.art_scan.specs.ArtTable.declared.jobs.Job.{Job}
+use Rattle.art_scan.specs.ArtTable.declared.jobs.Job.TheVariants as jobs
+use Rattle.art_scan.specs.ArtTable.declared.jobs.Outcome.{Outcome}
+use Rattle.art_scan.specs.ArtTable.declared.jobs.Outcome.TheVariants.{New, Present, Removed, Absent, Found, Seen}
+use Rattle.art_scan.specs.ArtTable.declared.passes.Pass.{Pass}
+use Rattle.art_scan.specs.ArtTable.declared.tables.Table.{Table}
 use Rattle.art_server.specs.Endings.{EndsCommand, IsAnswer, reply_of_ending}
 use Rattle.art_server.specs.Replies.{IsPrintable}
 use Rattle.art_server.specs.Sessions.{AnswersCommandIn, IsReplyOf}

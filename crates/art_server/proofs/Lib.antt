@@ -1,3 +1,5 @@
+-- the crates below, for those above to name
+pub use Rattle.art_scan.proofs as ArtScan
 pub mod ReplyLaws
 pub mod TextLaws
 pub mod Printable

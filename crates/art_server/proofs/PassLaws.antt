@@ -7,11 +7,11 @@ use Rattle.art_model.specs.declared.commands.Reply.{Reply}
 use Rattle.art_model.specs.Rows.{Tuple}
 use Rattle.art_scan.specs.Scans.{scan_fault}
 use Rattle.art_scan.specs.declared.faults.ScanFault.{ScanFault}
-use Rattle.art_table.specs.Jobs.{job_fault}
-use Rattle.art_table.specs.Tables.{schema_in}
-use Rattle.art_table.specs.declared.jobs.Job.{Job}
-use Rattle.art_table.specs.declared.passes.Pass.{Pass}
-use Rattle.art_table.specs.declared.tables.Table.{Table}
+use Rattle.art_scan.specs.ArtTable.Jobs.{job_fault}
+use Rattle.art_scan.specs.ArtTable.Tables.{schema_in}
+use Rattle.art_scan.specs.ArtTable.declared.jobs.Job.{Job}
+use Rattle.art_scan.specs.ArtTable.declared.passes.Pass.{Pass}
+use Rattle.art_scan.specs.ArtTable.declared.tables.Table.{Table}
 use Rattle.art_lines.specs.declared.lines.LineFault.{LineFault}
 use Rattle.art_server.specs.declared.refusals.Refusal.{Refusal}
 use Rattle.art_server.specs.declared.sessions.SessionEnd.{SessionEnd}

@@ -23,9 +23,9 @@ use Rattle.art_scan.specs.declared.faults.ScanFault.{ScanFault}
 use Rattle.art_scan.specs.declared.scans.More.{More}
 use Rattle.art_scan.specs.Scans.{Scans, scan_fault}
 use Rattle.art_scan.specs.Tiles.{rows_of}
-use Rattle.art_table.specs.declared.passes.Pass.{Pass}
-use Rattle.art_table.specs.declared.tables.Table.{Table}
-use Rattle.art_table.specs.Tables.{schema_in}
+use Rattle.art_scan.specs.ArtTable.declared.passes.Pass.{Pass}
+use Rattle.art_scan.specs.ArtTable.declared.tables.Table.{Table}
+use Rattle.art_scan.specs.ArtTable.Tables.{schema_in}
 use Rattle.art_server.specs.Replies.{IsPrintableValue, IsPrintableRow}
 
 -- ---- one value

@@ -2,8 +2,8 @@
 use Rattle.std.proofs.Common.{◌≡◌, ℕ, ◌+◌, ◌*◌, ◌<◌, ◌≤◌, false, List, [], ◌++◌, length, take, Option, refl, subst, arith, append-nil, length-append}
 use Rattle.std.specs.Io.KnownBytes.{Appends, Consumes, Keeps}
 use Rattle.std.proofs.KnownBytes.{Appends-nil, Appends-trans, Consumes-nil, Consumes-trans, Consumes-kept}
-use Rattle.art_table.specs.declared.passes.Pass.{Pass}
-use Rattle.art_table.specs.declared.tables.Table.{Table}
+use Rattle.art_scan.specs.ArtTable.declared.passes.Pass.{Pass}
+use Rattle.art_scan.specs.ArtTable.declared.tables.Table.{Table}
 use Rattle.art_server.specs.declared.sessions.EndCause.{EndCause}
 use Rattle.art_server.specs.declared.sessions.EndCause.TheVariants.{ReadFault, ReadsUsed}
 use Rattle.art_server.specs.declared.sessions.SessionEnd.{SessionEnd}

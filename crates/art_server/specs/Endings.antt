@@ -6,8 +6,8 @@ use Rattle.art_model.specs.declared.commands.Reply.{Reply}
 use Rattle.art_model.specs.declared.rows.Row.{Row}
 use Rattle.art_scan.specs.declared.running.Ending.{Ending}
 use Rattle.art_scan.specs.declared.running.Ending.TheVariants.{Call, Scan}
-use Rattle.art_table.specs.declared.jobs.Outcome.{Outcome}
-use Rattle.art_table.specs.declared.jobs.Outcome.TheVariants.{New, Present, Removed, Absent, Found, Seen}
+use Rattle.art_scan.specs.ArtTable.declared.jobs.Outcome.{Outcome}
+use Rattle.art_scan.specs.ArtTable.declared.jobs.Outcome.TheVariants.{New, Present, Removed, Absent, Found, Seen}
 use Rattle.art_server.specs.declared.refusals.Refusal.{Refusal}
 use Rattle.art_server.specs.declared.replies.ReplyHead.{ReplyHead}
 use Rattle.art_server.specs.declared.replies.ReplyHead.TheVariants as head

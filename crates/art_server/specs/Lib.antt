@@ -1,3 +1,7 @@
+-- the crates below, for those above to name
+pub use Rattle.art_scan.specs.ArtCall
+pub use Rattle.art_scan.specs as ArtScan
+pub use Rattle.art_scan.specs.ArtTable
 pub mod Refusals
 pub mod Replies
 pub mod Streams

@@ -8,12 +8,12 @@ use Rattle.art_key.specs.declared.faults.ValueFault.{ValueFault}
 use Rattle.art_key.specs.declared.faults.ValueFault.TheVariants as value
 use Rattle.art_scan.specs.declared.faults.ScanFault.{ScanFault}
 use Rattle.art_scan.specs.declared.faults.ScanFault.TheVariants as scan
-use Rattle.art_table.specs.declared.closing.CloseRefusal.{CloseRefusal}
-use Rattle.art_table.specs.declared.closing.CloseRefusal.TheVariants as close
-use Rattle.art_table.specs.declared.faults.Fault.{Fault}
-use Rattle.art_table.specs.declared.faults.Fault.TheVariants as table
-use Rattle.art_table.specs.declared.faults.OpenFault.{OpenFault}
-use Rattle.art_table.specs.declared.faults.OpenFault.TheVariants as opening
+use Rattle.art_scan.specs.ArtTable.declared.closing.CloseRefusal.{CloseRefusal}
+use Rattle.art_scan.specs.ArtTable.declared.closing.CloseRefusal.TheVariants as close
+use Rattle.art_scan.specs.ArtTable.declared.faults.Fault.{Fault}
+use Rattle.art_scan.specs.ArtTable.declared.faults.Fault.TheVariants as table
+use Rattle.art_scan.specs.ArtTable.declared.faults.OpenFault.{OpenFault}
+use Rattle.art_scan.specs.ArtTable.declared.faults.OpenFault.TheVariants as opening
 use Rattle.art_lines.specs.declared.lines.LineFault.{LineFault}
 use Rattle.art_lines.specs.declared.lines.LineFault.TheVariants as line
 

@@ -13,14 +13,14 @@ use Rattle.art_scan.specs.declared.faults.ScanFault.{ScanFault}
 use Rattle.art_scan.specs.declared.scans.More.{More}
 use Rattle.art_scan.specs.declared.scans.More.TheVariants.{Limit, End}
 use Rattle.art_shared.specs.SamePass.{SamePass}
-use Rattle.art_table.specs.Calls.{Ends}
-use Rattle.art_table.specs.declared.faults.Fault.{Fault}
-use Rattle.art_table.specs.declared.jobs.Job.{Job}
-use Rattle.art_table.specs.declared.jobs.Job.TheVariants as jobs
-use Rattle.art_table.specs.declared.jobs.Outcome.{Outcome}
-use Rattle.art_table.specs.declared.jobs.Outcome.TheVariants as outcome
-use Rattle.art_table.specs.declared.passes.Pass.{Pass}
-use Rattle.art_table.specs.declared.tables.Table.{Table}
+use Rattle.art_scan.specs.ArtTable.Calls.{Ends}
+use Rattle.art_scan.specs.ArtTable.declared.faults.Fault.{Fault}
+use Rattle.art_scan.specs.ArtTable.declared.jobs.Job.{Job}
+use Rattle.art_scan.specs.ArtTable.declared.jobs.Job.TheVariants as jobs
+use Rattle.art_scan.specs.ArtTable.declared.jobs.Outcome.{Outcome}
+use Rattle.art_scan.specs.ArtTable.declared.jobs.Outcome.TheVariants as outcome
+use Rattle.art_scan.specs.ArtTable.declared.passes.Pass.{Pass}
+use Rattle.art_scan.specs.ArtTable.declared.tables.Table.{Table}
 use Rattle.art_lines.specs.declared.lines.LineFault.{LineFault}
 use Rattle.art_server.specs.declared.refusals.Refusal.{Refusal}
 use Rattle.art_server.specs.declared.sessions.EndCause.{EndCause}

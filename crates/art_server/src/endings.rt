@@ -4,8 +4,8 @@ ghost use Rattle.art_model.specs.declared.commands.Command.{Command};
 ghost use Rattle.art_model.specs.declared.rows.Row.{Row as RowOf};
 ghost use Rattle.art_scan.specs.Endings.{CommandEnds};
 ghost use Rattle.art_scan.specs.declared.running.Ending.{Ending as EndingOf};
-ghost use Rattle.art_table.specs.declared.passes.Pass.{Pass};
-ghost use Rattle.art_table.specs.declared.tables.Table.{Table};
+ghost use Rattle.art_scan.specs.ArtTable.declared.passes.Pass.{Pass};
+ghost use Rattle.art_scan.specs.ArtTable.declared.tables.Table.{Table};
 ghost use Rattle.art_server.specs.Endings.{EndsCommand, IsAnswer, answer_of, head_of, reply_of_ending};
 ghost use Rattle.art_server.specs.Replies.{text_of_reply};
 ghost use Rattle.art_server.specs.Sessions.{AnswersCommandIn};
@@ -13,8 +13,8 @@ ghost use Rattle.art_server.specs.Sessions.{AnswersCommandIn};
 use crate::Refusal;
 use crate::replies::{ReplyHead, print_with};
 use art_model::{Answer, NoMemory, Row};
+use art_scan::art_table::Outcome;
 use art_scan::{Ending, More};
-use art_table::Outcome;
 use std::alloc::Global;
 
 /// What is printed of a command that ended so, in so many turns, is an answer of that command in these turns.

@@ -23,6 +23,8 @@ mod streams;
 mod texts;
 mod watched;
 
+pub use art_scan;
+pub use art_scan::art_table;
 pub use counted::Counted;
 pub use endings::{endings_are_answers, print_ending};
 pub use gates::{Gate, NoGate};

@@ -2,7 +2,7 @@
 use art_key::{SchemaFault, ValueFault};
 use art_lines::LineFault;
 use art_scan::ScanFault;
-use art_table::{CloseRefusal, Fault, OpenFault};
+use art_scan::art_table::{CloseRefusal, Fault, OpenFault};
 use std::fmt;
 
 /// Why a command, or the start of the server, was refused.

@@ -9,7 +9,7 @@ ghost use Rattle.art_server.specs.Reads.{EndsAtInput, MakesReads};
 ghost use Rattle.art_server.specs.Replies.{IsPrintable, reply_of, reply_with};
 ghost use Rattle.art_server.specs.Sessions.{IsSamePass, RunsSession};
 ghost use Rattle.art_server.specs.Steps.{SendsReply, SendsLine, AnswersBytes, Finishes};
-ghost use Rattle.art_table.specs.Tables.{IsPassOf};
+ghost use Rattle.art_scan.specs.ArtTable.Tables.{IsPassOf};
 
 use crate::replies::{ReplyHead, print_rows};
 use crate::streams::write_whole;
@@ -19,7 +19,7 @@ use crate::{Counted, Gate, Refusal};
 use arrayvec::ArrayVec;
 use art_lines::{LineFault, LineReader, Verb};
 use art_model::{Answer, NoMemory, Row};
-use art_table::{Pass, Table};
+use art_scan::art_table::{Pass, Table};
 use memchr::memchr;
 use std::alloc::Global;
 use std::io::{self, Read, Write};

@@ -5,8 +5,8 @@ ghost use Rattle.art_lines.specs.Verbs.{command_of};
 ghost use Rattle.art_scan.specs.Endings.{CommandEnds};
 ghost use Rattle.art_server.specs.Replies.{IsPrintable, reply_of, reply_with};
 ghost use Rattle.art_server.specs.Sessions.{AnswersCommand, AnswersJob, AnswersScan, most_turns};
-ghost use Rattle.art_table.specs.Tables.{IsPassOf};
-ghost use Rattle.art_table.specs.declared.jobs.Job.TheVariants as jobs;
+ghost use Rattle.art_scan.specs.ArtTable.Tables.{IsPassOf};
+ghost use Rattle.art_scan.specs.ArtTable.declared.jobs.Job.TheVariants as jobs;
 
 use crate::endings::head_of;
 use crate::replies::ReplyHead;
@@ -14,8 +14,8 @@ use crate::{Gate, Refusal};
 use arrayvec::ArrayVec;
 use art_lines::{LineReader, Verb};
 use art_model::{Answer, Command, Row, Tuple};
+use art_scan::art_table::{Inserted, Pass, Progress, Table, get, insert, remove};
 use art_scan::{Ending, More, scan, start_command};
-use art_table::{Inserted, Pass, Progress, Table, get, insert, remove};
 
 /// The most turns of one command.
 const TURNS: u32 = 1_000_000;

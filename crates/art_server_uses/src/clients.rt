@@ -1,10 +1,10 @@
 //! Tables, passes and sessions, as tests have them.
 ghost use Rattle.art_server_uses.specs.Clients.{AreOf};
-ghost use Rattle.art_table.specs.Tables.{IsPassOf};
+ghost use Rattle.art_server.specs.ArtTable.Tables.{IsPassOf};
 
 use art_key::Schema;
+use art_server::art_table::{Config, Pass, Table, open};
 use art_server::{Counted, EndCause, Gate, NoGate, SessionEnd, session};
-use art_table::{Config, Pass, Table, open};
 use std::alloc::Global;
 use std::io::Read;
 use std::process::Abort;

@@ -1,10 +1,10 @@
 //! Sessions that a gate is told of, and one that it holds up.
-ghost use Rattle.art_table.specs.Tables.{IsPassOf};
+ghost use Rattle.art_server.specs.ArtTable.Tables.{IsPassOf};
 
 use crate::clients::{SIZES, alone, check_session, check_watched, last_of, opened};
+use art_server::art_table::{Config, Pass, Table};
 use art_server::{Counted, EndCause, Gate, SessionEnd, session};
 use art_step::StepKind;
-use art_table::{Config, Pass, Table};
 use std::alloc::Global;
 use std::io::{self, ErrorKind, Read, Write};
 use std::process::Abort;

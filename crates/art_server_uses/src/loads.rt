@@ -1,10 +1,10 @@
 //! Loads of commands by threads.
 ghost use Rattle.std.specs.Prelude.{◌≤◌, length};
-ghost use Rattle.art_table.specs.Closing.{AreOf};
+ghost use Rattle.art_server.specs.ArtTable.Closing.{AreOf};
 
 use crate::clients::opened;
 use art_load::{Counts, LoadFault, load};
-use art_table::{Config, Pass, Table, close};
+use art_server::art_table::{Config, Pass, Table, close};
 use std::alloc::Global;
 use std::process::Abort;
 use std::sync::Wait;

@@ -1,6 +1,6 @@
 //! Scans in sessions.
 use crate::clients::{SIZES, check_alone};
-use art_table::Config;
+use art_server::art_table::Config;
 use std::alloc::Global;
 use std::process::Abort;
 

@@ -1,7 +1,7 @@
 //! Sessions over readers and writers that fail, are interrupted, or give and take a little at a time.
 use crate::clients::{SIZES, alone, check_alone, check_session, last_of, opened};
+use art_server::art_table::Config;
 use art_server::{Counted, EndCause, NoGate, SessionEnd, session};
-use art_table::Config;
 use std::alloc::Global;
 use std::io::{self, ErrorKind, Read, Write};
 use std::process::Abort;

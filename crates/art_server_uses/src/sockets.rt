@@ -1,11 +1,11 @@
 //! Two clients over sockets, each answered by a worker of its own.
 ghost use Rattle.std.specs.Prelude.{◌≤◌, length};
-ghost use Rattle.art_table.specs.Closing.{AreOf};
-ghost use Rattle.art_table.specs.Tables.{IsPassOf};
+ghost use Rattle.art_server.specs.ArtTable.Closing.{AreOf};
+ghost use Rattle.art_server.specs.ArtTable.Tables.{IsPassOf};
 
 use crate::clients::{check_session, last_of, opened};
 use crate::gates::{FOUR, FOUR_INSERTED, Hold, ROWS, check_hold, waits_for};
-use art_table::{Pass, Table};
+use art_server::art_table::{Pass, Table};
 use art_workers::{ServeFault, serve};
 use std::alloc::Global;
 use std::io::{Read, Write};

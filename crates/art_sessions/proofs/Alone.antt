@@ -14,10 +14,10 @@ use Rattle.art_shared.specs.Rule.{AreBelow}
 use Rattle.art_step.specs.Histories as bytes
 use Rattle.art_step.specs.Views.{Member}
 use Rattle.art_step.specs.declared.views.Event.{Event as ByteEvent}
-use Rattle.art_table.specs.Closing.{IsHere, places_from}
-use Rattle.art_table.specs.Tables.{IsPassOf, number_of, own_of, schema_in, seen_by, sizes_in, view_of}
-use Rattle.art_table.specs.declared.passes.Pass.{Pass}
-use Rattle.art_table.specs.declared.tables.Table.{Table}
+use Rattle.art_server.specs.ArtTable.Closing.{IsHere, places_from}
+use Rattle.art_server.specs.ArtTable.Tables.{IsPassOf, number_of, own_of, schema_in, seen_by, sizes_in, view_of}
+use Rattle.art_server.specs.ArtTable.declared.passes.Pass.{Pass}
+use Rattle.art_server.specs.ArtTable.declared.tables.Table.{Table}
 use Rattle.art_typed.proofs.Events.{histories_are_typed}
 use Rattle.art_typed.specs.Typed.{typed}
 

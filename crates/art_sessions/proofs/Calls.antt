@@ -3,9 +3,9 @@ use Rattle.std.proofs.Common.{◌≡◌, ℕ, true, List, [], ◌++◌, length, 
 use Rattle.std.specs.List.{AllByRecursion}
 use Rattle.std.specs.Option.{option_map}
 use Rattle.std.specs.Prelude.{Result, Ok, Err}
-use Rattle.art_call.specs.Calls as calls
-use Rattle.art_call.specs.declared.outcomes.Outcome.{Outcome as CallOutcome}
-use Rattle.art_call.specs.declared.outcomes.Outcome.TheVariants as outcome
+use Rattle.art_server.specs.ArtCall.Calls as calls
+use Rattle.art_server.specs.ArtCall.declared.outcomes.Outcome.{Outcome as CallOutcome}
+use Rattle.art_server.specs.ArtCall.declared.outcomes.Outcome.TheVariants as outcome
 use Rattle.art_key.specs.Columns.{tuple_fault}
 use Rattle.art_key.specs.declared.columns.Column.{Column}
 use Rattle.art_key.specs.declared.events.Deed.TheVariants.{Done}
@@ -23,16 +23,16 @@ use Rattle.art_server.specs.declared.refusals.Refusal.TheVariants.{Busy, Full, C
 use Rattle.art_sessions.proofs.Events.{ToldAt, sees_at}
 use Rattle.art_sessions.specs.Maps.{IsGround, IsWant, command_fault}
 use Rattle.art_sessions.specs.Points.{CallAt, IsWithin}
-use Rattle.art_table.specs.Jobs.{job_fault, result_of, told_by, wish_of}
-use Rattle.art_table.specs.Marks.{StartsWith}
-use Rattle.art_table.specs.Tables.{number_of, own_of, schema_in, seen_by}
-use Rattle.art_table.specs.declared.faults.Fault.{Fault}
-use Rattle.art_table.specs.declared.faults.Fault.TheVariants.{Value}
-use Rattle.art_table.specs.declared.jobs.Job.{Job}
-use Rattle.art_table.specs.declared.jobs.Job.TheVariants as jobs
-use Rattle.art_table.specs.declared.jobs.Outcome.{Outcome}
-use Rattle.art_table.specs.declared.passes.Pass.{Pass}
-use Rattle.art_table.specs.declared.tables.Table.{Table}
+use Rattle.art_server.specs.ArtTable.Jobs.{job_fault, result_of, told_by, wish_of}
+use Rattle.art_server.specs.ArtTable.Marks.{StartsWith}
+use Rattle.art_server.specs.ArtTable.Tables.{number_of, own_of, schema_in, seen_by}
+use Rattle.art_server.specs.ArtTable.declared.faults.Fault.{Fault}
+use Rattle.art_server.specs.ArtTable.declared.faults.Fault.TheVariants.{Value}
+use Rattle.art_server.specs.ArtTable.declared.jobs.Job.{Job}
+use Rattle.art_server.specs.ArtTable.declared.jobs.Job.TheVariants as jobs
+use Rattle.art_server.specs.ArtTable.declared.jobs.Outcome.{Outcome}
+use Rattle.art_server.specs.ArtTable.declared.passes.Pass.{Pass}
+use Rattle.art_server.specs.ArtTable.declared.tables.Table.{Table}
 
 -- ---- by its reply
 

@@ -8,11 +8,11 @@ use Rattle.art_key.specs.declared.events.Event.{Event}
 use Rattle.art_sessions.proofs.Alone.{legal_split, run_push}
 use Rattle.art_sessions.proofs.Places.{front, front_more, stands}
 use Rattle.art_sessions.specs.Points.{IsWithin, StandsAt, rows_at}
-use Rattle.art_table.specs.Calls.{Sees}
-use Rattle.art_table.specs.Marks.{StartsWith}
-use Rattle.art_table.specs.Tables.{number_of, own_of, schema_in, seen_by}
-use Rattle.art_table.specs.declared.passes.Pass.{Pass}
-use Rattle.art_table.specs.declared.tables.Table.{Table}
+use Rattle.art_server.specs.ArtTable.Calls.{Sees}
+use Rattle.art_server.specs.ArtTable.Marks.{StartsWith}
+use Rattle.art_server.specs.ArtTable.Tables.{number_of, own_of, schema_in, seen_by}
+use Rattle.art_server.specs.ArtTable.declared.passes.Pass.{Pass}
+use Rattle.art_server.specs.ArtTable.declared.tables.Table.{Table}
 
 -- at the place the rows answer so, and become what that makes of them
 pub record EventAt (schema : List Column) (log : List Event) (n k : ℕ) (what : Deed) : Type 0 where

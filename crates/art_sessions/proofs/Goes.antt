@@ -8,21 +8,21 @@ use Rattle.art_key.specs.declared.faults.ValueFault.{ValueFault}
 use Rattle.art_model.specs.declared.commands.Command.{Command}
 use Rattle.art_model.specs.declared.commands.Command.TheVariants.{Insert, Remove, Get, Scan}
 use Rattle.art_model.specs.declared.commands.Reply.{Reply}
-use Rattle.art_scan.specs.Scans.{MakesLooks, scan_fault}
-use Rattle.art_scan.specs.Tiles.{Tile}
-use Rattle.art_scan.specs.declared.faults.ScanFault.{ScanFault}
+use Rattle.art_server.specs.ArtScan.Scans.{MakesLooks, scan_fault}
+use Rattle.art_server.specs.ArtScan.Tiles.{Tile}
+use Rattle.art_server.specs.ArtScan.declared.faults.ScanFault.{ScanFault}
 use Rattle.art_lines.specs.Lines.{line_says}
 use Rattle.art_server.specs.Sessions.{AnswersCommandIn, AnswersJobIn, AnswersLine, AnswersLines, AnswersSaid, AnswersScanIn, most_turns}
 use Rattle.art_lines.specs.declared.lines.LineFault.{LineFault}
 use Rattle.art_server.specs.declared.refusals.Refusal.{Refusal}
 use Rattle.art_sessions.specs.Points.{AnswersAll, AnswersSaidIn, Asked, asked_by}
-use Rattle.art_table.specs.Calls.{Sees}
-use Rattle.art_table.specs.Jobs.{job_fault, told_by}
-use Rattle.art_table.specs.Marks.{StartsWith}
-use Rattle.art_table.specs.Tables.{IsPassOf, number_of, own_of, schema_in, seen_by}
-use Rattle.art_table.specs.declared.jobs.Job.{Job}
-use Rattle.art_table.specs.declared.passes.Pass.{Pass}
-use Rattle.art_table.specs.declared.tables.Table.{Table}
+use Rattle.art_server.specs.ArtTable.Calls.{Sees}
+use Rattle.art_server.specs.ArtTable.Jobs.{job_fault, told_by}
+use Rattle.art_server.specs.ArtTable.Marks.{StartsWith}
+use Rattle.art_server.specs.ArtTable.Tables.{IsPassOf, number_of, own_of, schema_in, seen_by}
+use Rattle.art_server.specs.ArtTable.declared.jobs.Job.{Job}
+use Rattle.art_server.specs.ArtTable.declared.passes.Pass.{Pass}
+use Rattle.art_server.specs.ArtTable.declared.tables.Table.{Table}
 
 -- the pass p goes on as q: it is one of the table, with p's number, and has seen what p had seen, and what came after
 pub record GoesOn (t : Table) (p q : Pass) : Type 0 where

@@ -20,11 +20,11 @@ use Rattle.art_model.specs.declared.commands.Command.TheVariants.{Insert, Remove
 use Rattle.art_model.specs.declared.commands.Reply.{Reply}
 use Rattle.art_model.specs.declared.commands.Reply.TheVariants.{Rows}
 use Rattle.art_model.specs.declared.rows.Row.{Row}
-use Rattle.art_scan.proofs.Alone.{looks_at_one_state_are_answers}
-use Rattle.art_scan.specs.Scans.{limit_fault, or_value, range_fault, scan_fault}
-use Rattle.art_scan.specs.Tiles.{Tile, states_of}
-use Rattle.art_scan.specs.declared.faults.ScanFault.{ScanFault}
-use Rattle.art_scan.specs.declared.faults.ScanFault.TheVariants.{BadLimit, BadRange}
+use Rattle.art_server.proofs.ArtScan.Alone.{looks_at_one_state_are_answers}
+use Rattle.art_server.specs.ArtScan.Scans.{limit_fault, or_value, range_fault, scan_fault}
+use Rattle.art_server.specs.ArtScan.Tiles.{Tile, states_of}
+use Rattle.art_server.specs.ArtScan.declared.faults.ScanFault.{ScanFault}
+use Rattle.art_server.specs.ArtScan.declared.faults.ScanFault.TheVariants.{BadLimit, BadRange}
 use Rattle.art_server.specs.Refusals.{scan_refusal}
 use Rattle.art_server.specs.declared.refusals.Refusal.{Refusal}
 use Rattle.art_sessions.proofs.Alone.{next_own, only_alone, own_all, seen_legal}
@@ -35,10 +35,10 @@ use Rattle.art_sessions.proofs.Steps.{AreNext, next_first, next_second}
 use Rattle.art_sessions.specs.Laws.{IsOnlyPass, SawItselfAlone, SessionsAloneAreOneMap}
 use Rattle.art_sessions.specs.Maps.{IsGround, IsWant, MapAnswers, MapAnswersLines, MapAnswersSaid}
 use Rattle.art_sessions.specs.Points.{AllAt, AreAt, CallAt, CommandAt, SaidAt, ScanAt, asked_by, rows_at}
-use Rattle.art_table.specs.Marks.{StartsWith}
-use Rattle.art_table.specs.Tables.{IsPassOf, number_of, own_of, schema_in, seen_by}
-use Rattle.art_table.specs.declared.passes.Pass.{Pass}
-use Rattle.art_table.specs.declared.tables.Table.{Table}
+use Rattle.art_server.specs.ArtTable.Marks.{StartsWith}
+use Rattle.art_server.specs.ArtTable.Tables.{IsPassOf, number_of, own_of, schema_in, seen_by}
+use Rattle.art_server.specs.ArtTable.declared.passes.Pass.{Pass}
+use Rattle.art_server.specs.ArtTable.declared.tables.Table.{Table}
 
 -- ---- nothing is wrong with a scan
 

@@ -5,7 +5,7 @@ use Rattle.std.proofs.Math.Seq.{get_or-append_seam, take-append_seam}
 use Rattle.std.specs.List.{AllByRecursion, slice_get}
 use Rattle.art_key.specs.declared.events.Event.{Event}
 use Rattle.art_sessions.specs.Points.{IsWithin}
-use Rattle.art_table.specs.Marks.{StartsWith}
+use Rattle.art_server.specs.ArtTable.Marks.{StartsWith}
 
 -- ---- what stands after a front
 

@@ -15,10 +15,10 @@ use Rattle.art_sessions.proofs.Goes.{GoesOn, all_go, said_goes, starts_on}
 use Rattle.art_sessions.proofs.Places.{all_within, no_shorter}
 use Rattle.art_sessions.proofs.Scans.{scanned}
 use Rattle.art_sessions.specs.Points.{AllAt, AnswersSaidIn, CommandAt, CommandsArePoints, GoesOnAt, IsWithin, SaidAt}
-use Rattle.art_table.specs.Marks.{StartsWith}
-use Rattle.art_table.specs.Tables.{number_of, own_of, schema_in, seen_by}
-use Rattle.art_table.specs.declared.passes.Pass.{Pass}
-use Rattle.art_table.specs.declared.tables.Table.{Table}
+use Rattle.art_server.specs.ArtTable.Marks.{StartsWith}
+use Rattle.art_server.specs.ArtTable.Tables.{number_of, own_of, schema_in, seen_by}
+use Rattle.art_server.specs.ArtTable.declared.passes.Pass.{Pass}
+use Rattle.art_server.specs.ArtTable.declared.tables.Table.{Table}
 
 -- ---- one thing
 

@@ -13,21 +13,21 @@ use Rattle.art_model.specs.Scans.{IsScanOf}
 use Rattle.art_model.specs.declared.commands.Reply.{Reply}
 use Rattle.art_model.specs.declared.commands.Reply.TheVariants.{Rows}
 use Rattle.art_model.specs.declared.rows.Row.{Row}
-use Rattle.art_scan.specs.Scans.{EndsAs, HasScanned, MakesLooks, more_at, scan_fault}
-use Rattle.art_scan.specs.Tiles.{Tile, states_of}
-use Rattle.art_scan.specs.declared.faults.ScanFault.{ScanFault}
-use Rattle.art_scan.specs.declared.faults.ScanFault.TheVariants.{Busy}
-use Rattle.art_scan.specs.declared.scans.More.{More}
+use Rattle.art_server.specs.ArtScan.Scans.{EndsAs, HasScanned, MakesLooks, more_at, scan_fault}
+use Rattle.art_server.specs.ArtScan.Tiles.{Tile, states_of}
+use Rattle.art_server.specs.ArtScan.declared.faults.ScanFault.{ScanFault}
+use Rattle.art_server.specs.ArtScan.declared.faults.ScanFault.TheVariants.{Busy}
+use Rattle.art_server.specs.ArtScan.declared.scans.More.{More}
 use Rattle.art_server.specs.Refusals.{scan_refusal}
 use Rattle.art_server.specs.Sessions.{AnswersScanIn, IsReplyOfScan, is_limit}
 use Rattle.art_server.specs.declared.refusals.Refusal.{Refusal}
 use Rattle.art_sessions.proofs.Goes.{looks_start, starts_on}
 use Rattle.art_sessions.proofs.Places.{all_within, front, no_shorter, stands}
 use Rattle.art_sessions.specs.Points.{AreAt, IsWithin, ScanAt, rows_at}
-use Rattle.art_table.specs.Marks.{StartsWith}
-use Rattle.art_table.specs.Tables.{number_of, own_of, schema_in, seen_by}
-use Rattle.art_table.specs.declared.passes.Pass.{Pass}
-use Rattle.art_table.specs.declared.tables.Table.{Table}
+use Rattle.art_server.specs.ArtTable.Marks.{StartsWith}
+use Rattle.art_server.specs.ArtTable.Tables.{number_of, own_of, schema_in, seen_by}
+use Rattle.art_server.specs.ArtTable.declared.passes.Pass.{Pass}
+use Rattle.art_server.specs.ArtTable.declared.tables.Table.{Table}
 
 -- ---- its looks
 

@@ -6,11 +6,11 @@ use Rattle.art_sessions.proofs.Points.{commands_are_points}
 use Rattle.art_sessions.specs.Points.{asked_by}
 use Rattle.art_sessions.specs.Talks.{AllPrintAt, HasTalks, SessionsAreOneMap, Talk, Worker}
 use Rattle.art_step.specs.Views.{Member}
-use Rattle.art_table.specs.Closing.{places_from}
-use Rattle.art_table.specs.Marks.{StartsWith}
-use Rattle.art_table.specs.Tables.{IsPassOf, own_of, schema_in, seen_by}
-use Rattle.art_table.specs.declared.passes.Pass.{Pass}
-use Rattle.art_table.specs.declared.tables.Table.{Table}
+use Rattle.art_server.specs.ArtTable.Closing.{places_from}
+use Rattle.art_server.specs.ArtTable.Marks.{StartsWith}
+use Rattle.art_server.specs.ArtTable.Tables.{IsPassOf, own_of, schema_in, seen_by}
+use Rattle.art_server.specs.ArtTable.declared.passes.Pass.{Pass}
+use Rattle.art_server.specs.ArtTable.declared.tables.Table.{Table}
 use Rattle.art_typed.specs.Typed.{typed}
 
 -- ---- the sessions of a pass

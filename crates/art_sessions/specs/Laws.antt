@@ -6,11 +6,11 @@ use Rattle.art_key.specs.Histories.{replay}
 use Rattle.art_model.specs.declared.commands.Reply.{Reply}
 use Rattle.art_server.specs.Sessions.{AnswersLines}
 use Rattle.art_server.specs.declared.refusals.Refusal.{Refusal}
-use Rattle.art_table.specs.Closing.{IsClosed}
-use Rattle.art_table.specs.Tables.{IsPassOf, number_of, schema_in, seen_by, sizes_in}
-use Rattle.art_table.specs.declared.closing.Closed.{Closed}
-use Rattle.art_table.specs.declared.passes.Pass.{Pass}
-use Rattle.art_table.specs.declared.tables.Table.{Table}
+use Rattle.art_server.specs.ArtTable.Closing.{IsClosed}
+use Rattle.art_server.specs.ArtTable.Tables.{IsPassOf, number_of, schema_in, seen_by, sizes_in}
+use Rattle.art_server.specs.ArtTable.declared.closing.Closed.{Closed}
+use Rattle.art_server.specs.ArtTable.declared.passes.Pass.{Pass}
+use Rattle.art_server.specs.ArtTable.declared.tables.Table.{Table}
 
 -- the pass has seen its own events alone
 abbrev pub SawItselfAlone : Table → Pass → Type 0

@@ -8,7 +8,7 @@ use Rattle.art_model.specs.declared.commands.Command.{Command}
 use Rattle.art_model.specs.declared.commands.Command.TheVariants.{Insert, Remove, Get, Scan}
 use Rattle.art_model.specs.declared.commands.Reply.{Reply}
 use Rattle.art_model.specs.declared.rows.Row.{Row}
-use Rattle.art_scan.specs.Scans.{scan_fault}
+use Rattle.art_server.specs.ArtScan.Scans.{scan_fault}
 use Rattle.art_lines.specs.Lines.{line_says}
 use Rattle.art_server.specs.Refusals.{line_refusal, scan_refusal, value_refusal}
 use Rattle.art_lines.specs.declared.lines.LineFault.{LineFault}

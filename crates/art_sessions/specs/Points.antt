@@ -17,18 +17,18 @@ use Rattle.art_model.specs.declared.commands.Command.TheVariants.{Insert, Remove
 use Rattle.art_model.specs.declared.commands.Reply.{Reply}
 use Rattle.art_model.specs.declared.commands.Reply.TheVariants.{Rows}
 use Rattle.art_model.specs.declared.rows.Row.{Row}
-use Rattle.art_scan.specs.Scans.{HasListed}
-use Rattle.art_scan.specs.Tiles.{AreTiles, Tile}
-use Rattle.art_scan.specs.declared.scans.More.{More}
+use Rattle.art_server.specs.ArtScan.Scans.{HasListed}
+use Rattle.art_server.specs.ArtScan.Tiles.{AreTiles, Tile}
+use Rattle.art_server.specs.ArtScan.declared.scans.More.{More}
 use Rattle.art_server.specs.Refusals.{line_refusal}
 use Rattle.art_server.specs.Sessions.{AnswersCommandIn, most_turns}
 use Rattle.art_server.specs.declared.refusals.Refusal.{Refusal}
 use Rattle.art_server.specs.declared.refusals.Refusal.TheVariants.{Busy}
 use Rattle.art_sessions.specs.Maps.{IsGround, MapAnswers, command_fault}
-use Rattle.art_table.specs.Marks.{StartsWith}
-use Rattle.art_table.specs.Tables.{IsPassOf, number_of, own_of, schema_in, seen_by}
-use Rattle.art_table.specs.declared.passes.Pass.{Pass}
-use Rattle.art_table.specs.declared.tables.Table.{Table}
+use Rattle.art_server.specs.ArtTable.Marks.{StartsWith}
+use Rattle.art_server.specs.ArtTable.Tables.{IsPassOf, number_of, own_of, schema_in, seen_by}
+use Rattle.art_server.specs.ArtTable.declared.passes.Pass.{Pass}
+use Rattle.art_server.specs.ArtTable.declared.tables.Table.{Table}
 
 -- ---- points of a history
 

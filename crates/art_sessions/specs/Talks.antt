@@ -11,12 +11,12 @@ use Rattle.art_server.specs.declared.sessions.EndCause.TheVariants.{WriteFault}
 use Rattle.art_server.specs.declared.sessions.SessionEnd.{SessionEnd}
 use Rattle.art_sessions.specs.Points.{AllAt, GoesOnAt, asked_by}
 use Rattle.art_step.specs.Views.{Member}
-use Rattle.art_table.specs.Closing.{IsClosed, IsHere, places_from}
-use Rattle.art_table.specs.Marks.{StartsWith}
-use Rattle.art_table.specs.Tables.{IsPassOf, number_of, own_of, schema_in, seen_by}
-use Rattle.art_table.specs.declared.closing.Closed.{Closed}
-use Rattle.art_table.specs.declared.passes.Pass.{Pass}
-use Rattle.art_table.specs.declared.tables.Table.{Table}
+use Rattle.art_server.specs.ArtTable.Closing.{IsClosed, IsHere, places_from}
+use Rattle.art_server.specs.ArtTable.Marks.{StartsWith}
+use Rattle.art_server.specs.ArtTable.Tables.{IsPassOf, number_of, own_of, schema_in, seen_by}
+use Rattle.art_server.specs.ArtTable.declared.closing.Closed.{Closed}
+use Rattle.art_server.specs.ArtTable.declared.passes.Pass.{Pass}
+use Rattle.art_server.specs.ArtTable.declared.tables.Table.{Table}
 
 -- ---- sessions of a pass
 

@@ -4,7 +4,7 @@ use Rattle.std.proofs.lemmas.Bool.{cond_both}
 use Rattle.std.proofs.lemmas.List.{append_cancel_right}
 use Rattle.std.specs.Prelude.{nat_lt}
 use Rattle.arrayvec.specs.ArrayVec.{ArrayVec}
-use Rattle.art_attempt.specs.declared.rooms.Room.{Room}
+use Rattle.art_call.specs.ArtAttempt.declared.rooms.Room.{Room}
 use Rattle.art_call.specs.AsAsked.{GoesBy, WriteWaits}
 use Rattle.art_call.specs.Calls.{Get, GoesOn, HasGroundOf, Insert, IsGround, Look, Remove, Wish, may_end}
 use Rattle.art_call.specs.Outcomes.{of_write}
@@ -13,20 +13,20 @@ use Rattle.art_call.specs.declared.callers.Call.TheVariants as call
 use Rattle.art_call.specs.declared.callers.Caller.{Caller}
 use Rattle.art_call.specs.declared.outcomes.Outcome.{Outcome}
 use Rattle.art_call.specs.declared.outcomes.Outcome.TheVariants as outcome
-use Rattle.art_change.specs.Writes as writes
-use Rattle.art_change.specs.declared.tries.Job.{Job}
-use Rattle.art_change.specs.declared.writes.Outcome.{Outcome as WriteOutcome}
-use Rattle.art_change.specs.declared.writes.Outcome.TheVariants as wrote
-use Rattle.art_change.specs.declared.writes.Write.{Write}
+use Rattle.art_call.specs.ArtChange.Writes as writes
+use Rattle.art_call.specs.ArtChange.declared.tries.Job.{Job}
+use Rattle.art_call.specs.ArtChange.declared.writes.Outcome.{Outcome as WriteOutcome}
+use Rattle.art_call.specs.ArtChange.declared.writes.Outcome.TheVariants as wrote
+use Rattle.art_call.specs.ArtChange.declared.writes.Write.{Write}
 use Rattle.art_epoch.specs.Limbo.{places_of}
 use Rattle.art_epoch.specs.Pins.{view_advanced}
 use Rattle.art_epoch.specs.Reclaiming.{Look as LookAt, view_watched}
 use Rattle.art_epoch.specs.declared.limbo.Place.{Place}
-use Rattle.art_frame.specs.Openings.{IsCrowded}
-use Rattle.art_frame.specs.declared.openings.Blocker.{Blocker}
+use Rattle.art_call.specs.ArtFrame.Openings.{IsCrowded}
+use Rattle.art_call.specs.ArtFrame.declared.openings.Blocker.{Blocker}
 use Rattle.art_key.specs.declared.bounds.Bound.{Bound}
-use Rattle.art_seek.specs.Seeks as seeks
-use Rattle.art_seek.specs.declared.seeks.Seek.{Seek}
+use Rattle.art_call.specs.ArtSeek.Seeks as seeks
+use Rattle.art_call.specs.ArtSeek.declared.seeks.Seek.{Seek}
 use Rattle.art_solo.proofs.Alone.{alone_on, idle_current}
 use Rattle.art_solo.proofs.Calm.{IsMoment}
 use Rattle.art_solo.proofs.Finding.{finds_on, finds_start}

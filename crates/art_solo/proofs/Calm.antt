@@ -9,15 +9,15 @@ use Rattle.art_cell.specs.declared.layouts.Pool.{Pool}
 use Rattle.art_epoch.specs.Asking.{Answers as FrameAnswers}
 use Rattle.art_epoch.specs.declared.asked.Asked.{Asked as FrameAsked}
 use Rattle.art_epoch.specs.declared.asked.Asked.TheVariants as frame
-use Rattle.art_find.proofs.Allowed.{none_held}
-use Rattle.art_find.specs.Asking.{Answers as CellAnswers}
-use Rattle.art_find.specs.declared.asked.Answer.{Answer as CellAnswer}
-use Rattle.art_find.specs.declared.asked.Answer.TheVariants.{Begun, Word as word_told, Checked}
-use Rattle.art_find.specs.declared.asked.Asked.{Asked as CellAsked}
-use Rattle.art_find.specs.declared.asked.Asked.TheVariants.{Begin, Read, ReadLeaf, Check, Settle}
-use Rattle.art_gather.specs.Asking.{Answers as SupplyAnswers, IsAllowed as MaySupply}
-use Rattle.art_gather.specs.declared.asked.Asked.{Asked as SupplyAsked}
-use Rattle.art_gather.specs.declared.asked.Asked.TheVariants.{Number, Leaf}
+use Rattle.art_call.proofs.ArtFind.Allowed.{none_held}
+use Rattle.art_call.specs.ArtFind.Asking.{Answers as CellAnswers}
+use Rattle.art_call.specs.ArtFind.declared.asked.Answer.{Answer as CellAnswer}
+use Rattle.art_call.specs.ArtFind.declared.asked.Answer.TheVariants.{Begun, Word as word_told, Checked}
+use Rattle.art_call.specs.ArtFind.declared.asked.Asked.{Asked as CellAsked}
+use Rattle.art_call.specs.ArtFind.declared.asked.Asked.TheVariants.{Begin, Read, ReadLeaf, Check, Settle}
+use Rattle.art_call.specs.ArtGather.Asking.{Answers as SupplyAnswers, IsAllowed as MaySupply}
+use Rattle.art_call.specs.ArtGather.declared.asked.Asked.{Asked as SupplyAsked}
+use Rattle.art_call.specs.ArtGather.declared.asked.Asked.TheVariants.{Number, Leaf}
 use Rattle.art_solo.proofs.Alone.{clear_unless}
 use Rattle.art_solo.proofs.Found.{found_is}
 use Rattle.art_solo.proofs.Versions.{SameCells, versions_stay}

@@ -10,36 +10,36 @@ use Rattle.art_cell.specs.declared.cells.Cell.{Cell}
 use Rattle.art_cell.specs.declared.cells.Cell.TheVariants as cell
 use Rattle.art_cell.specs.declared.cells.Link.TheVariants.{Node as node}
 use Rattle.art_cell.specs.declared.cells.Node.{Node}
-use Rattle.art_decide.proofs.SeenBodies.{stands}
-use Rattle.art_decide.proofs.WholeCells.{IsWhole, node_whole}
-use Rattle.art_decide.specs.Bodies.{HasWords, IsFilled}
-use Rattle.art_find.proofs.Allowed.{none_held}
-use Rattle.art_find.specs.Descents as descents
-use Rattle.art_find.specs.declared.asked.Asked.{Asked}
-use Rattle.art_find.specs.declared.asked.Asked.TheVariants.{Begin, Read}
-use Rattle.art_find.specs.declared.descents.Stage.{Stage}
-use Rattle.art_find.specs.declared.descents.Stage.TheVariants as descent
-use Rattle.art_gather.specs.Vouching as vouching
-use Rattle.art_gather.specs.Vouching.{above_checks, above_reads}
-use Rattle.art_gather.specs.declared.vouching.Vouching.{Vouching}
-use Rattle.art_gather.specs.declared.vouching.Vouching.TheVariants as vouches
+use Rattle.art_call.proofs.ArtDecide.SeenBodies.{stands}
+use Rattle.art_call.proofs.ArtDecide.WholeCells.{IsWhole, node_whole}
+use Rattle.art_call.specs.ArtDecide.Bodies.{HasWords, IsFilled}
+use Rattle.art_call.proofs.ArtFind.Allowed.{none_held}
+use Rattle.art_call.specs.ArtFind.Descents as descents
+use Rattle.art_call.specs.ArtFind.declared.asked.Asked.{Asked}
+use Rattle.art_call.specs.ArtFind.declared.asked.Asked.TheVariants.{Begin, Read}
+use Rattle.art_call.specs.ArtFind.declared.descents.Stage.{Stage}
+use Rattle.art_call.specs.ArtFind.declared.descents.Stage.TheVariants as descent
+use Rattle.art_call.specs.ArtGather.Vouching as vouching
+use Rattle.art_call.specs.ArtGather.Vouching.{above_checks, above_reads}
+use Rattle.art_call.specs.ArtGather.declared.vouching.Vouching.{Vouching}
+use Rattle.art_call.specs.ArtGather.declared.vouching.Vouching.TheVariants as vouches
 use Rattle.art_key.specs.declared.bounds.Bound.{Bound}
-use Rattle.art_look.specs.Looks as looks
-use Rattle.art_look.specs.declared.looks.LookStage.{LookStage}
-use Rattle.art_look.specs.declared.looks.LookStage.TheVariants as look
-use Rattle.art_look.specs.declared.trails.Trail.{Trail}
-use Rattle.art_lower.proofs.LowerNames.{body_read, has_read}
-use Rattle.art_lower.specs.Lowering as lowering
-use Rattle.art_lower.specs.Lowering.{IsLowering}
-use Rattle.art_lower.specs.declared.lowering.Lowering.{Lowering}
-use Rattle.art_lower.specs.declared.lowering.Lowering.TheVariants as lowers
-use Rattle.art_place.specs.Desks.{node_of}
-use Rattle.art_place.specs.Rereadings.{reads_next}
-use Rattle.art_place.specs.declared.desks.Desk.{Desk}
-use Rattle.art_place.specs.declared.findings.Above.{Above}
-use Rattle.art_place.specs.declared.findings.Stand.{Stand}
-use Rattle.art_place.specs.declared.rereadings.Rereading.{Rereading}
-use Rattle.art_plan.proofs.ChildPlaces.{IsPlaceOf, place_byte}
+use Rattle.art_call.specs.ArtLook.Looks as looks
+use Rattle.art_call.specs.ArtLook.declared.looks.LookStage.{LookStage}
+use Rattle.art_call.specs.ArtLook.declared.looks.LookStage.TheVariants as look
+use Rattle.art_call.specs.ArtLook.declared.trails.Trail.{Trail}
+use Rattle.art_call.proofs.ArtLower.LowerNames.{body_read, has_read}
+use Rattle.art_call.specs.ArtLower.Lowering as lowering
+use Rattle.art_call.specs.ArtLower.Lowering.{IsLowering}
+use Rattle.art_call.specs.ArtLower.declared.lowering.Lowering.{Lowering}
+use Rattle.art_call.specs.ArtLower.declared.lowering.Lowering.TheVariants as lowers
+use Rattle.art_call.specs.ArtPlace.Desks.{node_of}
+use Rattle.art_call.specs.ArtPlace.Rereadings.{reads_next}
+use Rattle.art_call.specs.ArtPlace.declared.desks.Desk.{Desk}
+use Rattle.art_call.specs.ArtPlace.declared.findings.Above.{Above}
+use Rattle.art_call.specs.ArtPlace.declared.findings.Stand.{Stand}
+use Rattle.art_call.specs.ArtPlace.declared.rereadings.Rereading.{Rereading}
+use Rattle.art_call.proofs.ArtPlan.ChildPlaces.{IsPlaceOf, place_byte}
 use Rattle.art_solo.proofs.Calm.{IsCellFounded, IsLedTo}
 use Rattle.art_step.proofs.Shows.{child_on}
 use Rattle.art_step.specs.Knowledge.{HoldsAll, IsShape}

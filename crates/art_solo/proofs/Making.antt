@@ -2,18 +2,18 @@
 use Rattle.std.proofs.Common.{◌≡◌, ◌≢◌, ◌∷◌, ℕ, Bool, List, [], length, inl, inr, refl, sym, ap, ◌∙◌, subst, arith, ⊎_elim}
 use Rattle.std.proofs.lemmas.List.{length-append}
 use Rattle.std.specs.Prelude.{Ok, Err, ⊤, ◌++◌}
-use Rattle.art_attempt.specs.Asking.{Answers, IsAllowed}
-use Rattle.art_attempt.specs.declared.asked.Answer.{Answer}
-use Rattle.art_attempt.specs.declared.asked.Answer.TheVariants as told
-use Rattle.art_attempt.specs.declared.asked.Asked.{Asked}
-use Rattle.art_attempt.specs.declared.asked.Asked.TheVariants.{Cell, Supply, Change}
+use Rattle.art_call.specs.ArtAttempt.Asking.{Answers, IsAllowed}
+use Rattle.art_call.specs.ArtAttempt.declared.asked.Answer.{Answer}
+use Rattle.art_call.specs.ArtAttempt.declared.asked.Answer.TheVariants as told
+use Rattle.art_call.specs.ArtAttempt.declared.asked.Asked.{Asked}
+use Rattle.art_call.specs.ArtAttempt.declared.asked.Asked.TheVariants.{Cell, Supply, Change}
 use Rattle.art_cell.specs.declared.cells.Cell.{Cell as CellOf}
-use Rattle.art_make.specs.Asking.{Answers as ChangeAnswers, IsAllowed as MayChange}
-use Rattle.art_make.specs.declared.asked.Answer.{Answer as ChangeAnswer}
-use Rattle.art_make.specs.declared.asked.Answer.TheVariants.{Upgraded, Done}
-use Rattle.art_make.specs.declared.asked.Asked.{Asked as ChangeAsked}
-use Rattle.art_make.specs.declared.asked.Asked.TheVariants as change
-use Rattle.art_plan.specs.declared.changes.Change.{Change as ChangeOf}
+use Rattle.art_call.specs.ArtMake.Asking.{Answers as ChangeAnswers, IsAllowed as MayChange}
+use Rattle.art_call.specs.ArtMake.declared.asked.Answer.{Answer as ChangeAnswer}
+use Rattle.art_call.specs.ArtMake.declared.asked.Answer.TheVariants.{Upgraded, Done}
+use Rattle.art_call.specs.ArtMake.declared.asked.Asked.{Asked as ChangeAsked}
+use Rattle.art_call.specs.ArtMake.declared.asked.Asked.TheVariants as change
+use Rattle.art_call.specs.ArtPlan.declared.changes.Change.{Change as ChangeOf}
 use Rattle.art_solo.proofs.Calm.{IsMoment, calm_current, calm_same, cell_calm, supply_calm, unchanged}
 use Rattle.art_solo.proofs.Tries.{IsChangeFounded, IsTryFounded}
 use Rattle.art_solo.proofs.Versions.{SameCells, versions_but}

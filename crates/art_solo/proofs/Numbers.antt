@@ -15,18 +15,18 @@ use Rattle.art_epoch.specs.declared.asked.Asked.TheVariants.{Clear}
 use Rattle.art_epoch.specs.declared.taking.Search.{Search}
 use Rattle.art_epoch.specs.declared.taking.Search.TheVariants.{Looking, Clearing, Took}
 use Rattle.art_epoch.specs.declared.taking.Taking.{Taking}
-use Rattle.art_frame.specs.Stocks.{IsIn, node_in}
-use Rattle.art_frame.specs.declared.stocks.Stock.{Stock}
-use Rattle.art_gather.specs.Supplying as supplying
-use Rattle.art_gather.specs.Supplying.{leaf_asked, leaf_write}
-use Rattle.art_gather.specs.declared.asked.Asked.{Asked}
-use Rattle.art_gather.specs.declared.asked.Asked.TheVariants as asked
-use Rattle.art_gather.specs.declared.supplying.Supplying.{Supplying}
-use Rattle.art_gather.specs.declared.supplying.Supplying.TheVariants as supplies
-use Rattle.art_gather.specs.declared.supplying.Wants.{Wants}
-use Rattle.art_make.proofs.Told.{map_some}
-use Rattle.art_make.specs.Packing.{word_asked}
-use Rattle.art_make.specs.declared.packing.Packing.{Packing}
+use Rattle.art_call.specs.ArtFrame.Stocks.{IsIn, node_in}
+use Rattle.art_call.specs.ArtFrame.declared.stocks.Stock.{Stock}
+use Rattle.art_call.specs.ArtGather.Supplying as supplying
+use Rattle.art_call.specs.ArtGather.Supplying.{leaf_asked, leaf_write}
+use Rattle.art_call.specs.ArtGather.declared.asked.Asked.{Asked}
+use Rattle.art_call.specs.ArtGather.declared.asked.Asked.TheVariants as asked
+use Rattle.art_call.specs.ArtGather.declared.supplying.Supplying.{Supplying}
+use Rattle.art_call.specs.ArtGather.declared.supplying.Supplying.TheVariants as supplies
+use Rattle.art_call.specs.ArtGather.declared.supplying.Wants.{Wants}
+use Rattle.art_call.proofs.ArtMake.Told.{map_some}
+use Rattle.art_call.specs.ArtMake.Packing.{word_asked}
+use Rattle.art_call.specs.ArtMake.declared.packing.Packing.{Packing}
 use Rattle.art_solo.proofs.Calm.{IsFrameFounded, IsSupplyFounded}
 use Rattle.art_solo.proofs.Finding.{found_since}
 use Rattle.art_solo.specs.Alone.{HasFound}

@@ -2,49 +2,49 @@
 use Rattle.std.proofs.Common.{◌≡◌, ◌+◌, ◌≤◌, ℕ, List, None, refl, ap, ◌∙◌, arith}
 use Rattle.std.proofs.lemmas.Bool.{cond_both}
 use Rattle.std.specs.Prelude.{◌==◌}
-use Rattle.art_attempt.specs.Inserting as inserts
-use Rattle.art_attempt.specs.declared.inserting.Inserting.{Inserting as Insertion}
-use Rattle.art_attempt.specs.declared.inserting.Stage.{Stage as InsertStage}
-use Rattle.art_attempt.specs.declared.inserting.Stage.TheVariants as insert
-use Rattle.art_attempt.specs.declared.rooms.Room.{Room}
+use Rattle.art_call.specs.ArtAttempt.Inserting as inserts
+use Rattle.art_call.specs.ArtAttempt.declared.inserting.Inserting.{Inserting as Insertion}
+use Rattle.art_call.specs.ArtAttempt.declared.inserting.Stage.{Stage as InsertStage}
+use Rattle.art_call.specs.ArtAttempt.declared.inserting.Stage.TheVariants as insert
+use Rattle.art_call.specs.ArtAttempt.declared.rooms.Room.{Room}
 use Rattle.art_call.specs.Calls.{GoesOn, Wish, restarts_of}
 use Rattle.art_call.specs.declared.callers.Call.{Call}
 use Rattle.art_call.specs.declared.callers.Call.TheVariants as call
 use Rattle.art_call.specs.declared.callers.Caller.{Caller}
-use Rattle.art_change.proofs.Counted.{write_counted}
-use Rattle.art_change.proofs.EitherKind.{left_by, map_none}
-use Rattle.art_change.specs.Tries as tries
-use Rattle.art_change.specs.Tries.{key_of, value_of}
-use Rattle.art_change.specs.Writes as writes
-use Rattle.art_change.specs.Writes.{IsClosing, gone_by}
-use Rattle.art_change.specs.declared.tries.Job.{Job}
-use Rattle.art_change.specs.declared.tries.Job.TheVariants.{Insert, Remove}
-use Rattle.art_change.specs.declared.tries.Trying.{Trying}
-use Rattle.art_change.specs.declared.tries.Trying.TheVariants.{Inserting, Erasing}
-use Rattle.art_change.specs.declared.writes.Stage.{Stage}
-use Rattle.art_change.specs.declared.writes.Stage.TheVariants as stage
-use Rattle.art_change.specs.declared.writes.Write.{Write}
+use Rattle.art_call.proofs.ArtChange.Counted.{write_counted}
+use Rattle.art_call.proofs.ArtChange.EitherKind.{left_by, map_none}
+use Rattle.art_call.specs.ArtChange.Tries as tries
+use Rattle.art_call.specs.ArtChange.Tries.{key_of, value_of}
+use Rattle.art_call.specs.ArtChange.Writes as writes
+use Rattle.art_call.specs.ArtChange.Writes.{IsClosing, gone_by}
+use Rattle.art_call.specs.ArtChange.declared.tries.Job.{Job}
+use Rattle.art_call.specs.ArtChange.declared.tries.Job.TheVariants.{Insert, Remove}
+use Rattle.art_call.specs.ArtChange.declared.tries.Trying.{Trying}
+use Rattle.art_call.specs.ArtChange.declared.tries.Trying.TheVariants.{Inserting, Erasing}
+use Rattle.art_call.specs.ArtChange.declared.writes.Stage.{Stage}
+use Rattle.art_call.specs.ArtChange.declared.writes.Stage.TheVariants as stage
+use Rattle.art_call.specs.ArtChange.declared.writes.Write.{Write}
 use Rattle.art_step.specs.Tokens.{links_of}
 use Rattle.art_cell.specs.declared.cells.Link.{Link}
 use Rattle.art_epoch.specs.Limbo.{places_of}
 use Rattle.art_epoch.specs.declared.limbo.Place.{Place}
-use Rattle.art_erase.specs.Erasing as erases
-use Rattle.art_erase.specs.declared.erasing.Erasing.{Erasing as Erasure}
-use Rattle.art_erase.specs.declared.erasing.Stage.{Stage as EraseStage}
-use Rattle.art_erase.specs.declared.erasing.Stage.TheVariants as erase
-use Rattle.art_frame.specs.Closings.{ClosingFits}
-use Rattle.art_frame.specs.declared.closings.Closing.{Closing}
-use Rattle.art_frame.specs.declared.closings.Closing.TheVariants.{Labelling, Giving, Ended}
-use Rattle.art_frame.specs.declared.stocks.Stock.{Stock}
+use Rattle.art_call.specs.ArtErase.Erasing as erases
+use Rattle.art_call.specs.ArtErase.declared.erasing.Erasing.{Erasing as Erasure}
+use Rattle.art_call.specs.ArtErase.declared.erasing.Stage.{Stage as EraseStage}
+use Rattle.art_call.specs.ArtErase.declared.erasing.Stage.TheVariants as erase
+use Rattle.art_call.specs.ArtFrame.Closings.{ClosingFits}
+use Rattle.art_call.specs.ArtFrame.declared.closings.Closing.{Closing}
+use Rattle.art_call.specs.ArtFrame.declared.closings.Closing.TheVariants.{Labelling, Giving, Ended}
+use Rattle.art_call.specs.ArtFrame.declared.stocks.Stock.{Stock}
 use Rattle.art_key.specs.declared.bounds.Bound.{Bound}
-use Rattle.art_look.specs.declared.trails.Trail.{Trail}
-use Rattle.art_seek.specs.Seeks as seeks
-use Rattle.art_seek.specs.Walks as walks
-use Rattle.art_seek.specs.declared.seeks.Seek.{Seek}
-use Rattle.art_seek.specs.declared.seeks.SeekStage.{SeekStage}
-use Rattle.art_seek.specs.declared.seeks.SeekStage.TheVariants as seek
-use Rattle.art_seek.specs.declared.walks.Walk.{Walk}
-use Rattle.art_seek.specs.declared.walks.Walk.TheVariants.{Key, Range}
+use Rattle.art_call.specs.ArtLook.declared.trails.Trail.{Trail}
+use Rattle.art_call.specs.ArtSeek.Seeks as seeks
+use Rattle.art_call.specs.ArtSeek.Walks as walks
+use Rattle.art_call.specs.ArtSeek.declared.seeks.Seek.{Seek}
+use Rattle.art_call.specs.ArtSeek.declared.seeks.SeekStage.{SeekStage}
+use Rattle.art_call.specs.ArtSeek.declared.seeks.SeekStage.TheVariants as seek
+use Rattle.art_call.specs.ArtSeek.declared.walks.Walk.{Walk}
+use Rattle.art_call.specs.ArtSeek.declared.walks.Walk.TheVariants.{Key, Range}
 use Rattle.art_solo.proofs.Calls.{seek_fits, write_fits}
 use Rattle.art_solo.specs.Solo.{RestartLaw}
 use Rattle.art_step.specs.Steps.Epoch as epoch

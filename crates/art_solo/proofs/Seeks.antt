@@ -4,37 +4,37 @@ use Rattle.std.proofs.lemmas.Bool.{cond_both}
 use Rattle.std.proofs.lemmas.Option.{same_Some}
 use Rattle.std.specs.Prelude.{◌==◌}
 use Rattle.art_call.specs.AsAsked.{SeekMakes}
-use Rattle.art_change.proofs.EitherKind.{map_none}
+use Rattle.art_call.proofs.ArtChange.EitherKind.{map_none}
 use Rattle.art_epoch.specs.Pins as pins
 use Rattle.art_epoch.specs.Pins.{Pins}
 use Rattle.art_epoch.specs.declared.asked.Asked.{Asked as FrameAsked}
 use Rattle.art_epoch.specs.declared.asked.Asked.TheVariants as frame
-use Rattle.art_find.proofs.Stages.{still_reading}
-use Rattle.art_find.specs.Asking.{Answers as CellAnswers}
-use Rattle.art_find.specs.Descents as descents
-use Rattle.art_find.specs.Descents.{IsReading}
-use Rattle.art_find.specs.Driven.{get_done}
-use Rattle.art_find.specs.declared.asked.Answer.{Answer as CellAnswer}
-use Rattle.art_find.specs.declared.asked.Asked.{Asked as CellAsked}
+use Rattle.art_call.proofs.ArtFind.Stages.{still_reading}
+use Rattle.art_call.specs.ArtFind.Asking.{Answers as CellAnswers}
+use Rattle.art_call.specs.ArtFind.Descents as descents
+use Rattle.art_call.specs.ArtFind.Descents.{IsReading}
+use Rattle.art_call.specs.ArtFind.Driven.{get_done}
+use Rattle.art_call.specs.ArtFind.declared.asked.Answer.{Answer as CellAnswer}
+use Rattle.art_call.specs.ArtFind.declared.asked.Asked.{Asked as CellAsked}
 use Rattle.art_key.specs.declared.bounds.Bound.{Bound}
-use Rattle.art_look.proofs.Stages as look_stages
-use Rattle.art_look.specs.Looks as looks
-use Rattle.art_look.specs.declared.trails.Trail.{Trail}
-use Rattle.art_make.proofs.Told.{map_some}
-use Rattle.art_seek.specs.Asking.{Answers}
-use Rattle.art_seek.specs.Seeks.{Fits, StageFits, asks_at}
-use Rattle.art_seek.specs.Walks as walks
-use Rattle.art_seek.specs.Walks.{deed_at, of_value}
-use Rattle.art_seek.specs.declared.asked.Answer.{Answer}
-use Rattle.art_seek.specs.declared.asked.Answer.TheVariants as told
-use Rattle.art_seek.specs.declared.asked.Asked.{Asked}
-use Rattle.art_seek.specs.declared.asked.Asked.TheVariants.{Frame, Cell}
-use Rattle.art_seek.specs.declared.seeks.Seek.{Seek}
-use Rattle.art_seek.specs.declared.seeks.SeekStage.{SeekStage}
-use Rattle.art_seek.specs.declared.seeks.SeekStage.TheVariants as stage
-use Rattle.art_seek.specs.declared.walks.Outcome.TheVariants.{Seen}
-use Rattle.art_seek.specs.declared.walks.Walk.{Walk}
-use Rattle.art_seek.specs.declared.walks.Walk.TheVariants.{Key, Range}
+use Rattle.art_call.proofs.ArtLook.Stages as look_stages
+use Rattle.art_call.specs.ArtLook.Looks as looks
+use Rattle.art_call.specs.ArtLook.declared.trails.Trail.{Trail}
+use Rattle.art_call.proofs.ArtMake.Told.{map_some}
+use Rattle.art_call.specs.ArtSeek.Asking.{Answers}
+use Rattle.art_call.specs.ArtSeek.Seeks.{Fits, StageFits, asks_at}
+use Rattle.art_call.specs.ArtSeek.Walks as walks
+use Rattle.art_call.specs.ArtSeek.Walks.{deed_at, of_value}
+use Rattle.art_call.specs.ArtSeek.declared.asked.Answer.{Answer}
+use Rattle.art_call.specs.ArtSeek.declared.asked.Answer.TheVariants as told
+use Rattle.art_call.specs.ArtSeek.declared.asked.Asked.{Asked}
+use Rattle.art_call.specs.ArtSeek.declared.asked.Asked.TheVariants.{Frame, Cell}
+use Rattle.art_call.specs.ArtSeek.declared.seeks.Seek.{Seek}
+use Rattle.art_call.specs.ArtSeek.declared.seeks.SeekStage.{SeekStage}
+use Rattle.art_call.specs.ArtSeek.declared.seeks.SeekStage.TheVariants as stage
+use Rattle.art_call.specs.ArtSeek.declared.walks.Outcome.TheVariants.{Seen}
+use Rattle.art_call.specs.ArtSeek.declared.walks.Walk.{Walk}
+use Rattle.art_call.specs.ArtSeek.declared.walks.Walk.TheVariants.{Key, Range}
 use Rattle.art_solo.proofs.Calm.{IsCellFounded, IsFrameFounded, IsMoment, calm_current, cell_calm, frame_calm}
 use Rattle.art_solo.proofs.Cells.{descent_founded, look_founded}
 use Rattle.art_solo.proofs.Versions.{own_grows}

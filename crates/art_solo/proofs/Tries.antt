@@ -3,49 +3,49 @@ use Rattle.std.proofs.Common.{◌≡◌, ◌<◌, ◌≤◌, ℕ, Bool, true, fa
 use Rattle.std.proofs.lemmas.Option.{same_Some}
 use Rattle.std.specs.Option.{option_and_then, option_map}
 use Rattle.std.specs.Prelude.{⊤}
-use Rattle.art_attempt.proofs.Free.{free_so}
-use Rattle.art_attempt.specs.Asking.{IsAllowed, MayAsk}
-use Rattle.art_attempt.specs.Inserting as inserts
-use Rattle.art_attempt.specs.Rooms.{wants_of}
-use Rattle.art_attempt.specs.Trying.{StillTries}
-use Rattle.art_attempt.specs.declared.asked.Asked.{Asked}
-use Rattle.art_attempt.specs.declared.asked.Asked.TheVariants.{Cell, Supply, Change}
-use Rattle.art_attempt.specs.declared.inserting.Inserting.{Inserting as Insertion}
-use Rattle.art_attempt.specs.declared.inserting.Stage.{Stage as InsertStage}
-use Rattle.art_attempt.specs.declared.inserting.Stage.TheVariants as insert
-use Rattle.art_attempt.specs.declared.rooms.Room.{Room}
+use Rattle.art_call.proofs.ArtAttempt.Free.{free_so}
+use Rattle.art_call.specs.ArtAttempt.Asking.{IsAllowed, MayAsk}
+use Rattle.art_call.specs.ArtAttempt.Inserting as inserts
+use Rattle.art_call.specs.ArtAttempt.Rooms.{wants_of}
+use Rattle.art_call.specs.ArtAttempt.Trying.{StillTries}
+use Rattle.art_call.specs.ArtAttempt.declared.asked.Asked.{Asked}
+use Rattle.art_call.specs.ArtAttempt.declared.asked.Asked.TheVariants.{Cell, Supply, Change}
+use Rattle.art_call.specs.ArtAttempt.declared.inserting.Inserting.{Inserting as Insertion}
+use Rattle.art_call.specs.ArtAttempt.declared.inserting.Stage.{Stage as InsertStage}
+use Rattle.art_call.specs.ArtAttempt.declared.inserting.Stage.TheVariants as insert
+use Rattle.art_call.specs.ArtAttempt.declared.rooms.Room.{Room}
 use Rattle.art_cell.specs.declared.cells.Cell.{Cell as CellOf}
 use Rattle.art_cell.specs.declared.cells.Cell.TheVariants as cell
 use Rattle.art_cell.specs.declared.cells.Node.{Node}
-use Rattle.art_erase.proofs.Free as erase_free
-use Rattle.art_erase.specs.Erasing as erases
-use Rattle.art_erase.specs.declared.erasing.Erasing.{Erasing as Erasure}
-use Rattle.art_erase.specs.declared.erasing.Stage.{Stage as EraseStage}
-use Rattle.art_erase.specs.declared.erasing.Stage.TheVariants as erase
-use Rattle.art_find.proofs.Allowed.{none_held}
-use Rattle.art_find.specs.Descents as descents
-use Rattle.art_find.specs.declared.asked.Asked.{Asked as CellAsked}
-use Rattle.art_find.specs.declared.asked.Asked.TheVariants.{Begin, Read, ReadLeaf, Check, Settle}
-use Rattle.art_find.specs.declared.verdicts.Verdict.{Verdict}
-use Rattle.art_find.specs.declared.verdicts.Verdict.TheVariants as verdict
-use Rattle.art_gather.specs.Supplying as supplying
-use Rattle.art_gather.specs.declared.supplying.Supplying.{Supplying}
-use Rattle.art_gather.specs.declared.supplying.Wants.{Wants}
-use Rattle.art_make.proofs.Told.{map_some}
-use Rattle.art_make.specs.Asking.{IsAllowed as MayChange}
-use Rattle.art_make.specs.Making as making
-use Rattle.art_make.specs.Making.{put_into, releases, so_many}
-use Rattle.art_make.specs.declared.asked.Asked.{Asked as ChangeAsked}
-use Rattle.art_make.specs.declared.asked.Asked.TheVariants as change
-use Rattle.art_make.specs.declared.making.Making.{Making}
-use Rattle.art_make.specs.declared.making.Making.TheVariants.{Upgrading, Claiming, Filling, Writing, Committing, Releasing, ReleasingNode, GivingUp, Ended}
-use Rattle.art_place.specs.Findings.{stand_at}
-use Rattle.art_place.specs.declared.findings.Stand.{Stand}
-use Rattle.art_plan.specs.Changes.{IsTarget, put_at, target_at}
-use Rattle.art_plan.specs.Whole.{HoldsWhole, IsNewBy, IsWhole, made_at, made_word}
-use Rattle.art_plan.specs.declared.changes.Change.{Change as ChangeOf}
-use Rattle.art_plan.specs.declared.changes.Put.{Put}
-use Rattle.art_plan.specs.declared.changes.Target.{Target}
+use Rattle.art_call.proofs.ArtErase.Free as erase_free
+use Rattle.art_call.specs.ArtErase.Erasing as erases
+use Rattle.art_call.specs.ArtErase.declared.erasing.Erasing.{Erasing as Erasure}
+use Rattle.art_call.specs.ArtErase.declared.erasing.Stage.{Stage as EraseStage}
+use Rattle.art_call.specs.ArtErase.declared.erasing.Stage.TheVariants as erase
+use Rattle.art_call.proofs.ArtFind.Allowed.{none_held}
+use Rattle.art_call.specs.ArtFind.Descents as descents
+use Rattle.art_call.specs.ArtFind.declared.asked.Asked.{Asked as CellAsked}
+use Rattle.art_call.specs.ArtFind.declared.asked.Asked.TheVariants.{Begin, Read, ReadLeaf, Check, Settle}
+use Rattle.art_call.specs.ArtFind.declared.verdicts.Verdict.{Verdict}
+use Rattle.art_call.specs.ArtFind.declared.verdicts.Verdict.TheVariants as verdict
+use Rattle.art_call.specs.ArtGather.Supplying as supplying
+use Rattle.art_call.specs.ArtGather.declared.supplying.Supplying.{Supplying}
+use Rattle.art_call.specs.ArtGather.declared.supplying.Wants.{Wants}
+use Rattle.art_call.proofs.ArtMake.Told.{map_some}
+use Rattle.art_call.specs.ArtMake.Asking.{IsAllowed as MayChange}
+use Rattle.art_call.specs.ArtMake.Making as making
+use Rattle.art_call.specs.ArtMake.Making.{put_into, releases, so_many}
+use Rattle.art_call.specs.ArtMake.declared.asked.Asked.{Asked as ChangeAsked}
+use Rattle.art_call.specs.ArtMake.declared.asked.Asked.TheVariants as change
+use Rattle.art_call.specs.ArtMake.declared.making.Making.{Making}
+use Rattle.art_call.specs.ArtMake.declared.making.Making.TheVariants.{Upgrading, Claiming, Filling, Writing, Committing, Releasing, ReleasingNode, GivingUp, Ended}
+use Rattle.art_call.specs.ArtPlace.Findings.{stand_at}
+use Rattle.art_call.specs.ArtPlace.declared.findings.Stand.{Stand}
+use Rattle.art_call.specs.ArtPlan.Changes.{IsTarget, put_at, target_at}
+use Rattle.art_call.specs.ArtPlan.Whole.{HoldsWhole, IsNewBy, IsWhole, made_at, made_word}
+use Rattle.art_call.specs.ArtPlan.declared.changes.Change.{Change as ChangeOf}
+use Rattle.art_call.specs.ArtPlan.declared.changes.Put.{Put}
+use Rattle.art_call.specs.ArtPlan.declared.changes.Target.{Target}
 use Rattle.art_solo.proofs.Calm.{IsCellFounded, IsFreeStamp, IsLedTo, IsSupplyFounded}
 use Rattle.art_solo.proofs.Cells.{descent_founded, lower_begins, reads_only, vouching_begins_none}
 use Rattle.art_solo.proofs.Numbers.{supply_founded}

@@ -4,26 +4,26 @@ use Rattle.std.proofs.lemmas.Bool.{cond_both}
 use Rattle.std.proofs.lemmas.Option.{same_Some}
 use Rattle.std.specs.Option.{option_map}
 use Rattle.std.specs.Prelude.{nat_lt}
-use Rattle.art_attempt.specs.Asking.{Answers as AttemptAnswers, IsAllowed as MayAttempt}
-use Rattle.art_attempt.specs.declared.asked.Answer.{Answer as AttemptAnswer}
-use Rattle.art_attempt.specs.declared.asked.Asked.{Asked as AttemptAsked}
-use Rattle.art_attempt.specs.declared.rooms.Room.{Room}
+use Rattle.art_call.specs.ArtAttempt.Asking.{Answers as AttemptAnswers, IsAllowed as MayAttempt}
+use Rattle.art_call.specs.ArtAttempt.declared.asked.Answer.{Answer as AttemptAnswer}
+use Rattle.art_call.specs.ArtAttempt.declared.asked.Asked.{Asked as AttemptAsked}
+use Rattle.art_call.specs.ArtAttempt.declared.rooms.Room.{Room}
 use Rattle.art_call.specs.AsAsked.{WriteMakes}
 use Rattle.art_cell.specs.declared.cells.Link.{Link}
-use Rattle.art_change.specs.Asking.{Answers, IsAllowed}
-use Rattle.art_change.specs.Tries as tries
-use Rattle.art_change.specs.Writes.{Fits, StageFits, asks_at, deed_at, left_at, steps_left}
-use Rattle.art_change.specs.declared.asked.Answer.{Answer}
-use Rattle.art_change.specs.declared.asked.Answer.TheVariants as told
-use Rattle.art_change.specs.declared.asked.Asked.{Asked}
-use Rattle.art_change.specs.declared.asked.Asked.TheVariants.{Frame, Attempt}
-use Rattle.art_change.specs.declared.tries.Job.{Job}
-use Rattle.art_change.specs.declared.tries.Job.TheVariants.{Insert, Remove}
-use Rattle.art_change.specs.declared.tries.Trying.{Trying}
-use Rattle.art_change.specs.declared.tries.Trying.TheVariants.{Inserting, Erasing}
-use Rattle.art_change.specs.declared.writes.Stage.{Stage}
-use Rattle.art_change.specs.declared.writes.Stage.TheVariants as stage
-use Rattle.art_change.specs.declared.writes.Write.{Write}
+use Rattle.art_call.specs.ArtChange.Asking.{Answers, IsAllowed}
+use Rattle.art_call.specs.ArtChange.Tries as tries
+use Rattle.art_call.specs.ArtChange.Writes.{Fits, StageFits, asks_at, deed_at, left_at, steps_left}
+use Rattle.art_call.specs.ArtChange.declared.asked.Answer.{Answer}
+use Rattle.art_call.specs.ArtChange.declared.asked.Answer.TheVariants as told
+use Rattle.art_call.specs.ArtChange.declared.asked.Asked.{Asked}
+use Rattle.art_call.specs.ArtChange.declared.asked.Asked.TheVariants.{Frame, Attempt}
+use Rattle.art_call.specs.ArtChange.declared.tries.Job.{Job}
+use Rattle.art_call.specs.ArtChange.declared.tries.Job.TheVariants.{Insert, Remove}
+use Rattle.art_call.specs.ArtChange.declared.tries.Trying.{Trying}
+use Rattle.art_call.specs.ArtChange.declared.tries.Trying.TheVariants.{Inserting, Erasing}
+use Rattle.art_call.specs.ArtChange.declared.writes.Stage.{Stage}
+use Rattle.art_call.specs.ArtChange.declared.writes.Stage.TheVariants as stage
+use Rattle.art_call.specs.ArtChange.declared.writes.Write.{Write}
 use Rattle.art_epoch.specs.Asking.{Answers as FrameAnswers}
 use Rattle.art_epoch.specs.Limbo.{open_index}
 use Rattle.art_epoch.specs.Pins as pins
@@ -35,16 +35,16 @@ use Rattle.art_epoch.specs.declared.pins.Pinning.{Pinning}
 use Rattle.art_epoch.specs.declared.pins.Pinning.TheVariants as pinning
 use Rattle.art_epoch.specs.declared.reclaiming.ReclaimStage.{ReclaimStage}
 use Rattle.art_epoch.specs.declared.reclaiming.ReclaimStage.TheVariants.{Noting, Raising, Watching, Freeing}
-use Rattle.art_frame.specs.Closings as closings
-use Rattle.art_frame.specs.Closings.{gives, gives_link}
-use Rattle.art_frame.specs.Openings as openings
-use Rattle.art_frame.specs.Stocks.{count_in, first_in, one_of}
-use Rattle.art_frame.specs.declared.closings.Closing.{Closing}
-use Rattle.art_frame.specs.declared.closings.Closing.TheVariants.{Labelling, Giving, Ended}
-use Rattle.art_frame.specs.declared.openings.Opening.{Opening}
-use Rattle.art_frame.specs.declared.openings.Opening.TheVariants as opening
-use Rattle.art_frame.specs.declared.stocks.Stock.{Stock}
-use Rattle.art_make.proofs.Told.{map_some}
+use Rattle.art_call.specs.ArtFrame.Closings as closings
+use Rattle.art_call.specs.ArtFrame.Closings.{gives, gives_link}
+use Rattle.art_call.specs.ArtFrame.Openings as openings
+use Rattle.art_call.specs.ArtFrame.Stocks.{count_in, first_in, one_of}
+use Rattle.art_call.specs.ArtFrame.declared.closings.Closing.{Closing}
+use Rattle.art_call.specs.ArtFrame.declared.closings.Closing.TheVariants.{Labelling, Giving, Ended}
+use Rattle.art_call.specs.ArtFrame.declared.openings.Opening.{Opening}
+use Rattle.art_call.specs.ArtFrame.declared.openings.Opening.TheVariants as opening
+use Rattle.art_call.specs.ArtFrame.declared.stocks.Stock.{Stock}
+use Rattle.art_call.proofs.ArtMake.Told.{map_some}
 use Rattle.art_solo.proofs.Calm.{IsFrameFounded, IsMoment, calm_current, frame_calm}
 use Rattle.art_solo.proofs.Making.{IsLook, try_calm, try_keeps}
 use Rattle.art_solo.proofs.Phases.{IsRelease, erase_look, erase_release, insert_look, insert_release}

@@ -1,6 +1,6 @@
 -- A call that alone makes steps, while every other pass is idle: no step of it fails.
 use Rattle.std.specs.Prelude.{◌≡◌, ◌≢◌, ◌<◌, ℕ, Some}
-use Rattle.art_attempt.specs.Trying.{IsLimited}
+use Rattle.art_call.specs.ArtAttempt.Trying.{IsLimited}
 use Rattle.art_call.specs.AsAsked.{GoesAsAsked}
 use Rattle.art_call.specs.Calls.{HasCalled, IsCalling, Wish, restarts_in}
 use Rattle.art_call.specs.declared.callers.Call.{Call}
@@ -8,9 +8,9 @@ use Rattle.art_call.specs.declared.callers.Call.TheVariants as call
 use Rattle.art_call.specs.declared.callers.Caller.{Caller}
 use Rattle.art_call.specs.declared.outcomes.Outcome.{Outcome}
 use Rattle.art_call.specs.declared.outcomes.Outcome.TheVariants as outcome
-use Rattle.art_change.specs.Writes as writes
+use Rattle.art_call.specs.ArtChange.Writes as writes
 use Rattle.art_epoch.specs.Limbo.{places_of}
-use Rattle.art_frame.specs.declared.openings.Blocker.{Blocker}
+use Rattle.art_call.specs.ArtFrame.declared.openings.Blocker.{Blocker}
 use Rattle.art_solo.specs.Alone.{AreCurrent, HasFound, IsAlone}
 use Rattle.art_step.specs.Sound.{IsSound}
 use Rattle.art_step.specs.Steps.{OneStep}

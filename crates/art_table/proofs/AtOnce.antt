@@ -7,8 +7,8 @@ use Rattle.art_call.specs.declared.callers.Caller.{Caller}
 use Rattle.art_call.specs.Outcomes.{of_look, of_seek, of_write}
 use Rattle.art_call.specs.declared.outcomes.Outcome.{Outcome as CallOutcome}
 use Rattle.art_call.specs.declared.outcomes.Outcome.TheVariants as outcome
-use Rattle.art_change.specs.declared.writes.Outcome.{Outcome as WriteOutcome}
-use Rattle.art_change.specs.declared.writes.Outcome.TheVariants as write
+use Rattle.art_call.specs.ArtChange.declared.writes.Outcome.{Outcome as WriteOutcome}
+use Rattle.art_call.specs.ArtChange.declared.writes.Outcome.TheVariants as write
 use Rattle.art_key.specs.Columns.{tuple_fault}
 use Rattle.art_key.specs.Spelling.{IsKeyOf, IsSpelling}
 use Rattle.art_key.specs.declared.columns.Column.{Column}

@@ -1,3 +1,5 @@
+-- the crates below, for those above to name
+pub use Rattle.art_call.specs as ArtCall
 pub mod Attempts
 pub mod Calls
 pub mod Closing

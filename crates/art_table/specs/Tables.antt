@@ -1,6 +1,6 @@
 -- What contracts see of a table, and of a pass.
 use Rattle.std.specs.Prelude.{◌≡◌, ℕ, List}
-use Rattle.art_attempt.specs.Trying.{IsLimited}
+use Rattle.art_call.specs.ArtAttempt.Trying.{IsLimited}
 use Rattle.art_call.specs.Calls.{IsCaller, turns_left_in}
 use Rattle.art_call.specs.declared.callers.Caller.{Caller}
 use Rattle.art_key.specs.declared.columns.Column.{Column}

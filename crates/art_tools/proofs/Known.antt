@@ -3,8 +3,8 @@ use Rattle.std.proofs.Common.{◌≡◌, ◌∙◌, ap, codes, refl, subst, sym,
 use Rattle.std.specs.Str.{bytes_eq}
 use Rattle.clap.specs.Words.{Text}
 use Rattle.clap.specs.Kinds.{Kinds}
-use Rattle.art_table.specs.declared.configs.Config.{Config}
-use Rattle.art_table.specs.Sizes.{IsConfig}
+use Rattle.art_server.specs.ArtTable.declared.configs.Config.{Config}
+use Rattle.art_server.specs.ArtTable.Sizes.{IsConfig}
 use Rattle.art_tools.specs.declared.settings.Settings.{Settings}
 use Rattle.art_tools.specs.declared.settings.Settings.TheVariants.{Run, Step}
 use Rattle.art_tools.specs.declared.settings.SettingsFault.{SettingsFault}

@@ -9,8 +9,8 @@ use Rattle.std.proofs.lemmas.Str.Parse.{numerals_by_value, parse_digits, tells_a
 use Rattle.clap.specs.Walk.{is_empty}
 use Rattle.clap.specs.Words.{Text}
 use Rattle.clap.proofs.WalkLemmas.{both}
-use Rattle.art_table.specs.declared.configs.Config.{Config}
-use Rattle.art_table.specs.Sizes.{IsConfig}
+use Rattle.art_server.specs.ArtTable.declared.configs.Config.{Config}
+use Rattle.art_server.specs.ArtTable.Sizes.{IsConfig}
 use Rattle.art_tools.specs.declared.settings.TableSettings.{TableSettings}
 use Rattle.art_tools.specs.Options.{Given, HasOptions, HasSaturated, is_digits, saturated, sizes_given}
 

@@ -7,14 +7,14 @@ use Rattle.art_key.specs.declared.columns.Column.{Column}
 use Rattle.art_schedule.specs.Schedules.{ComeBack}
 use Rattle.art_shared.specs.SamePass.{SamePass}
 use Rattle.art_step.specs.Views.{Member}
-use Rattle.art_table.specs.Closing.{AreAllPasses, AreOf, Explains}
-use Rattle.art_table.specs.Opening.{IsNew, IsOpened}
-use Rattle.art_table.specs.Tables.{IsPassOf, number_of, sizes_in}
-use Rattle.art_table.specs.declared.closing.CloseRefusal.{CloseRefusal}
-use Rattle.art_table.specs.declared.closing.CloseRefusal.TheVariants as close
-use Rattle.art_table.specs.declared.configs.Config.{Config}
-use Rattle.art_table.specs.declared.passes.Pass.{Pass}
-use Rattle.art_table.specs.declared.tables.Table.{Table}
+use Rattle.art_server.specs.ArtTable.Closing.{AreAllPasses, AreOf, Explains}
+use Rattle.art_server.specs.ArtTable.Opening.{IsNew, IsOpened}
+use Rattle.art_server.specs.ArtTable.Tables.{IsPassOf, number_of, sizes_in}
+use Rattle.art_server.specs.ArtTable.declared.closing.CloseRefusal.{CloseRefusal}
+use Rattle.art_server.specs.ArtTable.declared.closing.CloseRefusal.TheVariants as close
+use Rattle.art_server.specs.ArtTable.declared.configs.Config.{Config}
+use Rattle.art_server.specs.ArtTable.declared.passes.Pass.{Pass}
+use Rattle.art_server.specs.ArtTable.declared.tables.Table.{Table}
 use Rattle.art_sessions.specs.Laws.{IsOnlyPass}
 use Rattle.art_step.specs.declared.views.Sizes.{Sizes}
 use Rattle.art_tools.specs.Outputs.{of_one_pass}

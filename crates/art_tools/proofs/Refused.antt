@@ -5,7 +5,7 @@ use Rattle.clap.specs.Values.{kind_of}
 use Rattle.clap.specs.declared.error.Error.{Error}
 use Rattle.clap.specs.declared.error.kind.ErrorKind.{ErrorKind}
 use Rattle.clap.specs.declared.error.kind.ErrorKind.TheVariants.{OutOfMemory, ValueValidation}
-use Rattle.art_table.specs.declared.configs.Config.{Config}
+use Rattle.art_server.specs.ArtTable.declared.configs.Config.{Config}
 use Rattle.art_tools.specs.declared.settings.SettingsFault.{SettingsFault}
 use Rattle.art_tools.specs.Faults.{Explains, fault_by, fault_from}
 

@@ -19,11 +19,11 @@ use Rattle.art_server.specs.declared.sessions.EndCause.TheVariants as end
 use Rattle.art_server.specs.declared.sessions.SessionEnd.{SessionEnd}
 use Rattle.art_server.specs.Sessions.{AnswersLines, EndsBy, IsSession, RunsSession, begun, texts}
 use Rattle.art_server.specs.Streams.{lines_of}
-use Rattle.art_table.specs.Tables.{schema_in, seen_by}
-use Rattle.art_table.specs.Closing.{IsClosed}
-use Rattle.art_table.specs.declared.closing.Closed.{Closed}
-use Rattle.art_table.specs.declared.passes.Pass.{Pass}
-use Rattle.art_table.specs.declared.tables.Table.{Table}
+use Rattle.art_server.specs.ArtTable.Tables.{schema_in, seen_by}
+use Rattle.art_server.specs.ArtTable.Closing.{IsClosed}
+use Rattle.art_server.specs.ArtTable.declared.closing.Closed.{Closed}
+use Rattle.art_server.specs.ArtTable.declared.passes.Pass.{Pass}
+use Rattle.art_server.specs.ArtTable.declared.tables.Table.{Table}
 use Rattle.art_tools.specs.Outputs.{HasOutput, Outputs}
 use Rattle.art_tools.specs.declared.run_faults.RunFault.{RunFault}
 use Rattle.art_tools.specs.declared.run_faults.RunFault.TheVariants.{ReadFailed, WriteFailed, Refused, NoMemory, ReadsUsed, BadLine}

@@ -7,15 +7,15 @@ use Rattle.art_key.specs.declared.faults.SchemaFault.{SchemaFault}
 use Rattle.art_schedule.specs.Schedules.{ComeBack, RunsSchedule}
 use Rattle.art_schedule.specs.declared.stops.ScheduleEnd.{ScheduleEnd}
 use Rattle.art_key.specs.Histories.{replay}
-use Rattle.art_table.specs.Closing.{IsClosed}
-use Rattle.art_table.specs.Tables.{schema_in, seen_by}
-use Rattle.art_table.specs.Opening.{IsOpened}
-use Rattle.art_table.specs.declared.closing.Closed.{Closed}
-use Rattle.art_table.specs.declared.configs.Config.{Config}
-use Rattle.art_table.specs.declared.faults.OpenFault.{OpenFault}
-use Rattle.art_table.specs.declared.faults.OpenFault.TheVariants as opening
-use Rattle.art_table.specs.declared.passes.Pass.{Pass}
-use Rattle.art_table.specs.declared.tables.Table.{Table}
+use Rattle.art_server.specs.ArtTable.Closing.{IsClosed}
+use Rattle.art_server.specs.ArtTable.Tables.{schema_in, seen_by}
+use Rattle.art_server.specs.ArtTable.Opening.{IsOpened}
+use Rattle.art_server.specs.ArtTable.declared.closing.Closed.{Closed}
+use Rattle.art_server.specs.ArtTable.declared.configs.Config.{Config}
+use Rattle.art_server.specs.ArtTable.declared.faults.OpenFault.{OpenFault}
+use Rattle.art_server.specs.ArtTable.declared.faults.OpenFault.TheVariants as opening
+use Rattle.art_server.specs.ArtTable.declared.passes.Pass.{Pass}
+use Rattle.art_server.specs.ArtTable.declared.tables.Table.{Table}
 use Rattle.art_server.specs.Reads.{MakesReads}
 use Rattle.art_server.specs.Sessions.{RunsSession}
 use Rattle.art_server.specs.declared.sessions.EndCause.TheVariants as cause

@@ -8,7 +8,7 @@ use Rattle.clap.specs.Kinds.{Kinds}
 use Rattle.clap.specs.Walk.{is_empty}
 use Rattle.clap.specs.Words.{App, Rule, Text, new_rule, with_rule}
 use Rattle.clap.specs.declared.error.kind.ErrorKind.TheVariants.{ValueValidation}
-use Rattle.art_table.specs.declared.configs.Config.{Config}
+use Rattle.art_server.specs.ArtTable.declared.configs.Config.{Config}
 use Rattle.art_tools.specs.declared.settings.TableSettings.{TableSettings}
 
 -- the option `--name VALUE`, of any text, which may be left out

@@ -9,7 +9,7 @@ use Rattle.art_model.specs.declared.rows.Row.{Row}
 use Rattle.art_server.specs.Sessions.{texts}
 use Rattle.art_server.specs.Streams.{lines_of}
 use Rattle.art_server.specs.declared.refusals.Refusal.{Refusal}
-use Rattle.art_table.specs.declared.configs.Config.{Config}
+use Rattle.art_server.specs.ArtTable.declared.configs.Config.{Config}
 
 -- the sizes, with one pass
 abbrev pub of_one_pass : Config → Config

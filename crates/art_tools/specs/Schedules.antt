@@ -5,11 +5,11 @@ use Rattle.art_key.specs.declared.columns.Column.{Column}
 use Rattle.art_key.specs.declared.faults.SchemaFault.{SchemaFault}
 use Rattle.art_schedule.specs.Schedules.{ComeBack, RunsSchedule}
 use Rattle.art_schedule.specs.declared.stops.ScheduleEnd.{ScheduleEnd}
-use Rattle.art_table.specs.Opening.{IsOpened}
-use Rattle.art_table.specs.Tables.{IsPassOf, number_of}
-use Rattle.art_table.specs.declared.configs.Config.{Config}
-use Rattle.art_table.specs.declared.passes.Pass.{Pass}
-use Rattle.art_table.specs.declared.tables.Table.{Table}
+use Rattle.art_server.specs.ArtTable.Opening.{IsOpened}
+use Rattle.art_server.specs.ArtTable.Tables.{IsPassOf, number_of}
+use Rattle.art_server.specs.ArtTable.declared.configs.Config.{Config}
+use Rattle.art_server.specs.ArtTable.declared.passes.Pass.{Pass}
+use Rattle.art_server.specs.ArtTable.declared.tables.Table.{Table}
 use Rattle.art_tools.specs.Statuses.{schedule_fault}
 use Rattle.art_tools.specs.Told.{IsClosedBy, IsToldOf, IsUnopened, NothingRead}
 use Rattle.art_tools.specs.declared.run_faults.RunFault.{RunFault}

@@ -7,12 +7,12 @@ use Rattle.art_model.specs.declared.rows.Row.{Row}
 use Rattle.art_server.specs.Sessions.{RunsSession, begun}
 use Rattle.art_server.specs.Streams.{lines_of}
 use Rattle.art_server.specs.declared.sessions.SessionEnd.{SessionEnd}
-use Rattle.art_table.specs.Closing.{IsClosed}
-use Rattle.art_table.specs.Opening.{IsOpened}
-use Rattle.art_table.specs.declared.closing.Closed.{Closed}
-use Rattle.art_table.specs.declared.configs.Config.{Config}
-use Rattle.art_table.specs.declared.passes.Pass.{Pass}
-use Rattle.art_table.specs.declared.tables.Table.{Table}
+use Rattle.art_server.specs.ArtTable.Closing.{IsClosed}
+use Rattle.art_server.specs.ArtTable.Opening.{IsOpened}
+use Rattle.art_server.specs.ArtTable.declared.closing.Closed.{Closed}
+use Rattle.art_server.specs.ArtTable.declared.configs.Config.{Config}
+use Rattle.art_server.specs.ArtTable.declared.passes.Pass.{Pass}
+use Rattle.art_server.specs.ArtTable.declared.tables.Table.{Table}
 use Rattle.art_tools.specs.Outputs.{of_one_pass}
 use Rattle.art_tools.specs.Statuses.{fault_at}
 use Rattle.art_tools.specs.Told.{IsClosedBy, IsToldOf, IsUnopened, NothingRead}

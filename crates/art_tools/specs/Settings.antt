@@ -9,7 +9,7 @@ use Rattle.clap.specs.declared.error.kind.ErrorKind.TheVariants.{DisplayHelp, Di
 use Rattle.art_key.specs.declared.columns.Column.{Column}
 use Rattle.art_key.specs.declared.faults.SchemaFault.{SchemaFault}
 use Rattle.art_key.specs.Schemas.{schema_of}
-use Rattle.art_table.specs.declared.configs.Config.{Config}
+use Rattle.art_server.specs.ArtTable.declared.configs.Config.{Config}
 use Rattle.art_tools.specs.Options.{Given, HasOptions, numbers_fault, schema_given, sizes_given, with_table_options}
 use Rattle.art_tools.specs.declared.settings.Settings.{Settings}
 use Rattle.art_tools.specs.declared.settings.Settings.TheVariants.{Run, Step}

@@ -1,9 +1,9 @@
 -- Why a run fails, and with which status the program ends.
 use Rattle.std.specs.Prelude.{ℕ, List, ◌++◌, codes, decimal, Option, Some, None, Result, Ok, Err}
-use Rattle.art_table.specs.declared.closing.CloseRefusal.{CloseRefusal}
-use Rattle.art_table.specs.declared.closing.CloseRefusal.TheVariants as close
-use Rattle.art_table.specs.declared.faults.OpenFault.{OpenFault}
-use Rattle.art_table.specs.declared.faults.OpenFault.TheVariants as opening
+use Rattle.art_server.specs.ArtTable.declared.closing.CloseRefusal.{CloseRefusal}
+use Rattle.art_server.specs.ArtTable.declared.closing.CloseRefusal.TheVariants as close
+use Rattle.art_server.specs.ArtTable.declared.faults.OpenFault.{OpenFault}
+use Rattle.art_server.specs.ArtTable.declared.faults.OpenFault.TheVariants as opening
 use Rattle.art_server.specs.Refusals.{refusal_text}
 use Rattle.art_server.specs.declared.refusals.Refusal.TheVariants.{BadConfig, PassesMissing}
 use Rattle.art_schedule.specs.declared.stops.ScheduleEnd.{ScheduleEnd}

@@ -2,7 +2,7 @@
 ghost use Rattle.std.specs.Prelude.{◌≡◌, IfOk, MatchResult, []};
 ghost use Rattle.clap.specs.Words.{app_of, first_value, found_of, kind_of};
 ghost use Rattle.clap.specs.declared.error.kind.ErrorKind.TheVariants.{ValueValidation};
-ghost use Rattle.art_table.specs.Sizes.{IsConfig};
+ghost use Rattle.art_server.specs.ArtTable.Sizes.{IsConfig};
 ghost use Rattle.art_tools.specs.Faults.{Explains};
 ghost use Rattle.art_tools.specs.Options.{HasOptions, numbers_fault, sizes_given};
 ghost use Rattle.art_tools.specs.Settings.{IsAskedBy, art_index_app, faults_of, sizes_asked, table_app, texts_of};

@@ -8,7 +8,7 @@ ghost use Rattle.clap.specs.declared.error.kind.ErrorKind.TheVariants.{ValueVali
 ghost use Rattle.art_tools.specs.Options.{HasSaturated, has_digits, is_digits, number_given, numbers_fault, option_rule, with_table_options};
 
 use crate::settings::TableSettings;
-use art_table::Config;
+use art_server::art_table::Config;
 use clap::{Arg, ArgMatches, Command};
 use std::alloc::{AllocError, Global};
 

@@ -4,7 +4,7 @@ ghost use Rattle.art_tools.specs.Statuses.{status_of};
 
 use art_key::SchemaFault;
 use art_server::Refusal;
-use art_table::{CloseRefusal, OpenFault};
+use art_server::art_table::{CloseRefusal, OpenFault};
 use std::alloc::AllocFailed;
 use std::error::Error;
 use std::fmt;

@@ -10,12 +10,12 @@ ghost use Rattle.art_server.specs.Reads.{AddsReads, MakesReads};
 ghost use Rattle.art_server.specs.Refusals.{schema_refusal};
 ghost use Rattle.art_server.specs.declared.refusals.Refusal.{Refusal};
 ghost use Rattle.art_server.specs.declared.sessions.EndCause.TheVariants as ends;
-ghost use Rattle.art_table.specs.Closing.{IsClosed};
-ghost use Rattle.art_table.specs.Opening.{IsOpened};
-ghost use Rattle.art_table.specs.Sizes.{IsConfig};
-ghost use Rattle.art_table.specs.Tables.{sizes_in};
-ghost use Rattle.art_table.specs.declared.closing.Closed.{Closed as ClosedOf};
-ghost use Rattle.art_table.specs.declared.passes.Pass.{Pass as PassOf};
+ghost use Rattle.art_server.specs.ArtTable.Closing.{IsClosed};
+ghost use Rattle.art_server.specs.ArtTable.Opening.{IsOpened};
+ghost use Rattle.art_server.specs.ArtTable.Sizes.{IsConfig};
+ghost use Rattle.art_server.specs.ArtTable.Tables.{sizes_in};
+ghost use Rattle.art_server.specs.ArtTable.declared.closing.Closed.{Closed as ClosedOf};
+ghost use Rattle.art_server.specs.ArtTable.declared.passes.Pass.{Pass as PassOf};
 ghost use Rattle.art_tools.specs.Schedules.{AreEight, Steps, of_eight_passes};
 ghost use Rattle.art_tools.specs.Statuses.{fault_in, schedule_fault};
 
@@ -23,7 +23,7 @@ use crate::run_faults::RunFault;
 use art_key::Schema;
 use art_schedule::{ScheduleEnd, run_schedule};
 use art_server::Counted;
-use art_table::{Config, OpenFault, Pass, Table, close, open};
+use art_server::art_table::{Config, OpenFault, Pass, Table, close, open};
 use std::alloc::Global;
 use std::io::{Read, Write};
 

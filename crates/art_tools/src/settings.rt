@@ -3,7 +3,7 @@ ghost use Rattle.std.specs.Prelude.{◌≡◌};
 ghost use Rattle.art_tools.specs.Faults.{fault_from};
 ghost use Rattle.art_tools.specs.declared.settings.SettingsFault.TheVariants.{NoMemory};
 
-use art_table::Config;
+use art_server::art_table::Config;
 use clap::error::ErrorKind;
 use std::alloc::AllocError;
 

@@ -1,5 +1,5 @@
 use Rattle.std.proofs.Common.{◌≡◌, ◌+◌, ℕ, Bool, ◌∙◌, ⊎_elim, ap, sym, subst, arith}
-use Rattle.art_attempt.specs.Asking.{steps_in}
+use Rattle.art_change.specs.ArtAttempt.Asking.{steps_in}
 use Rattle.art_call.proofs.Events.{attempt_any, attempt_counts, one_or_none}
 use Rattle.art_call.proofs.driver.made_by_write.Goals as goal
 use Rattle.art_call.specs.Made.{MakesAny}

@@ -1,8 +1,8 @@
 use Rattle.std.proofs.Common.{rules, subst}
 use Rattle.art_call.proofs.StepKinds.{cell_released, change_committed, word_written}
 use Rattle.art_call.proofs.kinds.kind_of_change.Goals as goal
-use Rattle.art_make.specs.Asking.{Answers, IsAllowed}
-use Rattle.art_make.specs.declared.asked.Asked.{Asked as AskedStep}
+use Rattle.art_frame.specs.ArtMake.Asking.{Answers, IsAllowed}
+use Rattle.art_frame.specs.ArtMake.declared.asked.Asked.{Asked as AskedStep}
 
 pub returns-in-Claim : goal.returns-in-Claim
 returns-in-Claim c = search rules

@@ -1,8 +1,8 @@
 use Rattle.std.proofs.Common.{subst}
 use Rattle.art_call.proofs.StepKinds.{leaf_written}
 use Rattle.art_call.proofs.kinds.kind_of_supply.Goals as goal
-use Rattle.art_gather.specs.Asking.{Answers, IsAllowed}
-use Rattle.art_gather.specs.declared.asked.Asked.{Asked as AskedStep}
+use Rattle.art_change.specs.ArtGather.Asking.{Answers, IsAllowed}
+use Rattle.art_change.specs.ArtGather.declared.asked.Asked.{Asked as AskedStep}
 
 pub returns-in-Leaf : goal.returns-in-Leaf
 returns-in-Leaf c z word v w may row =

@@ -1,5 +1,5 @@
 use Rattle.std.proofs.Common.{◌≡◌, ◌∙◌, ⊎_elim, sym, subst}
-use Rattle.art_attempt.specs.Asking.{cell_in}
+use Rattle.art_erase.specs.ArtAttempt.Asking.{cell_in}
 use Rattle.art_change.proofs.Overlaps.{never_overlaps}
 use Rattle.art_change.proofs.Steps.{write_few}
 use Rattle.art_change.proofs.driver.step.Goals as goal

@@ -7,7 +7,7 @@ use Rattle.art_change.specs.Tries.{SameKey, key_of, value_of}
 use Rattle.art_change.specs.Writes.{Fits, HasAnswered, HasCounted}
 use Rattle.art_change.specs.declared.tries.Job.{Job as JobOf}
 use Rattle.art_change.specs.declared.writes.Outcome.{Outcome as OutcomeOf}
-use Rattle.art_attempt.specs.declared.rooms.Room.{Room as RoomOf}
+use Rattle.art_erase.specs.ArtAttempt.declared.rooms.Room.{Room as RoomOf}
 use Rattle.art_epoch.specs.Limbo.{places_of}
 use Rattle.art_epoch.specs.declared.limbo.Place.{Place}
 use Rattle.arrayvec.specs.ArrayVec.{ArrayVec}

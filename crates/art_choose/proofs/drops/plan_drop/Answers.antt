@@ -6,10 +6,10 @@ use Rattle.art_decide.proofs.ChildSites.{site_named, stamp_in}
 use Rattle.art_decide.proofs.LockedCells.{one_locked}
 use Rattle.art_decide.proofs.WholeCells.{kept_within}
 use Rattle.art_decide.specs.Bodies.{AreWithin, IsFilled}
-use Rattle.art_place.specs.Desks.{node_of}
-use Rattle.art_plan.specs.Puts.{IsTaken}
-use Rattle.art_plan.specs.Seen.{kept, site_stamp}
-use Rattle.art_plan.specs.declared.sites.Site.{Site}
+use Rattle.art_decide.specs.ArtPlace.Desks.{node_of}
+use Rattle.art_decide.specs.ArtPlan.Puts.{IsTaken}
+use Rattle.art_decide.specs.ArtPlan.Seen.{kept, site_stamp}
+use Rattle.art_decide.specs.ArtPlan.declared.sites.Site.{Site}
 use Rattle.art_remove.specs.Cases.{IsDrop}
 use Rattle.art_remove.specs.Removals.{KeepsTwo}
 use Rattle.art_choose.proofs.drops.plan_drop.Goals as goal

@@ -6,9 +6,9 @@ use Rattle.art_decide.proofs.ChildSites.{site_named, stamp_in}
 use Rattle.art_decide.proofs.LockedCells.{three_locked}
 use Rattle.art_decide.proofs.WholeCells.{above_kept, kept_within}
 use Rattle.art_decide.specs.Bodies.{AreWithin, IsFilled}
-use Rattle.art_place.specs.Desks.{above_of, node_of}
-use Rattle.art_plan.specs.Puts.{IsTaken}
-use Rattle.art_plan.specs.Seen.{gone, kept, site_stamp}
+use Rattle.art_decide.specs.ArtPlace.Desks.{above_of, node_of}
+use Rattle.art_decide.specs.ArtPlan.Puts.{IsTaken}
+use Rattle.art_decide.specs.ArtPlan.Seen.{gone, kept, site_stamp}
 use Rattle.art_choose.proofs.lowers.plan_merge_node.Goals as goal
 
 pub fill-requires : goal.fill-requires

@@ -6,11 +6,11 @@ use Rattle.art_cell.specs.declared.node_kinds.Entry.{Entry}
 use Rattle.art_choose.proofs.FoundLeaves.{found_deep}
 use Rattle.art_choose.proofs.LedChildren.{child_led}
 use Rattle.art_decide.proofs.WholeCells.{node_whole}
-use Rattle.art_place.specs.Desks.{node_of}
+use Rattle.art_decide.specs.ArtPlace.Desks.{node_of}
 use Rattle.art_choose.proofs.OtherChildren.{beside_there, other_has, other_named, read_all}
 use Rattle.art_choose.specs.Others.{IsBeside, IsReadOf}
 use Rattle.art_choose.specs.Seen.{IsSeen}
-use Rattle.art_place.specs.declared.desks.Desk.{Desk}
+use Rattle.art_decide.specs.ArtPlace.declared.desks.Desk.{Desk}
 use Rattle.art_step.specs.declared.views.Sizes.{Sizes}
 use Rattle.art_choose.proofs.others.other_child.Goals as goal
 use Rattle.art_choose.proofs.others.other_child.Goals.{After-beside, After-last_byte}

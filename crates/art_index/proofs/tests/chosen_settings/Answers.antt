@@ -2,7 +2,7 @@ use Rattle.std.proofs.Common.{◌≡◌, codes, refl, rules, subst, sym, map, Li
 use Rattle.std.specs.Str.{bytes_eq}
 use Rattle.clap.specs.Words.{Text}
 use Rattle.clap.proofs.OnLiterals.{clap_on_literals}
-use Rattle.art_table.specs.Sizes.{IsConfig}
+use Rattle.art_server.specs.ArtTable.Sizes.{IsConfig}
 use Rattle.art_tools.specs.Faults.{Explains}
 use Rattle.art_tools.specs.Options.{Given, schema_given, sizes_given}
 use Rattle.art_tools.specs.Settings.{IsAskedBy, option_given, subcommand_given, words_fault}

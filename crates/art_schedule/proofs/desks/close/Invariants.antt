@@ -1,7 +1,7 @@
 use Rattle.std.proofs.Common.{◌<◌, ℕ, List, get_or}
 use Rattle.art_schedule.specs.Desks.{IsDesk}
 use Rattle.art_schedule.specs.Seats.{IsIdle}
-use Rattle.art_table.specs.declared.passes.Pass.{Pass}
+use Rattle.art_server.specs.ArtTable.declared.passes.Pass.{Pass}
 use Rattle.art_schedule.specs.declared.seats.Seat.{Seat}
 use Rattle.art_schedule.proofs.DeskLaws.{AreSettledUpTo}
 use Rattle.art_schedule.proofs.desks.close.Given as goal

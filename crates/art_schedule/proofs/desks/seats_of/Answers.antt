@@ -3,7 +3,7 @@ use Rattle.art_schedule.proofs.DeskLaws.{eight_are}
 use Rattle.art_schedule.proofs.desks.seats_of.Goals as goal
 use Rattle.art_schedule.specs.declared.seats.Seat.{Seat}
 use Rattle.art_schedule.specs.declared.seats.Seat.TheVariants.{Idle}
-use Rattle.art_table.specs.declared.passes.Pass.{Pass}
+use Rattle.art_server.specs.ArtTable.declared.passes.Pass.{Pass}
 
 pub returns-clause-seats : goal.returns-clause-seats
 returns-clause-seats c =

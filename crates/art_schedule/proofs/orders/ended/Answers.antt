@@ -1,7 +1,7 @@
 use Rattle.std.proofs.Common.{subst, sym}
 use Rattle.std.specs.Prelude.{List}
 use Rattle.art_model.specs.declared.rows.Row.{Row}
-use Rattle.art_scan.specs.Endings.{CommandEnds}
+use Rattle.art_server.specs.ArtScan.Endings.{CommandEnds}
 use Rattle.art_schedule.proofs.orders.ended.Goals as goal
 
 pub print_ending-requires : goal.print_ending-requires

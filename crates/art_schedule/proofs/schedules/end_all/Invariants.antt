@@ -1,6 +1,6 @@
 use Rattle.std.proofs.Common.{List}
 use Rattle.art_schedule.specs.Desks.{IsDesk, places_of}
-use Rattle.art_table.specs.declared.passes.Pass.{Pass}
+use Rattle.art_server.specs.ArtTable.declared.passes.Pass.{Pass}
 use Rattle.art_schedule.proofs.WayLaws.{HasEnded}
 use Rattle.art_schedule.proofs.schedules.end_all.Given as goal
 

@@ -1,7 +1,7 @@
 use Rattle.std.proofs.Common.{◌+◌, ◌≤◌, List, take}
 use Rattle.art_schedule.specs.Desks.{IsDesk, places_of}
 use Rattle.art_schedule.specs.Ways.{TakesBytes}
-use Rattle.art_table.specs.declared.passes.Pass.{Pass}
+use Rattle.art_server.specs.ArtTable.declared.passes.Pass.{Pass}
 use Rattle.art_schedule.proofs.schedules.obey_bytes.Given as goal
 
 abbrev pub invariant-bytes : goal.invariant-bytes

@@ -1,7 +1,7 @@
 use Rattle.std.proofs.Common.{◌≡◌, List, length}
 use Rattle.art_server.specs.Counted.{reader_of, reads_of}
 use Rattle.art_schedule.specs.Desks.{IsDesk, places_of}
-use Rattle.art_table.specs.declared.passes.Pass.{Pass}
+use Rattle.art_server.specs.ArtTable.declared.passes.Pass.{Pass}
 use Rattle.art_server.proofs.CountLaws.{HasCounted}
 use Rattle.art_schedule.proofs.WayLaws.{HasRead}
 use Rattle.art_schedule.proofs.schedules.run_reads.Given as goal

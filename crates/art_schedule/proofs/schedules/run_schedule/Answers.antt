@@ -2,7 +2,7 @@ use Rattle.std.proofs.Common.{List, arith, subst, sym}
 use Rattle.art_schedule.specs.Schedules.{RunsSchedule}
 use Rattle.art_schedule.specs.declared.stops.ScheduleEnd.TheVariants.{NoMemory}
 use Rattle.art_server.specs.Counted.{reader_of}
-use Rattle.art_table.specs.declared.passes.Pass.{Pass}
+use Rattle.art_server.specs.ArtTable.declared.passes.Pass.{Pass}
 use Rattle.art_schedule.proofs.DeskLaws.{eight_rooms}
 use Rattle.art_schedule.proofs.WayLaws.{RunsSchedule-from, RunsSchedule-none}
 use Rattle.art_schedule.proofs.schedules.run_schedule.Goals as goal

@@ -1,5 +1,5 @@
 use Rattle.std.proofs.Common.{◌+◌, ◌≤◌, length}
-use Rattle.art_table.specs.Tables.{IsPassOf}
+use Rattle.art_scan.specs.ArtTable.Tables.{IsPassOf}
 use Rattle.art_server.proofs.StepLaws.{HasTaken}
 use Rattle.art_server.proofs.sessions.answer_lines.Given as goal
 

@@ -2,7 +2,7 @@ use Rattle.std.proofs.Common.{◌≡◌, length}
 use Rattle.art_server.specs.Counted.{reader_of, reads_of}
 use Rattle.art_server.proofs.ReadLaws.{HasRead}
 use Rattle.art_server.proofs.CountLaws.{HasCounted}
-use Rattle.art_table.specs.Tables.{IsPassOf}
+use Rattle.art_scan.specs.ArtTable.Tables.{IsPassOf}
 use Rattle.art_server.proofs.sessions.answer_reads.Given as goal
 
 abbrev pub invariant-reads : goal.invariant-reads

@@ -1,7 +1,7 @@
 use Rattle.std.proofs.Common.{◌∙◌, ◌≡◌, codes, false, map, Some, List, [], ⊎_elim, ap, refl, rules, subst, sym}
 use Rattle.std.specs.Str.{bytes_eq}
 use Rattle.clap.specs.Words.{Text, app_of, fault_of}
-use Rattle.art_table.specs.Sizes.{IsConfig}
+use Rattle.art_server.specs.ArtTable.Sizes.{IsConfig}
 use Rattle.art_tools.specs.Faults.{Explains}
 use Rattle.art_tools.specs.Options.{Given, HasOptions, numbers_fault, sizes_given}
 use Rattle.art_tools.specs.Settings.{art_index_app, option_given, subcommand_given}

@@ -1,5 +1,5 @@
 use Rattle.std.proofs.Common.{subst}
-use Rattle.art_table.specs.Opening.{IsOpened}
+use Rattle.art_server.specs.ArtTable.Opening.{IsOpened}
 use Rattle.art_tools.proofs.Passes.{new_pass, only_pass}
 use Rattle.art_tools.proofs.program.empty_table.Goals as goal
 use Rattle.art_tools.specs.Outputs.{of_one_pass}

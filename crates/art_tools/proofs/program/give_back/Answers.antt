@@ -1,7 +1,7 @@
 use Rattle.std.proofs.Common.{List, [], ◌∷◌, ◌++◌, sym, ap, subst, ◌∙◌}
-use Rattle.art_table.specs.Closing.{AreAllPasses, IsClosed}
-use Rattle.art_table.specs.Tables.{sizes_in}
-use Rattle.art_table.specs.declared.passes.Pass.{Pass}
+use Rattle.art_server.specs.ArtTable.Closing.{AreAllPasses, IsClosed}
+use Rattle.art_server.specs.ArtTable.Tables.{sizes_in}
+use Rattle.art_server.specs.ArtTable.declared.passes.Pass.{Pass}
 use Rattle.art_tools.proofs.Passes.{no_memory, one_is_all}
 use Rattle.art_tools.proofs.program.give_back.Goals as goal
 

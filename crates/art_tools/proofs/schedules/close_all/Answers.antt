@@ -1,7 +1,7 @@
 use Rattle.std.proofs.Common.{◌≡◌, ◌∙◌, List, length, rules, subst, sym}
-use Rattle.art_table.specs.Closing.{IsClosed}
-use Rattle.art_table.specs.Tables.{sizes_in}
-use Rattle.art_table.specs.declared.passes.Pass.{Pass}
+use Rattle.art_server.specs.ArtTable.Closing.{IsClosed}
+use Rattle.art_server.specs.ArtTable.Tables.{sizes_in}
+use Rattle.art_server.specs.ArtTable.declared.passes.Pass.{Pass}
 use Rattle.art_schedule.specs.Schedules.{ComeBack}
 use Rattle.art_tools.proofs.Passes.{all_here, all_of, back_in_place, no_memory}
 use Rattle.art_tools.proofs.schedules.close_all.Goals as goal

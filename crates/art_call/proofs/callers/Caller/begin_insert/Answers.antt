@@ -1,8 +1,8 @@
 use Rattle.std.proofs.Common.{◌∙◌, arith, ap, subst, sym}
-use Rattle.art_attempt.specs.declared.rooms.Room.{Room}
+use Rattle.art_change.specs.ArtAttempt.declared.rooms.Room.{Room}
 use Rattle.art_call.proofs.callers.Caller.begin_insert.Goals as goal
 use Rattle.art_change.proofs.Ready.{ready_may}
-use Rattle.art_attempt.specs.Trying.{IsKey}
+use Rattle.art_change.specs.ArtAttempt.Trying.{IsKey}
 use Rattle.art_change.specs.Tries.{IsRoom, key_of}
 use Rattle.art_change.specs.Writes.{IsReady}
 use Rattle.art_change.specs.declared.tries.Job.TheVariants.{Insert}

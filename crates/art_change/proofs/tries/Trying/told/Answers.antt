@@ -1,5 +1,5 @@
 use Rattle.std.proofs.Common.{◌≡◌, ◌<◌, ◌-◌, true, Some, sym, subst}
-use Rattle.art_attempt.specs.Asking.{Answers, cell_in, steps_in}
+use Rattle.art_erase.specs.ArtAttempt.Asking.{Answers, cell_in, steps_in}
 use Rattle.art_change.proofs.EitherKind.{erase_anew, erases_on, insert_anew, inserts_on}
 use Rattle.art_change.proofs.Overlaps.{erase_apart, insert_overlaps}
 use Rattle.art_change.proofs.tries.Trying.told.Goals as goal

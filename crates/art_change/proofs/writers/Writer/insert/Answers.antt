@@ -1,5 +1,5 @@
 use Rattle.std.proofs.Common.{sym, subst, ◌∙◌, ap}
-use Rattle.art_attempt.specs.declared.rooms.Room.{Room as RoomOf}
+use Rattle.art_erase.specs.ArtAttempt.declared.rooms.Room.{Room as RoomOf}
 use Rattle.art_change.proofs.writers.Writer.insert.Goals as goal
 use Rattle.art_change.specs.Tries.{IsRoom}
 use Rattle.art_change.specs.declared.tries.Job.TheVariants.{Insert}

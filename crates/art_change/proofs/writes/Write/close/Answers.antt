@@ -2,8 +2,8 @@ use Rattle.std.proofs.Common.{◌≡◌, ◌≤◌, ℕ, false, List, length, sy
 use Rattle.art_change.proofs.Frames.{begins_few, begins_going, may_close}
 use Rattle.art_change.proofs.writes.Write.close.Goals as goal
 use Rattle.art_change.specs.Tries.{key_of, value_of}
-use Rattle.art_frame.specs.Closings.{ClosingFits, MayClose, is_ended, steps_left}
-use Rattle.art_frame.specs.declared.closings.Closing.{Closing}
+use Rattle.art_erase.specs.ArtFrame.Closings.{ClosingFits, MayClose, is_ended, steps_left}
+use Rattle.art_erase.specs.ArtFrame.declared.closings.Closing.{Closing}
 use Rattle.art_step.specs.Tokens.{links_of}
 
 pub returns-clause-fits : goal.returns-clause-fits

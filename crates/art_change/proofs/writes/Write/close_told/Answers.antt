@@ -5,11 +5,11 @@ use Rattle.art_change.specs.Writes.{IsClosing, StageFits, left_at}
 use Rattle.art_change.specs.declared.writes.Write.{Write}
 use Rattle.art_change.specs.declared.writes.Stage.{Stage as StageOf}
 use Rattle.art_change.specs.declared.writes.Stage.TheVariants.{Closing, Ended}
-use Rattle.art_attempt.specs.declared.rooms.Room.{Room as RoomOf}
+use Rattle.art_erase.specs.ArtAttempt.declared.rooms.Room.{Room as RoomOf}
 use Rattle.art_epoch.proofs.Counting.{answers_count}
 use Rattle.art_epoch.specs.Limbo.{places_of}
 use Rattle.art_change.specs.Tries.{key_of, value_of}
-use Rattle.art_frame.specs.Closings.{ClosingFits}
+use Rattle.art_erase.specs.ArtFrame.Closings.{ClosingFits}
 use Rattle.art_step.specs.Tokens.{links_of}
 
 pub returns-then-ended-clause-fits : goal.returns-then-ended-clause-fits

@@ -1,6 +1,6 @@
 -- The steps are those of the opening, or of the close.
 use Rattle.std.proofs.Common.{◌≡◌, ◌∙◌, ⊎_elim, refl, sym, subst, arith}
-use Rattle.art_attempt.specs.Asking.{cell_in}
+use Rattle.art_erase.specs.ArtAttempt.Asking.{cell_in}
 use Rattle.art_change.proofs.SameWrite.{same_still, same_then}
 use Rattle.art_change.specs.Asking.{attempt_in}
 use Rattle.art_change.specs.Tries.{IsOverlapBy}

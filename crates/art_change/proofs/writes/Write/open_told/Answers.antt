@@ -8,8 +8,8 @@ use Rattle.art_change.specs.declared.writes.Stage.{Stage as StageOf}
 use Rattle.art_change.specs.declared.writes.Stage.TheVariants.{Opening}
 use Rattle.art_epoch.proofs.Counting.{answers_count}
 use Rattle.art_epoch.specs.Limbo.{places_of}
-use Rattle.art_frame.specs.Openings.{HasEnded}
-use Rattle.art_frame.specs.declared.openings.Opened.{Opened}
+use Rattle.art_erase.specs.ArtFrame.Openings.{HasEnded}
+use Rattle.art_erase.specs.ArtFrame.declared.openings.Opened.{Opened}
 
 pub returns-in-Some-Pinned-clause-fits : goal.returns-in-Some-Pinned-clause-fits
 returns-in-Some-Pinned-clause-fits c z u v w ps asked room o is row =

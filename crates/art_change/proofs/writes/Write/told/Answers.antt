@@ -2,16 +2,16 @@ use Rattle.std.proofs.Common.{◌∙◌, ℕ, ◌<◌, inl, ap, sym, subst}
 use Rattle.art_change.proofs.Frames.{given_key}
 use Rattle.art_change.proofs.Parts.{attempt_told, frame_told}
 use Rattle.art_change.proofs.writes.Write.told.Goals as goal
-use Rattle.art_attempt.specs.Asking.{Answers as AttemptAnswers}
-use Rattle.art_attempt.specs.declared.rooms.Room.{Room}
+use Rattle.art_erase.specs.ArtAttempt.Asking.{Answers as AttemptAnswers}
+use Rattle.art_erase.specs.ArtAttempt.declared.rooms.Room.{Room}
 use Rattle.art_change.specs.Tries.{SameKey, asks as attempt_asks}
-use Rattle.art_attempt.specs.declared.asked.Answer.{Answer as AttemptAnswer}
+use Rattle.art_erase.specs.ArtAttempt.declared.asked.Answer.{Answer as AttemptAnswer}
 use Rattle.art_change.specs.Writes.{OverlapsBy, RestartsBy, StageFits, asks_at, deed_at, freed_by, left_at, steps_left}
 use Rattle.art_change.specs.declared.writes.Stage.{Stage as StageOf}
 use Rattle.art_epoch.specs.Asking.{Answers as FrameAnswers}
 use Rattle.art_epoch.specs.Limbo.{places_of}
-use Rattle.art_frame.specs.Closings.{asks as closing_asks}
-use Rattle.art_frame.specs.Openings.{asks as opening_asks}
+use Rattle.art_erase.specs.ArtFrame.Closings.{asks as closing_asks}
+use Rattle.art_erase.specs.ArtFrame.Openings.{asks as opening_asks}
 
 pub try_told-requires-clause-told : goal.try_told-requires-clause-told
 try_told-requires-clause-told c =

@@ -3,7 +3,7 @@ use Rattle.art_attempt.proofs.Tries.{later_first}
 use Rattle.art_erase.proofs.Finds.{within_more}
 use Rattle.art_erase.proofs.Vouched.{begins_vouching}
 use Rattle.art_erase.proofs.erasing.Erasing.choose.Goals as goal
-use Rattle.art_gather.proofs.Vouches.{here_begins}
+use Rattle.art_attempt.proofs.ArtGather.Vouches.{here_begins}
 
 pub read_on-requires : goal.read_on-requires
 read_on-requires c = c.requires.5.found

@@ -9,7 +9,7 @@ use Rattle.art_erase.specs.Erasing.{HasVouched, StageFits}
 use Rattle.art_erase.specs.declared.erasing.Erasing.{Erasing}
 use Rattle.art_erase.specs.declared.erasing.Stage.{Stage}
 use Rattle.art_erase.specs.declared.erasing.Stage.TheVariants.{Vouching}
-use Rattle.art_gather.specs.Vouching.{Fits as VouchFits}
+use Rattle.art_attempt.specs.ArtGather.Vouching.{Fits as VouchFits}
 use Rattle.art_erase.proofs.erasing.Erasing.read_vouched.Goals as goal
 
 pub read_cells-requires-clause-fits : goal.read_cells-requires-clause-fits

@@ -1,9 +1,9 @@
 use Rattle.std.proofs.Common.{◌≡◌, ◌∙◌, ap, sym, subst}
 use Rattle.art_erase.proofs.erasing.Erasing.supply.Goals as goal
 use Rattle.art_erase.specs.Erasing.{wants_of}
-use Rattle.art_frame.specs.Stocks.{HasStock}
-use Rattle.art_gather.specs.Supplying.{Fits as SupplyFits}
-use Rattle.art_gather.specs.declared.supplying.Wants.{Wants}
+use Rattle.art_attempt.specs.ArtFrame.Stocks.{HasStock}
+use Rattle.art_attempt.specs.ArtGather.Supplying.{Fits as SupplyFits}
+use Rattle.art_attempt.specs.ArtGather.declared.supplying.Wants.{Wants}
 use Rattle.art_step.specs.declared.views.Sizes.{Sizes as SizesOf}
 
 pub returns-clause-fits : goal.returns-clause-fits

@@ -3,8 +3,8 @@ use Rattle.std.proofs.Common.{◌≡◌, ◌∙◌, ℕ, List, Some, sym, subst,
 use Rattle.art_attempt.proofs.Counts.{supply_few, supply_one}
 use Rattle.art_erase.proofs.Stages.{has_supplies, kept_on}
 use Rattle.art_erase.specs.Erasing.{Fits, wants_of}
-use Rattle.art_gather.specs.Asking.{Answers, IsAllowed}
-use Rattle.art_gather.specs.Supplying.{Fits as SupplyFits, asks}
+use Rattle.art_attempt.specs.ArtGather.Asking.{Answers, IsAllowed}
+use Rattle.art_attempt.specs.ArtGather.Supplying.{Fits as SupplyFits, asks}
 use Rattle.art_step.specs.declared.views.Sizes.{Sizes}
 use Rattle.art_step.specs.declared.views.View.{View}
 use Rattle.art_erase.proofs.erasing.Erasing.supply_all.Goals as goal

@@ -4,10 +4,10 @@ use Rattle.art_erase.proofs.Chosen.{no_smaller}
 use Rattle.art_erase.proofs.Vouched.{supplies_lost, supplies_so}
 use Rattle.art_erase.proofs.erasing.Erasing.supply_on.Goals as goal
 use Rattle.art_erase.specs.Erasing.{wants_of}
-use Rattle.art_gather.specs.Supplying.{HasAll, StageFits as SupplyStage}
-use Rattle.art_gather.specs.declared.supplying.Supplied.{Supplied}
-use Rattle.art_gather.specs.declared.supplying.Supplied.TheVariants.{Full, Ready}
-use Rattle.art_gather.specs.declared.supplying.Supplying.{Supplying}
+use Rattle.art_attempt.specs.ArtGather.Supplying.{HasAll, StageFits as SupplyStage}
+use Rattle.art_attempt.specs.ArtGather.declared.supplying.Supplied.{Supplied}
+use Rattle.art_attempt.specs.ArtGather.declared.supplying.Supplied.TheVariants.{Full, Ready}
+use Rattle.art_attempt.specs.ArtGather.declared.supplying.Supplying.{Supplying}
 
 pub returns-in-Some-Ready-clause-fits : goal.returns-in-Some-Ready-clause-fits
 returns-in-Some-Ready-clause-fits c z u v room h =

@@ -9,7 +9,7 @@ use Rattle.art_erase.specs.Erasing.{StageFits, absent, asks_at, free_at, left_at
 use Rattle.art_erase.specs.declared.erasing.Stage.{Stage as StageOf}
 use Rattle.art_find.specs.Asking.{Answers as CellAnswers}
 use Rattle.art_find.specs.declared.asked.Answer.{Answer as CellAnswer}
-use Rattle.art_gather.specs.Asking.{Answers as SupplyAnswers}
+use Rattle.art_attempt.specs.ArtGather.Asking.{Answers as SupplyAnswers}
 use Rattle.art_make.specs.Asking.{Answers as ChangeAnswers}
 use Rattle.art_make.specs.declared.asked.Answer.{Answer as ChangeAnswer}
 

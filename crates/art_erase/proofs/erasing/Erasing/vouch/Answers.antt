@@ -2,7 +2,7 @@ use Rattle.std.proofs.Common.{Bool, subst}
 use Rattle.art_attempt.proofs.Tries.{later_first}
 use Rattle.art_erase.proofs.Vouched.{begins_vouching}
 use Rattle.art_erase.proofs.erasing.Erasing.vouch.Goals as goal
-use Rattle.art_gather.specs.Vouching.{Fits as VouchingFits}
+use Rattle.art_attempt.specs.ArtGather.Vouching.{Fits as VouchingFits}
 
 pub returns-clause-fits : goal.returns-clause-fits
 returns-clause-fits c z u v room so lost chosen =

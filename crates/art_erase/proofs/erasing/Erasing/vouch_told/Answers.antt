@@ -9,8 +9,8 @@ use Rattle.art_erase.proofs.erasing.Erasing.vouch_told.Goals as goal
 use Rattle.art_erase.specs.Erasing.{HasVouched, StageFits, absent}
 use Rattle.art_erase.specs.declared.erasing.Erasing.{Erasing}
 use Rattle.art_erase.specs.declared.erasing.Stage.{Stage as StageOf}
-use Rattle.art_gather.specs.Vouching.{Fits as VouchFits}
-use Rattle.art_gather.specs.declared.vouching.Vouched.{Vouched}
+use Rattle.art_attempt.specs.ArtGather.Vouching.{Fits as VouchFits}
+use Rattle.art_attempt.specs.ArtGather.declared.vouching.Vouched.{Vouched}
 
 pub plan-requires : goal.plan-requires
 plan-requires c =

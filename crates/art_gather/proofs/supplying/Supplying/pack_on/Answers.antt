@@ -5,7 +5,7 @@ use Rattle.art_gather.specs.Supplying.{Fits}
 use Rattle.art_gather.specs.declared.asked.Asked.TheVariants.{Leaf as leaf_written}
 use Rattle.art_gather.specs.declared.supplying.Supplying.TheVariants.{Packing as packed}
 use Rattle.art_gather.specs.declared.supplying.Wants.{Wants}
-use Rattle.art_make.specs.Packing.{word_asked}
+use Rattle.art_frame.specs.ArtMake.Packing.{word_asked}
 use Rattle.art_step.specs.declared.views.View.{View}
 use Rattle.art_gather.proofs.supplying.Supplying.pack_on.Goals as goal
 
