@@ -11,8 +11,8 @@ use Rattle.art_key.specs.declared.events.Deed.{Deed}
 use Rattle.art_key.specs.declared.events.Deed.TheVariants.{Done, Look}
 use Rattle.art_key.specs.declared.events.Event.{Event}
 use Rattle.art_load.specs.Counts.{inserted_in, removed_in}
-use Rattle.art_load.specs.Left.{RowsLeft, insertions_in, removals_in}
-use Rattle.art_load.specs.Own.{told_of}
+use Rattle.art_load.specs.Left.{RowsLeft}
+use Rattle.art_load.specs.Own.{told_by, told_of}
 use Rattle.art_model.proofs.Places.{gap_value, gap_with, place_value, place_without}
 use Rattle.art_model.specs.Answers.{get_answer, insert_answer, remove_answer}
 use Rattle.art_model.specs.Rows.{IsSortedRows, Order, Tuple, value_at, with_row, without_row}
@@ -111,13 +111,13 @@ module _ (schema : List Column) where
   -- ---- all of them
 
   all_counted : (rows : List Row) (log : List Event) → IsSortedRows order rows → IsLegalFrom schema rows log
-      → length (run schema rows log) + sum_by removals_in log ≡ length rows + sum_by insertions_in log
+      → length (run schema rows log) + sum_by (told_by removed_in) log ≡ length rows + sum_by (told_by inserted_in) log
   all_counted rows [] s legal = refl
   all_counted rows (e ∷ es) s legal =
       let one = counted rows e.what s legal.0 in
       let rest = all_counted (becomes schema rows e.what) es one.0 legal.1 in
       let here = one.1 in
-      omega (arith, here, rest, sum_by-cons removals_in e es, sum_by-cons insertions_in e es)
+      omega (arith, here, rest, sum_by-cons (told_by removed_in) e es, sum_by-cons (told_by inserted_in) e es)
 
   none_sorted : IsSortedRows order []
   unfolding IsStrictlySortedBy

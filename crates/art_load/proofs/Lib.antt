@@ -5,3 +5,5 @@ pub mod Counted
 pub mod ReplyKinds
 pub mod Told
 pub mod Left
+pub mod Passes
+pub mod Closes

@@ -8,8 +8,9 @@ use Rattle.art_key.specs.declared.events.Deed.TheVariants.{Done}
 use Rattle.art_key.specs.declared.events.Event.{Event}
 use Rattle.art_load.specs.Commands.{load_command, load_commands, load_key, tuple_of_key}
 use Rattle.art_load.specs.Counts.{absent_in, found_in, inserted_in, present_in, refused_in, removed_in}
-use Rattle.art_load.specs.Loads.{IsCall, asks_of}
-use Rattle.art_load.specs.Own.{LoadsTellOwn, told_at, told_in}
+use Rattle.art_load.specs.Loads.{IsCall, Loads, asks_of}
+use Rattle.art_load.specs.Own.{AreTold, LoadsTellOwn, told_at, told_in}
+use Rattle.art_load.specs.declared.counts.Counts.{Counts}
 use Rattle.art_model.specs.declared.commands.Command.{Command}
 use Rattle.art_model.specs.declared.commands.Command.TheVariants.{Insert, Remove, Get, Scan}
 use Rattle.art_model.specs.declared.commands.Reply.{Reply}
@@ -57,11 +58,11 @@ abbrev answered_in : Result Reply Refusal → ℕ
 answered_in (Ok reply) = 1
 answered_in (Err refusal) = 0
 
-sum_of_ones : (xs : List ℕ) → sum_by (λ (k : ℕ). 1) xs ≡ length xs
+pub sum_of_ones : {X : Type 0} (xs : List X) → sum_by (λ (x : X). 1) xs ≡ length xs
 sum_of_ones [] = refl
-sum_of_ones (x ∷ xs) =
+sum_of_ones {X} (x ∷ xs) =
     let rest = sum_of_ones xs in
-    let one = sum_by-cons (λ (k : ℕ). 1) x xs in
+    let one = sum_by-cons (λ (y : X). 1) x xs in
     omega (arith, rest, one)
 
 answered_or_not : (replies : List (Result Reply Refusal)) → sum_by answered_in replies + sum_by refused_in replies ≡ length replies
@@ -85,30 +86,39 @@ as_many_replies t (c ∷ commands) p q replies (reply, others, m, is, one, rest)
     let more = as_many_replies t commands m q others rest in
     ap (λ (l : List (Result Reply Refusal)). length l) is ∙ omega (arith, more)
 
-pub loads_tell_own : LoadsTellOwn
-loads_tell_own t commands p c q log was are loads starts =
-    let points = commands_are_points t (asks_of commands) p q loads.replies log was loads.answers starts in
-    let at = all_told (schema_in t) log (number_of p) in
-    let told : (f : Result Reply Refusal → ℕ) → ((r : Refusal) → f (Err r) ≡ 0) → sum_by f loads.replies ≡ sum_by (told_at f log) points.0 =
-    λ f none. sym (at f none (told_at f log) (λ k command x stands. ap (told_in f) stands) commands are loads.replies points.0 points.2) in
+-- what was counted is told at the places of the replies
+pub are_told : (t : Table) (commands : List Command) (p : Pass) (c : Counts) (q : Pass) (log : List Event) (n : ℕ) (places : List ℕ)
+    → AllByRecursion IsCall commands → (loads : Loads t commands p c q)
+    → AllAt (schema_in t) log n (asks_of commands) loads.replies places → AreTold log places c
+are_told t commands p c q log n places are loads points =
+    let at = all_told (schema_in t) log n in
+    let told : (f : Result Reply Refusal → ℕ) → ((r : Refusal) → f (Err r) ≡ 0) → sum_by f loads.replies ≡ sum_by (told_at f log) places =
+    λ f none. sym (at f none (told_at f log) (λ k command x stands. ap (told_in f) stands) commands are loads.replies places points) in
     let one : ℕ → ℕ = λ k. 1 in
-    let answered = at answered_in (λ r. refl) one (λ k command x stands. refl) commands are loads.replies points.0 points.2 in
+    let answered = at answered_in (λ r. refl) one (λ k command x stands. refl) commands are loads.replies places points in
     record {
-      places = points.0;
-      goes = points.1;
       inserted = loads.counts.inserted ∙ told inserted_in (λ r. refl);
       present = loads.counts.present ∙ told present_in (λ r. refl);
       removed = loads.counts.removed ∙ told removed_in (λ r. refl);
       absent = loads.counts.absent ∙ told absent_in (λ r. refl);
       found = loads.counts.found ∙ told found_in (λ r. refl);
       all = (
-          let ones = sum_of_ones points.0 in
+          let ones = sum_of_ones places in
           let parts = answered_or_not loads.replies in
           let refused = loads.counts.refused in
           let long = as_many_replies t commands p q loads.replies loads.answers in
           let total = loads.total in
           omega (arith, ones, answered, parts, refused, long, total)
           );
+    }
+
+pub loads_tell_own : LoadsTellOwn
+loads_tell_own t commands p c q log was are loads starts =
+    let points = commands_are_points t (asks_of commands) p q loads.replies log was loads.answers starts in
+    record {
+      places = points.0;
+      goes = points.1;
+      told = are_told t commands p c q log (number_of p) points.0 are loads points.2;
     }
 
 -- ---- the commands of a load are calls

@@ -16,6 +16,10 @@ none_counted = record { inserted = 0; present = 0; removed = 0; absent = 0; foun
 abbrev pub total_of : Counts → ℕ
 total_of c = c.inserted + c.present + c.removed + c.absent + c.found + c.refused
 
+-- all but the refusals
+abbrev pub answered_of : Counts → ℕ
+answered_of c = c.inserted + c.present + c.removed + c.absent + c.found
+
 -- the counts of both
 abbrev pub added : Counts → Counts → Counts
 added c d = record {

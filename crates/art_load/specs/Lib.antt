@@ -4,3 +4,4 @@ pub mod Loads
 pub mod Threads
 pub mod Own
 pub mod Left
+pub mod Closes

@@ -16,6 +16,9 @@
 //! Which replies come is the threads' affair. What is promised is that the counts are those of replies that the passes gave to these
 //! commands, none left out; and, by a law, that each pass told them as events of its own, at which one sorted map answers so
 //! (`loads_tell_own`). Another law counts the rows that a history leaves (`rows_left`).
+//!
+//! Where a load has its table alone, from the opening to the close, all its threads are of one history. That has as many events of each
+//! kind as were counted, so the rows at the close are those inserted less those removed (`loads_are_one_map`).
 #![tactic(auto)]
 
 mod commands;
@@ -27,5 +30,5 @@ mod threads;
 
 pub use counts::Counts;
 pub use faults::LoadFault;
-pub use laws::{loads_tell_own, rows_left};
+pub use laws::{loads_are_one_map, loads_tell_own, rows_left};
 pub use threads::load;

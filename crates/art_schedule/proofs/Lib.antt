@@ -8,3 +8,10 @@ pub mod AdvanceLaws
 pub mod DeskLaws
 pub mod TaskLaws
 pub mod WayLaws
+mod Tellings
+mod Standings
+mod Places
+mod Rests
+mod Comings
+mod Doings
+pub mod OneHistory

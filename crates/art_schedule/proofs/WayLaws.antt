@@ -1,16 +1,15 @@
--- How a schedule under way goes on byte by byte and read by read, and what it is at its end.
-use Rattle.std.proofs.Common.{◌≡◌, ◌≢◌, ℕ, ◌+◌, ◌*◌, ◌<◌, ◌≤◌, Bool, false, List, [], ◌∷◌, ◌++◌, length, get_or, map, take, drop, take-append-drop, Option, Ok, Err, inl, inr, Result, IfErr, refl, sym, ap, subst, ◌∙◌, arith, append_assoc, append-nil, length-append}
-use Rattle.std.specs.Io.KnownBytes.{Appends, Consumes, Keeps}
+-- How a schedule under way goes on line by line, and what it is at its end.
+use Rattle.std.proofs.Common.{◌≡◌, ◌≢◌, ℕ, ◌+◌, ◌<◌, ◌≤◌, Bool, true, false, List, [], ◌∷◌, ◌++◌, length, map, take, drop, take-append-drop, Option, Ok, Err, inl, inr, Result, IfErr, refl, sym, ap, subst, ◌∙◌, arith, append_assoc, length-append, length-take}
+use Rattle.std.specs.Io.KnownBytes.{Appends}
 use Rattle.std.specs.List.{range_with_len}
-use Rattle.std.proofs.KnownBytes.{Appends-nil, Appends-trans, Consumes-nil, Consumes-trans, Consumes-kept}
-use Rattle.std.proofs.lemmas.List.{length-map, map-append, take_more}
-use Rattle.std.proofs.lemmas.List.Elements.{All-cons, All-nil}
+use Rattle.std.proofs.KnownBytes.{Appends-nil, Appends-trans, Consumes-nil}
+use Rattle.std.proofs.lemmas.List.{length-map, length_push, map-append, take-append-le, take_all}
 use Rattle.std.proofs.lemmas.List.FromFn.{length-map-range_with_len, map-range_with_len_more, take-map-range_with_len}
 use Rattle.art_schedule.specs.Desks.{Places, Settles}
 use Rattle.art_schedule.specs.Lines.{line_order}
-use Rattle.art_schedule.specs.Schedules.{EndsBy, IsStopped, RunsSchedule, end_of, rest_tasks, tasks_of, whole_tasks}
+use Rattle.art_schedule.specs.Schedules.{EndsBy, IsStop, IsStopped, RunsSchedule, end_of, rest_tasks, tasks_of}
 use Rattle.art_schedule.specs.Tasks.{Does, DoesAll, IsBad, LineCan, LineIsUntold, StopsFor, Task, end_at, obey}
-use Rattle.art_schedule.specs.Ways.{ComesOfAll, ComesToEnd, EndsUnderWay, IsUnderWay, RunsFrom, StopsAmong, TakesBytes, Tries, TriesAll, TriesRest}
+use Rattle.art_schedule.specs.Ways.{ComesOfAll, EndsSchedule, EndsThere, IsUnderWay, ObeysMore, RunsFrom, StopsAmong, Tries, TriesAll, end_by}
 use Rattle.art_schedule.specs.declared.stops.ScheduleEnd.{ScheduleEnd}
 use Rattle.art_schedule.specs.declared.stops.ScheduleEnd.TheVariants as ends
 use Rattle.art_schedule.specs.declared.stops.Stop.{Stop}
@@ -18,25 +17,15 @@ use Rattle.art_schedule.specs.declared.stops.Stop.TheVariants.{BadLine, WriteFau
 use Rattle.art_schedule.specs.declared.seats.Seat.TheVariants.{Idle}
 use Rattle.art_server.specs.ArtTable.declared.passes.Pass.{Pass}
 use Rattle.art_server.specs.ArtTable.declared.tables.Table.{Table}
-use Rattle.art_server.specs.Streams.{last_part, lines_of, whole_lines}
-use Rattle.art_server.proofs.StreamLaws.{length-whole_lines, lines_fed, lines_of-append, lines_of-last, lines_of-short, part_fed, part_none, split_lines-part, take_more_kept}
+use Rattle.art_server.specs.Lines.{AllAreGiven, GoesOn, IsLineAt, LinesRead}
+use Rattle.art_server.specs.Streams.{last_line, last_part, lines_of, whole_lines}
+use Rattle.art_server.proofs.GivenLines.{last_line_at, line_within, slice_get-longer, split_at, take_next}
+use Rattle.art_server.proofs.ReadLaws.{HasRead}
+use Rattle.art_server.proofs.StreamLaws.{lines_of-last, lines_of-short, part_none, whole_lines-append}
 use Rattle.art_schedule.proofs.TaskLaws.{DoesAll-append, DoesAll-push, StopsAt-later, line_order-take}
-
--- the bytes of a piece up to one of them, and behind it
-front_at : (bytes : List ℕ) (i b : ℕ) → i < length bytes → get_or bytes i 0 ≡ b → take i bytes ++ b ∷ [] ≡ take (i + 1) bytes
-front_at bytes i b within is = sym (take_more bytes i 0 within ∙ ap (λ (x : ℕ). take i bytes ++ x ∷ []) is)
-
-piece_at : (bytes : List ℕ) (i b : ℕ) → i < length bytes → get_or bytes i 0 ≡ b → bytes ≡ (take i bytes ++ b ∷ []) ++ drop (i + 1) bytes
-piece_at bytes i b within is =
-    sym (take-append-drop (i + 1) bytes)
-    ∙ ap (λ (t : List ℕ). t ++ drop (i + 1) bytes) (sym (front_at bytes i b within is))
 
 same_order : (line part : List ℕ) → line ≡ take 4097 part → line_order part ≡ line_order line
 same_order line part kept = sym (line_order-take part) ∙ ap line_order (sym kept)
-
--- the tasks of lines to which one comes
-tasks-push : (lines : List (List ℕ)) (line : List ℕ) → map obey (lines ++ line ∷ []) ≡ map obey lines ++ obey line ∷ []
-tasks-push lines line = map-append obey lines (line ∷ [])
 
 count_tasks : (lines : List (List ℕ)) → length (map obey lines) ≡ length lines
 count_tasks lines = length-map {A = List ℕ} {B = Task} lines (λ line. obey line)
@@ -65,7 +54,8 @@ module _ (t : Table) where
   IsBad-kept line part old kept (inl none) = inl (same_order line part kept ∙ none)
   IsBad-kept line part old kept (inr bad) = inr (LineCan-kept line part old false kept bad)
 
-  LineIsUntold-kept : (line part : List ℕ) (old new : Places) → line ≡ take 4097 part → LineIsUntold t line old new → LineIsUntold t part old new
+  LineIsUntold-kept : (line part : List ℕ) (old new : Places) → line ≡ take 4097 part → LineIsUntold t line old new
+      → LineIsUntold t part old new
   LineIsUntold-kept line part old new kept it = record {
     place = it.place;
     said = it.said;
@@ -86,152 +76,65 @@ module _ (t : Table) where
   }
   StopsFor-kept NoMemory line part old written new kept (untold, none) = (LineIsUntold-kept line part old new kept untold, none)
 
-  -- ---- bytes are taken
+  -- ---- lines one after another
 
-  -- a line feed, whose line is obeyed
-  under_way_fed : (taken sent : List ℕ) (start p q : Places) (count : ℕ) (line written : List ℕ)
-      → IsUnderWay t taken sent start p count line → Does t (obey line) p written q
-      → IsUnderWay t (taken ++ 10 ∷ []) (sent ++ written) start q (count + 1) []
-  under_way_fed taken sent start p q count line written way does =
-      let lines = whole_lines taken in
-      let last = last_part taken in
-      let pushed = DoesAll-push t (map obey lines) (obey last) start p q sent written way.done
-      (Does-kept line last p written q way.kept does) in
-      let same : whole_tasks (taken ++ 10 ∷ []) ≡ map obey lines ++ obey last ∷ [] =
-      ap (λ (l : List (List ℕ)). map obey l) (lines_fed taken) ∙ tasks-push lines last in
+  pub IsUnderWay-none : (held : Option (List ℕ)) (start : Places) → IsUnderWay t [] held held start start 0
+  IsUnderWay-none held start = record { within = omega arith; written = []; appends = Appends-nil held; done = (refl, refl) }
+
+  -- one line more
+  pub IsUnderWay-line : {A : Type 0} (lines : List (List ℕ)) (held held_mid held_after : Option (List ℕ)) (start p q : Places) (n : ℕ)
+      (line : List ℕ) (a : A)
+      → IsUnderWay t lines held held_mid start p n → IsLineAt lines n line → Tries t (obey line) p q held_mid held_after (Ok a)
+      → IsUnderWay t lines held held_after start q (n + 1)
+  IsUnderWay-line lines held held_mid held_after start p q n line a way at tries =
+      let within = line_within lines n line at in
+      let tasks : map obey (take (n + 1) lines) ≡ map obey (take n lines) ++ obey at.whole ∷ [] =
+      ap (λ (l : List (List ℕ)). map obey l) (take_next lines n at.whole at.stands) ∙ map-append obey (take n lines) (at.whole ∷ []) in
+      let does = Does-kept line at.whole p tries.written q at.front tries.comes in
       record {
-        done = subst (λ (l : List Task). DoesAll t l start (sent ++ written) q) (sym same) pushed;
-        count_is = omega (arith, way.count_is, ap (length {A = List ℕ}) (lines_fed taken), length-append lines (last ∷ []));
-        kept = ap (take 4097) (sym (part_fed taken));
+        within = omega arith;
+        written = way.written ++ tries.written;
+        appends = Appends-trans held held_mid held_after way.written tries.written way.appends tries.appends;
+        done =
+            subst (λ (l : List Task). DoesAll t l start (way.written ++ tries.written) q) (sym tasks)
+            (DoesAll-push t (map obey (take n lines)) (obey at.whole) start p q way.written tries.written way.done does);
       }
 
-  -- another byte
-  under_way_longer : (taken sent : List ℕ) (start p : Places) (count : ℕ) (line : List ℕ) (b : ℕ) → b ≢ 10
-      → IsUnderWay t taken sent start p count line
-      → IsUnderWay t (taken ++ b ∷ []) sent start p count (take 4097 (line ++ b ∷ []))
-  under_way_longer taken sent start p count line b other way =
-      let split = split_lines-part taken (b ∷ []) (All-cons (λ (c : ℕ). c ≢ 10) b [] other (All-nil (λ (c : ℕ). c ≢ 10))) in
-      let lines : whole_lines (taken ++ b ∷ []) ≡ whole_lines taken = ap (λ (s : List (List ℕ) × List ℕ). s.0) split in
-      let part : last_part (taken ++ b ∷ []) ≡ last_part taken ++ b ∷ [] = ap (λ (s : List (List ℕ) × List ℕ). s.1) split in
+  -- lines behind them change nothing
+  pub IsUnderWay-longer : (lines more all : List (List ℕ)) (held held_after : Option (List ℕ)) (start now : Places) (n : ℕ)
+      → all ≡ lines ++ more → IsUnderWay t lines held held_after start now n → IsUnderWay t all held held_after start now n
+  IsUnderWay-longer lines more all held held_after start now n split way =
+      let within = way.within in
+      let front : take n lines ≡ take n all = sym (ap (take n) split ∙ take-append-le n lines more within) in
       record {
-        done = subst (λ (l : List (List ℕ)). DoesAll t (map obey l) start sent p) (sym lines) way.done;
-        count_is = way.count_is ∙ ap (length {A = List ℕ}) (sym lines);
-        kept =
-            ap (λ (l : List ℕ). take 4097 (l ++ b ∷ [])) way.kept
-            ∙ take_more_kept 4097 (last_part taken) (b ∷ [])
-            ∙ ap (take 4097) (sym part);
+        within = omega (arith, ap (length {A = List ℕ}) split, length-append lines more);
+        written = way.written;
+        appends = way.appends;
+        done = subst (λ (l : List (List ℕ)). DoesAll t (map obey l) start way.written now) front way.done;
       }
 
-  pub TakesBytes-nil : (held : Option (List ℕ)) (p : Places) (count : ℕ) (line : List ℕ) → TakesBytes t [] held held p p count count line line
-  TakesBytes-nil held p count line = record {
-    written = [];
-    appends = Appends-nil held;
-    reaches = λ taken sent start way.
-        subst (λ (l : List ℕ). IsUnderWay t l (sent ++ []) start p count line) (sym (append-nil taken))
-        (subst (λ (l : List ℕ). IsUnderWay t taken l start p count line) (sym (append-nil sent)) way);
-  }
+  -- bytes behind them change nothing
+  pub IsUnderWay-read : (taken more taken_after : List ℕ) (held held_after : Option (List ℕ)) (start now : Places) (n m : ℕ)
+      → taken_after ≡ taken ++ more → m ≡ n → IsUnderWay t (whole_lines taken) held held_after start now n
+      → IsUnderWay t (whole_lines taken_after) held held_after start now m
+  IsUnderWay-read taken more taken_after held held_after start now n m grown same way =
+      let extra = whole_lines-append taken more in
+      rw same (IsUnderWay-longer (whole_lines taken) extra.0 (whole_lines taken_after) held held_after start now n
+      (ap whole_lines grown ∙ extra.1) way)
 
-  -- at a line feed the line is obeyed
-  pub TakesBytes-at_feed : {A : Type 0} (bytes : List ℕ) (i : ℕ) (held held_mid held_after : Option (List ℕ)) (p m q : Places)
-      (before count : ℕ) (line line_mid line_after : List ℕ) (a : A)
-      → i < length bytes → get_or bytes i 0 ≡ 10 → TakesBytes t (take i bytes) held held_mid p m before count line line_mid
-      → Tries t (obey line_mid) m q held_mid held_after (Ok a) → line_after ≡ []
-      → TakesBytes t (take (i + 1) bytes) held held_after p q before (count + 1) line line_after
-  TakesBytes-at_feed bytes i held held_mid held_after p m q before count line line_mid line_after a within feed front tries none = record {
-    written = front.written ++ tries.written;
-    appends = Appends-trans held held_mid held_after front.written tries.written front.appends tries.appends;
-    reaches = λ taken sent start way.
-        let bytes_before = take i bytes in
-        let fed = under_way_fed (taken ++ bytes_before) (sent ++ front.written) start m q count line_mid tries.written
-        (front.reaches taken sent start way) tries.comes in
-        let read : (taken ++ bytes_before) ++ 10 ∷ [] ≡ taken ++ take (i + 1) bytes =
-        append_assoc taken bytes_before (10 ∷ []) ∙ ap (λ (l : List ℕ). taken ++ l) (front_at bytes i 10 within feed) in
-        subst (λ (l : List ℕ). IsUnderWay t l (sent ++ (front.written ++ tries.written)) start q (count + 1) line_after) read
-        (subst (λ (l : List ℕ). IsUnderWay t ((taken ++ bytes_before) ++ 10 ∷ []) l start q (count + 1) line_after)
-        (append_assoc sent front.written tries.written)
-        (subst (λ (l : List ℕ). IsUnderWay t ((taken ++ bytes_before) ++ 10 ∷ []) ((sent ++ front.written) ++ tries.written) start q (count + 1) l)
-        (sym none) fed));
-  }
+  -- all whole lines are lines
+  pub IsUnderWay-lines : (taken : List ℕ) (held held_after : Option (List ℕ)) (start now : Places) (n : ℕ)
+      → IsUnderWay t (whole_lines taken) held held_after start now n → IsUnderWay t (lines_of taken) held held_after start now n
+  IsUnderWay-lines taken held held_after start now n way =
+      IsUnderWay-longer (whole_lines taken) (last_line (last_part taken)) (lines_of taken) held held_after start now n refl way
 
-  -- at another byte the line goes on
-  pub TakesBytes-at_other : (bytes : List ℕ) (i : ℕ) (held held_after : Option (List ℕ)) (p q : Places) (before count : ℕ)
-      (line line_mid line_after : List ℕ)
-      → i < length bytes → (get_or bytes i 0 ≡ 10 → ⊥) → TakesBytes t (take i bytes) held held_after p q before count line line_mid
-      → line_after ≡ take 4097 (line_mid ++ get_or bytes i 0 ∷ [])
-      → TakesBytes t (take (i + 1) bytes) held held_after p q before count line line_after
-  TakesBytes-at_other bytes i held held_after p q before count line line_mid line_after within other front is = record {
-    written = front.written;
-    appends = front.appends;
-    reaches = λ taken sent start way.
-        let b = get_or bytes i 0 in
-        let longer = under_way_longer (taken ++ take i bytes) (sent ++ front.written) start q count line_mid b other
-        (front.reaches taken sent start way) in
-        let read : (taken ++ take i bytes) ++ b ∷ [] ≡ taken ++ take (i + 1) bytes =
-        append_assoc taken (take i bytes) (b ∷ []) ∙ ap (λ (l : List ℕ). taken ++ l) (front_at bytes i b within refl) in
-        subst (λ (l : List ℕ). IsUnderWay t l (sent ++ front.written) start q count line_after) read
-        (subst (IsUnderWay t ((taken ++ take i bytes) ++ b ∷ []) (sent ++ front.written) start q count) (sym is) longer);
-  }
+  -- where each of them was obeyed
+  pub all_done : (lines : List (List ℕ)) (held held_after : Option (List ℕ)) (start now : Places) (n : ℕ) → n ≡ length lines
+      → (way : IsUnderWay t lines held held_after start now n) → DoesAll t (map obey lines) start way.written now
+  all_done lines held held_after start now n all way =
+      subst (λ (l : List (List ℕ)). DoesAll t (map obey l) start way.written now) (take_all n lines (omega arith)) way.done
 
   -- ---- a line stops it
-
-  -- the line that is next among all tasks stops the schedule
-  stopped_next : (taken sent : List ℕ) (start p q : Places) (count : ℕ) (line written : List ℕ) (stop : Stop) (extra : List (List ℕ))
-      (all : List ℕ) → IsUnderWay t taken sent start p count line → StopsFor t stop (obey line) p written q
-      → lines_of all ≡ (whole_lines taken ++ last_part taken ∷ []) ++ extra
-      → IsStopped t all start (sent ++ written) q (end_of stop (count + 1))
-  stopped_next taken sent start p q count line written stop extra all way stops split =
-      let before = whole_lines taken in
-      let last = last_part taken in
-      let lines : lines_of all ≡ before ++ last ∷ extra = split ∙ append_assoc before (last ∷ []) extra in
-      let tasks : tasks_of all ≡ map obey before ++ obey last ∷ (map obey extra ++ rest_tasks) =
-      ap (λ (l : List (List ℕ)). map obey l ++ rest_tasks) lines
-      ∙ ap (λ (l : List Task). l ++ rest_tasks) (map-append obey before (last ∷ extra))
-      ∙ append_assoc (map obey before) (obey last ∷ map obey extra) rest_tasks in
-      record {
-        why = stop;
-        count = count;
-        stops = record {
-          before = map obey before;
-          at = obey last;
-          after = map obey extra ++ rest_tasks;
-          split = tasks;
-          count_is = way.count_is ∙ sym (count_tasks before);
-          text = sent;
-          part = written;
-          m = p;
-          done = way.done;
-          stops = StopsFor-kept stop line last p written q way.kept stops;
-          whole = refl;
-        };
-        end_is = refl;
-      }
-
-  -- at a line feed the line stops the schedule
-  pub StopsAmong-at_feed : {A : Type 0} (bytes : List ℕ) (i : ℕ) (held held_mid held_after : Option (List ℕ)) (p m q : Places)
-      (before count : ℕ) (line line_mid : List ℕ) (stop : Stop) (end : ScheduleEnd)
-      → i < length bytes → get_or bytes i 0 ≡ 10 → TakesBytes t (take i bytes) held held_mid p m before count line line_mid
-      → Tries {A = A} t (obey line_mid) m q held_mid held_after (Err stop) → end ≡ end_of stop (count + 1)
-      → StopsAmong t bytes held held_after p q before line end
-  StopsAmong-at_feed bytes i held held_mid held_after p m q before count line line_mid stop end within feed front tries is = record {
-    written = front.written ++ tries.written;
-    appends = Appends-trans held held_mid held_after front.written tries.written front.appends tries.appends;
-    reaches = λ taken sent start way.
-        let fronts = taken ++ take i bytes in
-        let fed = fronts ++ 10 ∷ [] in
-        let more = drop (i + 1) bytes in
-        let lines = lines_of-append fed more in
-        let read : fed ++ more ≡ taken ++ bytes =
-        ap (λ (l : List ℕ). l ++ more) (append_assoc taken (take i bytes) (10 ∷ []))
-        ∙ append_assoc taken (take i bytes ++ 10 ∷ []) more
-        ∙ ap (λ (l : List ℕ). taken ++ l) (sym (piece_at bytes i 10 within feed)) in
-        let stopped = stopped_next fronts (sent ++ front.written) start m q count line_mid tries.written stop lines.0 (fed ++ more)
-        (front.reaches taken sent start way) tries.comes (lines.1 ∙ ap (λ (l : List (List ℕ)). l ++ lines.0) (lines_fed fronts)) in
-        subst (λ (l : List ℕ). IsStopped t l start (sent ++ (front.written ++ tries.written)) q end) read
-        (subst (λ (l : List ℕ). IsStopped t (fed ++ more) start l q end) (append_assoc sent front.written tries.written)
-        (subst (IsStopped t (fed ++ more) start ((sent ++ front.written) ++ tries.written) q) (sym is) stopped));
-  }
-
-  -- ---- the end of the input
 
   stopped_ends : (stop : Stop) (number : ℕ) (read : List ℕ) (start : Places) (written : List ℕ) (last : Places)
       → IsStopped t read start written last (end_of stop number) → EndsBy t read start written last (end_of stop number)
@@ -239,45 +142,115 @@ module _ (t : Table) where
   stopped_ends WriteFault number read start written last stopped = stopped
   stopped_ends NoMemory number read start written last stopped = stopped
 
+  -- the next line stops it
+  EndsSchedule-cut : {A : Type 0} (taken : List ℕ) (held held_mid held_after : Option (List ℕ)) (start p q : Places) (n : ℕ)
+      (line : List ℕ) (stop : Stop)
+      → IsUnderWay t (lines_of taken) held held_mid start p n → IsLineAt (lines_of taken) n line
+      → Tries {A = A} t (obey line) p q held_mid held_after (Err stop)
+      → EndsSchedule t taken held held_after start q (end_of stop (n + 1))
+  EndsSchedule-cut taken held held_mid held_after start p q n line stop way at tries =
+      let before = take n (lines_of taken) in
+      let after = drop (n + 1) (lines_of taken) in
+      let within = line_within (lines_of taken) n line at in
+      let tasks : tasks_of taken ≡ map obey before ++ obey at.whole ∷ (map obey after ++ rest_tasks) =
+      ap (λ (l : List (List ℕ)). map obey l ++ rest_tasks) (split_at (lines_of taken) n at.whole at.stands)
+      ∙ ap (λ (l : List Task). l ++ rest_tasks) (map-append obey before (at.whole ∷ after))
+      ∙ append_assoc (map obey before) (obey at.whole ∷ map obey after) rest_tasks in
+      record {
+        written = way.written ++ tries.written;
+        appends = Appends-trans held held_mid held_after way.written tries.written way.appends tries.appends;
+        ends = stopped_ends stop (n + 1) taken start (way.written ++ tries.written) q (record {
+          why = stop;
+          count = n;
+          stops = record {
+            before = map obey before;
+            at = obey at.whole;
+            after = map obey after ++ rest_tasks;
+            split = tasks;
+            count_is = omega (arith, count_tasks before, length-take n (lines_of taken));
+            text = way.written;
+            part = tries.written;
+            m = p;
+            done = way.done;
+            stops = StopsFor-kept stop line at.whole p tries.written q at.front tries.comes;
+            whole = refl;
+          };
+          end_is = refl;
+        });
+      }
+
+  -- ---- the lines that were left
+
+  pub ObeysMore-none : (at : LinesRead) (held : Option (List ℕ)) (p : Places) (n : ℕ) → n ≡ at.given → ObeysMore t at at held held p p n
+  ObeysMore-none at held p n same = record { taken = refl; given = sym same; reaches = λ before start way. rw same way }
+
+  pub ObeysMore-line : {A : Type 0} (old now new : LinesRead) (held held_mid held_after : Option (List ℕ)) (p m q : Places) (n : ℕ) (a : A)
+      → ObeysMore t old now held held_mid p m n → GoesOn now new true → Tries t (obey new.line) m q held_mid held_after (Ok a)
+      → ObeysMore t old new held held_after p q (n + 1)
+  ObeysMore-line old now new held held_mid held_after p m q n a so_far (taken, given, line) tries = record {
+    taken = taken ∙ so_far.taken;
+    given = given ∙ ap (λ (k : ℕ). k + 1) so_far.given;
+    reaches = λ before start way.
+        IsUnderWay-line (whole_lines old.taken) before held_mid held_after start m q n new.line a (so_far.reaches before start way)
+        (rw (so_far.taken, so_far.given) at line) tries;
+  }
+
+  line_stop : (stop : Stop) (n : ℕ) → IsStop (end_of stop n)
+  line_stop BadLine n = tt
+  line_stop WriteFault n = tt
+  line_stop NoMemory n = tt
+
+  pub StopsAmong-line : {A : Type 0} (old now new : LinesRead) (held held_mid held_after : Option (List ℕ)) (p m q : Places) (n : ℕ)
+      (stop : Stop) (end : ScheduleEnd)
+      → ObeysMore t old now held held_mid p m n → GoesOn now new true → Tries {A = A} t (obey new.line) m q held_mid held_after (Err stop)
+      → end ≡ end_of stop (n + 1)
+      → StopsAmong t old held held_after p q end
+  StopsAmong-line old now new held held_mid held_after p m q n stop end so_far (taken, given, line) tries is =
+      let at : IsLineAt (whole_lines old.taken) n new.line = rw (so_far.taken, so_far.given) at line in
+      let more = last_line (last_part old.taken) in
+      rw is (record {
+        stop = line_stop stop (n + 1);
+        reaches = λ before start way.
+            EndsSchedule-cut old.taken before held_mid held_after start m q n new.line stop
+            (IsUnderWay-lines old.taken before held_mid start m n (so_far.reaches before start way))
+            (record { whole = at.whole; stands = slice_get-longer (whole_lines old.taken) more n at.whole at.stands; front = at.front })
+            tries;
+      })
+
+  -- ---- the end of the input, where each whole line was obeyed
+
+  -- where there was a last line without a line feed, that was obeyed too
+  abbrev pub HasObeyed : LinesRead → Option (List ℕ) → Option (List ℕ) → Places → Places → Type 0
+  HasObeyed at held held_after p q =
+      (before : Option (List ℕ)) (start : Places) → IsUnderWay t (whole_lines at.taken) before held start p at.given
+      → IsUnderWay t (lines_of at.taken) before held_after start q (length (lines_of at.taken))
+
+  pub HasObeyed-none : (at : LinesRead) (held : Option (List ℕ)) (p : Places) (line : List ℕ) → AllAreGiven at
+      → line ≡ take 4097 (last_part at.taken) → length line ≡ 0 → HasObeyed at held held p p
+  HasObeyed-none at held p line all front empty before start way =
+      let lines = lines_of-short at.taken _ refl (part_none (last_part at.taken) line front empty) in
+      let count : at.given ≡ length (lines_of at.taken) = all ∙ ap (length {A = List ℕ}) (sym lines) in
+      subst (IsUnderWay t (lines_of at.taken) before held start p) count (IsUnderWay-lines at.taken before held start p at.given way)
+
+  pub HasObeyed-last : {A : Type 0} (at : LinesRead) (held held_after : Option (List ℕ)) (p q : Places) (line : List ℕ) (a : A)
+      → AllAreGiven at → line ≡ take 4097 (last_part at.taken) → 0 < length line → Tries t (obey line) p q held held_after (Ok a)
+      → HasObeyed at held held_after p q
+  HasObeyed-last at held held_after p q line a all front some tries before start way =
+      let lines = lines_of-last at.taken line front some in
+      let count : at.given + 1 ≡ length (lines_of at.taken) =
+      omega (arith, all, ap (length {A = List ℕ}) lines, length_push (whole_lines at.taken) (last_part at.taken)) in
+      subst (IsUnderWay t (lines_of at.taken) before held_after start q) count
+      (IsUnderWay-line (lines_of at.taken) before held held_after start p q at.given line a
+      (IsUnderWay-lines at.taken before held start p at.given way) (last_line_at at at.given line all refl front some) tries)
+
   -- the last line had no line feed, and stops the schedule
-  pub TriesRest-stopped : {A B : Type 0} (held held_after : Option (List ℕ)) (p q : Places) (count : ℕ) (line : List ℕ) (stop : Stop)
-      → 0 < length line → Tries {A = A} t (obey line) p q held held_after (Err stop)
-      → TriesRest {A = B} t held held_after p q count line (Err stop)
-  TriesRest-stopped held held_after p q count line stop some tries = record {
-    written = tries.written;
-    appends = tries.appends;
-    reaches = λ taken sent start way.
-        stopped_next taken sent start p q count line tries.written stop [] taken way tries.comes
-        (lines_of-last taken line way.kept some ∙ sym (append-nil (whole_lines taken ++ last_part taken ∷ [])));
-  }
-
-  -- each line was obeyed: where there was a last one without a line feed, that too
-  pub record HasObeyed (held held_after : Option (List ℕ)) (old new : Places) (line : List ℕ) : Type 0 where
-    pub written : List ℕ
-    pub appends : Appends held held_after written
-    pub reaches : (count : ℕ) (taken sent : List ℕ) (start : Places) → IsUnderWay t taken sent start old count line
-        → DoesAll t (map obey (lines_of taken)) start (sent ++ written) new
-
-  pub HasObeyed-none : (held : Option (List ℕ)) (p : Places) (line : List ℕ) → length line ≡ 0 → HasObeyed held held p p line
-  HasObeyed-none held p line empty = record {
-    written = [];
-    appends = Appends-nil held;
-    reaches = λ count taken sent start way.
-        let lines = lines_of-short taken _ refl (part_none (last_part taken) line way.kept empty) in
-        subst (λ (l : List (List ℕ)). DoesAll t (map obey l) start (sent ++ []) p) (sym lines)
-        (subst (λ (l : List ℕ). DoesAll t (whole_tasks taken) start l p) (sym (append-nil sent)) way.done);
-  }
-
-  pub HasObeyed-last : {A : Type 0} (held held_after : Option (List ℕ)) (p q : Places) (line : List ℕ) (a : A)
-      → 0 < length line → Tries t (obey line) p q held held_after (Ok a) → HasObeyed held held_after p q line
-  HasObeyed-last held held_after p q line a some tries = record {
-    written = tries.written;
-    appends = tries.appends;
-    reaches = λ count taken sent start way.
-        let fed = under_way_fed taken sent start p q count line tries.written way tries.comes in
-        let same : whole_lines (taken ++ 10 ∷ []) ≡ lines_of taken = lines_fed taken ∙ sym (lines_of-last taken line way.kept some) in
-        subst (λ (l : List (List ℕ)). DoesAll t (map obey l) start (sent ++ tries.written) q) same fed.done;
-  }
+  pub EndsThere-stopped : {A : Type 0} (at : LinesRead) (held held_after : Option (List ℕ)) (p q : Places) (line : List ℕ) (stop : Stop)
+      → AllAreGiven at → line ≡ take 4097 (last_part at.taken) → 0 < length line
+      → Tries {A = A} t (obey line) p q held held_after (Err stop)
+      → EndsThere t at held held_after p q (end_of stop (at.given + 1))
+  EndsThere-stopped at held held_after p q line stop all front some tries before start way =
+      EndsSchedule-cut at.taken before held held_after start p q at.given line stop
+      (IsUnderWay-lines at.taken before held start p at.given way) (last_line_at at at.given line all refl front some) tries
 
   same_end : (stop : Stop) (a b : ℕ) → stop ≢ BadLine → end_of stop a ≡ end_of stop b
   same_end BadLine a b good = absurd (good refl)
@@ -287,46 +260,30 @@ module _ (t : Table) where
   -- after all lines, what was under way was run to its end, or one of these ends stops the schedule
   rest_comes : {A : Type 0} (m q : Places) (count : ℕ) (r : Result A Stop) (read sent written : List ℕ) (start : Places)
       → DoesAll t (map obey (lines_of read)) start sent m → ComesOfAll t rest_tasks m q written r → IfErr r (λ stop. stop ≢ BadLine)
-      → ComesToEnd t read start (sent ++ written) q count r
+      → EndsBy t read start (sent ++ written) q (end_by r count)
   rest_comes m q count (Ok a) read sent written start lines ends good =
       DoesAll-append t (map obey (lines_of read)) rest_tasks start m q sent written lines ends
   rest_comes m q count (Err stop) read sent written start lines (k, stops) good =
       let tasks = map obey (lines_of read) in
-      record {
+      stopped_ends stop count read start (sent ++ written) q (record {
         why = stop;
         count = length tasks + k;
         stops = StopsAt-later t stop tasks rest_tasks start m sent written k q lines stops;
-        end_is = same_end stop (count + 1) (length tasks + k + 1) good;
+        end_is = same_end stop count (length tasks + k + 1) good;
+      })
+
+  pub EndsThere-ends : {A : Type 0} (at : LinesRead) (held held_mid held_after : Option (List ℕ)) (p m q : Places) (r : Result A Stop)
+      → HasObeyed at held held_mid p m → TriesAll t rest_tasks m q held_mid held_after r → IfErr r (λ stop. stop ≢ BadLine)
+      → EndsThere t at held held_after p q (end_by r (at.given + 1))
+  EndsThere-ends at held held_mid held_after p m q r has tries good before start way =
+      let done = has before start way in
+      record {
+        written = done.written ++ tries.written;
+        appends = Appends-trans before held_mid held_after done.written tries.written done.appends tries.appends;
+        ends =
+            rest_comes m q (at.given + 1) r at.taken done.written tries.written start
+            (all_done (lines_of at.taken) before held_mid start m (length (lines_of at.taken)) refl done) tries.comes good;
       }
-
-  pub TriesRest-ends : {A : Type 0} (held held_mid held_after : Option (List ℕ)) (p m q : Places) (count : ℕ) (line : List ℕ)
-      (r : Result A Stop)
-      → HasObeyed held held_mid p m line → TriesAll t rest_tasks m q held_mid held_after r → IfErr r (λ stop. stop ≢ BadLine)
-      → TriesRest t held held_after p q count line r
-  TriesRest-ends held held_mid held_after p m q count line r has tries good = record {
-    written = has.written ++ tries.written;
-    appends = Appends-trans held held_mid held_after has.written tries.written has.appends tries.appends;
-    reaches = λ taken sent start way.
-        subst (λ (l : List ℕ). ComesToEnd t taken start l q count r) (append_assoc sent has.written tries.written)
-        (rest_comes m q count r taken (sent ++ has.written) tries.written start (has.reaches count taken sent start way) tries.comes good);
-  }
-
-  pub EndsUnderWay-ended : {A : Type 0} (held held_after : Option (List ℕ)) (p q : Places) (count : ℕ) (line : List ℕ) (a : A)
-      → TriesRest t held held_after p q count line (Ok a) → EndsUnderWay t held held_after p q count line ends.Ended
-  EndsUnderWay-ended held held_after p q count line a tries =
-      record { written = tries.written; appends = tries.appends; reaches = tries.reaches }
-
-  pub EndsUnderWay-stopped : {A : Type 0} (held held_after : Option (List ℕ)) (p q : Places) (count : ℕ) (line : List ℕ) (stop : Stop)
-      (end : ScheduleEnd)
-      → TriesRest {A = A} t held held_after p q count line (Err stop) → end ≡ end_of stop (count + 1)
-      → EndsUnderWay t held held_after p q count line end
-  EndsUnderWay-stopped held held_after p q count line stop end tries is = record {
-    written = tries.written;
-    appends = tries.appends;
-    reaches = λ taken sent start way.
-        subst (EndsBy t taken start (sent ++ tries.written) q) (sym is)
-        (stopped_ends stop (count + 1) taken start (sent ++ tries.written) q (tries.reaches taken sent start way));
-  }
 
   -- ---- what is under way at the places, one after another
 
@@ -346,7 +303,8 @@ module _ (t : Table) where
     written = has.written ++ tries.written;
     appends = Appends-trans held held_mid held_after has.written tries.written has.appends tries.appends;
     done =
-        subst (λ (l : List Task). DoesAll t l p (has.written ++ tries.written) q) (sym (map-range_with_len_more end_at 0 place place (omega arith)))
+        subst (λ (l : List Task). DoesAll t l p (has.written ++ tries.written) q)
+        (sym (map-range_with_len_more end_at 0 place place (omega arith)))
         (DoesAll-push t (map end_at (range_with_len 0 place)) (end_at place) p m q has.written tries.written has.done tries.comes);
   }
 
@@ -386,131 +344,43 @@ module _ (t : Table) where
     );
   }
 
-  -- ---- reads
+  -- ---- the whole
 
-  -- so many reads were made, each of which gave 1 to 4,096 bytes
-  pub record HasRead (reads : ℕ) (left left_after held held_after : Option (List ℕ)) (start now : Places) (count : ℕ) (line : List ℕ)
-      : Type 0 where
-    pub taken : List ℕ
-    pub sent : List ℕ
-    pub consumes : Consumes left left_after taken
-    pub appends : Appends held held_after sent
-    pub way : IsUnderWay t taken sent start now count line
-    pub at_least : reads ≤ length taken
-    pub at_most : length taken ≤ 4096 * reads
-
-  pub HasRead-none : (left held : Option (List ℕ)) (p : Places) → HasRead 0 left left held held p p 0 []
-  HasRead-none left held p = record {
-    taken = [];
-    sent = [];
-    consumes = Consumes-nil left;
-    appends = Appends-nil held;
-    way = record { done = (refl, refl); count_is = refl; kept = refl };
-    at_least = omega arith;
-    at_most = omega arith;
-  }
-
-  pub count-HasRead : (reads : ℕ) (left left_after held held_after : Option (List ℕ)) (start now : Places) (count : ℕ) (line : List ℕ)
-      → HasRead reads left left_after held held_after start now count line → count ≤ 4096 * reads
-  count-HasRead reads left left_after held held_after start now count line has =
-      let most = has.at_most in
-      let same = has.way.count_is in
-      omega (arith, length-whole_lines has.taken)
-
-  -- one read more
-  pub HasRead-more : (reads : ℕ) (left left_mid left_after held held_mid held_after : Option (List ℕ)) (start p q : Places)
-      (before count : ℕ) (line line_after bytes : List ℕ)
-      → HasRead reads left left_mid held held_mid start p before line → 0 < length bytes → length bytes ≤ 4096
-      → Consumes left_mid left_after bytes → TakesBytes t bytes held_mid held_after p q before count line line_after
-      → HasRead (reads + 1) left left_after held held_after start q count line_after
-  HasRead-more reads left left_mid left_after held held_mid held_after start p q before count line line_after bytes has some few consumes
-      takes =
-      let least = has.at_least in
+  -- the schedule that has ended so, with the bytes that its reads took
+  pub RunsFrom-ends : (reads : ℕ) (left left_after held held_after : Option (List ℕ)) (start last : Places) (taken : List ℕ)
+      (end : ScheduleEnd)
+      → HasRead reads left left_after taken → reads ≤ 1000000 → EndsSchedule t taken held held_after start last end
+      → RunsFrom left left_after held held_after t start last end
+  RunsFrom-ends reads left left_after held held_after start last taken end has bound ends =
       let most = has.at_most in
       record {
-        taken = has.taken ++ bytes;
-        sent = has.sent ++ takes.written;
-        consumes = Consumes-trans left left_mid left_after has.taken bytes has.consumes consumes;
-        appends = Appends-trans held held_mid held_after has.sent takes.written has.appends takes.appends;
-        way = takes.reaches has.taken has.sent start has.way;
-        at_least = omega (arith, length-append has.taken bytes);
-        at_most = omega (arith, length-append has.taken bytes);
-      }
-
-  -- the input ended: a read gave no bytes
-  pub RunsFrom-finish : (reads : ℕ) (left left_mid left_after held held_mid held_after : Option (List ℕ)) (start p q : Places)
-      (count : ℕ) (line piece : List ℕ) (bytes : ℕ) (end : ScheduleEnd)
-      → HasRead reads left left_mid held held_mid start p count line → Consumes left_mid left_after (take bytes piece) → bytes ≡ 0
-      → reads ≤ 1000000 → EndsUnderWay t held_mid held_after p q count line end → RunsFrom left left_after held held_after t start q end
-  RunsFrom-finish reads left left_mid left_after held held_mid held_after start p q count line piece bytes end has consumes none bound
-      finishes =
-      let most = has.at_most in
-      let no_more = subst (λ (k : ℕ). Consumes left_mid left_after (take k piece)) none consumes in
-      record {
-        read = has.taken;
-        written = has.sent ++ finishes.written;
-        consumes =
-            subst (Consumes left left_after) (append-nil has.taken)
-            (Consumes-trans left left_mid left_after has.taken [] has.consumes no_more);
-        appends = Appends-trans held held_mid held_after has.sent finishes.written has.appends finishes.appends;
-        ends = finishes.reaches has.taken has.sent start has.way;
+        read = taken;
+        written = ends.written;
+        consumes = has.consumes;
+        appends = ends.appends;
+        ends = ends.ends;
         most = omega arith;
-      }
-
-  -- a line stopped it
-  pub RunsFrom-stop : (reads : ℕ) (left left_mid left_after held held_mid held_after : Option (List ℕ)) (start p q : Places) (count : ℕ)
-      (line bytes : List ℕ) (end : ScheduleEnd)
-      → HasRead reads left left_mid held held_mid start p count line → Consumes left_mid left_after bytes → reads + 1 ≤ 1000000
-      → length bytes ≤ 4096 → StopsAmong t bytes held_mid held_after p q count line end
-      → RunsFrom left left_after held held_after t start q end
-  RunsFrom-stop reads left left_mid left_after held held_mid held_after start p q count line bytes end has consumes bound few stops =
-      let most = has.at_most in
-      let stopped = stops.reaches has.taken has.sent start has.way in
-      record {
-        read = has.taken ++ bytes;
-        written = has.sent ++ stops.written;
-        consumes = Consumes-trans left left_mid left_after has.taken bytes has.consumes consumes;
-        appends = Appends-trans held held_mid held_after has.sent stops.written has.appends stops.appends;
-        ends =
-            subst (EndsBy t (has.taken ++ bytes) start (has.sent ++ stops.written) q) (sym stopped.end_is)
-            (stopped_ends stopped.why (stopped.count + 1) (has.taken ++ bytes) start (has.sent ++ stops.written) q
-            (subst (IsStopped t (has.taken ++ bytes) start (has.sent ++ stops.written) q) stopped.end_is stopped));
-        most = omega (arith, length-append has.taken bytes);
       }
 
   -- a read failed
-  pub RunsFrom-fault : (reads : ℕ) (left left_mid left_after held held_after : Option (List ℕ)) (start now : Places) (count : ℕ)
-      (line : List ℕ)
-      → HasRead reads left left_mid held held_after start now count line → Keeps left_mid left_after → reads ≤ 1000000
-      → RunsFrom left left_after held held_after t start now ends.ReadFault
-  RunsFrom-fault reads left left_mid left_after held held_after start now count line has keeps bound =
-      let most = has.at_most in
-      record {
-        read = has.taken;
-        written = has.sent;
-        consumes = Consumes-kept left left_mid left_after has.taken has.consumes keeps;
-        appends = has.appends;
-        ends = has.way.done;
-        most = omega arith;
-      }
+  pub EndsSchedule-fault : (taken : List ℕ) (held held_after : Option (List ℕ)) (start now : Places) (n : ℕ)
+      → n ≡ length (whole_lines taken) → IsUnderWay t (whole_lines taken) held held_after start now n
+      → EndsSchedule t taken held held_after start now ends.ReadFault
+  EndsSchedule-fault taken held held_after start now n all way = record {
+    written = way.written;
+    appends = way.appends;
+    ends = all_done (whole_lines taken) held held_after start now n all way;
+  }
 
   -- the reads are used up
-  pub RunsFrom-used : (reads : ℕ) (left left_after held held_after : Option (List ℕ)) (start now : Places) (count : ℕ) (line : List ℕ)
-      → HasRead reads left left_after held held_after start now count line → 1000000 ≤ reads → reads ≤ 1000000
-      → RunsFrom left left_after held held_after t start now ends.ReadsUsed
-  RunsFrom-used reads left left_after held held_after start now count line has used bound =
-      let least = has.at_least in
-      let most = has.at_most in
-      record {
-        read = has.taken;
-        written = has.sent;
-        consumes = has.consumes;
-        appends = has.appends;
-        ends = (has.way.done, omega arith);
-        most = omega arith;
-      }
-
-  -- ---- the whole
+  pub EndsSchedule-used : (taken : List ℕ) (held held_after : Option (List ℕ)) (start now : Places) (n : ℕ)
+      → n ≡ length (whole_lines taken) → IsUnderWay t (whole_lines taken) held held_after start now n → 1000000 ≤ length taken
+      → EndsSchedule t taken held held_after start now ends.ReadsUsed
+  EndsSchedule-used taken held held_after start now n all way used = record {
+    written = way.written;
+    appends = way.appends;
+    ends = (all_done (whole_lines taken) held held_after start now n all way, used);
+  }
 
   pub RunsSchedule-from : (left left_after held held_after : Option (List ℕ)) (passes back : List Pass) (start last : Places)
       (end : ScheduleEnd)
@@ -525,6 +395,7 @@ module _ (t : Table) where
   )
 
   -- there was no memory for the places
-  pub RunsSchedule-none : (left held : Option (List ℕ)) (passes : List Pass) → RunsSchedule left left held held t passes passes ends.NoMemory
+  pub RunsSchedule-none : (left held : Option (List ℕ)) (passes : List Pass)
+      → RunsSchedule left left held held t passes passes ends.NoMemory
   RunsSchedule-none left held passes =
       ([], [], Consumes-nil left, Appends-nil held, inr (record { unread = refl; unwritten = refl; stay = refl; end_is = refl }))

@@ -7,3 +7,4 @@ pub mod Tells
 pub mod Orders
 pub mod Tasks
 pub mod Ways
+pub mod Points

@@ -1,14 +1,16 @@
 -- The steps of a schedule, for its own functions.
-use Rattle.std.specs.Prelude.{◌≡◌, ℕ, ◌+◌, ◌*◌, ◌≤◌, true, false, List, [], ◌++◌, length, take, Option, Result, Ok, Err}
+use Rattle.std.specs.Prelude.{◌≡◌, ℕ, ◌*◌, ◌≤◌, true, false, List, [], length, map, take, Option, Result, Ok, Err}
 use Rattle.std.specs.Io.KnownBytes.{Appends, Consumes}
 use Rattle.art_schedule.specs.Desks.{Places}
 use Rattle.art_schedule.specs.Lines.{Said}
-use Rattle.art_schedule.specs.Schedules.{EndsBy, IsStopped, end_of, tasks_of, whole_tasks}
-use Rattle.art_schedule.specs.Tasks.{AdvancesAt, CanDo, Does, DoesAll, IsCut, ObeysAt, StopsAt, StopsFor, Task}
+use Rattle.art_schedule.specs.Schedules.{EndsBy, IsStop, end_of}
+use Rattle.art_schedule.specs.Tasks.{AdvancesAt, CanDo, Does, DoesAll, IsCut, ObeysAt, StopsAt, StopsFor, Task, obey}
 use Rattle.art_schedule.specs.declared.stops.ScheduleEnd.{ScheduleEnd}
+use Rattle.art_schedule.specs.declared.stops.ScheduleEnd.TheVariants.{Ended}
 use Rattle.art_schedule.specs.declared.stops.Stop.{Stop}
 use Rattle.art_schedule.specs.declared.stops.Stop.TheVariants.{BadLine, WriteFault, NoMemory}
-use Rattle.art_server.specs.Streams.{last_part, whole_lines}
+use Rattle.art_server.specs.Lines.{AllAreGiven, LinesRead}
+use Rattle.art_server.specs.Streams.{whole_lines}
 use Rattle.art_server.specs.ArtTable.declared.tables.Table.{Table}
 
 -- ---- one order, one task, some tasks
@@ -54,55 +56,48 @@ pub record TriesAll {A : Type 0} (t : Table) (tasks : List Task) (old new : Plac
 
 -- ---- a schedule under way
 
--- Bytes were taken, and the whole lines in them obeyed. The front of the last part is kept, as much as matters.
-pub record IsUnderWay (t : Table) (taken sent : List ℕ) (start now : Places) (count : ℕ) (line : List ℕ) : Type 0 where
-  pub done : DoesAll t (whole_tasks taken) start sent now
-  pub count_is : count ≡ length (whole_lines taken)
-  pub kept : line ≡ take 4097 (last_part taken)
-
--- a schedule under way took the bytes and is under way
-pub record TakesBytes (t : Table) (bytes : List ℕ) (held held_after : Option (List ℕ)) (old new : Places) (before count : ℕ)
-    (line line_after : List ℕ) : Type 0 where
+-- lines from the front were obeyed, and what they print was written
+pub record IsUnderWay (t : Table) (lines : List (List ℕ)) (held held_after : Option (List ℕ)) (start now : Places) (count : ℕ)
+    : Type 0 where
+  pub within : count ≤ length lines
   pub written : List ℕ
   pub appends : Appends held held_after written
-  pub reaches : (taken sent : List ℕ) (start : Places) → IsUnderWay t taken sent start old before line
-      → IsUnderWay t (taken ++ bytes) (sent ++ written) start new count line_after
+  pub done : DoesAll t (map obey (take count lines)) start written now
 
--- a schedule under way was stopped at one of the lines that the bytes end
-pub record StopsAmong (t : Table) (bytes : List ℕ) (held held_after : Option (List ℕ)) (old new : Places) (before : ℕ) (line : List ℕ)
-    (end : ScheduleEnd) : Type 0 where
+-- a schedule that took these bytes has ended so
+pub record EndsSchedule (t : Table) (taken : List ℕ) (held held_after : Option (List ℕ)) (start last : Places) (end : ScheduleEnd)
+    : Type 0 where
   pub written : List ℕ
   pub appends : Appends held held_after written
-  pub reaches : (taken sent : List ℕ) (start : Places) → IsUnderWay t taken sent start old before line
-      → IsStopped t (taken ++ bytes) start (sent ++ written) new end
+  pub ends : EndsBy t taken start written last end
 
--- the bytes were taken, or a line among them stopped the schedule
-abbrev pub ObeysBytes : Table → List ℕ → Option (List ℕ) → Option (List ℕ) → Places → Places → ℕ → List ℕ → List ℕ
-    → Result ℕ ScheduleEnd → Type 0
-ObeysBytes t bytes held held_after old new before line line_after (Ok count) =
-    TakesBytes t bytes held held_after old new before count line line_after
-ObeysBytes t bytes held held_after old new before line line_after (Err end) = StopsAmong t bytes held held_after old new before line end
+-- a schedule under way, of which each line that was given is obeyed, went on with lines that were left
+pub record ObeysMore (t : Table) (old new : LinesRead) (before after : Option (List ℕ)) (p q : Places) (count : ℕ) : Type 0 where
+  pub taken : new.taken ≡ old.taken
+  pub given : new.given ≡ count
+  pub reaches : (held : Option (List ℕ)) (start : Places) → IsUnderWay t (whole_lines old.taken) held before start p old.given
+      → IsUnderWay t (whole_lines old.taken) held after start q count
 
--- all tasks of an input that ended were done, or one of them stopped the schedule; so many lines were whole
-abbrev pub ComesToEnd : {A : Type 0} → Table → List ℕ → Places → List ℕ → Places → ℕ → Result A Stop → Type 0
-ComesToEnd t read start written last count (Ok _) = DoesAll t (tasks_of read) start written last
-ComesToEnd t read start written last count (Err stop) = IsStopped t read start written last (end_of stop (count + 1))
+-- it was brought to its end
+abbrev pub EndsThere : Table → LinesRead → Option (List ℕ) → Option (List ℕ) → Places → Places → ScheduleEnd → Type 0
+EndsThere t at before after p q end =
+    (held : Option (List ℕ)) (start : Places) → IsUnderWay t (whole_lines at.taken) held before start p at.given
+    → EndsSchedule t at.taken held after start q end
 
--- the input of a schedule under way ended: its last line, and what was under way then
-pub record TriesRest {A : Type 0} (t : Table) (held held_after : Option (List ℕ)) (old new : Places) (before : ℕ) (line : List ℕ)
-    (result : Result A Stop) : Type 0 where
-  pub written : List ℕ
-  pub appends : Appends held held_after written
-  pub reaches : (taken sent : List ℕ) (start : Places) → IsUnderWay t taken sent start old before line
-      → ComesToEnd t taken start (sent ++ written) new before result
+-- one of the lines that were left stopped it
+pub record StopsAmong (t : Table) (at : LinesRead) (before after : Option (List ℕ)) (p q : Places) (end : ScheduleEnd) : Type 0 where
+  pub stop : IsStop end
+  pub reaches : EndsThere t at before after p q end
 
--- a schedule under way was brought to its end
-pub record EndsUnderWay (t : Table) (held held_after : Option (List ℕ)) (old new : Places) (before : ℕ) (line : List ℕ)
-    (end : ScheduleEnd) : Type 0 where
-  pub written : List ℕ
-  pub appends : Appends held held_after written
-  pub reaches : (taken sent : List ℕ) (start : Places) → IsUnderWay t taken sent start old before line
-      → EndsBy t taken start (sent ++ written) new end
+-- each line that was left was obeyed, or one of them stopped it
+abbrev pub ObeysLeft : Table → LinesRead → LinesRead → Option (List ℕ) → Option (List ℕ) → Places → Places → Result ℕ ScheduleEnd → Type 0
+ObeysLeft t old new before after p q (Ok count) = ObeysMore t old new before after p q count × AllAreGiven new
+ObeysLeft t old new before after p q (Err end) = StopsAmong t old before after p q end
+
+-- the end of a schedule whose input ended, where the line under way or what was under way then may have stopped it
+abbrev pub end_by : {A : Type 0} → Result A Stop → ℕ → ScheduleEnd
+end_by (Ok _) number = Ended
+end_by (Err stop) number = end_of stop number
 
 -- a schedule from these places, with the reader and the writer, and the places as it left them
 pub record RunsFrom (left left_after held held_after : Option (List ℕ)) (t : Table) (start last : Places) (end : ScheduleEnd)

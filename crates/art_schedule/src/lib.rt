@@ -38,9 +38,12 @@
 //! none of these, a start where a command is under way, and another line where none is, end the schedule at once (`ScheduleEnd`). Then,
 //! and after a read or a write that failed, what is under way is run to its end too, and nothing more is printed. Each pass comes back
 //! idle, at its place.
+//!
+//! Once the table is closed with them, the replies are those of one sorted map at points of one history (`schedules_are_one_map`).
 #![tactic(auto)]
 
 mod desks;
+mod laws;
 mod lines;
 mod orders;
 mod schedules;
@@ -49,6 +52,7 @@ mod steps;
 mod stops;
 mod tells;
 
+pub use laws::schedules_are_one_map;
 pub use lines::{Line, Mark, Order, parse};
 pub use schedules::run_schedule;
 pub use stops::ScheduleEnd;

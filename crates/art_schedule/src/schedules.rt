@@ -1,14 +1,15 @@
 //! From the lines of a reader to what they print.
-ghost use Rattle.std.specs.Prelude.{◌≡◌, ◌≢◌, ℕ, ◌+◌, ◌<◌, ◌≤◌, ◌^◌, [], ◌∷◌, ◌++◌, List, IfErr, IfOk, length, take};
+ghost use Rattle.std.specs.Prelude.{◌≡◌, ◌≢◌, ◌+◌, ◌<◌, ◌^◌, List, IfErr, length};
 ghost use Rattle.std.specs.Io.KnownBytes.{IsAtEnd};
 ghost use Rattle.art_server.specs.Counted.{reader_of, reads_of};
+ghost use Rattle.art_server.specs.Lines.{AllAreGiven};
 ghost use Rattle.art_server.specs.Reads.{AddsReads, MakesReads};
 ghost use Rattle.art_server.specs.declared.sessions.EndCause.TheVariants as cause;
 ghost use Rattle.art_schedule.specs.Desks.{IsDesk, places_of};
 ghost use Rattle.art_schedule.specs.Lines.{HasTimes, said_by};
-ghost use Rattle.art_schedule.specs.Schedules.{ArePassesOf, ComeBack, EndsAtInput, IsStop, RunsSchedule, rest_tasks};
+ghost use Rattle.art_schedule.specs.Schedules.{ArePassesOf, ComeBack, EndsAtInput, RunsSchedule, rest_tasks};
 ghost use Rattle.art_schedule.specs.Tasks.{end_at, obey as obey_task};
-ghost use Rattle.art_schedule.specs.Ways.{EndsUnderWay, ObeysBytes, RunsFrom, Tries, TriesAll, TriesAt, TriesRest};
+ghost use Rattle.art_schedule.specs.Ways.{EndsThere, ObeysLeft, RunsFrom, Tries, TriesAll, TriesAt, end_by};
 ghost use Rattle.art_server.specs.ArtTable.declared.passes.Pass.{Pass as PassOf};
 
 use crate::desks::{Desk, close, open};
@@ -16,10 +17,9 @@ use crate::orders::follow;
 use crate::stops::{ScheduleEnd, Stop};
 use crate::tells::tell;
 use crate::{Order, parse};
-use arrayvec::ArrayVec;
 use art_lines::LINE_BYTES;
-use art_server::Counted;
 use art_server::art_table::{Pass, Table};
+use art_server::{Counted, Lines};
 use std::alloc::Global;
 use std::io::{Read, Write};
 
@@ -74,19 +74,15 @@ fn run_reads<R: Read, W: Write>(
     ensures used { result ≡ ScheduleEnd.ReadsUsed → MakesReads (reads_of reader.old) (reads_of reader.new) cause.ReadsUsed }
     ensures failed { result ≡ ScheduleEnd.ReadFault → MakesReads (reads_of reader.old) (reads_of reader.new) cause.ReadFault }
 {
-    let mut piece = [0u8; 4096];
-    let mut line = ArrayVec::new();
+    let mut lines = Lines::new();
     let mut count = 0;
     'reads: for _ in 0..READS {
-        match reader.read(&mut piece) {
-            Ok(0) => return finish(alloc, table, desk, line.as_slice(), writer, count),
-            Ok(length) => {
-                let bytes = &piece[..length];
-                match obey_bytes(alloc, table, desk, &mut line, bytes, writer, count) {
-                    Ok(more) => count = more,
-                    Err(end) => return end,
-                }
-            }
+        match lines.read(reader) {
+            Ok(true) => match obey_lines(alloc, table, desk, &mut lines, writer, count) {
+                Ok(more) => count = more,
+                Err(end) => return end,
+            },
+            Ok(false) => return finish(alloc, table, desk, &lines, writer, count),
             Err(_) => return ScheduleEnd::ReadFault,
         }
     }
@@ -98,18 +94,19 @@ fn finish<W: Write>(
     alloc: Global,
     table: &Table,
     desk: &mut Desk,
-    line: &[u8],
+    lines: &Lines,
     writer: &mut W,
     count: u64,
 ) -> ScheduleEnd
     requires desk { (ps : List PassOf) × IsDesk table.now ps desk.old }
+    requires given { AllAreGiven lines.now }
+    requires count { count ≡ lines.now.given }
     requires room { count + 1 < 2 ^ 64 }
     ensures keeps { (ps : List PassOf) → IsDesk table.now ps desk.old → IsDesk table.now ps desk.new }
-    ensures finishes { EndsUnderWay table.now (W.contents writer.old) (W.contents writer.new) (places_of desk.old) (places_of desk.new)
-        count line.now result }
-    ensures end { EndsAtInput result }
+    ensures finishes { EndsThere table.now lines.now (W.contents writer.old) (W.contents writer.new)
+        (places_of desk.old) (places_of desk.new) result × EndsAtInput result }
 {
-    match obey_rest(alloc, table, desk, line, writer) {
+    match obey_rest(alloc, table, desk, lines, writer) {
         Ok(()) => ScheduleEnd::Ended,
         Err(stop) => stop.at(count + 1),
     }
@@ -120,14 +117,16 @@ fn obey_rest<W: Write>(
     alloc: Global,
     table: &Table,
     desk: &mut Desk,
-    line: &[u8],
+    lines: &Lines,
     writer: &mut W,
 ) -> Result<(), Stop>
-    requires { (ps : List PassOf) × IsDesk table.now ps desk.old }
+    requires desk { (ps : List PassOf) × IsDesk table.now ps desk.old }
+    requires given { AllAreGiven lines.now }
     ensures keeps { (ps : List PassOf) → IsDesk table.now ps desk.old → IsDesk table.now ps desk.new }
-    ensures rest { (count : ℕ) → TriesRest table.now (W.contents writer.old) (W.contents writer.new)
-        (places_of desk.old) (places_of desk.new) count line.now result }
+    ensures rest { EndsThere table.now lines.now (W.contents writer.old) (W.contents writer.new)
+        (places_of desk.old) (places_of desk.new) (end_by result (lines.now.given + 1)) }
 {
+    let line = lines.rest();
     if !line.is_empty() {
         obey_line(alloc, table, desk, line, writer)?;
     }
@@ -174,47 +173,30 @@ fn end_place<W: Write>(
     obey(alloc, table, desk, place, Order::End, writer)
 }
 
-/// Each line that ends in the bytes is obeyed, and what stands after the last line feed is kept: how many lines these are, with those
-/// before them.
-fn obey_bytes<W: Write>(
+/// Each line that ends in what was read is obeyed: how many lines these are, with those before them.
+fn obey_lines<W: Write>(
     alloc: Global,
     table: &Table,
     desk: &mut Desk,
-    line: &mut ArrayVec<u8, 4097>,
-    bytes: &[u8],
+    lines: &mut Lines,
     writer: &mut W,
     before: u64,
 ) -> Result<u64, ScheduleEnd>
     requires desk { (ps : List PassOf) × IsDesk table.now ps desk.old }
-    requires room { before + length bytes.now < 2 ^ 64 }
+    requires count { before ≡ lines.old.given }
+    requires room { length lines.old.taken < 2 ^ 64 }
     ensures keeps { (ps : List PassOf) → IsDesk table.now ps desk.old → IsDesk table.now ps desk.new }
-    ensures obeys { ObeysBytes table.now bytes.now (W.contents writer.old) (W.contents writer.new) (places_of desk.old) (places_of desk.new)
-        before line.old.items line.new.items result }
-    ensures count { IfOk result (λ count. count ≤ before + length bytes.now) }
-    ensures stop { IfErr result IsStop }
+    ensures obeys { ObeysLeft table.now lines.old lines.new (W.contents writer.old) (W.contents writer.new)
+        (places_of desk.old) (places_of desk.new) result }
 {
     let mut count = before;
-    'bytes: for byte in bytes {
-        if *byte == b'\n' {
-            count += 1;
-            match obey_line(alloc, table, desk, line.as_slice(), writer) {
-                Ok(()) => line.clear(),
-                Err(stop) => return Err(stop.at(count)),
-            }
-        } else {
-            keep(line, *byte);
+    'lines: while lines.advance() {
+        count += 1;
+        if let Err(stop) = obey_line(alloc, table, desk, lines.line(), writer) {
+            return Err(stop.at(count));
         }
     }
     Ok(count)
-}
-
-/// A byte past the 4,097th is dropped: the line is too long with it or without it.
-fn keep(line: &mut ArrayVec<u8, 4097>, byte: u8)
-    ensures { line.new.items ≡ take 4097 (line.old.items ++ byte ∷ []) }
-{
-    if !line.is_full() {
-        line.push(byte);
-    }
 }
 
 /// The pass that the line names does what the line says, and what is told of it is printed.

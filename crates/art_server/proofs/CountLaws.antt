@@ -55,11 +55,9 @@ until_input NoMemory at made last = inr last
 until_input ReadsUsed at made last = absurd at
 
 -- a read found the end of the input
-pub MakesReads-finish : (count : ℕ) (old mid new : List (Option ℕ)) (bytes : ℕ) (why : EndCause) → HasCounted count old mid
-    → new ≡ mid ++ Some bytes ∷ [] → bytes ≡ 0
+pub MakesReads-finish : (count : ℕ) (old mid new : List (Option ℕ)) (why : EndCause) → HasCounted count old mid → new ≡ mid ++ Some 0 ∷ []
     → count + 1 ≤ 1000000 → EndsAtInput why → MakesReads old new why
-MakesReads-finish count old mid new bytes why has after none bound at =
-    last_read count old mid new (Some 0) why has (after ∙ ap (λ (n : ℕ). mid ++ Some n ∷ []) none) bound (until_input why at)
+MakesReads-finish count old mid new why has after bound at = last_read count old mid new (Some 0) why has after bound (until_input why at)
 
 -- a read failed
 pub MakesReads-fault : (count : ℕ) (old mid new : List (Option ℕ)) → HasCounted count old mid → new ≡ mid ++ None ∷ [] → count + 1 ≤ 1000000
@@ -74,16 +72,13 @@ until_stop NoMemory pending stops made all = inl all
 until_stop ReadsUsed pending stops made all = absurd stops
 
 -- a line stopped it after a read
-pub MakesReads-stop : (count : ℕ) (old mid new : List (Option ℕ)) (bytes : ℕ) (why : EndCause) (pending : Bool) → HasCounted count old mid
-    → new ≡ mid ++ Some bytes ∷ []
-    → 0 < bytes → bytes ≤ 4096 → count + 1 ≤ 1000000 → StopsBy why pending → MakesReads old new why
-MakesReads-stop count old mid new bytes why pending has after some few bound stops =
-    let more = HasCounted-more count old mid new bytes has after some few in
-    let same = more.count_is in
+pub MakesReads-stop : (count : ℕ) (old new : List (Option ℕ)) (why : EndCause) (pending : Bool) → HasCounted count old new
+    → count ≤ 1000000 → StopsBy why pending → MakesReads old new why
+MakesReads-stop count old new why pending has bound stops =
+    let same = has.count_is in
     record {
-      adds = record { made = more.made; account = more.account; most = omega arith };
-      until = until_stop why pending stops more.made
-          more.bytes;
+      adds = record { made = has.made; account = has.account; most = omega arith };
+      until = until_stop why pending stops has.made has.bytes;
     }
 
 -- the reads are used up

@@ -5,6 +5,8 @@ pub mod TextLaws
 pub mod Printable
 pub mod EndingLaws
 pub mod StreamLaws
+pub mod GivenLines
+pub mod HeldLines
 pub mod SessionLaws
 pub mod StepLaws
 pub mod ReadLaws

@@ -1,6 +1,8 @@
 -- How the replies and their texts go on with one line more, and what stands at a session's end.
-use Rattle.std.proofs.Common.{◌≡◌, ℕ, ◌+◌, Bool, true, false, List, [], ◌∷◌, ◌++◌, length, take, drop, take-append-drop, Result, Ok, Err, refl, sym, subst, ap, ◌∙◌, arith, append_assoc, append-nil, length-append, add-zero}
-use Rattle.std.proofs.lemmas.List.{take_at, take_all, length_push}
+use Rattle.std.proofs.Common.{◌≡◌, ℕ, ◌+◌, ◌<◌, ◌≤◌, Bool, true, false, List, [], ◌∷◌, ◌++◌, length, take, drop, take-append-drop, Result, Ok, Err, Some, refl, sym, subst, ap, ◌∙◌, arith, append_assoc, append-nil, add-zero}
+use Rattle.std.specs.List.{slice_get}
+use Rattle.std.proofs.lemmas.List.{length-take, take_at, take_all}
+use Rattle.std.proofs.lemmas.Option.{slice_get_within}
 use Rattle.std.proofs.lemmas.List.Concat.{flat_map-append}
 use Rattle.art_model.specs.declared.commands.Command.{Command}
 use Rattle.art_model.specs.declared.commands.Reply.{Reply}
@@ -16,6 +18,7 @@ use Rattle.art_server.specs.Replies.{text_of_reply}
 use Rattle.art_server.specs.Sessions.{AnswersCommand, AnswersSaid, AnswersLine, AnswersLines, texts, AnswersFront}
 use Rattle.art_server.specs.Steps.{IsCutShort}
 use Rattle.art_lines.proofs.LineLaws.{line_says-take}
+use Rattle.art_server.proofs.GivenLines.{take_next}
 
 -- a reply more is its text more
 pub texts-push : (replies : List (Result Reply Refusal)) (reply : Result Reply Refusal)
@@ -45,13 +48,6 @@ module _ (t : Table) where
   unfolding AnswersLine
   AnswersLine-take line p reply q answers =
       subst (λ (r : Result Command LineFault). AnswersSaid t r p reply q) (line_says-take line) answers
-
-  -- and the other way round
-  pub AnswersLine-front : (line : List ℕ) (p : Pass) (reply : Result Reply Refusal) (q : Pass) → AnswersLine t line p reply q
-      → AnswersLine t (take 4097 line) p reply q
-  unfolding AnswersLine
-  AnswersLine-front line p reply q answers =
-      subst (λ (r : Result Command LineFault). AnswersSaid t r p reply q) (sym (line_says-take line)) answers
 
   -- ---- one line more
 
@@ -86,55 +82,50 @@ module _ (t : Table) where
   -- ---- the end
 
   -- lines from the front are answered, and none is begun beyond them
-  pub AnswersFront-whole : (lines extra all : List (List ℕ)) (written : List ℕ) (p q : Pass) (why : EndCause) (n : ℕ)
-      (replies : List (Result Reply Refusal))
-      → all ≡ lines ++ extra → n ≡ length lines → AnswersLines t lines p replies q → written ≡ texts replies
+  pub AnswersFront-whole : (all : List (List ℕ)) (written : List ℕ) (p q : Pass) (why : EndCause) (n : ℕ)
+      (replies : List (Result Reply Refusal)) → n ≤ length all → AnswersLines t (take n all) p replies q → written ≡ texts replies
       → AnswersFront t all written p q (record { why = why; answered = n; pending = false })
-  AnswersFront-whole lines extra all written p q why n replies split count answers sent =
-      let front : take n all ≡ lines = ap (take n) split ∙ take_at lines extra n (sym count) in
-      let same : take (n + 0) all ≡ lines = ap (λ (k : ℕ). take k all) (add-zero n) ∙ front in
-      let many : length replies ≡ length lines = length-AnswersLines lines p replies q answers in
-      let text : written ≡ texts (take n replies) = sent ∙ ap texts (sym (take_all n replies (omega arith))) in
+  AnswersFront-whole all written p q why n replies within answers sent =
+      let many : length replies ≡ length (take n all) = length-AnswersLines (take n all) p replies q answers in
+      let text : written ≡ texts (take n replies) = sent ∙ ap texts (sym (take_all n replies (omega (arith, length-take n all)))) in
       record {
-        within = omega (arith, ap (length {A = List ℕ}) split, length-append lines extra);
+        within = omega arith;
         replies = replies;
-        answers = subst (λ (l : List (List ℕ)). AnswersLines t l p replies q) (sym same) answers;
+        answers = subst (λ (k : ℕ). AnswersLines t (take k all) p replies q) (sym (add-zero n)) answers;
         answered = ([], text ∙ sym (append-nil (texts (take n replies))));
         begins = ([], append-nil written ∙ sent);
         whole = λ _. text;
       }
 
   -- lines from the front are answered, and the next one stopped the session
-  pub AnswersFront-cut : (lines : List (List ℕ)) (line : List ℕ) (extra all : List (List ℕ)) (sent written : List ℕ) (p m q : Pass)
-      (why : EndCause) (pending : Bool) (n : ℕ) (replies : List (Result Reply Refusal))
-      → all ≡ (lines ++ line ∷ []) ++ extra → n ≡ length lines → AnswersLines t lines p replies m → sent ≡ texts replies
+  pub AnswersFront-cut : (all : List (List ℕ)) (line sent written : List ℕ) (p m q : Pass) (why : EndCause) (pending : Bool) (n : ℕ)
+      (replies : List (Result Reply Refusal))
+      → slice_get all n ≡ Some line → AnswersLines t (take n all) p replies m → sent ≡ texts replies
       → IsCutShort t line written m q (record { why = why; pending = pending })
       → AnswersFront t all (sent ++ written) p q (record { why = why; answered = n; pending = pending })
-  AnswersFront-cut lines line extra all sent written p m q why false n replies split count answers before cut =
+  AnswersFront-cut all line sent written p m q why false n replies stands answers before cut =
       let (none, same) = cut.begins in
-      AnswersFront-whole lines (line ∷ extra) all (sent ++ written) p q why n replies (split ∙ append_assoc lines (line ∷ []) extra) count
-      (subst (λ (x : Pass). AnswersLines t lines p replies x) (sym same) answers)
+      let within : n < length all = slice_get_within all n line stands in
+      AnswersFront-whole all (sent ++ written) p q why n replies (omega arith)
+      (subst (λ (x : Pass). AnswersLines t (take n all) p replies x) (sym same) answers)
       (ap (λ (w : List ℕ). sent ++ w) none ∙ append-nil sent ∙ before)
-  AnswersFront-cut lines line extra all sent written p m q why true n replies split count answers before cut =
-      let more = lines ++ line ∷ [] in
+  AnswersFront-cut all line sent written p m q why true n replies stands answers before cut =
       let last = cut.begins in
       let reply = last.reply in
       let told = replies ++ reply ∷ [] in
-      let long : length more ≡ n + 1 = length_push lines line ∙ ap (λ (k : ℕ). k + 1) (sym count) in
-      let next : take (n + 1) all ≡ more = ap (take (n + 1)) split ∙ take_at more extra (n + 1) long in
-      let many : length replies ≡ n = length-AnswersLines lines p replies m answers ∙ sym count in
+      let within : n < length all = slice_get_within all n line stands in
+      let many : length replies ≡ n = omega (arith, length-AnswersLines (take n all) p replies m answers, length-take n all) in
       let text : sent ≡ texts (take n told) = before ∙ ap texts (sym (take_at replies (reply ∷ []) n many)) in
-      let rest = last.front.0 in
       record {
-        within = omega (arith, ap (length {A = List ℕ}) split, length-append more extra);
+        within = omega arith;
         replies = told;
         answers =
-            subst (λ (l : List (List ℕ)). AnswersLines t l p told q) (sym next)
-            (AnswersLines-push lines line p m q replies reply answers last.answers);
+            subst (λ (l : List (List ℕ)). AnswersLines t l p told q) (sym (take_next all n line stands))
+            (AnswersLines-push (take n all) line p m q replies reply answers last.answers);
         answered = (written, ap (λ (w : List ℕ). w ++ written) text);
         begins = (
-          rest,
-          append_assoc sent written rest
+          last.front.0,
+          append_assoc sent written last.front.0
               ∙ ap (λ (w : List ℕ). sent ++ w) last.front.1
               ∙ ap (λ (w : List ℕ). w ++ text_of_reply reply) before
               ∙ sym (texts-push replies reply),
@@ -143,19 +134,17 @@ module _ (t : Table) where
       }
 
   -- lines from the front are answered, and the last reply counts as cut at its end
-  pub AnswersFront-last : (lines extra all : List (List ℕ)) (written : List ℕ) (p q : Pass) (n : ℕ) (replies : List (Result Reply Refusal))
-      → all ≡ lines ++ extra → n + 1 ≡ length lines → AnswersLines t lines p replies q → written ≡ texts replies
+  pub AnswersFront-last : (all : List (List ℕ)) (written : List ℕ) (p q : Pass) (n : ℕ) (replies : List (Result Reply Refusal))
+      → n + 1 ≤ length all → AnswersLines t (take (n + 1) all) p replies q → written ≡ texts replies
       → AnswersFront t all written p q (record { why = WriteFault; answered = n; pending = true })
-  AnswersFront-last lines extra all written p q n replies split count answers sent =
-      let front : take (n + 1) all ≡ lines = ap (take (n + 1)) split ∙ take_at lines extra (n + 1) (sym count) in
-      record {
-        within = omega (arith, ap (length {A = List ℕ}) split, length-append lines extra);
-        replies = replies;
-        answers = subst (λ (l : List (List ℕ)). AnswersLines t l p replies q) (sym front) answers;
-        answered = (
-          texts (drop n replies),
-          sent ∙ ap texts (sym (take-append-drop n replies)) ∙ flat_map-append text_of_reply (take n replies) (drop n replies),
-        );
-        begins = ([], append-nil written ∙ sent);
-        whole = λ other. absurd (other refl);
-      }
+  AnswersFront-last all written p q n replies within answers sent = record {
+    within = within;
+    replies = replies;
+    answers = answers;
+    answered = (
+      texts (drop n replies),
+      sent ∙ ap texts (sym (take-append-drop n replies)) ∙ flat_map-append text_of_reply (take n replies) (drop n replies),
+    );
+    begins = ([], append-nil written ∙ sent);
+    whole = λ other. absurd (other refl);
+  }

@@ -1,5 +1,5 @@
 -- How the lines of bytes grow, and what their last part is.
-use Rattle.std.proofs.Common.{◌≡◌, ◌≢◌, ℕ, ◌==◌, ◌≤◌, ◌+◌, ◌-◌, ◌<◌, Bool, true, false, List, [], ◌∷◌, ◌++◌, length, get_or, take, drop, take-append-drop, All, refl, sym, ap, ◌∙◌, arith, append_assoc, append-nil, length-take, inl, inr}
+use Rattle.std.proofs.Common.{◌≡◌, ◌≢◌, ℕ, ◌==◌, ◌≤◌, ◌+◌, ◌-◌, ◌<◌, Bool, true, false, List, [], ◌∷◌, ◌++◌, length, get_or, take, All, refl, sym, ap, ◌∙◌, arith, append_assoc, append-nil, length-take, inl, inr}
 use Rattle.std.specs.List.{flat_map}
 use Rattle.std.proofs.lemmas.Bool.{cases_lt, ne_eqb, eqb-true}
 use Rattle.std.proofs.lemmas.List.{take-append-le, take-take, take_all, take_more, nil_from_length, get_or-take, get_or_default}
@@ -182,10 +182,8 @@ no_feed-before bytes end first = λ k d within feed.
     first.before k (omega arith) below
     (ap (λ (b : ℕ). b == 10) (get_or_default bytes k 0 d (omega arith) ∙ sym (get_or-take end bytes k d below) ∙ feed))
 
--- a piece at its line feed
-pub piece_at : (bytes : List ℕ) (end : ℕ) → end < length bytes → Passes (is_byte 10) bytes end
-    → bytes ≡ (take end bytes ++ 10 ∷ []) ++ drop (end + 1) bytes
-piece_at bytes end within passes =
-    sym (take-append-drop (end + 1) bytes)
-    ∙ ap (λ (t : List ℕ). t ++ drop (end + 1) bytes)
-    (take_more bytes end 0 within ∙ ap (λ (x : ℕ). take end bytes ++ x ∷ []) (eqb-true (get_or bytes end 0) 10 passes))
+-- bytes up to and with their line feed
+pub take_fed : (bytes : List ℕ) (end : ℕ) → end < length bytes → Passes (is_byte 10) bytes end
+    → take (end + 1) bytes ≡ take end bytes ++ 10 ∷ []
+take_fed bytes end within passes =
+    take_more bytes end 0 within ∙ ap (λ (x : ℕ). take end bytes ++ x ∷ []) (eqb-true (get_or bytes end 0) 10 passes)

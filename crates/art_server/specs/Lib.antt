@@ -7,7 +7,9 @@ pub mod Replies
 pub mod Streams
 pub mod Sessions
 pub mod Endings
-pub mod Steps
 pub mod Given
 pub mod Counted
 pub mod Reads
+pub mod Lines
+pub mod HeldLines
+pub mod Steps

@@ -1,5 +1,5 @@
 -- The steps of a session, for its own functions.
-use Rattle.std.specs.Prelude.{◌≡◌, ◌≢◌, ℕ, Bool, true, false, List, [], ◌++◌, length, take, ⊤, Option, Result, Ok, Err}
+use Rattle.std.specs.Prelude.{◌≡◌, ◌≢◌, ◌≤◌, ℕ, Bool, true, false, List, [], ◌++◌, length, take, ⊤, Option, Result, Ok, Err}
 use Rattle.std.specs.Io.KnownBytes.{Appends}
 use Rattle.art_model.specs.declared.commands.Reply.{Reply}
 use Rattle.art_scan.specs.ArtTable.declared.passes.Pass.{Pass}
@@ -11,7 +11,9 @@ use Rattle.art_server.specs.declared.sessions.SessionEnd.{SessionEnd}
 use Rattle.art_server.specs.declared.sessions.Stop.{Stop}
 use Rattle.art_server.specs.Replies.{text_of_reply}
 use Rattle.art_server.specs.Sessions.{AnswersLine, AnswersLines, texts, AnswersFront, EndsBy}
-use Rattle.art_server.specs.Streams.{whole_lines, last_part, lines_of}
+use Rattle.art_server.specs.Lines.{AllAreGiven, LinesRead}
+use Rattle.art_server.specs.Reads.{EndsAtInput}
+use Rattle.art_server.specs.Streams.{whole_lines, lines_of}
 
 -- a line stops a session by want of memory, or by a write, after its command was run
 abbrev pub StopsBy : EndCause → Bool → Type 0
@@ -75,47 +77,48 @@ pub record SendsLine {A : Type 0} (t : Table) (line : List ℕ) (held held_after
   pub appends : Appends held held_after written
   pub answers : AnswersOrStops t line written p q result
 
--- Bytes are taken, and the whole lines in them answered. The front of the last part is kept, as much as matters.
-pub record IsUnderWay (t : Table) (taken sent : List ℕ) (start now : Pass) (answered : ℕ) (line : List ℕ) : Type 0 where
+-- ---- a session under way
+
+-- lines from the front were answered, and the texts of their replies were written
+pub record IsUnderWay (t : Table) (lines : List (List ℕ)) (held held_after : Option (List ℕ)) (start now : Pass) (answered : ℕ)
+    : Type 0 where
+  pub within : answered ≤ length lines
   pub replies : List (Result Reply Refusal)
-  pub answers : AnswersLines t (whole_lines taken) start replies now
-  pub text : sent ≡ texts replies
-  pub count : answered ≡ length (whole_lines taken)
-  pub kept : line ≡ take 4097 (last_part taken)
+  pub answers : AnswersLines t (take answered lines) start replies now
+  pub appends : Appends held held_after (texts replies)
 
--- a session under way took the bytes and is under way
-pub record TakesBytes (t : Table) (bytes : List ℕ) (held held_after : Option (List ℕ)) (p q : Pass) (answered count : ℕ)
-    (line line_after : List ℕ) : Type 0 where
-  pub written : List ℕ
-  pub appends : Appends held held_after written
-  pub reaches : (taken sent : List ℕ) (start : Pass) → IsUnderWay t taken sent start p answered line
-      → IsUnderWay t (taken ++ bytes) (sent ++ written) start q count line_after
-
--- a session that took these bytes and wrote these has ended so
-abbrev pub EndsSession : Table → List ℕ → List ℕ → Pass → Pass → SessionEnd → Type 0
-EndsSession t taken sent p q end = AnswersFront t (lines_of taken) sent p q end × EndsBy end.why end.answered end.pending taken
-
--- a session under way was stopped at one of the lines that the bytes end
-pub record StopsAmong (t : Table) (bytes : List ℕ) (held held_after : Option (List ℕ)) (p q : Pass) (answered : ℕ)
-    (line : List ℕ) (end : SessionEnd) : Type 0 where
-  pub written : List ℕ
-  pub appends : Appends held held_after written
-  pub cause : StopsBy end.why end.pending
-  pub reaches : (taken sent : List ℕ) (start : Pass) → IsUnderWay t taken sent start p answered line
-      → EndsSession t (taken ++ bytes) (sent ++ written) start q end
-
--- the bytes were taken, or a line among them stopped the session
-abbrev pub AnswersBytes : Table → List ℕ → Option (List ℕ) → Option (List ℕ) → Pass → Pass → ℕ → List ℕ → List ℕ
-    → Result ℕ SessionEnd → Type 0
-AnswersBytes t bytes held held_after p q answered line line_after (Ok count) =
-    TakesBytes t bytes held held_after p q answered count line line_after
-AnswersBytes t bytes held held_after p q answered line line_after (Err end) =
-    StopsAmong t bytes held held_after p q answered line end
-
--- a session under way was brought to its end
-pub record Finishes (t : Table) (held held_after : Option (List ℕ)) (p q : Pass) (answered : ℕ) (line : List ℕ) (end : SessionEnd)
+-- a session that took these bytes has ended so
+pub record EndsSession (t : Table) (taken : List ℕ) (held held_after : Option (List ℕ)) (start last : Pass) (end : SessionEnd)
     : Type 0 where
   pub written : List ℕ
   pub appends : Appends held held_after written
-  pub reaches : (taken sent : List ℕ) (start : Pass) → IsUnderWay t taken sent start p answered line
-      → EndsSession t taken (sent ++ written) start q end
+  pub lines : AnswersFront t (lines_of taken) written start last end
+  pub cause : EndsBy end.why end.answered end.pending taken
+
+-- a session under way, of which each line that was given is answered, went on with lines that were left
+pub record AnswersMore (t : Table) (old new : LinesRead) (before after : Option (List ℕ)) (p q : Pass) (answered : ℕ) : Type 0 where
+  pub taken : new.taken ≡ old.taken
+  pub given : new.given ≡ answered
+  pub reaches : (held : Option (List ℕ)) (start : Pass) → IsUnderWay t (whole_lines old.taken) held before start p old.given
+      → IsUnderWay t (whole_lines old.taken) held after start q answered
+
+-- it was brought to its end
+abbrev pub EndsThere : Table → LinesRead → Option (List ℕ) → Option (List ℕ) → Pass → Pass → SessionEnd → Type 0
+EndsThere t at before after p q end =
+    (held : Option (List ℕ)) (start : Pass) → IsUnderWay t (whole_lines at.taken) held before start p at.given
+    → EndsSession t at.taken held after start q end
+
+-- one of the lines that were left stopped it
+pub record StopsAmong (t : Table) (at : LinesRead) (before after : Option (List ℕ)) (p q : Pass) (end : SessionEnd) : Type 0 where
+  pub cause : StopsBy end.why end.pending
+  pub reaches : EndsThere t at before after p q end
+
+-- each line that was left was answered, or one of them stopped it
+abbrev pub AnswersLeft : Table → LinesRead → LinesRead → Option (List ℕ) → Option (List ℕ) → Pass → Pass → Result ℕ SessionEnd → Type 0
+AnswersLeft t old new before after p q (Ok count) = AnswersMore t old new before after p q count × AllAreGiven new
+AnswersLeft t old new before after p q (Err end) = StopsAmong t old before after p q end
+
+-- where the input ended, the line without a line feed was answered, if there was one
+pub record Finishes (t : Table) (at : LinesRead) (before after : Option (List ℕ)) (p q : Pass) (end : SessionEnd) : Type 0 where
+  pub cause : EndsAtInput end.why
+  pub reaches : EndsThere t at before after p q end

@@ -5,6 +5,8 @@
 //! `Counted` reader, so that its contract can say which reads it makes: at most 1,000,000, and none after one that fails. `print_reply`
 //! gives the text of a reply, or of a numbered refusal, with its line feed.
 //!
+//! `Lines` gives the lines of such a reader: one read is made where no line is left, and each line is given where it was read.
+//!
 //! A `Gate` is told of each atomic step that a session makes, and of each reply: so a test can hold a session at any step, and see what the
 //! others do meanwhile. `NoGate` is told of nothing, and costs nothing.
 //!
@@ -16,6 +18,7 @@ mod accounts;
 mod counted;
 mod endings;
 mod gates;
+mod lines;
 mod refusals;
 mod replies;
 mod sessions;
@@ -28,6 +31,7 @@ pub use art_scan::art_table;
 pub use counted::Counted;
 pub use endings::{endings_are_answers, print_ending};
 pub use gates::{Gate, NoGate};
+pub use lines::Lines;
 pub use refusals::Refusal;
 pub use replies::print_reply;
 pub use sessions::{EndCause, SessionEnd, session};

@@ -1,26 +1,23 @@
 //! From the bytes of a reader to the bytes of a writer.
-ghost use Rattle.std.specs.Prelude.{◌≡◌, ◌≢◌, ◌+◌, ◌<◌, ◌^◌, [], ◌++◌, length, take, true, false, Ok, Err, MatchResult};
-ghost use Rattle.std.specs.Io.KnownBytes.{IsAtEnd};
-ghost use Rattle.art_lines.specs.Lines.{line_says};
-ghost use Rattle.art_lines.specs.Readers.{lower_in, upper_in};
-ghost use Rattle.art_lines.specs.Verbs.{command_of};
+ghost use Rattle.std.specs.Prelude.{◌≡◌, ◌+◌, ◌<◌, ◌^◌, length, true, false};
+ghost use Rattle.std.specs.Io.KnownBytes.{IsAtEnd, Keeps};
 ghost use Rattle.art_server.specs.Counted.{reader_of, reads_of};
-ghost use Rattle.art_server.specs.Reads.{EndsAtInput, MakesReads};
+ghost use Rattle.art_server.specs.Lines.{AllAreGiven};
+ghost use Rattle.art_server.specs.Reads.{MakesReads};
 ghost use Rattle.art_server.specs.Replies.{IsPrintable, reply_of, reply_with};
 ghost use Rattle.art_server.specs.Sessions.{IsSamePass, RunsSession};
-ghost use Rattle.art_server.specs.Steps.{SendsReply, SendsLine, AnswersBytes, Finishes};
+ghost use Rattle.art_server.specs.Steps.{AnswersLeft, Finishes, SendsLine, SendsReply};
 ghost use Rattle.art_scan.specs.ArtTable.Tables.{IsPassOf};
 
 use crate::replies::{ReplyHead, print_rows};
 use crate::streams::write_whole;
 use crate::texts::{TEXT_BYTES, put_reply};
 use crate::watched::do_command;
-use crate::{Counted, Gate, Refusal};
+use crate::{Counted, Gate, Lines, Refusal};
 use arrayvec::ArrayVec;
-use art_lines::{LineFault, LineReader, Verb};
+use art_lines::{LineFault, LineReader};
 use art_model::{Answer, NoMemory, Row};
 use art_scan::art_table::{Pass, Table};
-use memchr::memchr;
 use std::alloc::Global;
 use std::io::{self, Read, Write};
 
@@ -52,10 +49,9 @@ pub struct SessionEnd {
     pub pending: bool,
 }
 
-/// What a session keeps beside its pass: the front of the line under way, room for the rows of a scan, and the reader of its lines.
+/// What a session keeps beside its pass and its lines: room for the rows of a scan, and for the command of a line.
 #[derive(Drop)]
-struct Buffers {
-    line: ArrayVec<u8, 4097>,
+struct Room {
     rows: ArrayVec<Row, 100>,
     reader: LineReader,
 }
@@ -140,52 +136,29 @@ pub fn session<R: Read, W: Write, G: Gate>(
     ensures end { result.1.why ≡ EndCause.Ended → IsAtEnd (R.remaining (reader_of reader.new)) }
     ensures reads { MakesReads (reads_of reader.old) (reads_of reader.new) result.1.why }
 {
-    answer_reads(alloc, table, pass, reader, writer, gate)
-}
-
-fn answer_reads<R: Read, W: Write, G: Gate>(
-    alloc: Global,
-    table: &Table,
-    pass: Pass,
-    reader: &mut Counted<R>,
-    writer: &mut W,
-    gate: &G,
-) -> (Pass, SessionEnd)
-    requires { IsPassOf table.now pass }
-    ensures pass { IsPassOf table.now result.0 }
-    ensures session { RunsSession (R.remaining (reader_of reader.old)) (R.remaining (reader_of reader.new))
-        (W.contents writer.old) (W.contents writer.new) table.now pass result.0 result.1 }
-    ensures end { result.1.why ≡ EndCause.Ended → IsAtEnd (R.remaining (reader_of reader.new)) }
-    ensures reads { MakesReads (reads_of reader.old) (reads_of reader.new) result.1.why }
-{
-    let mut piece = [0u8; 4096];
-    let mut buffers = Buffers {
-        line: ArrayVec::new(),
+    let mut lines = Lines::new();
+    let mut room = Room {
         rows: ArrayVec::new(),
         reader: LineReader::new(alloc),
     };
     let mut pass = pass;
     let mut answered = 0;
     'reads: for _ in 0..READS {
-        match reader.read(&mut piece) {
-            Ok(0) => return finish(alloc, table, pass, &mut buffers, writer, gate, answered),
-            Ok(count) => {
-                let bytes = &piece[..count];
-                let (back, taken) = answer_bytes(
-                    alloc,
-                    table,
-                    pass,
-                    &mut buffers,
-                    bytes,
-                    writer,
-                    gate,
-                    answered,
+        match lines.read(reader) {
+            Ok(true) => {
+                let (back, taken) = answer_read(
+                    alloc, table, pass, &mut lines, &mut room, writer, gate, answered,
                 );
                 pass = back;
                 match taken {
                     Ok(more) => answered = more,
                     Err(end) => return (pass, end),
                 }
+            }
+            Ok(false) => {
+                return finish(
+                    alloc, table, pass, &lines, &mut room, writer, gate, answered,
+                );
             }
             Err(_) => return (pass, ended(EndCause::ReadFault, answered)),
         }
@@ -214,27 +187,29 @@ fn flush_failed(answered: u64) -> SessionEnd
     }
 }
 
-/// Answers the last line, if one stands with no line feed after it.
+/// The input has ended: answers the last line, if one stands with no line feed after it.
 fn finish<W: Write, G: Gate>(
     alloc: Global,
     table: &Table,
     pass: Pass,
-    buffers: &mut Buffers,
+    lines: &Lines,
+    room: &mut Room,
     writer: &mut W,
     gate: &G,
     answered: u64,
 ) -> (Pass, SessionEnd)
     requires pass { IsPassOf table.now pass }
+    requires given { AllAreGiven lines.now }
+    requires count { answered ≡ lines.now.given }
     requires room { answered + 1 < 2 ^ 64 }
     ensures pass { IsPassOf table.now result.0 }
-    ensures finishes { Finishes table.now (W.contents writer.old) (W.contents writer.new) pass result.0
-        answered buffers.old.line.items result.1 }
-    ensures cause { EndsAtInput result.1.why }
+    ensures finishes { Finishes table.now lines.now (W.contents writer.old) (W.contents writer.new) pass result.0 result.1 }
 {
-    if buffers.line.is_empty() {
+    let line = lines.rest();
+    if line.is_empty() {
         return (pass, ended(EndCause::Ended, answered));
     }
-    let (pass, sent) = answer_line(alloc, table, pass, buffers, &[], writer, gate);
+    let (pass, sent) = answer_line(alloc, table, pass, line, room, writer, gate);
     if let Err(stop) = sent {
         return (pass, stop.after(answered));
     }
@@ -247,31 +222,28 @@ fn finish<W: Write, G: Gate>(
     }
 }
 
-/// Answers each line that ends in the bytes, keeps what stands after the last line feed, and flushes the replies once.
-fn answer_bytes<W: Write, G: Gate>(
+/// Answers each line that ends in what was read, and flushes the replies once.
+fn answer_read<W: Write, G: Gate>(
     alloc: Global,
     table: &Table,
     pass: Pass,
-    buffers: &mut Buffers,
-    bytes: &[u8],
+    lines: &mut Lines,
+    room: &mut Room,
     writer: &mut W,
     gate: &G,
     answered: u64,
 ) -> (Pass, Result<u64, SessionEnd>)
     requires pass { IsPassOf table.now pass }
-    requires room { answered + length bytes.now < 2 ^ 64 }
+    requires count { answered ≡ lines.old.given }
+    requires room { length lines.old.taken < 2 ^ 64 }
     ensures pass { IsPassOf table.now result.0 }
-    ensures answers { AnswersBytes table.now bytes.now (W.contents writer.old) (W.contents writer.new) pass result.0
-        answered buffers.old.line.items buffers.new.line.items result.1 }
+    ensures answers { AnswersLeft table.now lines.old lines.new (W.contents writer.old) (W.contents writer.new) pass result.0 result.1 }
 {
-    let (pass, taken) = answer_lines(alloc, table, pass, buffers, bytes, writer, gate, answered);
+    let (pass, taken) = answer_lines(alloc, table, pass, lines, room, writer, gate, answered);
     let count = match taken {
         Ok(count) => count,
         Err(end) => {
-            // The lines before the one that stopped the session were answered: their replies go out, if they can.
-            if end.why != EndCause::WriteFault && writer.flush().is_ok() {
-                tell_answered(gate, pass.number(), answered, end.answered);
-            }
+            send_answered(writer, gate, pass.number(), answered, end);
             return (pass, Err(end));
         }
     };
@@ -282,6 +254,21 @@ fn answer_bytes<W: Write, G: Gate>(
     (pass, Ok(count))
 }
 
+/// The lines before the one that stopped the session were answered: their replies go out, if they can.
+fn send_answered<W: Write, G: Gate>(
+    writer: &mut W,
+    gate: &G,
+    pass: u32,
+    before: u64,
+    end: SessionEnd,
+)
+    ensures { Keeps (W.contents writer.old) (W.contents writer.new) }
+{
+    if end.why != EndCause::WriteFault && writer.flush().is_ok() {
+        tell_answered(gate, pass, before, end.answered);
+    }
+}
+
 /// Tells the gate of the replies from one count to another.
 fn tell_answered<G: Gate>(gate: &G, pass: u32, from: u64, to: u64) {
     for _ in from..to {
@@ -289,101 +276,59 @@ fn tell_answered<G: Gate>(gate: &G, pass: u32, from: u64, to: u64) {
     }
 }
 
-/// Answers each line that ends in the bytes, and keeps what stands after the last line feed. The replies are not flushed.
+/// Answers each line that ends in what was read. The replies are not flushed.
 fn answer_lines<W: Write, G: Gate>(
     alloc: Global,
     table: &Table,
     pass: Pass,
-    buffers: &mut Buffers,
-    bytes: &[u8],
+    lines: &mut Lines,
+    room: &mut Room,
     writer: &mut W,
     gate: &G,
     answered: u64,
 ) -> (Pass, Result<u64, SessionEnd>)
     requires pass { IsPassOf table.now pass }
-    requires room { answered + length bytes.now < 2 ^ 64 }
+    requires count { answered ≡ lines.old.given }
+    requires room { length lines.old.taken < 2 ^ 64 }
     ensures pass { IsPassOf table.now result.0 }
-    ensures answers { AnswersBytes table.now bytes.now (W.contents writer.old) (W.contents writer.new) pass result.0
-        answered buffers.old.line.items buffers.new.line.items result.1 }
+    ensures answers { AnswersLeft table.now lines.old lines.new (W.contents writer.old) (W.contents writer.new) pass result.0 result.1 }
 {
     let mut pass = pass;
     let mut count = answered;
-    let mut rest = bytes;
-    'lines: while let Some(end) = memchr(b'\n', rest) {
-        let (back, sent) = answer_line(alloc, table, pass, buffers, &rest[..end], writer, gate);
+    'lines: while lines.advance() {
+        let (back, sent) = answer_line(alloc, table, pass, lines.line(), room, writer, gate);
         pass = back;
         match sent {
             Ok(()) => count += 1,
             Err(stop) => return (pass, Err(stop.after(count))),
         }
-        rest = &rest[end + 1..];
     }
-    keep(&mut buffers.line, rest);
     (pass, Ok(count))
 }
 
-/// A byte past the 4,097th changes no answer, and is dropped.
-fn keep(line: &mut ArrayVec<u8, 4097>, part: &[u8])
-    ensures { line.new.items ≡ take 4097 (line.old.items ++ part.now) }
-{
-    let count = line.remaining_capacity().min(part.len());
-    let Ok(()) = line.try_extend_from_slice(&part[..count]) else {
-        unreachable!()
-    };
-}
-
-/// Answers the line that the part ends. Nothing of it is kept then.
+/// Answers the line. The reply is not flushed.
 fn answer_line<W: Write, G: Gate>(
     alloc: Global,
     table: &Table,
     pass: Pass,
-    buffers: &mut Buffers,
-    part: &[u8],
+    line: &[u8],
+    room: &mut Room,
     writer: &mut W,
     gate: &G,
 ) -> (Pass, Result<(), Stop>)
     requires { IsPassOf table.now pass }
     ensures pass { IsPassOf table.now result.0 }
-    ensures none { buffers.new.line.items ≡ [] }
-    ensures sends { SendsLine table.now (buffers.old.line.items ++ part.now) (W.contents writer.old) (W.contents writer.new)
-        pass result.0 result.1 }
+    ensures sends { SendsLine table.now line.now (W.contents writer.old) (W.contents writer.new) pass result.0 result.1 }
 {
-    let (pass, head) = match read_line(&mut buffers.reader, &mut buffers.line, part) {
-        Ok(verb) => do_command(
-            table,
-            pass,
-            verb,
-            &mut buffers.reader,
-            &mut buffers.rows,
-            gate,
-        ),
+    let (pass, head) = match room.reader.verb(line) {
+        Ok(verb) => do_command(table, pass, verb, &mut room.reader, &mut room.rows, gate),
         Err(fault) => match fault {
             LineFault::NoMemory => return (pass, Err(UNREAD)),
             _ => (pass, Err(Refusal::from(fault))),
         },
     };
-    let sent = send_reply(alloc, head, buffers.rows.as_slice(), writer);
+    let sent = send_reply(alloc, head, room.rows.as_slice(), writer);
     (pass, sent)
-}
-
-/// What the line asks that the part ends, behind what is kept of it. It is copied only where something is.
-fn read_line(
-    reader: &mut LineReader,
-    kept: &mut ArrayVec<u8, 4097>,
-    part: &[u8],
-) -> Result<Verb, LineFault>
-    ensures said { MatchResult result
-        (λ verb. line_says (kept.old.items ++ part.now) ≡ Ok (command_of verb (lower_in reader.new) (upper_in reader.new)))
-        (λ fault. fault ≢ LineFault.NoMemory → line_says (kept.old.items ++ part.now) ≡ Err fault) }
-    ensures none { kept.new.items ≡ [] }
-{
-    if kept.is_empty() {
-        return reader.verb(part);
-    }
-    keep(kept, part);
-    let said = reader.verb(kept.as_slice());
-    kept.clear();
-    said
 }
 
 /// Prints the reply whose rows stand beside it, and writes it. It is not flushed.

@@ -15,7 +15,7 @@ use Rattle.art_typed.specs.Typed.{typed}
 
 -- ---- the sessions of a pass
 
-talks_go : (t : Table) (talks : List Talk) (p q : Pass) → IsPassOf t p → HasTalks t p talks q → GoesOn t p q
+pub talks_go : (t : Table) (talks : List Talk) (p q : Pass) → IsPassOf t p → HasTalks t p talks q → GoesOn t p q
 talks_go t [] p q was same = lines_go t [] p [] q was (refl, same)
 talks_go t (s ∷ ss) p q was (m, session, rest) =
     let first = lines_go t _ p session.lines.replies m was session.lines.answers in

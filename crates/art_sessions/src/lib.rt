@@ -14,13 +14,15 @@
 //! began. What strangers do in time is not told: two passes know of each other what a mark tells them, or a reply.
 //!
 //! The table may refuse a command for want of room or of turns; then an insert, a removal or a get has no place. A scan has the places of
-//! its looks, also where it was refused after some. Where a table has one pass, its places are all there are, and its session is that of one sorted map, from the first command to the last.
+//! its looks, also where it was refused after some. Where a table has one pass, its places are all there are, and its session is that of
+//! one sorted map, from the first command to the last.
 //!
 //! Nothing here runs: these are laws, for the program's own theorems to cite.
 #![tactic(auto)]
 
 mod laws;
 
+pub use art_server;
 pub use laws::{
     closed_alone, commands_are_points, sessions_alone_are_one_map, sessions_are_one_map,
 };

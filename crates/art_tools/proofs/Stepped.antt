@@ -20,7 +20,8 @@ use Rattle.art_server.specs.Reads.{MakesReads}
 use Rattle.art_server.specs.Sessions.{RunsSession}
 use Rattle.art_server.specs.declared.sessions.EndCause.TheVariants as cause
 use Rattle.art_server.specs.declared.sessions.SessionEnd.{SessionEnd}
-use Rattle.art_tools.proofs.Passes.{opened_only}
+use Rattle.art_schedule.proofs.OneHistory.{schedules_are_one_map}
+use Rattle.art_tools.proofs.Passes.{new_passes, opened_only}
 use Rattle.art_tools.proofs.Runs.{closed_rows, map_answers}
 use Rattle.art_tools.specs.Outputs.{of_one_pass}
 use Rattle.art_tools.specs.Schedules.{Steps, of_eight_passes}
@@ -76,6 +77,10 @@ steps_ran (Ok schema) columns sizes left left_after held held_after t passes bac
   opened = subst (λ (s : List Column). IsOpened s (of_eight_passes sizes) t passes) (same_columns columns schema is) opened;
   runs = runs;
   come = come;
+  history = (
+      let of = new_passes columns (of_eight_passes sizes) t passes opened in
+      λ shut_with is_shut. schedules_are_one_map t passes back runs.0 runs.1 end shut_with opened.count (λ n p found. (of n p found).0) runs.4 is_shut
+      );
   told_is = told_of r (schedule_fault end) closed told none;
   closed = closed_by r (schedule_fault end) closed t back told shut;
 })

@@ -3,10 +3,13 @@ use Rattle.std.specs.Prelude.{◌≡◌, ◌⊎◌, ℕ, List, length, Option, S
 use Rattle.std.specs.List.{slice_get}
 use Rattle.art_key.specs.declared.columns.Column.{Column}
 use Rattle.art_key.specs.declared.faults.SchemaFault.{SchemaFault}
+use Rattle.art_schedule.specs.Points.{AreOneHistory}
 use Rattle.art_schedule.specs.Schedules.{ComeBack, RunsSchedule}
 use Rattle.art_schedule.specs.declared.stops.ScheduleEnd.{ScheduleEnd}
+use Rattle.art_server.specs.ArtTable.Closing.{IsClosed}
 use Rattle.art_server.specs.ArtTable.Opening.{IsOpened}
 use Rattle.art_server.specs.ArtTable.Tables.{IsPassOf, number_of}
+use Rattle.art_server.specs.ArtTable.declared.closing.Closed.{Closed}
 use Rattle.art_server.specs.ArtTable.declared.configs.Config.{Config}
 use Rattle.art_server.specs.ArtTable.declared.passes.Pass.{Pass}
 use Rattle.art_server.specs.ArtTable.declared.tables.Table.{Table}
@@ -28,8 +31,8 @@ AreEight t passes = (length passes ≡ 8) × AreInPlace t passes
 
 -- ---- what `step` does
 
--- a schedule was run on the eight passes of an empty table of the schema and these sizes, which was closed with the passes as they came
--- back
+-- A schedule was run on the eight passes of an empty table of the schema and these sizes, which was closed with the passes as they came
+-- back. Whatever close with them there is, the replies that were written are of one history that leaves its rows.
 pub record RanSchedule (schema : List Column) (sizes : Config) (left left_after held held_after : Option (List ℕ))
     (told : Option RunFault) : Type 0 where
   pub table : Table
@@ -39,6 +42,7 @@ pub record RanSchedule (schema : List Column) (sizes : Config) (left left_after 
   pub opened : IsOpened schema (of_eight_passes sizes) table passes
   pub runs : RunsSchedule left left_after held held_after table passes back end
   pub come : ComeBack table passes back
+  pub history : (closed : Closed) → IsClosed table back closed → AreOneHistory table passes back runs.0 runs.1 end closed
   pub told_is : IsToldOf (schedule_fault end) told
   pub closed : IsClosedBy told table back
 

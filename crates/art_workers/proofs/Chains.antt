@@ -1,10 +1,10 @@
 -- One session more of a worker's pass.
 use Rattle.std.proofs.Common.{◌≡◌, ℕ, ◌+◌, List, [], ◌∷◌, ◌++◌, length, length-append, refl, subst, arith}
-use Rattle.art_server.specs.Sessions.{IsSession}
+use Rattle.art_sessions.specs.ArtServer.Sessions.{IsSession}
 use Rattle.art_sessions.specs.Talks.{HasTalks, Talk}
-use Rattle.art_server.specs.ArtTable.Tables.{IsPassOf}
-use Rattle.art_server.specs.ArtTable.declared.passes.Pass.{Pass}
-use Rattle.art_server.specs.ArtTable.declared.tables.Table.{Table}
+use Rattle.art_sessions.specs.ArtServer.ArtTable.Tables.{IsPassOf}
+use Rattle.art_sessions.specs.ArtServer.ArtTable.declared.passes.Pass.{Pass}
+use Rattle.art_sessions.specs.ArtServer.ArtTable.declared.tables.Table.{Table}
 
 talks_more : (t : Table) (ss : List Talk) (s : Talk) (p m q : Pass)
     → HasTalks t p ss m → IsSession t s.read s.written m q s.end → HasTalks t p (ss ++ s ∷ []) q

@@ -5,10 +5,10 @@ use Rattle.std.proofs.lemmas.List.{length-map}
 use Rattle.std.proofs.lemmas.List.Sums.{sum_by-cons}
 use Rattle.art_sessions.specs.Talks.{HasTalks, Worker}
 use Rattle.art_step.specs.Views.{Member}
-use Rattle.art_server.specs.ArtTable.Closing.{AreOf}
-use Rattle.art_server.specs.ArtTable.Tables.{IsPassOf}
-use Rattle.art_server.specs.ArtTable.declared.passes.Pass.{Pass}
-use Rattle.art_server.specs.ArtTable.declared.tables.Table.{Table}
+use Rattle.art_sessions.specs.ArtServer.ArtTable.Closing.{AreOf}
+use Rattle.art_sessions.specs.ArtServer.ArtTable.Tables.{IsPassOf}
+use Rattle.art_sessions.specs.ArtServer.ArtTable.declared.passes.Pass.{Pass}
+use Rattle.art_sessions.specs.ArtServer.ArtTable.declared.tables.Table.{Table}
 use Rattle.art_workers.proofs.Lists.{as_many, some_all}
 use Rattle.art_workers.specs.Serving.{AreSomeOf, HasWorked, HaveServed, HaveWorked, IsTaskOf, Running, Starts, afters_of, befores_of, talks_of}
 use Rattle.art_workers.specs.declared.faults.ServeFault.{ServeFault}

@@ -1,3 +1,5 @@
+-- the crates below, for those above to name
+pub use Rattle.art_sessions.proofs as ArtSessions
 pub mod Lists
 pub mod Chains
 pub mod Starts

@@ -1,10 +1,10 @@
 -- Some of a list's passes, and passes at the front of one.
 use Rattle.std.proofs.Common.{◌≡◌, ◌≤◌, ◌+◌, List, [], ◌∷◌, ◌++◌, length, length-append, sym, subst, inl, inr, refl, ap, ◌∙◌, arith}
 use Rattle.art_step.specs.Views.{Member}
-use Rattle.art_server.specs.ArtTable.Closing.{AreOf}
-use Rattle.art_server.specs.ArtTable.Tables.{IsPassOf}
-use Rattle.art_server.specs.ArtTable.declared.passes.Pass.{Pass}
-use Rattle.art_server.specs.ArtTable.declared.tables.Table.{Table}
+use Rattle.art_sessions.specs.ArtServer.ArtTable.Closing.{AreOf}
+use Rattle.art_sessions.specs.ArtServer.ArtTable.Tables.{IsPassOf}
+use Rattle.art_sessions.specs.ArtServer.ArtTable.declared.passes.Pass.{Pass}
+use Rattle.art_sessions.specs.ArtServer.ArtTable.declared.tables.Table.{Table}
 use Rattle.art_workers.specs.Serving.{AreSomeOf}
 
 last_in : (xs : List Pass) (y : Pass) → Member y (xs ++ y ∷ [])

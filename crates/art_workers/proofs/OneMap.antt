@@ -3,9 +3,9 @@ use Rattle.std.proofs.Common.{◌≡◌, List, [], ◌∷◌, inl, inr, sym, ap,
 use Rattle.art_sessions.proofs.Talks.{sessions_are_one_map}
 use Rattle.art_sessions.specs.Talks.{Worker}
 use Rattle.art_step.specs.Views.{Member}
-use Rattle.art_server.specs.ArtTable.Closing.{AreOf, IsClosed}
-use Rattle.art_server.specs.ArtTable.declared.passes.Pass.{Pass}
-use Rattle.art_server.specs.ArtTable.declared.tables.Table.{Table}
+use Rattle.art_sessions.specs.ArtServer.ArtTable.Closing.{AreOf, IsClosed}
+use Rattle.art_sessions.specs.ArtServer.ArtTable.declared.passes.Pass.{Pass}
+use Rattle.art_sessions.specs.ArtServer.ArtTable.declared.tables.Table.{Table}
 use Rattle.art_workers.specs.Serving.{AreSomeOf, ServedAreOneMap, befores_of}
 
 -- some of a table's passes are of the table

@@ -1,8 +1,8 @@
 -- Workers that were started, from the last pass on.
 use Rattle.std.proofs.Common.{◌≡◌, ◌∙◌, Bool, true, false, List, [], ◌∷◌, ◌++◌, append_assoc, append-nil, inl, inr, refl, sym, ap, subst}
 use Rattle.std.specs.List.{AllZip}
-use Rattle.art_server.specs.ArtTable.declared.passes.Pass.{Pass}
-use Rattle.art_server.specs.ArtTable.declared.tables.Table.{Table}
+use Rattle.art_sessions.specs.ArtServer.ArtTable.declared.passes.Pass.{Pass}
+use Rattle.art_sessions.specs.ArtServer.ArtTable.declared.tables.Table.{Table}
 use Rattle.art_workers.specs.Serving.{AreSomeOf, IsTaskOf, Running, Starts}
 use Rattle.art_workers.specs.declared.serving.Staff.{Staff}
 

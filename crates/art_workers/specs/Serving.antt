@@ -4,11 +4,11 @@ use Rattle.std.specs.List.{AllZip, sum_by}
 use Rattle.std.specs.declared.thread.PromisedHandle.{PromisedHandle}
 use Rattle.art_sessions.specs.Talks.{AreOneMap, HasTalks, Talk, Worker}
 use Rattle.art_step.specs.Views.{Member}
-use Rattle.art_server.specs.ArtTable.Closing.{AreOf, IsClosed}
-use Rattle.art_server.specs.ArtTable.Tables.{IsPassOf}
-use Rattle.art_server.specs.ArtTable.declared.closing.Closed.{Closed}
-use Rattle.art_server.specs.ArtTable.declared.passes.Pass.{Pass}
-use Rattle.art_server.specs.ArtTable.declared.tables.Table.{Table}
+use Rattle.art_sessions.specs.ArtServer.ArtTable.Closing.{AreOf, IsClosed}
+use Rattle.art_sessions.specs.ArtServer.ArtTable.Tables.{IsPassOf}
+use Rattle.art_sessions.specs.ArtServer.ArtTable.declared.closing.Closed.{Closed}
+use Rattle.art_sessions.specs.ArtServer.ArtTable.declared.passes.Pass.{Pass}
+use Rattle.art_sessions.specs.ArtServer.ArtTable.declared.tables.Table.{Table}
 use Rattle.art_workers.specs.declared.faults.ServeFault.{ServeFault}
 use Rattle.art_workers.specs.declared.serving.Staff.{Staff}
 use Rattle.art_workers.specs.declared.serving.Task.{Task}

@@ -14,9 +14,9 @@
 //! closed with the passes that came back, all of it is of one sorted map (`served_are_one_map`).
 //!
 //! What is not: after a fault no clause says which passes came back, nor which fault is told when. As the code is, the other workers go
-//! on, and a pass is lost where its thread could not be started. Nothing is said of the order in time between clients on different passes. Which client a worker gets, and what a socket
-//! carried, is in no contract but as bytes that the session read and wrote. As many sessions are claimed as are asked for, on one counter
-//! for all workers; no clause says so.
+//! on, and a pass is lost where its thread could not be started. Nothing is said of the order in time between clients on different passes.
+//! Which client a worker gets, and what a socket carried, is in no contract but as bytes that the session read and wrote. As many sessions
+//! are claimed as are asked for, on one counter for all workers; no clause says so.
 #![tactic(auto)]
 
 mod faults;
