@@ -12,8 +12,6 @@ mod rows;
 mod step_rows;
 #[cfg(test)]
 mod tests;
-#[cfg(test)]
-mod thread_rows;
 
 use art_server::Counted;
 use art_tools::execute;
@@ -46,7 +44,6 @@ fn main(rt: HostRuntime) -> io::Result<ExitCode> {
         return Ok(ExitCode::from(4));
     };
     let status = execute(
-        &rt,
         alloc,
         words.as_slice(),
         &mut Counted::new(rt.stdin()),

@@ -7,7 +7,3 @@ pub mod Runs
 pub mod Numbers
 pub mod Passes
 pub mod Stepped
-pub mod Ranges
-pub mod Backs
-pub mod Loaded
-pub mod Digits

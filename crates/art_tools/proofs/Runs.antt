@@ -3,10 +3,10 @@ use Rattle.std.proofs.Common.{◌≡◌, ℕ, ◌+◌, Bool, false, if◌then◌
 use Rattle.std.proofs.Math.Seq.{take-length}
 use Rattle.std.specs.Option.{option_or}
 use Rattle.std.specs.Io.KnownBytes.{IsAtEnd}
-use Rattle.art_workers.proofs.ArtSessions.OneMap.{sessions_alone_are_one_map}
-use Rattle.art_workers.proofs.ArtSessions.Alone.{closed_alone}
-use Rattle.art_workers.specs.ArtSessions.Laws.{IsOneMap, IsOnlyPass}
-use Rattle.art_workers.specs.ArtSessions.Maps.{MapAnswersLines}
+use Rattle.art_sessions.proofs.OneMap.{sessions_alone_are_one_map}
+use Rattle.art_sessions.proofs.Alone.{closed_alone}
+use Rattle.art_sessions.specs.Laws.{IsOneMap, IsOnlyPass}
+use Rattle.art_sessions.specs.Maps.{MapAnswersLines}
 use Rattle.art_key.specs.Histories.{replay}
 use Rattle.art_key.specs.declared.columns.Column.{Column}
 use Rattle.art_key.specs.declared.events.Event.{Event}
