@@ -2,22 +2,22 @@
 use art_server::Counted;
 use art_tools::execute;
 use std::alloc::Global;
+use std::net::{Net, TcpListener, TcpStream};
 use std::process::Abort;
+use std::sync::Wait;
 use std::test::Fail;
+use std::thread::Threads;
 
 /// A run with at most so many rows under the schema answers its input so, and ends well.
-fn check_run(
-    rt: &impl Abort,
-    alloc: Global,
-    schema: &str,
-    leaves: &str,
-    input: &[u8],
-    expected: &str,
-) {
+fn check_run<H>(rt: &H, alloc: Global, schema: &str, leaves: &str, input: &[u8], expected: &str)
+where
+    H: Abort + Threads + Wait + Sync + Net<Listener = TcpListener, Stream = TcpStream>,
+{
     let words = ["art_index", "run", "--schema", schema, "--leaves", leaves];
     let mut output = Vec::new(alloc);
     let mut faults = Vec::new(alloc);
     let status = execute(
+        rt,
         alloc,
         &words,
         &mut Counted::new(input),

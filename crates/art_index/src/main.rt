@@ -12,6 +12,8 @@ mod rows;
 mod step_rows;
 #[cfg(test)]
 mod tests;
+#[cfg(test)]
+mod thread_rows;
 
 use art_server::Counted;
 use art_tools::execute;
@@ -44,6 +46,7 @@ fn main(rt: HostRuntime) -> io::Result<ExitCode> {
         return Ok(ExitCode::from(4));
     };
     let status = execute(
+        &rt,
         alloc,
         words.as_slice(),
         &mut Counted::new(rt.stdin()),

@@ -2,20 +2,29 @@
 use art_server::Counted;
 use art_tools::execute;
 use std::alloc::Global;
+use std::net::{Net, TcpListener, TcpStream};
 use std::process::Abort;
+use std::sync::Wait;
+use std::thread::Threads;
 
 /// A run with these two options answers its input so, and ends well.
-fn check_run(rt: &impl Abort, alloc: Global, options: [&str; 2], input: &[u8], expected: &[u8]) {
+fn check_run<H>(rt: &H, alloc: Global, options: [&str; 2], input: &[u8], expected: &[u8])
+where
+    H: Abort + Threads + Wait + Sync + Net<Listener = TcpListener, Stream = TcpStream>,
+{
     let words = ["art_index", "run", options[0], options[1]];
     check_words(rt, alloc, &words, input, expected);
 }
 
 /// These words answer their input so, and end well.
-fn check_words(rt: &impl Abort, alloc: Global, words: &[&str], input: &[u8], expected: &[u8]) {
+fn check_words<H>(rt: &H, alloc: Global, words: &[&str], input: &[u8], expected: &[u8])
+where
+    H: Abort + Threads + Wait + Sync + Net<Listener = TcpListener, Stream = TcpStream>,
+{
     let mut output = Vec::new(alloc);
     let mut faults = Vec::new(alloc);
     let mut reader = Counted::new(input);
-    let status = execute(alloc, words, &mut reader, &mut output, &mut faults);
+    let status = execute(rt, alloc, words, &mut reader, &mut output, &mut faults);
     assert_eq!(rt; status, 0);
     assert_eq!(rt; output.as_slice(), expected);
     assert_eq!(rt; faults.as_slice(), b"".as_slice());

@@ -2,31 +2,40 @@
 use art_server::Counted;
 use art_tools::execute;
 use std::alloc::Global;
+use std::net::{Net, TcpListener, TcpStream};
 use std::process::Abort;
+use std::sync::Wait;
 use std::test::Fail;
+use std::thread::Threads;
 
 /// A schedule under the schema prints this, says this of faults, and ends with this status.
-fn check_end(
-    rt: &impl Abort,
+fn check_end<H>(
+    rt: &H,
     alloc: Global,
     schema: &str,
     input: &[u8],
     expected: &[u8],
     told: &[u8],
     status: u8,
-) {
+)
+where
+    H: Abort + Threads + Wait + Sync + Net<Listener = TcpListener, Stream = TcpStream>,
+{
     let words = ["art_index", "step", "--schema", schema];
     let mut output = Vec::new(alloc);
     let mut faults = Vec::new(alloc);
     let mut reader = Counted::new(input);
-    let ended = execute(alloc, &words, &mut reader, &mut output, &mut faults);
+    let ended = execute(rt, alloc, &words, &mut reader, &mut output, &mut faults);
     assert_eq!(rt; output.as_slice(), expected);
     assert_eq!(rt; faults.as_slice(), told);
     assert_eq!(rt; ended, status);
 }
 
 /// A schedule under the schema prints this, and ends well.
-fn check_steps(rt: &impl Abort, alloc: Global, schema: &str, input: &[u8], expected: &[u8]) {
+fn check_steps<H>(rt: &H, alloc: Global, schema: &str, input: &[u8], expected: &[u8])
+where
+    H: Abort + Threads + Wait + Sync + Net<Listener = TcpListener, Stream = TcpStream>,
+{
     check_end(rt, alloc, schema, input, expected, b"".as_slice(), 0);
 }
 

@@ -6,11 +6,17 @@ ghost use Rattle.art_tools.specs.declared.settings.SettingsFault.TheVariants.{No
 
 use art_server::Counted;
 use art_tools::command_line::settings;
-use art_tools::{AFTER_HELP, RUN_HELP, STEP_HELP, Settings, SettingsFault, TableSettings, execute};
+use art_tools::{
+    AFTER_HELP, LOAD_HELP, RUN_HELP, SERVE_HELP, STEP_HELP, Settings, SettingsFault, TableSettings,
+    execute,
+};
 use std::alloc::Global;
 use std::io::{self, ErrorKind, Read, Write};
+use std::net::{Net, TcpListener, TcpStream};
 use std::process::Abort;
+use std::sync::Wait;
 use std::test::Fail;
+use std::thread::Threads;
 
 static CHOSEN: [&str; 4] = ["art_index", "run", "--schema=u16", "--n48=007"];
 
@@ -31,11 +37,14 @@ struct Outcome {
     faults: Vec<u8>,
 }
 
-fn run_on<R: Read>(alloc: Global, words: &[&str], reader: R) -> (Outcome, R) {
+fn run_on<H, R: Read>(rt: &H, alloc: Global, words: &[&str], reader: R) -> (Outcome, R)
+where
+    H: Abort + Threads + Wait + Sync + Net<Listener = TcpListener, Stream = TcpStream>,
+{
     let mut reader = Counted::new(reader);
     let mut output = Vec::new(alloc);
     let mut faults = Vec::new(alloc);
-    let status = execute(alloc, words, &mut reader, &mut output, &mut faults);
+    let status = execute(rt, alloc, words, &mut reader, &mut output, &mut faults);
     let ran = Outcome {
         status,
         output,
@@ -44,8 +53,11 @@ fn run_on<R: Read>(alloc: Global, words: &[&str], reader: R) -> (Outcome, R) {
     (ran, reader.into_inner())
 }
 
-fn run_on_nothing(alloc: Global, words: &[&str]) -> Outcome {
-    let (ran, _) = run_on(alloc, words, b"".as_slice());
+fn run_on_nothing<H>(rt: &H, alloc: Global, words: &[&str]) -> Outcome
+where
+    H: Abort + Threads + Wait + Sync + Net<Listener = TcpListener, Stream = TcpStream>,
+{
+    let (ran, _) = run_on(rt, alloc, words, b"".as_slice());
     ran
 }
 
@@ -167,6 +179,13 @@ fn faults_of_words_end_with_two(rt: HostRuntime) {
         &["art_index", "--schema", "u16", "run"],
         &["art_index", "run", "--schema"],
         &["art_index", "run", "--schema=a", "--schema=b"],
+        &["art_index", "run", "--threads=2"],
+        &["art_index", "load", "--schema=u64"],
+        &["art_index", "load", "--threads=x", "--ops=1000001"],
+        &["art_index", "load", "--keys=-1"],
+        &["art_index", "serve"],
+        &["art_index", "serve", "--port=x"],
+        &["art_index", "serve", "--port=0", "--sessions=x"],
         &["art_index", "run", "--frob"],
         &["art_index", "run", "--version"],
         &["art_index", "run", "frob"],
@@ -188,7 +207,7 @@ fn faults_of_words_end_with_two(rt: HostRuntime) {
         &["art_index", "run", "--leaves=0", "--n4=x"],
         &["art_index", "run", "--schema=u24", "--n4=x"],
     ] {
-        let ran = run_on_nothing(rt.alloc(), words);
+        let ran = run_on_nothing(&rt, rt.alloc(), words);
         assert_eq!(rt; ran.status, 2, "at {words:?}");
         assert!(rt; ran.output.is_empty());
         assert!(rt; !ran.faults.is_empty());
@@ -212,13 +231,25 @@ fn help_ends_with_the_lines_and_the_statuses(rt: HostRuntime) {
             RUN_HELP,
         ),
         (&["art_index", "help", "step"], "Runs a schedule", STEP_HELP),
+        (&["art_index", "help", "load"], "Makes commands", LOAD_HELP),
+        (&["art_index", "load", "-h"], "Makes commands", LOAD_HELP),
+        (
+            &["art_index", "help", "serve"],
+            "Answers the lines of",
+            SERVE_HELP,
+        ),
+        (
+            &["art_index", "serve", "-h"],
+            "Answers the lines of",
+            SERVE_HELP,
+        ),
         (
             &["art_index", "step", "--help"],
             "Runs a schedule",
             STEP_HELP,
         ),
     ] {
-        let ran = run_on_nothing(rt.alloc(), words);
+        let ran = run_on_nothing(&rt, rt.alloc(), words);
         assert_eq!(rt; ran.status, 0, "at {words:?}");
         assert!(rt; ran.output.as_slice().starts_with(first.as_bytes()));
         let end = ran.output.as_slice().strip_suffix(b"\n".as_slice());
@@ -230,9 +261,9 @@ fn help_ends_with_the_lines_and_the_statuses(rt: HostRuntime) {
 
 #[test]
 fn help_of_run_and_of_step_lists_their_options(rt: HostRuntime) -> Result<(), Fail> {
-    let run = run_on_nothing(rt.alloc(), &["art_index", "run", "--help"]);
+    let run = run_on_nothing(&rt, rt.alloc(), &["art_index", "run", "--help"]);
     let run = std::str::from_utf8(run.output.as_slice())?;
-    let step = run_on_nothing(rt.alloc(), &["art_index", "step", "--help"]);
+    let step = run_on_nothing(&rt, rt.alloc(), &["art_index", "step", "--help"]);
     let step = std::str::from_utf8(step.output.as_slice())?;
     for option in [
         "--schema <TEXT>",
@@ -250,15 +281,11 @@ fn help_of_run_and_of_step_lists_their_options(rt: HostRuntime) -> Result<(), Fa
 }
 
 /// The words end with this status, and this is written and said of faults.
-fn check_told(
-    rt: &impl Abort,
-    alloc: Global,
-    words: &[&str],
-    status: u8,
-    output: &str,
-    faults: &str,
-) {
-    let ran = run_on_nothing(alloc, words);
+fn check_told<H>(rt: &H, alloc: Global, words: &[&str], status: u8, output: &str, faults: &str)
+where
+    H: Abort + Threads + Wait + Sync + Net<Listener = TcpListener, Stream = TcpStream>,
+{
+    let ran = run_on_nothing(rt, alloc, words);
     assert_eq!(rt; ran.status, status);
     assert_eq!(rt; ran.output.as_slice(), output.as_bytes());
     assert_eq!(rt; ran.faults.as_slice(), faults.as_bytes());
@@ -373,7 +400,7 @@ fn a_read_that_fails_ends_with_one_and_a_million_reads_with_five(rt: HostRuntime
         (0, 5, 1_000_000, "art_index: reads used up\n"),
     ] {
         let input = Dribble { reads: 0, fails_at };
-        let (ran, input) = run_on(rt.alloc(), &["art_index", "run"], input);
+        let (ran, input) = run_on(&rt, rt.alloc(), &["art_index", "run"], input);
         assert_eq!(rt; ran.status, status);
         assert_eq!(rt; ran.faults.as_slice(), expected.as_bytes());
         assert_eq!(rt; input.reads, reads);
@@ -385,7 +412,14 @@ fn a_write_that_fails_ends_with_one(rt: HostRuntime) -> Result<(), Fail> {
     let mut reader = Counted::new(b"{\n".as_slice());
     let mut faults = Vec::new(rt.alloc());
     let words = ["art_index", "run"];
-    let status = execute(rt.alloc(), &words, &mut reader, &mut Closed, &mut faults);
+    let status = execute(
+        &rt,
+        rt.alloc(),
+        &words,
+        &mut reader,
+        &mut Closed,
+        &mut faults,
+    );
     assert_eq!(rt; status, 1);
     assert_eq!(rt; faults.as_slice(), b"art_index: write failed\n".as_slice());
     Ok(())

@@ -1,5 +1,5 @@
 -- What the matches of `art_index` are, by the words.
-use Rattle.std.proofs.Common.{◌≡◌, ◌∙◌, ◌⊎◌, codes, true, false, refl, sym, ap, subst, inl, inr, ⊎_elim, true≢false, List, [], Option, Some, None, take, option_map, option_and_then}
+use Rattle.std.proofs.Common.{◌≡◌, ◌∙◌, codes, true, false, refl, sym, ap, subst, true≢false, List, [], ◌∷◌, Option, Some, None, take, option_map, option_and_then}
 use Rattle.std.specs.Str.{bytes_eq}
 use Rattle.clap.specs.Words.{App, HasMatchesOf, Row, Text, fault_of, first_of, first_value, found_of, is_simple_and_free, rows_of, subcommand_name_of, subcommand_of, subcommand_rows_of}
 use Rattle.clap.specs.Simple.{built, built_leaf, help_shape}
@@ -8,8 +8,14 @@ use Rattle.clap.specs.declared.error.Error.{Error}
 use Rattle.clap.specs.declared.parser.matches.ArgMatches.{ArgMatches}
 use Rattle.clap.specs.declared.parser.matches.ArgMatches.TheViews.{out-ArgMatches}
 use Rattle.clap.proofs.WalkLemmas.{first_value-rows}
-use Rattle.art_tools.specs.Settings.{art_index_app, option_given, subcommand_given}
-use Rattle.art_tools.proofs.Subcommands.{names_own}
+use Rattle.std.specs.Option.{option_map_or}
+use Rattle.art_tools.proofs.Refused.{values_explain, values_right}
+use Rattle.art_tools.proofs.Subcommands.{IsOneOf, names_own}
+use Rattle.art_tools.specs.Faults.{Explains}
+use Rattle.art_tools.specs.Options.{numbers_fault}
+use Rattle.art_tools.specs.Settings.{AreInRange, IsAskedBy, IsSetting, Subcommand, art_index_app, asked, numbers_of, option_given, run, subcommand_given, subcommand_named, words_fault}
+use Rattle.art_tools.specs.declared.settings.Settings.{Settings}
+use Rattle.art_tools.specs.declared.settings.SettingsFault.{SettingsFault}
 
 -- ---- what clap says, of the command that `art_index` is
 
@@ -23,12 +29,39 @@ module _ (a : App) (words : List Text) (is : a ≡ art_index_app) where
   pub same_subcommand : (m : ArgMatches) → HasMatchesOf a words m → subcommand_rows_of m ≡ subcommand_of art_index_app words
   same_subcommand m h = subst (λ (a : App). HasMatchesOf a words m → subcommand_rows_of m ≡ subcommand_of art_index_app words) (sym is) (λ h. (h refl).1) h
 
--- words without fault name `run` or `step`
+-- words without fault name one of the four
 pub asks_for_one : (words : List Text) → fault_of art_index_app words ≡ []
-    → (subcommand_given words ≡ Some (codes "run")) ⊎ (subcommand_given words ≡ Some (codes "step"))
-asks_for_one words taken =
-    let named = names_own art_index_app (take 2 (built art_index_app).subs) (built_leaf help_shape) words refl refl refl refl taken in
-    ⊎_elim (λ run. inl (named.1 ∙ ap (λ t. Some t) run)) (λ others. ⊎_elim (λ step. inr (named.1 ∙ ap (λ t. Some t) step)) (λ none. absurd none) others) named.2
+    → (name : Text) × (subcommand_given words ≡ Some name)
+    × IsOneOf name (codes "run" ∷ codes "step" ∷ codes "load" ∷ codes "serve" ∷ [])
+asks_for_one words taken = names_own art_index_app (take 4 (built art_index_app).subs) (built_leaf help_shape) words refl refl refl refl taken
+
+-- ---- what a subcommand asks for
+
+module _ (words : List Text) (name : Text) (s : Subcommand) (given : subcommand_given words ≡ Some name) (is : subcommand_named name ≡ s) where
+  pub asked_is : asked words ≡ s
+  asked_is = ap (λ (o : Option Text). option_map_or subcommand_named o run) given ∙ is
+
+  -- its settings are those that the words ask for
+  pub setting_asked : (settings : Settings) → IsSetting s (option_given words) settings → IsAskedBy words settings
+  setting_asked settings has = subst (λ (x : Subcommand). IsSetting x (option_given words) settings) (sym asked_is) has
+
+  -- nothing is wrong with its words, and its numbers are in their ranges
+  pub all_right : fault_of art_index_app words ≡ [] → numbers_fault (numbers_of s) (option_given words) ≡ []
+      → AreInRange s (option_given words) → (words_fault words ≡ []) × AreInRange (asked words) (option_given words)
+  all_right none right fits = (
+    values_right (fault_of art_index_app words) (numbers_fault (numbers_of (asked words)) (option_given words)) none
+        (ap (λ (x : Subcommand). numbers_fault (numbers_of x) (option_given words)) asked_is ∙ right),
+    subst (λ (x : Subcommand). AreInRange x (option_given words)) (sym asked_is) fits,
+  )
+
+  -- what is wrong with its numbers is wrong with the words
+  pub explained : (f : SettingsFault) → fault_of art_index_app words ≡ []
+      → Explains (numbers_fault (numbers_of s) (option_given words)) (AreInRange s (option_given words)) f
+      → Explains (words_fault words) (AreInRange (asked words) (option_given words)) f
+  explained f none why = values_explain (fault_of art_index_app words) (numbers_fault (numbers_of (asked words)) (option_given words))
+      (AreInRange (asked words) (option_given words)) f none
+      (subst (λ (x : Subcommand). Explains (numbers_fault (numbers_of x) (option_given words)) (AreInRange x (option_given words)) f)
+      (sym asked_is) why)
 
 -- ---- what the matches say
 

@@ -7,3 +7,8 @@ pub mod Runs
 pub mod Numbers
 pub mod Passes
 pub mod Stepped
+pub mod Ranges
+pub mod Backs
+pub mod Loaded
+pub mod Digits
+pub mod Performed

@@ -20,33 +20,33 @@ all_digits : (text : Text) → list_all is_ascii_digit text ≡ all_ascii_digits
 all_digits [] = refl
 all_digits (c ∷ cs) = ap (λ b. is_ascii_digit c && b) (all_digits cs)
 
--- digits are read as their number, or as the most that 64 bits hold
-pub digits_read : {E : Type 0} (text : Text) (r : Result ℕ E) → ParsesUnsigned 64 10 text r → is_digits text ≡ true
-    → result_unwrap_or r (2 ^ 64 - 1) ≡ min (digits_value 10 text) (2 ^ 64 - 1)
+-- digits are read as their number, or as the most that 128 bits hold
+pub digits_read : {E : Type 0} (text : Text) (r : Result ℕ E) → ParsesUnsigned 128 10 text r → is_digits text ≡ true
+    → result_unwrap_or r (2 ^ 128 - 1) ≡ min (digits_value 10 text) (2 ^ 128 - 1)
 digits_read {E} [] r parses digits = cc
 digits_read {E} (c ∷ cs) r parses digits =
     let parts = both (not (is_empty (c ∷ cs))) (list_all is_ascii_digit (c ∷ cs)) digits in
-    go r (parse_digits (numerals_by_value _ tells_all_ascii_digits) 64 (c ∷ cs) r parses (sym (all_digits (c ∷ cs)) ∙ parts.1))
+    go r (parse_digits (numerals_by_value _ tells_all_ascii_digits) 128 (c ∷ cs) r parses (sym (all_digits (c ∷ cs)) ∙ parts.1))
   where
-    go : (r : Result ℕ E) → OkIff r ((0 < length (c ∷ cs)) × (digits_value 10 (c ∷ cs) < 2 ^ 64)) (digits_value 10 (c ∷ cs))
-        → result_unwrap_or r (2 ^ 64 - 1) ≡ min (digits_value 10 (c ∷ cs)) (2 ^ 64 - 1)
+    go : (r : Result ℕ E) → OkIff r ((0 < length (c ∷ cs)) × (digits_value 10 (c ∷ cs) < 2 ^ 128)) (digits_value 10 (c ∷ cs))
+        → result_unwrap_or r (2 ^ 128 - 1) ≡ min (digits_value 10 (c ∷ cs)) (2 ^ 128 - 1)
     go (Ok n) h = let fits = h.0.1 in let same = h.1 in omega arith
-    go (Err e) h = let wide : ¬ (digits_value 10 (c ∷ cs) < 2 ^ 64) = λ fits. h (omega arith, fits) in omega arith
+    go (Err e) h = let wide : ¬ (digits_value 10 (c ∷ cs) < 2 ^ 128) = λ fits. h (omega arith, fits) in omega arith
 
 -- ---- sizes
 
 module _ (n cap : ℕ) where
-  least_kept : 1 ≤ min n cap → 1 ≤ n
+  pub least_kept : 1 ≤ min n cap → 1 ≤ n
   least_kept h = omega arith
 
-  most_kept : (most : ℕ) → most < cap → min n cap ≤ most → n ≤ most
+  pub most_kept : (most : ℕ) → most < cap → min n cap ≤ most → n ≤ most
   most_kept most below h = omega arith
 
-  within_held : (most : ℕ) → most < cap → n ≤ most → min n cap ≡ n
+  pub within_held : (most : ℕ) → most < cap → n ≤ most → min n cap ≡ n
   within_held most below h = omega arith
 
 -- sizes that are valid as they are held are valid
-valid_before : (sizes : Config) → IsConfig (saturated sizes) → IsConfig sizes
+pub valid_before : (sizes : Config) → IsConfig (saturated sizes) → IsConfig sizes
 valid_before sizes valid = record {
   leaves = (least_kept sizes.leaves _ valid.leaves.0, most_kept sizes.leaves _ (2 ^ 20) (omega arith) valid.leaves.1);
   n4 = (least_kept sizes.n4 _ valid.n4.0, most_kept sizes.n4 _ (2 ^ 18) (omega arith) valid.n4.1);
@@ -58,7 +58,7 @@ valid_before sizes valid = record {
 }
 
 -- valid sizes are held as they are
-held_whole : (sizes : Config) → IsConfig sizes → saturated sizes ≡ sizes
+pub held_whole : (sizes : Config) → IsConfig sizes → saturated sizes ≡ sizes
 held_whole sizes valid = λ i. record {
   leaves = within_held sizes.leaves (2 ^ 32 - 1) (2 ^ 20) (omega arith) valid.leaves.1 i;
   n4 = within_held sizes.n4 (2 ^ 32 - 1) (2 ^ 18) (omega arith) valid.n4.1 i;

@@ -15,7 +15,7 @@ use Rattle.art_server.specs.ArtTable.declared.closing.CloseRefusal.TheVariants a
 use Rattle.art_server.specs.ArtTable.declared.configs.Config.{Config}
 use Rattle.art_server.specs.ArtTable.declared.passes.Pass.{Pass}
 use Rattle.art_server.specs.ArtTable.declared.tables.Table.{Table}
-use Rattle.art_sessions.specs.Laws.{IsOnlyPass}
+use Rattle.art_workers.specs.ArtSessions.Laws.{IsOnlyPass}
 use Rattle.art_step.specs.declared.views.Sizes.{Sizes}
 use Rattle.art_tools.specs.Outputs.{of_one_pass}
 use Rattle.art_tools.specs.Schedules.{AreEight, AreInPlace}

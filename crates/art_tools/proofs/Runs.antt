@@ -3,10 +3,10 @@ use Rattle.std.proofs.Common.{◌≡◌, ℕ, ◌+◌, Bool, false, if◌then◌
 use Rattle.std.proofs.Math.Seq.{take-length}
 use Rattle.std.specs.Option.{option_or}
 use Rattle.std.specs.Io.KnownBytes.{IsAtEnd}
-use Rattle.art_sessions.proofs.OneMap.{sessions_alone_are_one_map}
-use Rattle.art_sessions.proofs.Alone.{closed_alone}
-use Rattle.art_sessions.specs.Laws.{IsOneMap, IsOnlyPass}
-use Rattle.art_sessions.specs.Maps.{MapAnswersLines}
+use Rattle.art_workers.proofs.ArtSessions.OneMap.{sessions_alone_are_one_map}
+use Rattle.art_workers.proofs.ArtSessions.Alone.{closed_alone}
+use Rattle.art_workers.specs.ArtSessions.Laws.{IsOneMap, IsOnlyPass}
+use Rattle.art_workers.specs.ArtSessions.Maps.{MapAnswersLines}
 use Rattle.art_key.specs.Histories.{replay}
 use Rattle.art_key.specs.declared.columns.Column.{Column}
 use Rattle.art_key.specs.declared.events.Event.{Event}
@@ -26,8 +26,8 @@ use Rattle.art_server.specs.ArtTable.declared.passes.Pass.{Pass}
 use Rattle.art_server.specs.ArtTable.declared.tables.Table.{Table}
 use Rattle.art_tools.specs.Outputs.{HasOutput, Outputs}
 use Rattle.art_tools.specs.declared.run_faults.RunFault.{RunFault}
-use Rattle.art_tools.specs.declared.run_faults.RunFault.TheVariants.{ReadFailed, WriteFailed, Refused, NoMemory, ReadsUsed, BadLine}
-use Rattle.art_tools.specs.Statuses.{fault_at, fault_in, schedule_fault, status_after}
+use Rattle.art_tools.specs.declared.run_faults.RunFault.TheVariants.{ReadFailed, WriteFailed, Refused, NoMemory, ReadsUsed, BadLine, CannotListen}
+use Rattle.art_tools.specs.Statuses.{fault_at, fault_in, schedule_fault, status_after, status_told}
 
 -- no fault is told only where there was none before the closing
 pub where_ended : {A B : Type 0} (r : Result A RunFault) (told : Option RunFault) (closed : Result B RunFault) (Q : Type 0)
@@ -194,31 +194,68 @@ not_refused schedule.WriteFault refusal e = cc
 not_refused schedule.NoMemory refusal e = cc
 not_refused schedule.ReadsUsed refusal e = cc
 
+-- ---- what is told of a result
+
+pub ok_untold : {A P : Type 0} (r : Result A RunFault) → OnOk r P → fault_in r ≡ None → P
+ok_untold (Ok a) holds none = holds
+ok_untold (Err fault) holds none = absurd (cc)
+
+pub err_told : {A : Type 0} (r : Result A RunFault) (fault : RunFault) → fault_in r ≡ Some fault → r ≡ Err fault
+err_told (Ok a) fault is = absurd (cc)
+err_told (Err other) fault is = let same : other ≡ fault = cc in ap (λ (f : RunFault). Err f) same
+
 -- ---- the statuses that say so
 
-pub five_is_used : {A : Type 0} (r : Result A RunFault) → status_after r ≡ 5 → r ≡ Err ReadsUsed
-five_is_used (Ok a) e = absurd (cc)
-five_is_used (Err ReadFailed) e = absurd (cc)
-five_is_used (Err WriteFailed) e = absurd (cc)
-five_is_used (Err (Refused refusal)) e = absurd (cc)
-five_is_used (Err NoMemory) e = absurd (cc)
-five_is_used (Err ReadsUsed) e = refl
-five_is_used (Err (BadLine line)) e = absurd (cc)
+pub status_tells : {A : Type 0} (r : Result A RunFault) (status n : ℕ) → status ≡ status_after r → status ≡ n → status_told (fault_in r) ≡ n
+status_tells (Ok a) status n of is = sym of ∙ is
+status_tells (Err fault) status n of is = sym of ∙ is
 
-pub six_is_line : {A : Type 0} (r : Result A RunFault) → status_after r ≡ 6 → (line : ℕ) × (r ≡ Err (BadLine line))
-six_is_line (Ok a) e = absurd (cc)
-six_is_line (Err ReadFailed) e = absurd (cc)
-six_is_line (Err WriteFailed) e = absurd (cc)
-six_is_line (Err (Refused refusal)) e = absurd (cc)
-six_is_line (Err NoMemory) e = absurd (cc)
-six_is_line (Err ReadsUsed) e = absurd (cc)
-six_is_line (Err (BadLine line)) e = (line, refl)
+pub zero_tells : (told : Option RunFault) → status_told told ≡ 0 → told ≡ None
+zero_tells None e = refl
+zero_tells (Some ReadFailed) e = absurd (cc)
+zero_tells (Some WriteFailed) e = absurd (cc)
+zero_tells (Some (Refused refusal)) e = absurd (cc)
+zero_tells (Some NoMemory) e = absurd (cc)
+zero_tells (Some ReadsUsed) e = absurd (cc)
+zero_tells (Some (BadLine line)) e = absurd (cc)
+zero_tells (Some CannotListen) e = absurd (cc)
 
-pub three_is_refused : {A : Type 0} (r : Result A RunFault) → status_after r ≡ 3 → (refusal : Refusal) × (r ≡ Err (Refused refusal))
-three_is_refused (Ok a) e = absurd (cc)
-three_is_refused (Err ReadFailed) e = absurd (cc)
-three_is_refused (Err WriteFailed) e = absurd (cc)
-three_is_refused (Err (Refused refusal)) e = (refusal, refl)
-three_is_refused (Err NoMemory) e = absurd (cc)
-three_is_refused (Err ReadsUsed) e = absurd (cc)
-three_is_refused (Err (BadLine line)) e = absurd (cc)
+pub three_tells : (told : Option RunFault) → status_told told ≡ 3 → (refusal : Refusal) × (told ≡ Some (Refused refusal))
+three_tells None e = absurd (cc)
+three_tells (Some ReadFailed) e = absurd (cc)
+three_tells (Some WriteFailed) e = absurd (cc)
+three_tells (Some (Refused refusal)) e = (refusal, refl)
+three_tells (Some NoMemory) e = absurd (cc)
+three_tells (Some ReadsUsed) e = absurd (cc)
+three_tells (Some (BadLine line)) e = absurd (cc)
+three_tells (Some CannotListen) e = absurd (cc)
+
+pub five_tells : (told : Option RunFault) → status_told told ≡ 5 → told ≡ Some ReadsUsed
+five_tells None e = absurd (cc)
+five_tells (Some ReadFailed) e = absurd (cc)
+five_tells (Some WriteFailed) e = absurd (cc)
+five_tells (Some (Refused refusal)) e = absurd (cc)
+five_tells (Some NoMemory) e = absurd (cc)
+five_tells (Some ReadsUsed) e = refl
+five_tells (Some (BadLine line)) e = absurd (cc)
+five_tells (Some CannotListen) e = absurd (cc)
+
+pub six_tells : (told : Option RunFault) → status_told told ≡ 6 → (line : ℕ) × (told ≡ Some (BadLine line))
+six_tells None e = absurd (cc)
+six_tells (Some ReadFailed) e = absurd (cc)
+six_tells (Some WriteFailed) e = absurd (cc)
+six_tells (Some (Refused refusal)) e = absurd (cc)
+six_tells (Some NoMemory) e = absurd (cc)
+six_tells (Some ReadsUsed) e = absurd (cc)
+six_tells (Some (BadLine line)) e = (line, refl)
+six_tells (Some CannotListen) e = absurd (cc)
+
+pub seven_tells : (told : Option RunFault) → status_told told ≡ 7 → told ≡ Some CannotListen
+seven_tells None e = absurd (cc)
+seven_tells (Some ReadFailed) e = absurd (cc)
+seven_tells (Some WriteFailed) e = absurd (cc)
+seven_tells (Some (Refused refusal)) e = absurd (cc)
+seven_tells (Some NoMemory) e = absurd (cc)
+seven_tells (Some ReadsUsed) e = absurd (cc)
+seven_tells (Some (BadLine line)) e = absurd (cc)
+seven_tells (Some CannotListen) e = refl

@@ -31,14 +31,8 @@ use Rattle.art_tools.specs.Statuses.{fault_at, fault_in, schedule_fault, status_
 use Rattle.art_tools.specs.declared.run_faults.RunFault.{RunFault}
 use Rattle.art_tools.specs.declared.run_faults.RunFault.TheVariants as fault
 
-nothing_read : (left held : Option (List ℕ)) → NothingRead left left held held
+pub nothing_read : (left held : Option (List ℕ)) → NothingRead left left held held
 nothing_read left held = record { consumes = Consumes-nil left; appends = Appends-nil held }
-
--- there is no table
-pub steps_unopened : (schema : Result (List Column) SchemaFault) (sizes : Config) (left held : Option (List ℕ)) (told : Option RunFault)
-    → IsUnopened told → Steps schema sizes left left held held told
-steps_unopened (Ok schema) sizes left held told why = inr (nothing_read left held, why)
-steps_unopened (Err fault) sizes left held told why = (nothing_read left held, why)
 
 pub unopened_fault : (why : OpenFault) → IsUnopened (Some (unopened why))
 unopened_fault opening.BadConfig = inr (_, refl)
@@ -87,11 +81,6 @@ steps_ran (Ok schema) columns sizes left left_after held held_after t passes bac
 steps_ran (Err fault) columns sizes left left_after held held_after t passes back end r closed is opened runs come shut told none = absurd (cc)
 
 -- the same of a session
-pub runs_unopened : (schema : Result (List Column) SchemaFault) (sizes : Config) (left held : Option (List ℕ)) (told : Option RunFault)
-    → IsUnopened told → Runs schema sizes left left held held told
-runs_unopened (Ok schema) sizes left held told why = inr (nothing_read left held, why)
-runs_unopened (Err fault) sizes left held told why = (nothing_read left held, why)
-
 pub runs_ran : {A B : Type 0} (schema : Result (List Column) SchemaFault) (columns : List Column) (sizes : Config)
     (left left_after held held_after : Option (List ℕ)) (t : Table) (p q : Pass) (end : SessionEnd) (r : Result A RunFault)
     (closed : Result B RunFault)
@@ -133,3 +122,4 @@ reads_told (Err (fault.Refused refusal)) old new failed used = tt
 reads_told (Err fault.NoMemory) old new failed used = tt
 reads_told (Err fault.ReadsUsed) old new failed used = used refl
 reads_told (Err (fault.BadLine line)) old new failed used = tt
+reads_told (Err fault.CannotListen) old new failed used = tt

@@ -5,8 +5,6 @@ use Rattle.clap.specs.Values.{kind_of}
 use Rattle.clap.specs.declared.error.Error.{Error}
 use Rattle.clap.specs.declared.error.kind.ErrorKind.{ErrorKind}
 use Rattle.clap.specs.declared.error.kind.ErrorKind.TheVariants.{OutOfMemory}
-use Rattle.art_server.specs.ArtTable.declared.configs.Config.{Config}
-use Rattle.art_server.specs.ArtTable.Sizes.{IsConfig}
 use Rattle.art_tools.specs.declared.settings.SettingsFault.{SettingsFault}
 use Rattle.art_tools.specs.declared.settings.SettingsFault.TheVariants.{Usage, Range, NoMemory}
 
@@ -18,9 +16,9 @@ fault_by kind error = Usage error
 abbrev pub fault_from : Error → SettingsFault
 fault_from error = fault_by (kind_of error) error
 
--- Why there are no settings, where the words have a fault of one of the kinds, or ask for these sizes: the error has
--- one of the kinds; or the words are right, and a size is out of its range; or memory ran out.
-abbrev pub Explains : Kinds → Config → SettingsFault → Type 0
-Explains kinds sizes (Usage error) = IsAmong (kind_of error) kinds
-Explains kinds sizes Range = (kinds ≡ []) × ¬ (IsConfig sizes)
-Explains kinds sizes NoMemory = ⊤
+-- Why there are no settings, where the words have a fault of one of the kinds, or ask for numbers that may not fit: the error has one of the
+-- kinds; or the words are right, and a number is out of its range; or memory ran out.
+abbrev pub Explains : Kinds → Type 0 → SettingsFault → Type 0
+Explains kinds fits (Usage error) = IsAmong (kind_of error) kinds
+Explains kinds fits Range = (kinds ≡ []) × ¬ fits
+Explains kinds fits NoMemory = ⊤

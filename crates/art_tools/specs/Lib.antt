@@ -6,3 +6,8 @@ pub mod Settings
 pub mod Statuses
 pub mod Told
 pub mod Sessions
+pub mod Ranges
+pub mod Tables
+pub mod Loads
+pub mod Servers
+pub mod Programs

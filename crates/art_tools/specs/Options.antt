@@ -1,5 +1,5 @@
--- The options of a table: what is given to them, and what stands where one is left out.
-use Rattle.std.specs.Prelude.{◌≡◌, ℕ, ◌-◌, ◌^◌, min, Bool, true, not, ◌&&◌, List, [], ◌∷◌, Option, Some, if◌then◌else◌, codes, fold, map, unwrap_or}
+-- The options of each subcommand: what is given to them, and what stands where one is left out.
+use Rattle.std.specs.Prelude.{◌≡◌, ℕ, ◌-◌, ◌^◌, min, Bool, true, not, ◌&&◌, List, [], ◌∷◌, ◌++◌, Option, Some, if◌then◌else◌, codes, fold, map, unwrap_or}
 use Rattle.std.specs.Char.{is_ascii_digit}
 use Rattle.std.specs.List.{list_all}
 use Rattle.std.specs.Option.{option_map_or}
@@ -15,14 +15,44 @@ use Rattle.art_tools.specs.declared.settings.TableSettings.{TableSettings}
 abbrev pub option_rule : Text → Rule
 option_rule name = record (new_rule name) { long = Some name; value_names = 1 }
 
--- the options whose values are numbers
-abbrev pub number_options : List Text
-number_options =
-    codes "leaves" ∷ codes "n4" ∷ codes "n16" ∷ codes "n48" ∷ codes "n256" ∷ codes "counter-start" ∷ []
+-- the same, which may not be left out
+abbrev pub required_rule : Text → Rule
+required_rule name = record (option_rule name) { required = true }
 
--- a command with the options of a table added
+-- the options for the sizes of a table
+abbrev pub size_options : List Text
+size_options = codes "leaves" ∷ codes "n4" ∷ codes "n16" ∷ codes "n48" ∷ codes "n256" ∷ codes "counter-start" ∷ []
+
+-- the other options of a load, and of a server
+abbrev pub own_load_options : List Text
+own_load_options = codes "threads" ∷ codes "ops" ∷ codes "seed" ∷ codes "keys" ∷ []
+
+abbrev pub own_serve_options : List Text
+own_serve_options = codes "port" ∷ codes "workers" ∷ codes "sessions" ∷ []
+
+-- the options of each whose values are numbers
+abbrev pub load_options : List Text
+load_options = size_options ++ own_load_options
+
+abbrev pub serve_options : List Text
+serve_options = size_options ++ own_serve_options
+
+-- a command with options added
+abbrev pub with_options : List Rule → App → App
+with_options rules app = fold with_rule app rules
+
+abbrev pub with_size_options : App → App
+with_size_options app = with_options (map option_rule size_options) app
+
 abbrev pub with_table_options : App → App
-with_table_options app = fold with_rule app (map option_rule (codes "schema" ∷ number_options))
+with_table_options app = with_size_options (with_rule app (option_rule (codes "schema")))
+
+abbrev pub with_load_options : App → App
+with_load_options app = with_size_options (with_options (map option_rule own_load_options) app)
+
+abbrev pub with_serve_options : App → App
+with_serve_options app =
+    with_table_options (with_options (required_rule (codes "port") ∷ map option_rule (codes "workers" ∷ codes "sessions" ∷ [])) app)
 
 -- the value that is given to each option, by the option's name
 abbrev pub Given : Type 0
@@ -40,9 +70,9 @@ has_digits given name = option_map_or is_digits (given name) true
 abbrev pub number_given : Given → Text → ℕ → ℕ
 number_given given name default = option_map_or (digits_value 10) (given name) default
 
--- a value that should be a number and is no row of digits
-abbrev pub numbers_fault : Given → Kinds
-numbers_fault given = if list_all (has_digits given) number_options then [] else ValueValidation ∷ []
+-- the value of one of these options should be a number, and is no row of digits
+abbrev pub numbers_fault : List Text → Given → Kinds
+numbers_fault names given = if list_all (has_digits given) names then [] else ValueValidation ∷ []
 
 -- the schema that is given, or `u64`
 abbrev pub schema_given : Given → Text

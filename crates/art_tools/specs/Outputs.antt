@@ -1,7 +1,7 @@
 -- What `run` writes for an input.
 use Rattle.std.specs.Prelude.{◌≡◌, ℕ, List, [], Option, IfSome, Result, Ok, Err}
 use Rattle.std.specs.Io.KnownBytes.{Appends}
-use Rattle.art_sessions.specs.Maps.{MapAnswersLines}
+use Rattle.art_workers.specs.ArtSessions.Maps.{MapAnswersLines}
 use Rattle.art_key.specs.declared.columns.Column.{Column}
 use Rattle.art_key.specs.declared.faults.SchemaFault.{SchemaFault}
 use Rattle.art_model.specs.declared.commands.Reply.{Reply}

@@ -2,7 +2,7 @@
 use Rattle.std.specs.Prelude.{◌≡◌, ◌⊎◌, ℕ, List, [], ◌∷◌, take, Option, Result, Ok, Err}
 use Rattle.art_key.specs.declared.columns.Column.{Column}
 use Rattle.art_key.specs.declared.faults.SchemaFault.{SchemaFault}
-use Rattle.art_sessions.specs.Maps.{MapAnswersLines}
+use Rattle.art_workers.specs.ArtSessions.Maps.{MapAnswersLines}
 use Rattle.art_model.specs.declared.rows.Row.{Row}
 use Rattle.art_server.specs.Sessions.{RunsSession, begun}
 use Rattle.art_server.specs.Streams.{lines_of}

@@ -11,7 +11,9 @@ use Rattle.art_schedule.specs.declared.stops.ScheduleEnd.TheVariants as schedule
 use Rattle.art_server.specs.declared.sessions.EndCause.{EndCause}
 use Rattle.art_server.specs.declared.sessions.EndCause.TheVariants as end
 use Rattle.art_tools.specs.declared.run_faults.RunFault.{RunFault}
-use Rattle.art_tools.specs.declared.run_faults.RunFault.TheVariants.{ReadFailed, WriteFailed, Refused, NoMemory, ReadsUsed, BadLine}
+use Rattle.art_workers.specs.declared.faults.ServeFault.{ServeFault}
+use Rattle.art_workers.specs.declared.faults.ServeFault.TheVariants as serve
+use Rattle.art_tools.specs.declared.run_faults.RunFault.TheVariants.{ReadFailed, WriteFailed, Refused, NoMemory, ReadsUsed, BadLine, CannotListen}
 
 abbrev pub status_of : RunFault → ℕ
 status_of ReadFailed = 1
@@ -20,6 +22,7 @@ status_of (Refused refusal) = 3
 status_of NoMemory = 4
 status_of ReadsUsed = 5
 status_of (BadLine line) = 6
+status_of CannotListen = 7
 
 -- what is printed of a fault
 abbrev pub fault_text : RunFault → List ℕ
@@ -29,6 +32,7 @@ fault_text (Refused refusal) = refusal_text refusal
 fault_text NoMemory = codes "no memory"
 fault_text ReadsUsed = codes "reads used up"
 fault_text (BadLine line) = codes "schedule line " ++ decimal line
+fault_text CannotListen = codes "cannot listen"
 
 -- what is wrong where the table is not opened
 abbrev pub unopened : OpenFault → RunFault
@@ -39,6 +43,11 @@ unopened opening.NoMemory = NoMemory
 abbrev pub unclosed : CloseRefusal → RunFault
 unclosed close.PassesMissing = Refused PassesMissing
 unclosed close.NoMemory = NoMemory
+
+-- what is wrong where a server does not answer all its sessions
+abbrev pub unserved : ServeFault → RunFault
+unserved serve.Accept = CannotListen
+unserved serve.NoMemory = NoMemory
 
 -- what is wrong where a session ends for a cause
 abbrev pub fault_at : EndCause → Option RunFault

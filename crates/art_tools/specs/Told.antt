@@ -9,7 +9,7 @@ use Rattle.art_server.specs.ArtTable.declared.closing.Closed.{Closed}
 use Rattle.art_server.specs.ArtTable.declared.passes.Pass.{Pass}
 use Rattle.art_server.specs.ArtTable.declared.tables.Table.{Table}
 use Rattle.art_tools.specs.declared.run_faults.RunFault.{RunFault}
-use Rattle.art_tools.specs.declared.run_faults.RunFault.TheVariants.{ReadFailed, WriteFailed, Refused, NoMemory, ReadsUsed, BadLine}
+use Rattle.art_tools.specs.declared.run_faults.RunFault.TheVariants.{ReadFailed, WriteFailed, Refused, NoMemory, ReadsUsed, BadLine, CannotListen}
 
 -- nothing was read, and nothing written
 pub record NothingRead (left left_after held held_after : Option (List ℕ)) : Type 0 where
@@ -40,3 +40,4 @@ AreReadsTold (Some (Refused refusal)) old new = ⊤
 AreReadsTold (Some NoMemory) old new = ⊤
 AreReadsTold (Some ReadsUsed) old new = MakesReads old new end.ReadsUsed
 AreReadsTold (Some (BadLine line)) old new = ⊤
+AreReadsTold (Some CannotListen) old new = ⊤

@@ -1,5 +1,5 @@
 //! The program over a reader, a writer and a writer for faults.
-ghost use Rattle.std.specs.Prelude.{◌≡◌, ◌≢◌, ◌⊎◌, ◌↔◌, ◌≤◌, ℕ, [], ◌∷◌, Option, Ok, Err, codes, IsErr, IsOk, IfErr, IfOk, OnOk};
+ghost use Rattle.std.specs.Prelude.{◌≡◌, ◌≢◌, ◌⊎◌, ◌↔◌, ◌≤◌, ℕ, [], ◌∷◌, Option, Ok, Err, IsErr, IsOk, IfErr, IfOk, OnOk};
 ghost use Rattle.std.specs.Io.KnownBytes.{IsAtEnd};
 ghost use Rattle.std.specs.Option.{option_or};
 ghost use Rattle.clap.specs.Values.{kind_of};
@@ -16,74 +16,99 @@ ghost use Rattle.art_server.specs.declared.refusals.Refusal.{Refusal};
 ghost use Rattle.art_server.specs.ArtTable.Tables.{IsPassOf, number_of, seen_by, sizes_in};
 ghost use Rattle.art_server.specs.ArtTable.declared.closing.Closed.{Closed as ClosedOf};
 ghost use Rattle.art_tools.specs.Outputs.{Outputs, of_one_pass};
-ghost use Rattle.art_tools.specs.Schedules.{Steps};
 ghost use Rattle.art_tools.specs.Sessions.{Runs};
 ghost use Rattle.art_tools.specs.Statuses.{fault_at, fault_in, status_after, status_told};
 ghost use Rattle.art_tools.specs.Told.{AreReadsTold};
 ghost use Rattle.art_tools.specs.declared.run_faults.RunFault.{RunFault as RunFaultOf};
-ghost use Rattle.art_tools.specs.Settings.{faults_of, AsksFor, AsksToShow, schema_asked, sizes_asked};
+ghost use Rattle.art_tools.specs.Settings.{faults_of, AsksFor, AsksToShow, IsInRange, asked_of, load, run as run_asked, schema_asked, serve, step as step_asked};
+ghost use Rattle.art_tools.specs.Programs.{HasDone, IsReady, Performs, ReadsLines};
 
 use crate::command_line::settings;
+use crate::loads::load_table;
 use crate::run_faults::RunFault;
 use crate::schedules::step;
+use crate::servers::serve_table;
 use crate::settings::{Settings, SettingsFault};
 use art_key::Schema;
 use art_server::art_table::{Config, OpenFault, Pass, Table, close, open};
 use art_server::{Counted, EndCause, NoGate, Refusal, session};
 use std::alloc::Global;
 use std::io::{self, Read, Write};
+use std::net::{Net, TcpListener, TcpStream};
+use std::sync::Wait;
+use std::thread::Threads;
 
 /// Does what the words ask for, and answers the status that the program ends with.
 ///
-/// Replies, help and the version go to `writer`, and what was wrong goes to `faults`, in one line. 0: ended, or help;
-/// 1: a read or a write failed; 2: the words were refused; 3: a number is out of its range, or the schema is none;
-/// 4: want of memory; 5: a million reads were made, each of which gave bytes; 6: a line of a schedule is none.
-pub fn execute<'a, R: Read, W: Write, E: Write>(
+/// Replies, help and the version go to `writer`, and what was wrong goes to `faults`, in one line; so does where a server listens. 0: ended,
+/// or help; 1: a read or a write failed; 2: the words were refused; 3: a number is out of its range, or the schema is none; 4: want of
+/// memory; 5: a million reads were made, each of which gave bytes; 6: a line of a schedule is none; 7: there is no listener, or a
+/// connection could not be accepted.
+pub fn execute<'a, H, R: Read, W: Write, E: Write>(
+    rt: &H,
     alloc: Global,
     words: &'a [&'a str],
     reader: &mut Counted<R>,
     writer: &mut W,
     faults: &mut E,
 ) -> u8
-    ensures status { result ≤ 6 }
+where
+    H: Threads + Wait + Sync + Net<Listener = TcpListener, Stream = TcpStream>,
+    ensures status { result ≤ 7 }
     ensures quiet { result ≡ 2 → writer.new ≡ writer.old }
     ensures mistake { faults_of words.entry.now ≢ [] → (¬ (AsksToShow words.entry.now)) → (result ≡ 2) ⊎ (result ≡ 4) }
     ensures help { faults_of words.entry.now ≡ DisplayHelp ∷ [] → result ≢ 2 }
     ensures version { faults_of words.entry.now ≡ DisplayVersion ∷ [] → result ≢ 2 }
     ensures words { result ≡ 2 → faults_of words.entry.now ≢ [] }
-    ensures range { faults_of words.entry.now ≡ [] → (¬ (IsConfig (sizes_asked words.entry.now)))
-        → (result ≡ 3) ⊎ (result ≡ 4) }
-    ensures schema { (fault : SchemaFault) → faults_of words.entry.now ≡ [] → schema_asked words.entry.now ≡ Err fault
-        → (result ≡ 3) ⊎ (result ≡ 4) }
+    ensures range { faults_of words.entry.now ≡ [] → (¬ (IsInRange words.entry.now)) → (result ≡ 3) ⊎ (result ≡ 4) }
+    ensures schema { (fault : SchemaFault) → faults_of words.entry.now ≡ [] → (¬ (AsksFor words.entry.now load))
+        → schema_asked words.entry.now ≡ Err fault → (result ≡ 3) ⊎ (result ≡ 4) }
     ensures refused { result ≡ 3 → (faults_of words.entry.now ≡ [])
-        × ((¬ (IsConfig (sizes_asked words.entry.now))) ⊎ IsErr (schema_asked words.entry.now)) }
-    ensures ended { faults_of words.entry.now ≡ [] → result ≡ 0 → IsAtEnd (R.remaining (reader_of reader.new)) }
-    ensures ran { faults_of words.entry.now ≡ [] → AsksFor words.entry.now (codes "run") → result ≡ 0
+        × ((¬ (IsInRange words.entry.now)) ⊎ IsErr (schema_asked words.entry.now)) }
+    ensures ended { faults_of words.entry.now ≡ [] → ReadsLines (asked_of words.entry.now) → result ≡ 0
+        → IsAtEnd (R.remaining (reader_of reader.new)) }
+    ensures ran { faults_of words.entry.now ≡ [] → AsksFor words.entry.now run_asked → result ≡ 0
         → Outputs (schema_asked words.entry.now) (R.remaining (reader_of reader.old)) (W.contents writer.old) (W.contents writer.new) }
-    ensures stepped { faults_of words.entry.now ≡ [] → AsksFor words.entry.now (codes "step") → (told : Option RunFaultOf)
-        × Steps (schema_asked words.entry.now) (sizes_asked words.entry.now) (R.remaining (reader_of reader.old))
-        (R.remaining (reader_of reader.new)) (W.contents writer.old) (W.contents writer.new) told × (result ≡ status_told told)
-        × AreReadsTold told (reads_of reader.old) (reads_of reader.new) }
-    ensures session { faults_of words.entry.now ≡ [] → AsksFor words.entry.now (codes "run") → (told : Option RunFaultOf)
-        × Runs (schema_asked words.entry.now) (sizes_asked words.entry.now) (R.remaining (reader_of reader.old))
-        (R.remaining (reader_of reader.new)) (W.contents writer.old) (W.contents writer.new) told × (result ≡ status_told told)
+    ensures performs { faults_of words.entry.now ≡ [] → (told : Option RunFaultOf)
+        × Performs (asked_of words.entry.now) words.entry.now (R.remaining (reader_of reader.old)) (R.remaining (reader_of reader.new))
+        (W.contents writer.old) (W.contents writer.new) told × (result ≡ status_told told)
         × AreReadsTold told (reads_of reader.old) (reads_of reader.new) }
     ensures reads { AddsReads (reads_of reader.old) (reads_of reader.new) }
     ensures used { result ≡ 5 → MakesReads (reads_of reader.old) (reads_of reader.new) EndCause.ReadsUsed }
-    ensures line { result ≡ 6 → (faults_of words.entry.now ≡ []) × AsksFor words.entry.now (codes "step") }
+    ensures line { result ≡ 6 → (faults_of words.entry.now ≡ []) × AsksFor words.entry.now step_asked }
+    ensures listener { result ≡ 7 → (faults_of words.entry.now ≡ []) × AsksFor words.entry.now serve }
 {
     match settings(alloc, words) {
-        Ok(Settings::Run(table)) => status(
-            faults,
-            run(alloc, table.schema, table.sizes, reader, writer),
-        ),
-        Ok(Settings::Step(table)) => status(
-            faults,
-            step(alloc, table.schema, table.sizes, reader, writer),
-        ),
+        Ok(asked) => {
+            let ended = perform(rt, alloc, asked, reader, writer, faults);
+            status(faults, ended)
+        }
         Err(SettingsFault::Usage(error)) => tell_usage(&error, writer, faults),
         Err(SettingsFault::Range) => status(faults, Err(RunFault::Refused(Refusal::BadConfig))),
         Err(SettingsFault::NoMemory) => status(faults, Err(RunFault::NoMemory)),
+    }
+}
+
+/// Does what the settings ask for. Where a server listens goes to `notes`.
+fn perform<H, R: Read, W: Write, E: Write>(
+    rt: &H,
+    alloc: Global,
+    asked: Settings<'_>,
+    reader: &mut Counted<R>,
+    writer: &mut W,
+    notes: &mut E,
+) -> Result<(), RunFault>
+where
+    H: Threads + Wait + Sync + Net<Listener = TcpListener, Stream = TcpStream>,
+    requires { IsReady asked }
+    ensures { HasDone asked.entry (R.remaining (reader_of reader.old)) (R.remaining (reader_of reader.new)) (W.contents writer.old)
+        (W.contents writer.new) (reads_of reader.old) (reads_of reader.new) (fault_in result) }
+{
+    match asked {
+        Settings::Run(table) => run(alloc, table.schema, table.sizes, reader, writer),
+        Settings::Step(table) => step(alloc, table.schema, table.sizes, reader, writer),
+        Settings::Load(asked) => load_table(rt, alloc, asked, writer),
+        Settings::Serve(asked) => serve_table(rt, alloc, asked, writer, notes),
     }
 }
 

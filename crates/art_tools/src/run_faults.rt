@@ -3,9 +3,11 @@ ghost use Rattle.std.specs.Prelude.{◌≡◌, ◌≢◌};
 ghost use Rattle.art_tools.specs.Statuses.{status_of};
 
 use art_key::SchemaFault;
+use art_load::LoadFault;
 use art_server::Refusal;
 use art_server::art_table::{CloseRefusal, OpenFault};
-use std::alloc::AllocFailed;
+use art_workers::ServeFault;
+use std::alloc::{AllocError, AllocFailed};
 use std::error::Error;
 use std::fmt;
 
@@ -24,10 +26,12 @@ pub enum RunFault {
     ReadsUsed,
     /// This line of a schedule is none, where lines count from 1.
     BadLine(u64),
+    /// There is no listener, or a connection could not be accepted.
+    CannotListen,
 }
 
 impl RunFault {
-    /// The status that the program ends with: 1, or 3 to 6.
+    /// The status that the program ends with: 1, or 3 to 7.
     pub fn status(self) -> u8
         ensures of { result ≡ status_of self }
         ensures other { result ≢ 2 }
@@ -38,6 +42,7 @@ impl RunFault {
             RunFault::NoMemory => 4,
             RunFault::ReadsUsed => 5,
             RunFault::BadLine(_) => 6,
+            RunFault::CannotListen => 7,
         }
     }
 }
@@ -56,6 +61,7 @@ impl fmt::Display for RunFault {
             RunFault::NoMemory => f.write_str("no memory"),
             RunFault::ReadsUsed => f.write_str("reads used up"),
             RunFault::BadLine(line) => write!(f, "schedule line {line}"),
+            RunFault::CannotListen => f.write_str("cannot listen"),
         }
     }
 }
@@ -99,6 +105,44 @@ impl From<CloseRefusal> for RunFault {
             CloseRefusal::PassesMissing => RunFault::Refused(Refusal::PassesMissing),
             CloseRefusal::NoMemory => RunFault::NoMemory,
         }
+    }
+}
+
+impl From<LoadFault> for RunFault {
+    ghost use Rattle.std.specs.Prelude.{◌≡◌};
+    ghost use Rattle.art_tools.specs.declared.run_faults.RunFault.TheVariants.{NoMemory};
+
+    ghost from_gives = { λ _ e. e ≡ NoMemory };
+
+    fn from(fault: LoadFault) -> RunFault {
+        match fault {
+            LoadFault::NoMemory => RunFault::NoMemory,
+        }
+    }
+}
+
+impl From<ServeFault> for RunFault {
+    ghost use Rattle.std.specs.Prelude.{◌≡◌};
+    ghost use Rattle.art_tools.specs.Statuses.{unserved};
+
+    ghost from_gives = { λ fault e. e ≡ unserved fault };
+
+    fn from(fault: ServeFault) -> RunFault {
+        match fault {
+            ServeFault::Accept => RunFault::CannotListen,
+            ServeFault::NoMemory => RunFault::NoMemory,
+        }
+    }
+}
+
+impl From<AllocError> for RunFault {
+    ghost use Rattle.std.specs.Prelude.{◌≡◌};
+    ghost use Rattle.art_tools.specs.declared.run_faults.RunFault.TheVariants.{NoMemory};
+
+    ghost from_gives = { λ _ e. e ≡ NoMemory };
+
+    fn from(_refused: AllocError) -> RunFault {
+        RunFault::NoMemory
     }
 }
 

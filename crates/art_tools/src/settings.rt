@@ -14,6 +14,10 @@ pub enum Settings<'a> {
     Run(TableSettings<'a>),
     /// `step`: a schedule of single steps.
     Step(TableSettings<'a>),
+    /// `load`: commands of many threads, counted.
+    Load(LoadSettings),
+    /// `serve`: sessions over sockets.
+    Serve(ServeSettings<'a>),
 }
 
 /// What a table is opened with.
@@ -24,6 +28,34 @@ pub struct TableSettings<'a> {
     /// The numbers, for a table of one pass: each subcommand opens its table with as many as it has. One that its field cannot hold
     /// stands there as the most that it can.
     pub sizes: Config,
+}
+
+/// What a load is made with. Its table has one column, `u64`.
+#[derive(Clone, Copy)]
+pub struct LoadSettings {
+    /// The numbers, for a table of one pass.
+    pub sizes: Config,
+    /// `--threads`: 1 to 32.
+    pub threads: u32,
+    /// `--ops`: how many commands each thread makes, at most 1,000,000.
+    pub ops: u32,
+    /// `--seed`: where the drawing of keys begins.
+    pub seed: u64,
+    /// `--keys`: how many keys there are, from 1 on.
+    pub keys: u64,
+}
+
+/// What a server is started with.
+#[derive(Clone, Copy)]
+pub struct ServeSettings<'a> {
+    /// The options of its table.
+    pub table: TableSettings<'a>,
+    /// `--port`: from 1 on.
+    pub port: u16,
+    /// `--workers`: 1 to 32.
+    pub workers: u32,
+    /// `--sessions`: after how many it ends.
+    pub sessions: u32,
 }
 
 /// Why there are no settings.

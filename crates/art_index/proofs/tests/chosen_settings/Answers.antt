@@ -5,8 +5,8 @@ use Rattle.clap.proofs.OnLiterals.{clap_on_literals}
 use Rattle.art_server.specs.ArtTable.Sizes.{IsConfig}
 use Rattle.art_tools.specs.Faults.{Explains}
 use Rattle.art_tools.specs.Options.{Given, schema_given, sizes_given}
-use Rattle.art_tools.specs.Settings.{IsAskedBy, option_given, subcommand_given, words_fault}
-use Rattle.art_tools.proofs.Known.{only_memory, settings_known}
+use Rattle.art_tools.specs.Settings.{AreInRange, IsAskedBy, Subcommand, asked, option_given, subcommand_given, words_fault}
+use Rattle.art_tools.proofs.Known.{asks_for_run, only_memory, settings_known}
 use Rattle.art_index.proofs.tests.chosen_settings.Goals as goal
 
 abbrev words : List Text
@@ -42,6 +42,9 @@ valid = record {
   counter_start = lit≤ tt;
 }
 
+in_range : AreInRange (asked words) (option_given words)
+in_range = subst (λ (s : Subcommand). AreInRange s (option_given words)) (sym (asks_for_run words runs)) (subst IsConfig (sym sizes_are) valid)
+
 pub returns-clause-ok : goal.returns-clause-ok
 returns-clause-ok c =
     let words_are : map (λ s. s.now) c.as_slice.result.now ≡ words = search rules in
@@ -50,6 +53,6 @@ returns-clause-ok c =
 pub returns-clause-err : goal.returns-clause-err
 returns-clause-err c =
     let words_are : map (λ s. s.now) c.as_slice.result.now ≡ words = search rules in
-    only_memory (words_fault words) (sizes_given (option_given words)) c.settings.result _ no_fault (subst IsConfig (sym sizes_are) valid)
-    (subst (λ (w : List Text). MatchResult c.settings.result (λ _. (words_fault w ≡ []) × IsConfig (sizes_given (option_given w)))
-    (Explains (words_fault w) (sizes_given (option_given w)))) words_are c.settings.ensures.refused)
+    only_memory (words_fault words) (AreInRange (asked words) (option_given words)) c.settings.result _ no_fault in_range
+    (subst (λ (w : List Text). MatchResult c.settings.result (λ _. (words_fault w ≡ []) × AreInRange (asked w) (option_given w))
+    (Explains (words_fault w) (AreInRange (asked w) (option_given w)))) words_are c.settings.ensures.refused)
