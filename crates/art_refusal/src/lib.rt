@@ -4,10 +4,11 @@
 //! `refused 12 Crowded`, and nothing of what the fault knew besides: the column, the pool, the pass in the way, the cell.
 //!
 //! ```text
-//!   1  to 3     the reader of lines     the line says no command
-//!   4  to 7     the keys                a value does not stand in its column
-//!   8  and 9    the scans               the range or the limit of a scan
-//!   10 to 13    the table               the turns are used up, or a pool, a limbo, a counter is at its end
+//!   1  to 3     lines                   the line says no command
+//!   4  to 7     lines, keys             a value stands in no column, or not in its own
+//!   8  and 9    scans                   the range or the limit of a scan
+//!   10          the table, scans        the turns are used up
+//!   11 to 13    the table               a pool, a limbo or a counter is at its end
 //!   14          all that take memory    there is none
 //!   20 to 23    the schema              the columns make no table
 //!   24 and 25   the table               it is not opened, or not closed
