@@ -12,5 +12,6 @@ mod cursors;
 mod lines;
 mod tokens;
 
+pub use art_refusal;
 pub use lines::{LINE_BYTES, LineFault, LineReader, long_lines_are_alike, parse_line};
 pub use tokens::Verb;

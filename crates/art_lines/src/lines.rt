@@ -9,6 +9,7 @@ ghost use Rattle.art_lines.specs.Verbs.{command_of};
 use crate::tokens::{Verb, verb_in_tokens};
 use art_key::ValueFault;
 use art_model::{Command, Text, Tuple, Value};
+use art_refusal::Refusal;
 use serde_json::{Number, Value as Json};
 use std::alloc::Global;
 use std::error::Error;
@@ -52,6 +53,23 @@ impl fmt::Display for LineFault {
 }
 
 impl Error for LineFault {}
+
+impl From<LineFault> for Refusal {
+    ghost use Rattle.std.specs.Prelude.{◌≡◌};
+    ghost use Rattle.art_lines.specs.Refusals.{line_refusal};
+
+    ghost from_gives = { λ fault refusal. refusal ≡ line_refusal fault };
+
+    fn from(fault: LineFault) -> Refusal {
+        match fault {
+            LineFault::BadLine => Refusal::BadLine,
+            LineFault::LineTooLong => Refusal::LineTooLong,
+            LineFault::BadCommand => Refusal::BadCommand,
+            LineFault::Value(fault) => Refusal::from(fault),
+            LineFault::NoMemory => Refusal::NoMemory,
+        }
+    }
+}
 
 impl From<ValueFault> for LineFault {
     ghost use Rattle.std.specs.Prelude.{◌≡◌};

@@ -16,7 +16,7 @@ use Rattle.art_schedule.specs.declared.seats.Seat.{Seat}
 use Rattle.art_server.specs.ArtTable.declared.passes.Pass.{Pass}
 use Rattle.art_server.specs.ArtTable.declared.tables.Table.{Table}
 use Rattle.art_server.specs.Replies.{text_of_reply}
-use Rattle.art_server.specs.declared.refusals.Refusal.{Refusal}
+use Rattle.art_server.specs.ArtRefusal.declared.refusals.Refusal.{Refusal}
 use Rattle.art_sessions.specs.Points.{Asked}
 use Rattle.art_schedule.proofs.Standings.{Replies, Stands, after_order, stands_in_turn, stands_same}
 use Rattle.art_schedule.proofs.TaskLaws.{ChangesAt}

@@ -20,9 +20,9 @@ use Rattle.art_server.specs.ArtScan.declared.running.Running.{Running}
 use Rattle.art_server.specs.ArtTable.declared.passes.Pass.{Pass}
 use Rattle.art_server.specs.ArtTable.declared.tables.Table.{Table}
 use Rattle.art_server.specs.Endings.{reply_of_ending}
-use Rattle.art_server.specs.Refusals.{line_refusal}
+use Rattle.art_lines.specs.Refusals.{line_refusal}
 use Rattle.art_server.specs.Replies.{text_of_reply}
-use Rattle.art_server.specs.declared.refusals.Refusal.{Refusal}
+use Rattle.art_server.specs.ArtRefusal.declared.refusals.Refusal.{Refusal}
 use Rattle.art_sessions.specs.Points.{AnswersAll, AnswersSaidIn, Asked}
 use Rattle.art_server.proofs.EndingLaws.{reply_answers}
 

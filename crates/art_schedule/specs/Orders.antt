@@ -4,7 +4,7 @@ use Rattle.art_model.specs.declared.commands.Command.{Command}
 use Rattle.art_model.specs.declared.rows.Row.{Row}
 use Rattle.arrayvec.specs.ArrayVec.{ArrayVec}
 use Rattle.art_schedule.specs.Lines.{Said, start, until, step, end}
-use Rattle.art_server.specs.Refusals.{line_refusal}
+use Rattle.art_lines.specs.Refusals.{line_refusal}
 use Rattle.art_lines.specs.Lines.{line_says}
 use Rattle.art_server.specs.Endings.{reply_of_ending}
 use Rattle.art_server.specs.Replies.{text_of_reply}

@@ -19,7 +19,7 @@ use Rattle.art_server.specs.ArtTable.declared.closing.Closed.{Closed}
 use Rattle.art_server.specs.ArtTable.declared.passes.Pass.{Pass}
 use Rattle.art_server.specs.ArtTable.declared.tables.Table.{Table}
 use Rattle.art_server.specs.Replies.{text_of_reply}
-use Rattle.art_server.specs.declared.refusals.Refusal.{Refusal}
+use Rattle.art_server.specs.ArtRefusal.declared.refusals.Refusal.{Refusal}
 use Rattle.art_sessions.specs.Points.{AllAt, AnswersAll, Asked, GoesOnAt}
 use Rattle.art_step.specs.Views.{Member}
 

@@ -13,7 +13,7 @@ use Rattle.art_scan.specs.ArtTable.declared.jobs.Job.{Job}
 use Rattle.art_scan.specs.ArtTable.declared.passes.Pass.{Pass}
 use Rattle.art_scan.specs.ArtTable.declared.tables.Table.{Table}
 use Rattle.art_lines.specs.declared.lines.LineFault.{LineFault}
-use Rattle.art_server.specs.declared.refusals.Refusal.{Refusal}
+use Rattle.art_scan.specs.ArtRefusal.declared.refusals.Refusal.{Refusal}
 use Rattle.art_server.specs.declared.sessions.SessionEnd.{SessionEnd}
 use Rattle.art_lines.specs.Lines.{line_says}
 use Rattle.art_server.specs.Sessions.{IsSamePass, AnswersJob, AnswersScan, AnswersCommand, AnswersSaid, AnswersLine, AnswersLines, RunsSession}

@@ -7,7 +7,7 @@ use Rattle.art_model.specs.declared.commands.Reply.TheVariants.{Inserted, Presen
 use Rattle.art_model.specs.declared.rows.Row.{Row}
 use Rattle.art_model.specs.declared.values.Value.{Value}
 use Rattle.art_model.specs.declared.values.Value.TheVariants.{Bool, Int, Text}
-use Rattle.art_server.specs.declared.refusals.Refusal.{Refusal}
+use Rattle.art_scan.specs.ArtRefusal.declared.refusals.Refusal.{Refusal}
 use Rattle.art_server.specs.Replies.{value_data, row_data, reply_data}
 
 has_float-value_data : (v : Value) → has_float (value_data v) ≡ false

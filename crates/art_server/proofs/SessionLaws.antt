@@ -9,11 +9,11 @@ use Rattle.art_model.specs.declared.commands.Reply.{Reply}
 use Rattle.art_scan.specs.ArtTable.declared.passes.Pass.{Pass}
 use Rattle.art_scan.specs.ArtTable.declared.tables.Table.{Table}
 use Rattle.art_lines.specs.declared.lines.LineFault.{LineFault}
-use Rattle.art_server.specs.declared.refusals.Refusal.{Refusal}
+use Rattle.art_scan.specs.ArtRefusal.declared.refusals.Refusal.{Refusal}
 use Rattle.art_server.specs.declared.sessions.EndCause.{EndCause}
 use Rattle.art_server.specs.declared.sessions.EndCause.TheVariants.{WriteFault}
 use Rattle.art_lines.specs.Lines.{line_says}
-use Rattle.art_server.specs.Refusals.{line_refusal}
+use Rattle.art_lines.specs.Refusals.{line_refusal}
 use Rattle.art_server.specs.Replies.{text_of_reply}
 use Rattle.art_server.specs.Sessions.{AnswersCommand, AnswersSaid, AnswersLine, AnswersLines, texts, AnswersFront}
 use Rattle.art_server.specs.Steps.{IsCutShort}

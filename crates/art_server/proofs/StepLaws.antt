@@ -7,7 +7,7 @@ use Rattle.std.proofs.KnownBytes.{Appends-nil, Appends-trans, Appends-kept}
 use Rattle.art_model.specs.declared.commands.Reply.{Reply}
 use Rattle.art_scan.specs.ArtTable.declared.passes.Pass.{Pass}
 use Rattle.art_scan.specs.ArtTable.declared.tables.Table.{Table}
-use Rattle.art_server.specs.declared.refusals.Refusal.{Refusal}
+use Rattle.art_scan.specs.ArtRefusal.declared.refusals.Refusal.{Refusal}
 use Rattle.art_server.specs.declared.sessions.EndCause.{EndCause}
 use Rattle.art_server.specs.declared.sessions.EndCause.TheVariants.{Ended, ReadFault, WriteFault, NoMemory, ReadsUsed}
 use Rattle.art_server.specs.declared.sessions.SessionEnd.{SessionEnd}

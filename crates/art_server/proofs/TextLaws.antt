@@ -2,9 +2,9 @@
 use Rattle.std.proofs.Common.{◌≡◌, ◌≤◌, ℕ, List, [], ◌∷◌, ◌++◌, length, codes, decimal, Ok, Err, refl, sym, ap, ◌∙◌, append_assoc, arith}
 use Rattle.json.specs.Print.{escape, escape_byte}
 use Rattle.art_model.specs.declared.commands.Reply.TheVariants.{Inserted, Present, Removed, Absent, Found}
-use Rattle.art_server.specs.declared.refusals.Refusal.{Refusal}
-use Rattle.art_server.specs.declared.refusals.Refusal.TheVariants.{BadLine, LineTooLong, BadCommand, WrongColumns, WrongType, OutOfRange, TextTooLong, BadRange, BadLimit, Busy, Full, Crowded, Exhausted, NoMemory, NoColumns, TooManyColumns, KeyTooWide, BadColumn, BadConfig, PassesMissing}
-use Rattle.art_server.specs.Refusals.{refusal_number, refusal_name}
+use Rattle.art_scan.specs.ArtRefusal.declared.refusals.Refusal.{Refusal}
+use Rattle.art_scan.specs.ArtRefusal.declared.refusals.Refusal.TheVariants.{BadLine, LineTooLong, BadCommand, WrongColumns, WrongType, OutOfRange, TextTooLong, BadRange, BadLimit, Busy, Full, Crowded, Exhausted, NoMemory, NoColumns, TooManyColumns, KeyTooWide, BadColumn, BadConfig, PassesMissing}
+use Rattle.art_scan.specs.ArtRefusal.Refusals.{refusal_number, refusal_name}
 use Rattle.art_server.specs.Replies.{text_of_reply}
 
 -- ---- a word alone

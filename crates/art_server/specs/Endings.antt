@@ -8,10 +8,11 @@ use Rattle.art_scan.specs.declared.running.Ending.{Ending}
 use Rattle.art_scan.specs.declared.running.Ending.TheVariants.{Call, Scan}
 use Rattle.art_scan.specs.ArtTable.declared.jobs.Outcome.{Outcome}
 use Rattle.art_scan.specs.ArtTable.declared.jobs.Outcome.TheVariants.{New, Present, Removed, Absent, Found, Seen}
-use Rattle.art_server.specs.declared.refusals.Refusal.{Refusal}
+use Rattle.art_scan.specs.ArtRefusal.declared.refusals.Refusal.{Refusal}
 use Rattle.art_server.specs.declared.replies.ReplyHead.{ReplyHead}
 use Rattle.art_server.specs.declared.replies.ReplyHead.TheVariants as head
-use Rattle.art_server.specs.Refusals.{fault_refusal, scan_refusal}
+use Rattle.art_scan.specs.ArtTable.Refusals.{fault_refusal}
+use Rattle.art_scan.specs.Refusals.{scan_refusal}
 use Rattle.art_server.specs.Replies.{reply_with}
 use Rattle.art_server.specs.Sessions.{is_limit}
 

@@ -1,8 +1,8 @@
 -- the crates below, for those above to name
 pub use Rattle.art_scan.specs.ArtCall
+pub use Rattle.art_scan.specs.ArtRefusal
 pub use Rattle.art_scan.specs as ArtScan
 pub use Rattle.art_scan.specs.ArtTable
-pub mod Refusals
 pub mod Replies
 pub mod Streams
 pub mod Sessions

@@ -12,10 +12,10 @@ use Rattle.serde_json.specs.Data.{Data, boolean, number, unsigned, string, array
 use Rattle.serde_json.specs.Find.{of_integer}
 use Rattle.serde_json.specs.View.{items_of}
 use Rattle.serde_json.specs.Written.{compact_text}
-use Rattle.art_server.specs.declared.refusals.Refusal.{Refusal}
+use Rattle.art_scan.specs.ArtRefusal.declared.refusals.Refusal.{Refusal}
 use Rattle.art_server.specs.declared.replies.ReplyHead.{ReplyHead}
 use Rattle.art_server.specs.declared.replies.ReplyHead.TheVariants as head
-use Rattle.art_server.specs.Refusals.{refusal_number, refusal_name}
+use Rattle.art_scan.specs.ArtRefusal.Refusals.{refusal_number, refusal_name}
 
 -- true or false, a whole number or a text
 abbrev pub value_data : Value → Data

@@ -22,12 +22,14 @@ use Rattle.art_scan.specs.ArtTable.declared.jobs.Outcome.TheVariants as outcome
 use Rattle.art_scan.specs.ArtTable.declared.passes.Pass.{Pass}
 use Rattle.art_scan.specs.ArtTable.declared.tables.Table.{Table}
 use Rattle.art_lines.specs.declared.lines.LineFault.{LineFault}
-use Rattle.art_server.specs.declared.refusals.Refusal.{Refusal}
+use Rattle.art_scan.specs.ArtRefusal.declared.refusals.Refusal.{Refusal}
 use Rattle.art_server.specs.declared.sessions.EndCause.{EndCause}
 use Rattle.art_server.specs.declared.sessions.EndCause.TheVariants.{Ended, ReadFault, WriteFault, NoMemory, ReadsUsed}
 use Rattle.art_server.specs.declared.sessions.SessionEnd.{SessionEnd}
 use Rattle.art_lines.specs.Lines.{line_says}
-use Rattle.art_server.specs.Refusals.{line_refusal, fault_refusal, scan_refusal}
+use Rattle.art_lines.specs.Refusals.{line_refusal}
+use Rattle.art_scan.specs.ArtTable.Refusals.{fault_refusal}
+use Rattle.art_scan.specs.Refusals.{scan_refusal}
 use Rattle.art_server.specs.Replies.{text_of_reply}
 use Rattle.art_server.specs.Streams.{whole_lines, lines_of}
 

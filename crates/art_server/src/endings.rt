@@ -39,7 +39,7 @@ pub(crate) fn head_of(ending: &Ending) -> Result<ReplyHead, Refusal>
 {
     match ending {
         Ending::Call(Ok(outcome)) => Ok(ReplyHead::Answer(answer_of(outcome))),
-        Ending::Call(Err(fault)) => Err(Refusal::from(*fault)),
+        Ending::Call(Err(fault)) => Err(fault.refusal()),
         Ending::Scan(Ok(More::Limit)) => Ok(ReplyHead::Rows(true)),
         Ending::Scan(Ok(More::End)) => Ok(ReplyHead::Rows(false)),
         Ending::Scan(Err(fault)) => Err(Refusal::from(*fault)),

@@ -98,7 +98,7 @@ fn run_insert(table: &Table, pass: &mut Pass, tuple: &Tuple, value: u64) -> Resu
     match insert(table, pass, tuple, value, TURNS) {
         Ok(Inserted::New) => Ok(Answer::Inserted),
         Ok(Inserted::Present(stored)) => Ok(Answer::Present(stored)),
-        Err(fault) => Err(Refusal::from(fault)),
+        Err(fault) => Err(fault.refusal()),
     }
 }
 
@@ -110,7 +110,7 @@ fn run_remove(table: &Table, pass: &mut Pass, tuple: &Tuple) -> Result<Answer, R
     match remove(table, pass, tuple, TURNS) {
         Ok(Some(value)) => Ok(Answer::Removed(value)),
         Ok(None) => Ok(Answer::Absent),
-        Err(fault) => Err(Refusal::from(fault)),
+        Err(fault) => Err(fault.refusal()),
     }
 }
 
@@ -122,7 +122,7 @@ fn run_get(table: &Table, pass: &mut Pass, tuple: &Tuple) -> Result<Answer, Refu
     match get(table, pass, tuple, TURNS) {
         Ok(Some(value)) => Ok(Answer::Found(value)),
         Ok(None) => Ok(Answer::Absent),
-        Err(fault) => Err(Refusal::from(fault)),
+        Err(fault) => Err(fault.refusal()),
     }
 }
 

@@ -2,13 +2,9 @@
 ghost use Rattle.art_server.specs.Replies.{IsPrintable, IsPrintableRow};
 
 use arrayvec::ArrayVec;
-use art_cell::{Cell, Pool};
-use art_frame::Blocker;
 use art_key::{SchemaFault, ValueFault};
 use art_lines::LineFault;
 use art_model::{Reply, Row, Text, Tuple, Value};
-use art_server::art_scan::ScanFault;
-use art_server::art_table::{CloseRefusal, Fault, OpenFault};
 use art_server::{Refusal, print_reply};
 use std::alloc::Global;
 use std::fmt::Display;
@@ -112,9 +108,6 @@ fn check_refusal(rt: &impl Abort, refusal: Refusal, expected: Refusal) {
 #[test]
 fn faults_have_refusals(rt: HostRuntime) {
     let of_line = LineFault::from(ValueFault::WrongColumns);
-    let of_table = Fault::Value(ValueFault::OutOfRange(0));
-    let of_scan = ScanFault::Value(ValueFault::WrongType(1));
-    let of_limbo = Fault::Crowded(Blocker { pass: 1, epoch: 2 });
     for (refusal, expected) in [
         (Refusal::from(LineFault::NoMemory), Refusal::NoMemory),
         (Refusal::from(of_line), Refusal::WrongColumns),
@@ -122,24 +115,7 @@ fn faults_have_refusals(rt: HostRuntime) {
             Refusal::from(ValueFault::TextTooLong(3)),
             Refusal::TextTooLong,
         ),
-        (Refusal::from(of_table), Refusal::OutOfRange),
-        (Refusal::from(Fault::Busy), Refusal::Busy),
-        (Refusal::from(Fault::Full(Pool::N4)), Refusal::Full),
-        (Refusal::from(of_limbo), Refusal::Crowded),
-        (
-            Refusal::from(Fault::Exhausted(Cell::Anchor)),
-            Refusal::Exhausted,
-        ),
-        (Refusal::from(of_scan), Refusal::WrongType),
-        (Refusal::from(ScanFault::BadRange), Refusal::BadRange),
-        (Refusal::from(ScanFault::BadLimit), Refusal::BadLimit),
-        (Refusal::from(ScanFault::Busy), Refusal::Busy),
         (Refusal::from(SchemaFault::BadColumn(2)), Refusal::BadColumn),
-        (Refusal::from(OpenFault::BadConfig), Refusal::BadConfig),
-        (
-            Refusal::from(CloseRefusal::PassesMissing),
-            Refusal::PassesMissing,
-        ),
     ] {
         check_refusal(&rt, refusal, expected);
     }

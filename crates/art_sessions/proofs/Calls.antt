@@ -16,10 +16,10 @@ use Rattle.art_model.specs.declared.commands.Command.{Command}
 use Rattle.art_model.specs.declared.commands.Command.TheVariants.{Insert, Remove, Get}
 use Rattle.art_model.specs.declared.commands.Reply.{Reply}
 use Rattle.art_model.specs.declared.commands.Reply.TheVariants.{Inserted, Present, Removed, Absent, Found}
-use Rattle.art_server.specs.Refusals.{value_refusal}
+use Rattle.art_server.specs.ArtRefusal.Refusals.{value_refusal}
 use Rattle.art_server.specs.Sessions.{AnswersJobIn, IsReplyOf}
-use Rattle.art_server.specs.declared.refusals.Refusal.{Refusal}
-use Rattle.art_server.specs.declared.refusals.Refusal.TheVariants.{Busy, Full, Crowded, Exhausted}
+use Rattle.art_server.specs.ArtRefusal.declared.refusals.Refusal.{Refusal}
+use Rattle.art_server.specs.ArtRefusal.declared.refusals.Refusal.TheVariants.{Busy, Full, Crowded, Exhausted}
 use Rattle.art_sessions.proofs.Events.{ToldAt, sees_at}
 use Rattle.art_sessions.specs.Maps.{IsGround, IsWant, command_fault}
 use Rattle.art_sessions.specs.Points.{CallAt, IsWithin}

@@ -14,7 +14,7 @@ use Rattle.art_server.specs.ArtScan.declared.faults.ScanFault.{ScanFault}
 use Rattle.art_lines.specs.Lines.{line_says}
 use Rattle.art_server.specs.Sessions.{AnswersCommandIn, AnswersJobIn, AnswersLine, AnswersLines, AnswersSaid, AnswersScanIn, most_turns}
 use Rattle.art_lines.specs.declared.lines.LineFault.{LineFault}
-use Rattle.art_server.specs.declared.refusals.Refusal.{Refusal}
+use Rattle.art_server.specs.ArtRefusal.declared.refusals.Refusal.{Refusal}
 use Rattle.art_sessions.specs.Points.{AnswersAll, AnswersSaidIn, Asked, asked_by}
 use Rattle.art_server.specs.ArtTable.Calls.{Sees}
 use Rattle.art_server.specs.ArtTable.Jobs.{job_fault, told_by}

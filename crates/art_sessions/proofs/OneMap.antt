@@ -25,8 +25,8 @@ use Rattle.art_server.specs.ArtScan.Scans.{limit_fault, or_value, range_fault, s
 use Rattle.art_server.specs.ArtScan.Tiles.{Tile, states_of}
 use Rattle.art_server.specs.ArtScan.declared.faults.ScanFault.{ScanFault}
 use Rattle.art_server.specs.ArtScan.declared.faults.ScanFault.TheVariants.{BadLimit, BadRange}
-use Rattle.art_server.specs.Refusals.{scan_refusal}
-use Rattle.art_server.specs.declared.refusals.Refusal.{Refusal}
+use Rattle.art_server.specs.ArtScan.Refusals.{scan_refusal}
+use Rattle.art_server.specs.ArtRefusal.declared.refusals.Refusal.{Refusal}
 use Rattle.art_sessions.proofs.Alone.{next_own, only_alone, own_all, seen_legal}
 use Rattle.art_sessions.proofs.Goes.{all_go, lines_asked, starts_itself}
 use Rattle.art_sessions.proofs.Points.{commands_are_points}

@@ -9,7 +9,7 @@ use Rattle.art_model.specs.declared.commands.Command.{Command}
 use Rattle.art_model.specs.declared.commands.Command.TheVariants.{Insert, Remove, Get, Scan}
 use Rattle.art_model.specs.declared.commands.Reply.{Reply}
 use Rattle.art_server.specs.Sessions.{AnswersCommandIn}
-use Rattle.art_server.specs.declared.refusals.Refusal.{Refusal}
+use Rattle.art_server.specs.ArtRefusal.declared.refusals.Refusal.{Refusal}
 use Rattle.art_sessions.proofs.Calls.{got, inserted, removed}
 use Rattle.art_sessions.proofs.Goes.{GoesOn, all_go, said_goes, starts_on}
 use Rattle.art_sessions.proofs.Places.{all_within, no_shorter}

@@ -18,9 +18,9 @@ use Rattle.art_server.specs.ArtScan.Tiles.{Tile, states_of}
 use Rattle.art_server.specs.ArtScan.declared.faults.ScanFault.{ScanFault}
 use Rattle.art_server.specs.ArtScan.declared.faults.ScanFault.TheVariants.{Busy}
 use Rattle.art_server.specs.ArtScan.declared.scans.More.{More}
-use Rattle.art_server.specs.Refusals.{scan_refusal}
+use Rattle.art_server.specs.ArtScan.Refusals.{scan_refusal}
 use Rattle.art_server.specs.Sessions.{AnswersScanIn, IsReplyOfScan, is_limit}
-use Rattle.art_server.specs.declared.refusals.Refusal.{Refusal}
+use Rattle.art_server.specs.ArtRefusal.declared.refusals.Refusal.{Refusal}
 use Rattle.art_sessions.proofs.Goes.{looks_start, starts_on}
 use Rattle.art_sessions.proofs.Places.{all_within, front, no_shorter, stands}
 use Rattle.art_sessions.specs.Points.{AreAt, IsWithin, ScanAt, rows_at}

@@ -5,7 +5,7 @@ use Rattle.art_sessions.specs.Maps.{MapAnswersLines}
 use Rattle.art_key.specs.Histories.{replay}
 use Rattle.art_model.specs.declared.commands.Reply.{Reply}
 use Rattle.art_server.specs.Sessions.{AnswersLines}
-use Rattle.art_server.specs.declared.refusals.Refusal.{Refusal}
+use Rattle.art_server.specs.ArtRefusal.declared.refusals.Refusal.{Refusal}
 use Rattle.art_server.specs.ArtTable.Closing.{IsClosed}
 use Rattle.art_server.specs.ArtTable.Tables.{IsPassOf, number_of, schema_in, seen_by, sizes_in}
 use Rattle.art_server.specs.ArtTable.declared.closing.Closed.{Closed}

@@ -10,10 +10,12 @@ use Rattle.art_model.specs.declared.commands.Reply.{Reply}
 use Rattle.art_model.specs.declared.rows.Row.{Row}
 use Rattle.art_server.specs.ArtScan.Scans.{scan_fault}
 use Rattle.art_lines.specs.Lines.{line_says}
-use Rattle.art_server.specs.Refusals.{line_refusal, scan_refusal, value_refusal}
+use Rattle.art_lines.specs.Refusals.{line_refusal}
+use Rattle.art_server.specs.ArtScan.Refusals.{scan_refusal}
+use Rattle.art_server.specs.ArtRefusal.Refusals.{value_refusal}
 use Rattle.art_lines.specs.declared.lines.LineFault.{LineFault}
-use Rattle.art_server.specs.declared.refusals.Refusal.{Refusal}
-use Rattle.art_server.specs.declared.refusals.Refusal.TheVariants.{Busy, Full, Crowded, Exhausted}
+use Rattle.art_server.specs.ArtRefusal.declared.refusals.Refusal.{Refusal}
+use Rattle.art_server.specs.ArtRefusal.declared.refusals.Refusal.TheVariants.{Busy, Full, Crowded, Exhausted}
 
 -- what is wrong with the command itself: its tuples, its range, its limit
 abbrev pub command_fault : List Column → Command → Option Refusal

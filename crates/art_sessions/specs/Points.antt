@@ -20,10 +20,10 @@ use Rattle.art_model.specs.declared.rows.Row.{Row}
 use Rattle.art_server.specs.ArtScan.Scans.{HasListed}
 use Rattle.art_server.specs.ArtScan.Tiles.{AreTiles, Tile}
 use Rattle.art_server.specs.ArtScan.declared.scans.More.{More}
-use Rattle.art_server.specs.Refusals.{line_refusal}
+use Rattle.art_lines.specs.Refusals.{line_refusal}
 use Rattle.art_server.specs.Sessions.{AnswersCommandIn, most_turns}
-use Rattle.art_server.specs.declared.refusals.Refusal.{Refusal}
-use Rattle.art_server.specs.declared.refusals.Refusal.TheVariants.{Busy}
+use Rattle.art_server.specs.ArtRefusal.declared.refusals.Refusal.{Refusal}
+use Rattle.art_server.specs.ArtRefusal.declared.refusals.Refusal.TheVariants.{Busy}
 use Rattle.art_sessions.specs.Maps.{IsGround, MapAnswers, command_fault}
 use Rattle.art_server.specs.ArtTable.Marks.{StartsWith}
 use Rattle.art_server.specs.ArtTable.Tables.{IsPassOf, number_of, own_of, schema_in, seen_by}

@@ -6,7 +6,7 @@ use Rattle.art_key.specs.declared.events.Event.{Event}
 use Rattle.art_model.specs.declared.commands.Reply.{Reply}
 use Rattle.art_server.specs.Sessions.{EndsBy, IsSession, begun, texts}
 use Rattle.art_server.specs.Streams.{lines_of}
-use Rattle.art_server.specs.declared.refusals.Refusal.{Refusal}
+use Rattle.art_server.specs.ArtRefusal.declared.refusals.Refusal.{Refusal}
 use Rattle.art_server.specs.declared.sessions.EndCause.TheVariants.{WriteFault}
 use Rattle.art_server.specs.declared.sessions.SessionEnd.{SessionEnd}
 use Rattle.art_sessions.specs.Points.{AllAt, GoesOnAt, asked_by}

@@ -1,5 +1,6 @@
 -- the crates below, for those above to name
 pub use Rattle.art_call.specs as ArtCall
+pub use Rattle.art_refusal.specs as ArtRefusal
 pub mod Attempts
 pub mod Calls
 pub mod Closing
@@ -7,6 +8,7 @@ pub mod Jobs
 pub mod Looks
 pub mod Marks
 pub mod Opening
+pub mod Refusals
 pub mod Sizes
 pub mod Tables
 pub mod Steps

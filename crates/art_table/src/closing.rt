@@ -10,7 +10,10 @@ use crate::{Pass, Table};
 use art_cell::Pool;
 use art_closed::{PoolCount, count, list_rows, waiting_in};
 use art_model::Row;
+use art_refusal::Refusal;
 use std::alloc::Global;
+use std::error::Error;
+use std::fmt;
 
 /// What a table held: its rows in order, and the counts of each pool.
 #[derive(Debug, PartialEq, Drop)]
@@ -32,6 +35,31 @@ pub enum CloseRefusal {
     NoMemory,
 }
 
+impl fmt::Display for CloseRefusal {
+    fn fmt<W: fmt::Write>(&self, f: &mut fmt::Formatter<W>) -> fmt::Result {
+        match self {
+            CloseRefusal::PassesMissing => f.write_str("a pass of the table is missing"),
+            CloseRefusal::NoMemory => f.write_str("no memory for the rows of the table"),
+        }
+    }
+}
+
+impl Error for CloseRefusal {}
+
+impl From<CloseRefusal> for Refusal {
+    ghost use Rattle.std.specs.Prelude.{◌≡◌};
+    ghost use Rattle.art_table.specs.Refusals.{close_refusal};
+
+    ghost from_gives = { λ fault refusal. refusal ≡ close_refusal fault };
+
+    fn from(fault: CloseRefusal) -> Refusal {
+        match fault {
+            CloseRefusal::PassesMissing => Refusal::PassesMissing,
+            CloseRefusal::NoMemory => Refusal::NoMemory,
+        }
+    }
+}
+
 /// A table that was not closed: it and the passes come back as they were.
 #[derive(Drop)]
 pub struct CloseFault {
@@ -39,6 +67,23 @@ pub struct CloseFault {
     pub passes: Vec<Pass>,
     pub why: CloseRefusal,
 }
+
+/// Tells why alone: the table and the passes have more words than anyone reads.
+impl fmt::Debug for CloseFault {
+    fn fmt<W: fmt::Write>(&self, f: &mut fmt::Formatter<W>) -> fmt::Result {
+        f.debug_struct("CloseFault")
+            .field("why", &self.why)
+            .finish_non_exhaustive()
+    }
+}
+
+impl fmt::Display for CloseFault {
+    fn fmt<W: fmt::Write>(&self, f: &mut fmt::Formatter<W>) -> fmt::Result {
+        write!(f, "{}", self.why)
+    }
+}
+
+impl Error for CloseFault {}
 
 /// Ends the table, for whoever has all of its passes.
 pub fn close(alloc: Global, table: Table, passes: Vec<Pass>) -> Result<Closed, CloseFault>

@@ -55,6 +55,7 @@ mod marks;
 mod passes;
 mod tables;
 
+pub use art_refusal;
 pub use attempts::{Attempt, Progress, start, start_look};
 pub use calls::{Inserted, get, insert, look, remove};
 pub use closing::{CloseFault, CloseRefusal, Closed, close};

@@ -10,6 +10,8 @@ mod crowded;
 #[cfg(test)]
 mod events;
 #[cfg(test)]
+mod faults;
+#[cfg(test)]
 mod stopped;
 #[cfg(test)]
 mod tables;

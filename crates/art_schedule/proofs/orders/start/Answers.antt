@@ -2,10 +2,10 @@ use Rattle.std.proofs.Common.{◌≡◌, ◌∙◌, ◌++◌, ◌∷◌, [], ℕ
 use Rattle.std.specs.Prelude.{Err}
 use Rattle.art_schedule.proofs.Fronts.{front_of}
 use Rattle.art_schedule.proofs.orders.start.Goals as goal
-use Rattle.art_server.specs.Refusals.{line_refusal}
+use Rattle.art_lines.specs.Refusals.{line_refusal}
 use Rattle.art_server.specs.Replies.{reply_data, text_of_reply}
 use Rattle.serde_json.specs.Written.{compact_text}
-use Rattle.art_server.specs.declared.refusals.Refusal.{Refusal}
+use Rattle.art_server.specs.ArtRefusal.declared.refusals.Refusal.{Refusal}
 
 pub returns-in_ok-text-in_default : goal.returns-in_ok-text-in_default
 returns-in_ok-text-in_default c =

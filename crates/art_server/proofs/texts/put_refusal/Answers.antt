@@ -1,7 +1,7 @@
 use Rattle.std.proofs.Common.{◌≡◌, ℕ, List, [], ◌∷◌, ◌++◌, drop, length, codes, decimal, arith, sym, ap, ◌∙◌}
 use Rattle.std.proofs.lemmas.Fmt.{length-decimal-le}
 use Rattle.std.proofs.lemmas.List.{drop_all}
-use Rattle.art_server.specs.Refusals.{refusal_name, refusal_number}
+use Rattle.art_scan.specs.ArtRefusal.Refusals.{refusal_name, refusal_number}
 use Rattle.art_server.proofs.TextLaws.{length-refusal_name, text_of_reply-refused}
 use Rattle.art_server.proofs.texts.put_refusal.Goals as goal
 

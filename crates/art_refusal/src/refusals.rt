@@ -1,8 +1,6 @@
 //! The numbered refusals.
 use art_key::{SchemaFault, ValueFault};
-use art_lines::LineFault;
-use art_scan::ScanFault;
-use art_scan::art_table::{CloseRefusal, Fault, OpenFault};
+use std::error::Error;
 use std::fmt;
 
 /// Why a command, or the start of the server, was refused.
@@ -52,7 +50,7 @@ pub enum Refusal {
 
 impl Refusal {
     ghost use Rattle.std.specs.Prelude.{◌≡◌};
-    ghost use Rattle.art_server.specs.Refusals.{refusal_number, refusal_name};
+    ghost use Rattle.art_refusal.specs.Refusals.{refusal_number, refusal_name};
 
     /// The number that a client sees.
     pub fn number(self) -> u8
@@ -113,7 +111,7 @@ impl Refusal {
 
 impl fmt::Display for Refusal {
     ghost use Rattle.std.specs.Prelude.{Some};
-    ghost use Rattle.art_server.specs.Refusals.{refusal_text};
+    ghost use Rattle.art_refusal.specs.Refusals.{refusal_text};
 
     ghost output = { λ refusal. Some (refusal_text refusal) };
 
@@ -123,26 +121,11 @@ impl fmt::Display for Refusal {
     }
 }
 
-impl From<LineFault> for Refusal {
-    ghost use Rattle.std.specs.Prelude.{◌≡◌};
-    ghost use Rattle.art_server.specs.Refusals.{line_refusal};
-
-    ghost from_gives = { λ fault refusal. refusal ≡ line_refusal fault };
-
-    fn from(fault: LineFault) -> Refusal {
-        match fault {
-            LineFault::BadLine => Refusal::BadLine,
-            LineFault::LineTooLong => Refusal::LineTooLong,
-            LineFault::BadCommand => Refusal::BadCommand,
-            LineFault::Value(fault) => Refusal::from(fault),
-            LineFault::NoMemory => Refusal::NoMemory,
-        }
-    }
-}
+impl Error for Refusal {}
 
 impl From<ValueFault> for Refusal {
     ghost use Rattle.std.specs.Prelude.{◌≡◌};
-    ghost use Rattle.art_server.specs.Refusals.{value_refusal};
+    ghost use Rattle.art_refusal.specs.Refusals.{value_refusal};
 
     ghost from_gives = { λ fault refusal. refusal ≡ value_refusal fault };
 
@@ -156,42 +139,9 @@ impl From<ValueFault> for Refusal {
     }
 }
 
-impl From<Fault> for Refusal {
-    ghost use Rattle.std.specs.Prelude.{◌≡◌};
-    ghost use Rattle.art_server.specs.Refusals.{fault_refusal};
-
-    ghost from_gives = { λ fault refusal. refusal ≡ fault_refusal fault };
-
-    fn from(fault: Fault) -> Refusal {
-        match fault {
-            Fault::Value(fault) => Refusal::from(fault),
-            Fault::Busy => Refusal::Busy,
-            Fault::Full(_) => Refusal::Full,
-            Fault::Crowded(_) => Refusal::Crowded,
-            Fault::Exhausted(_) => Refusal::Exhausted,
-        }
-    }
-}
-
-impl From<ScanFault> for Refusal {
-    ghost use Rattle.std.specs.Prelude.{◌≡◌};
-    ghost use Rattle.art_server.specs.Refusals.{scan_refusal};
-
-    ghost from_gives = { λ fault refusal. refusal ≡ scan_refusal fault };
-
-    fn from(fault: ScanFault) -> Refusal {
-        match fault {
-            ScanFault::Value(fault) => Refusal::from(fault),
-            ScanFault::BadRange => Refusal::BadRange,
-            ScanFault::BadLimit => Refusal::BadLimit,
-            ScanFault::Busy => Refusal::Busy,
-        }
-    }
-}
-
 impl From<SchemaFault> for Refusal {
     ghost use Rattle.std.specs.Prelude.{◌≡◌};
-    ghost use Rattle.art_server.specs.Refusals.{schema_refusal};
+    ghost use Rattle.art_refusal.specs.Refusals.{schema_refusal};
 
     ghost from_gives = { λ fault refusal. refusal ≡ schema_refusal fault };
 
@@ -201,34 +151,6 @@ impl From<SchemaFault> for Refusal {
             SchemaFault::TooManyColumns => Refusal::TooManyColumns,
             SchemaFault::KeyTooWide => Refusal::KeyTooWide,
             SchemaFault::BadColumn(_) => Refusal::BadColumn,
-        }
-    }
-}
-
-impl From<OpenFault> for Refusal {
-    ghost use Rattle.std.specs.Prelude.{◌≡◌};
-    ghost use Rattle.art_server.specs.Refusals.{open_refusal};
-
-    ghost from_gives = { λ fault refusal. refusal ≡ open_refusal fault };
-
-    fn from(fault: OpenFault) -> Refusal {
-        match fault {
-            OpenFault::BadConfig => Refusal::BadConfig,
-            OpenFault::NoMemory => Refusal::NoMemory,
-        }
-    }
-}
-
-impl From<CloseRefusal> for Refusal {
-    ghost use Rattle.std.specs.Prelude.{◌≡◌};
-    ghost use Rattle.art_server.specs.Refusals.{close_refusal};
-
-    ghost from_gives = { λ fault refusal. refusal ≡ close_refusal fault };
-
-    fn from(fault: CloseRefusal) -> Refusal {
-        match fault {
-            CloseRefusal::PassesMissing => Refusal::PassesMissing,
-            CloseRefusal::NoMemory => Refusal::NoMemory,
         }
     }
 }

@@ -1,21 +1,11 @@
--- The numbers and the names of the refusals, and the refusal of each fault.
+-- The numbers and the names of the refusals, and the refusal of each fault of a value and of a schema.
 use Rattle.std.specs.Prelude.{ℕ, List, ◌++◌, codes, decimal}
-use Rattle.art_server.specs.declared.refusals.Refusal.{Refusal}
-use Rattle.art_server.specs.declared.refusals.Refusal.TheVariants.{BadLine, LineTooLong, BadCommand, WrongColumns, WrongType, OutOfRange, TextTooLong, BadRange, BadLimit, Busy, Full, Crowded, Exhausted, NoMemory, NoColumns, TooManyColumns, KeyTooWide, BadColumn, BadConfig, PassesMissing}
+use Rattle.art_refusal.specs.declared.refusals.Refusal.{Refusal}
+use Rattle.art_refusal.specs.declared.refusals.Refusal.TheVariants.{BadLine, LineTooLong, BadCommand, WrongColumns, WrongType, OutOfRange, TextTooLong, BadRange, BadLimit, Busy, Full, Crowded, Exhausted, NoMemory, NoColumns, TooManyColumns, KeyTooWide, BadColumn, BadConfig, PassesMissing}
 use Rattle.art_key.specs.declared.faults.SchemaFault.{SchemaFault}
 use Rattle.art_key.specs.declared.faults.SchemaFault.TheVariants as schema
 use Rattle.art_key.specs.declared.faults.ValueFault.{ValueFault}
 use Rattle.art_key.specs.declared.faults.ValueFault.TheVariants as value
-use Rattle.art_scan.specs.declared.faults.ScanFault.{ScanFault}
-use Rattle.art_scan.specs.declared.faults.ScanFault.TheVariants as scan
-use Rattle.art_scan.specs.ArtTable.declared.closing.CloseRefusal.{CloseRefusal}
-use Rattle.art_scan.specs.ArtTable.declared.closing.CloseRefusal.TheVariants as close
-use Rattle.art_scan.specs.ArtTable.declared.faults.Fault.{Fault}
-use Rattle.art_scan.specs.ArtTable.declared.faults.Fault.TheVariants as table
-use Rattle.art_scan.specs.ArtTable.declared.faults.OpenFault.{OpenFault}
-use Rattle.art_scan.specs.ArtTable.declared.faults.OpenFault.TheVariants as opening
-use Rattle.art_lines.specs.declared.lines.LineFault.{LineFault}
-use Rattle.art_lines.specs.declared.lines.LineFault.TheVariants as line
 
 -- the number that a client sees
 abbrev pub refusal_number : Refusal → ℕ
@@ -67,7 +57,7 @@ refusal_name PassesMissing = codes "PassesMissing"
 abbrev pub refusal_text : Refusal → List ℕ
 refusal_text refusal = codes "refused " ++ decimal (refusal_number refusal) ++ codes " " ++ refusal_name refusal
 
--- ---- the refusal of each fault, by its name: the column, the pool, the pass in the way and the cell are dropped
+-- ---- the refusal of a fault, by its name: the column is dropped
 
 -- of a value that does not stand in its column
 abbrev pub value_refusal : ValueFault → Refusal
@@ -76,42 +66,9 @@ value_refusal (value.WrongType place) = WrongType
 value_refusal (value.OutOfRange place) = OutOfRange
 value_refusal (value.TextTooLong place) = TextTooLong
 
--- of a line that says no command
-abbrev pub line_refusal : LineFault → Refusal
-line_refusal line.BadLine = BadLine
-line_refusal line.LineTooLong = LineTooLong
-line_refusal line.BadCommand = BadCommand
-line_refusal (line.Value fault) = value_refusal fault
-line_refusal line.NoMemory = NoMemory
-
--- of a call that is not answered
-abbrev pub fault_refusal : Fault → Refusal
-fault_refusal (table.Value fault) = value_refusal fault
-fault_refusal table.Busy = Busy
-fault_refusal (table.Full pool) = Full
-fault_refusal (table.Crowded blocker) = Crowded
-fault_refusal (table.Exhausted cell) = Exhausted
-
--- of a scan that is refused
-abbrev pub scan_refusal : ScanFault → Refusal
-scan_refusal (scan.Value fault) = value_refusal fault
-scan_refusal scan.BadRange = BadRange
-scan_refusal scan.BadLimit = BadLimit
-scan_refusal scan.Busy = Busy
-
 -- of columns that make no schema
 abbrev pub schema_refusal : SchemaFault → Refusal
 schema_refusal schema.NoColumns = NoColumns
 schema_refusal schema.TooManyColumns = TooManyColumns
 schema_refusal schema.KeyTooWide = KeyTooWide
 schema_refusal (schema.BadColumn place) = BadColumn
-
--- of a table that is not opened
-abbrev pub open_refusal : OpenFault → Refusal
-open_refusal opening.BadConfig = BadConfig
-open_refusal opening.NoMemory = NoMemory
-
--- of a table that is not closed
-abbrev pub close_refusal : CloseRefusal → Refusal
-close_refusal close.PassesMissing = PassesMissing
-close_refusal close.NoMemory = NoMemory
