@@ -1,5 +1,5 @@
 -- How a call comes about with the tuple of columns, by what is held.
-use Rattle.std.proofs.Common.{◌≡◌, ℕ, List, Option, Some, None, Result, Ok, Err, refl, ap, sym, ◌∙◌, subst}
+use Rattle.std.proofs.Common.{◌≡◌, List, Option, Some, None, Result, Ok, Err, refl, ap, sym, subst}
 use Rattle.art_handle.specs.ArtTable.Calls.{Ends}
 use Rattle.art_handle.specs.ArtTable.Jobs.{with_result}
 use Rattle.art_handle.specs.ArtTable.declared.faults.Fault.{Fault}

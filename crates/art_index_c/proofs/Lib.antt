@@ -4,6 +4,5 @@ pub mod Said
 pub mod Texts
 pub mod Called
 pub mod Scanned
-pub mod Opened
 pub mod AsBox
 pub mod OpaqueSteps

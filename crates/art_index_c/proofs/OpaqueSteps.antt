@@ -43,4 +43,4 @@ module _ {M : Type 1} {𝓤 : Ura M} {𝓛 : Logic 𝓤} {K : Type 0} {Γ : List
   opaque_out t p a held vs k =
       fsplit t $ fpick t (λ vss. fsplit t $ feq_l t (λ fields. fsplit t $ feq_l t (λ at. fsplit t $ handle_tells E.al t a vss.1.0 (λ h is fits. move t (1 ∷ []) $ drop t $ move t (1 ∷ []) $
       k h (subst (λ (ws : List Val). vs ≡ vstruct (of_list (ptr_val p ∷ (ws ++ []))) ∷ []) is
-          (subst (λ (ps : List Val). vs ≡ vstruct (of_list (ps ++ (vss.1.0 ++ []))) ∷ []) at fields)) fits))))
+      (subst (λ (ps : List Val). vs ≡ vstruct (of_list (ps ++ (vss.1.0 ++ []))) ∷ []) at fields)) fits))))

@@ -1,5 +1,5 @@
 -- How a scan comes about with the tuples of columns.
-use Rattle.std.proofs.Common.{◌≡◌, ℕ, ◌≤◌, List, length, OnOk, Option, Some, None, Result, Ok, Err, refl, ap, sym, ◌∙◌, subst}
+use Rattle.std.proofs.Common.{◌≡◌, ℕ, ◌≤◌, List, length, OnOk, Option, Some, None, Result, Ok, Err, refl, ap, subst}
 use Rattle.art_handle.specs.ArtScan.Scans.{Scans, scan_fault}
 use Rattle.art_handle.specs.ArtScan.declared.faults.ScanFault.{ScanFault}
 use Rattle.art_handle.specs.ArtScan.declared.faults.ScanFault.TheVariants.{Value}
@@ -29,7 +29,7 @@ is_scanned h k lo hi limit found r a b lo_is hi_is own table scans = record {
   refused_hi = λ x f e g. absurd (ok_or_err (tuple_of hi) b f hi_is g);
   scanned = λ x y e g.
       subst (λ (v : Tuple). Scans (table_of h) x v limit turns (pass_of h) found r (pass_of k)) (same_ok (tuple_of hi) b y hi_is g)
-          (subst (λ (v : Tuple). Scans (table_of h) v b limit turns (pass_of h) found r (pass_of k)) (same_ok (tuple_of lo) a x lo_is e) scans);
+      (subst (λ (v : Tuple). Scans (table_of h) v b limit turns (pass_of h) found r (pass_of k)) (same_ok (tuple_of lo) a x lo_is e) scans);
 }
 
 -- the lower columns are no tuple

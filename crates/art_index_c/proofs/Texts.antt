@@ -29,14 +29,14 @@ is_no_text bs not = false_else (is_utf8 bs) (λ yes. not (IsUtf8-from_is_utf8 bs
 pub text_of-text : (place count : ℕ) (bs : List ℕ) → count ≤ 24 → IsUtf8 (take count bs) → text_of place count bs ≡ Ok (Text (take count bs))
 text_of-text place count bs few text =
     let If_many : Bool → Result Value ValueFault = λ t. if t then Err (TextTooLong place)
-        else (if is_utf8 (take count bs) then Ok (Text (take count bs)) else Err (WrongType place)) in
+    else (if is_utf8 (take count bs) then Ok (Text (take count bs)) else Err (WrongType place)) in
     let If_text : Bool → Result Value ValueFault = λ t. if t then Ok (Text (take count bs)) else Err (WrongType place) in
     ap If_many (le-ltb 24 count few) ∙ ap If_text (is_text (take count bs) text)
 
 pub text_of-none : (place count : ℕ) (bs : List ℕ) → count ≤ 24 → ¬ (IsUtf8 (take count bs)) → text_of place count bs ≡ Err (WrongType place)
 text_of-none place count bs few none =
     let If_many : Bool → Result Value ValueFault = λ t. if t then Err (TextTooLong place)
-        else (if is_utf8 (take count bs) then Ok (Text (take count bs)) else Err (WrongType place)) in
+    else (if is_utf8 (take count bs) then Ok (Text (take count bs)) else Err (WrongType place)) in
     let If_text : Bool → Result Value ValueFault = λ t. if t then Ok (Text (take count bs)) else Err (WrongType place) in
     ap If_many (le-ltb 24 count few) ∙ ap If_text (is_no_text (take count bs) none)
 

@@ -1,5 +1,5 @@
 -- What opening a table from C does.
-use Rattle.std.specs.Prelude.{◌≡◌, ◌⊎◌, ℕ, List, map, if◌then◌else◌, Option, Some, Result, Ok, Err}
+use Rattle.std.specs.Prelude.{◌≡◌, ◌⊎◌, ℕ, List, map, if◌then◌else◌, Some, Result, Ok, Err}
 use Rattle.std.specs.Str.{is_utf8}
 use Rattle.art_handle.specs.ArtTable.Sizes.{IsConfig}
 use Rattle.art_handle.specs.ArtTable.declared.configs.Config.{Config}

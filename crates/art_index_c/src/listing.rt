@@ -7,10 +7,10 @@ use crate::calls::TURNS;
 use crate::columns::{Column, tuple_of};
 use crate::rows::{Row, write_over};
 use crate::statuses;
+use arrayvec::ArrayVec;
 use art_handle::Handle;
 use art_handle::art_scan::{More, ScanFault};
 use art_model::Row as TypedRow;
-use arrayvec::ArrayVec;
 
 /// Lists rows, and answers a status.
 pub(crate) fn scan(

@@ -127,7 +127,13 @@ fn share_rows(rt: &impl Abort, alloc: Global) {
     let range = (below_zero(-9), number(9));
     check_scan(rt, alloc, &mut passes[0], range, (1, 2, both));
     let one = [seven(number(5)), Row::default()];
-    check_scan(rt, alloc, &mut passes[0], (number(0), number(9)), (0, 1, one));
+    check_scan(
+        rt,
+        alloc,
+        &mut passes[0],
+        (number(0), number(9)),
+        (0, 1, one),
+    );
     check_remove(rt, alloc, &mut passes[1], &[number(5)], (0, 7));
     check_get(rt, alloc, &mut passes[0], &[number(5)], (2, BEFORE));
     art_index_close(alloc, &mut passes[0]);
@@ -147,7 +153,16 @@ fn refuse_columns(rt: &impl Abort, alloc: Global) {
     check_get(rt, alloc, &mut passes[0], &[], (4, BEFORE));
     check_get(rt, alloc, &mut passes[0], &[text(0, 0); 9], (4, BEFORE));
     check_get(rt, alloc, &mut passes[0], &[number(5)], (5, BEFORE));
-    check_get(rt, alloc, &mut passes[0], &[Column { kind: 4, ..text(0, 0) }], (5, BEFORE));
+    check_get(
+        rt,
+        alloc,
+        &mut passes[0],
+        &[Column {
+            kind: 4,
+            ..text(0, 0)
+        }],
+        (5, BEFORE),
+    );
     check_get(rt, alloc, &mut passes[0], &[text(1, 255)], (5, BEFORE));
     check_get(rt, alloc, &mut passes[0], &[text(5, b'a')], (7, BEFORE));
     check_get(rt, alloc, &mut passes[0], &[text(25, b'a')], (7, BEFORE));

@@ -11,5 +11,5 @@ returns c =
     let was : c.args.pass.now.held ≡ Some h = search (rules, c.in-Some.ensures, c.replace.ensures) in
     let now : c.of.result.held ≡ Some k = search (rules, c.of.ensures) in
     let does : Inserts h tuple c.args.value status word word_after k =
-        subst (λ (x : Handle). Inserts x tuple c.args.value status word word_after k) c.deref_mut.ensures.value c.insert-status.ensures in
+    subst (λ (x : Handle). Inserts x tuple c.args.value status word word_after k) c.deref_mut.ensures.value c.insert-status.ensures in
     is_held (λ x y. Inserts x tuple c.args.value status word word_after y) (HasNoPass status word word_after) c.args.pass.now.held c.of.result.held h k was now does

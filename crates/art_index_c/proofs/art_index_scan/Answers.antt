@@ -13,6 +13,6 @@ returns c =
     let was : c.args.pass.now.held ≡ Some h = search (rules, c.in-Some.ensures, c.replace.ensures) in
     let now : c.of.result.held ≡ Some k = search (rules, c.of.ensures) in
     let does : Lists h lo hi rows listed status rows_after listed_after k =
-        subst (λ (x : Handle). Lists x lo hi rows listed status rows_after listed_after k) c.deref_mut.ensures.value c.scan-status.ensures in
+    subst (λ (x : Handle). Lists x lo hi rows listed status rows_after listed_after k) c.deref_mut.ensures.value c.scan-status.ensures in
     is_held (λ x y. Lists x lo hi rows listed status rows_after listed_after y) (HasNoPass status listed listed_after × (rows_after ≡ rows))
     c.args.pass.now.held c.of.result.held h k was now does

@@ -1,7 +1,7 @@
 use Rattle.std.proofs.Common.{◌≡◌, ◌<◌, ◌≤◌, ◌+◌, ◌∙◌, List, length, drop, ap, arith, rules, sym, Err, Ok}
 use Rattle.std.proofs.lemmas.List.{length_push}
 use Rattle.art_model.specs.declared.values.Value.{Value}
-use Rattle.art_index_c.specs.Columns.{as_tuple, values_of}
+use Rattle.art_index_c.specs.Columns.{values_of}
 use Rattle.art_index_c.proofs.Said.{before, tuple_of-few, tuple_of-many, values_of-bad, values_of-end, values_of-good}
 use Rattle.art_index_c.proofs.columns.tuple_of.Goals as goal
 
@@ -14,7 +14,7 @@ returns-in_err-value c =
     let lt : i < length cs = omega arith in let few : length cs ≤ 8 = omega arith in
     let is : c.from_residual.result ≡ Err f = search rules in
     is ∙ sym (tuple_of-few cs (Err f) few
-        (sym c.loop-place.invariant.values ∙ values_of-bad c.loop-place.tuple.items cs i _ f lt (sym c.in_err-value.ensures)))
+    (sym c.loop-place.invariant.values ∙ values_of-bad c.loop-place.tuple.items cs i _ f lt (sym c.in_err-value.ensures)))
 
 pub loop-place-preserved : goal.loop-place-preserved
 loop-place-preserved c =

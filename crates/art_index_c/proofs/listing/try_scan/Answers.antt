@@ -1,4 +1,4 @@
-use Rattle.std.proofs.Common.{◌≡◌, List, Err, Result, rules, subst, sym}
+use Rattle.std.proofs.Common.{◌≡◌, Err, Result, rules, subst, sym}
 use Rattle.art_handle.specs.ArtScan.declared.faults.ScanFault.{ScanFault}
 use Rattle.art_handle.specs.ArtScan.declared.faults.ScanFault.TheVariants.{Value}
 use Rattle.art_handle.specs.ArtScan.declared.scans.More.{More}

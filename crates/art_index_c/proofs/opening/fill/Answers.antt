@@ -1,4 +1,4 @@
-use Rattle.std.proofs.Common.{◌≡◌, ◌+◌, ◌<◌, ◌∙◌, ℕ, Box, List, [], ◌∷◌, ◌++◌, Option, Some, ap, append_assoc, arith, length, length-append, map, set, subst, sym}
+use Rattle.std.proofs.Common.{◌≡◌, ◌<◌, ◌∙◌, Box, List, [], ◌∷◌, ◌++◌, Option, Some, ap, append_assoc, arith, length, length-append, map, set, subst, sym}
 use Rattle.std.proofs.lemmas.List.{length-map, length_push, map-append, map-set}
 use Rattle.std.proofs.lemmas.List.Elements.{All-head, All-tail}
 use Rattle.std.specs.Global.{Global}
@@ -30,11 +30,11 @@ loop-handle-preserved c =
     let front = map Some (map value_of done) in
     let next = c.in-Some.ensures.steps.0 in
     let many : length front ≡ c.loop-handle.place =
-        length-map (map value_of done) Some ∙ (length-map done value_of ∙ sym i.place) in
+    length-map (map value_of done) Some ∙ (length-map done value_of ∙ sym i.place) in
     let lt : c.loop-handle.place < length olds =
-        omega (arith, length-map c.args.passes.now held_by, ap length i.whole, length-append done c.loop-handle.handle-iterator.rest.items, ap length next, c.requires.one_each) in
+    omega (arith, length-map c.args.passes.now held_by, ap length i.whole, length-append done c.loop-handle.handle-iterator.rest.items, ap length next, c.requires.one_each) in
     let more : front ++ Some handle.value ∷ [] ≡ map Some (map value_of (done ++ handle ∷ [])) =
-        sym (ap (map Some) (map-append value_of done (handle ∷ [])) ∙ map-append Some (map value_of done) (handle.value ∷ [])) in
+    sym (ap (map Some) (map-append value_of done (handle ∷ [])) ∙ map-append Some (map value_of done) (handle.value ∷ [])) in
     record {
       place = omega (arith, length_push done handle);
       whole = append_assoc done (handle ∷ []) rest ∙ (ap (λ (bs : List (Box Handle Global)). done ++ bs) (sym next) ∙ i.whole);

@@ -1,5 +1,4 @@
-use Rattle.std.proofs.Common.{◌∙◌, ap, subst, sym}
-use Rattle.std.specs.Str.{IsUtf8}
+use Rattle.std.proofs.Common.{◌∙◌, ap, sym}
 use Rattle.art_key.specs.Schemas.{schema_of}
 use Rattle.art_index_c.proofs.Texts.{schema_named-none, schema_named-text}
 use Rattle.art_index_c.proofs.opening.schema_named.Goals as goal

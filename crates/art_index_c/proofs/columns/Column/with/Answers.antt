@@ -1,4 +1,4 @@
-use Rattle.std.proofs.Common.{List, ℕ, ◌<◌, ◌≤◌, ◌∙◌, ap, arith, get_or, length, replicate, set}
+use Rattle.std.proofs.Common.{List, ℕ, ◌<◌, ◌∙◌, ap, arith, get_or, length, replicate, set}
 use Rattle.art_index_c.proofs.Overwrites.{over-more}
 use Rattle.art_index_c.proofs.columns.Column.with.Goals as goal
 

@@ -55,7 +55,7 @@ tested : {M : Type 1} {𝓤 : Ura M} (𝓛 : Logic 𝓤) (a : Heaps) (p : Ptr) (
 tested {𝓤 = 𝓤} 𝓛 a p x =
     let token = sem 𝓛 (ghosts.dealloc_token a (bare (lone (R E).mir)) p) in
     fact_use 𝓤 (Testable p) (via 𝓤 token (snd∗ 𝓤 (sem 𝓛 (lies_at (R E) full_share p x)) token) (dealloc_token-Testable 𝓛 a (bare (lone (R E).mir)) p))
-        (guard_i 𝓤 (Testable p) (sem 𝓛 (boxed a p x)))
+    (guard_i 𝓤 (Testable p) (sem 𝓛 (boxed a p x)))
 
 none_good : T (has_ty (layout Out) (live 0 vnil)) × WT (live 0 vnil)
 none_good = (tt, (record { fits = lit< tt }, tt))
@@ -80,7 +80,7 @@ module _ {M : Type 1} {𝓤 : Ura M} (𝓛 : Logic 𝓤) (𝓜 : Model 𝓤 𝓛
       qed 𝓛 ((‵ ftrue ⊛ ‵ (fsep (OpaqueRow.own_val (opaque p a None) vs) ftrue)) ∷ raw (emp 𝓤) ∷ []) ∵ split ! $ drop ! $ fsplit ! $
       opaque_out ! p a None vs (λ h is fits. feq_l ! (λ null. drop ! $ drop ! $ drop ! $
       by ! (subst (λ (us : List Val). ent 𝓤 (types.Kit.⋆ 𝓛 []) (WpFn 𝓤 𝓛.H 𝓣.C 𝓣.Λ code.function (us ++ []) (Post p a None vs)))
-          (sym (is ∙ ap (λ (q : Ptr). both (ptr_val q) h ∷ []) null))
+      (sym (is ∙ ap (λ (q : Ptr). both (ptr_val q) h ∷ []) null))
       (qed 𝓛 [] ∵ enter ! 𝓣.C 𝓣.Λ code.function (both (ptr_val null_ptr) h ∷ []) _ $
       alloc_all ! (λ ls. pass_all ! refl ((and_tt _ fits.0, (record { fits = lit< tt }, (fits.1, tt))), tt) $
       sets ! (of_opd ! (get_in ! (fld ! refl (stop !)) (sub ! 0 refl (whole !)))) refl (tt, record { fits = lit< tt }) $
@@ -106,7 +106,7 @@ module _ {M : Type 1} {𝓤 : Ura M} (𝓛 : Logic 𝓤) (𝓜 : Model 𝓤 𝓛
       let good : T (has_ty (layout Out) v) × WT v = (and_tt _ typed.0, (record { fits = lit< tt }, (typed.1, tt))) in
       let Γ : List (Item 𝓤) = ‵ (boxed a at x) ∷ ‵ ((P E).own_val a (h ∷ [])) ∷ [] in
       by ! (subst (λ (us : List Val). ent 𝓤 (types.Kit.⋆ 𝓛 Γ) (WpFn 𝓤 𝓛.H 𝓣.C 𝓣.Λ code.function (us ++ []) (Post p a (Some x) vs)))
-          (sym (is ∙ ap (λ (q : Ptr). both (ptr_val q) h ∷ []) e))
+      (sym (is ∙ ap (λ (q : Ptr). both (ptr_val q) h ∷ []) e))
       (qed 𝓛 Γ ∵ enter ! 𝓣.C 𝓣.Λ code.function (w ∷ []) _ $ alloc_all ! (λ ls. pass_all ! refl (typed, tt) $
       let Ev = env (code.function).locals ls in
       sets ! (of_opd ! (get_in ! (fld ! refl (stop !)) (sub ! 0 refl (whole !)))) refl (tt, tt) $
