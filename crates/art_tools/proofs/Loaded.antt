@@ -13,7 +13,7 @@ use Rattle.art_server.specs.ArtTable.Tables.{sizes_in}
 use Rattle.art_server.specs.ArtTable.declared.closing.Closed.{Closed}
 use Rattle.art_server.specs.ArtTable.declared.passes.Pass.{Pass}
 use Rattle.art_server.specs.ArtTable.declared.tables.Table.{Table}
-use Rattle.art_server.specs.Refusals.{schema_refusal}
+use Rattle.art_server.specs.ArtRefusal.Refusals.{schema_refusal}
 use Rattle.art_tools.proofs.Backs.{loaded_all, opened_of, served_all}
 use Rattle.art_tools.proofs.Passes.{no_memory}
 use Rattle.art_tools.specs.Loads.{RunsLoad, load_text}

@@ -11,8 +11,8 @@ use Rattle.art_key.specs.declared.faults.SchemaFault.{SchemaFault}
 use Rattle.art_server.specs.ArtTable.Sizes.{IsConfig}
 use Rattle.art_server.specs.ArtTable.declared.configs.Config.{Config}
 use Rattle.art_server.specs.Reads.{AddsReads, MakesReads}
-use Rattle.art_server.specs.Refusals.{schema_refusal}
-use Rattle.art_server.specs.declared.refusals.Refusal.{Refusal}
+use Rattle.art_server.specs.ArtRefusal.Refusals.{schema_refusal}
+use Rattle.art_server.specs.ArtRefusal.declared.refusals.Refusal.{Refusal}
 use Rattle.art_server.specs.declared.sessions.EndCause.{EndCause}
 use Rattle.art_server.specs.declared.sessions.EndCause.TheVariants as cause
 use Rattle.art_schedule.specs.declared.stops.ScheduleEnd.{ScheduleEnd}

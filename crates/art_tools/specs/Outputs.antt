@@ -8,7 +8,7 @@ use Rattle.art_model.specs.declared.commands.Reply.{Reply}
 use Rattle.art_model.specs.declared.rows.Row.{Row}
 use Rattle.art_server.specs.Sessions.{texts}
 use Rattle.art_server.specs.Streams.{lines_of}
-use Rattle.art_server.specs.declared.refusals.Refusal.{Refusal}
+use Rattle.art_server.specs.ArtRefusal.declared.refusals.Refusal.{Refusal}
 use Rattle.art_server.specs.ArtTable.declared.configs.Config.{Config}
 
 -- the sizes, with one pass

@@ -9,9 +9,9 @@ use Rattle.art_key.specs.declared.faults.SchemaFault.{SchemaFault}
 use Rattle.art_server.specs.ArtTable.Sizes.{IsConfig}
 use Rattle.art_server.specs.ArtTable.declared.configs.Config.{Config}
 use Rattle.art_server.specs.Reads.{AddsReads}
-use Rattle.art_server.specs.Refusals.{schema_refusal}
-use Rattle.art_server.specs.declared.refusals.Refusal.{Refusal}
-use Rattle.art_server.specs.declared.refusals.Refusal.TheVariants.{BadConfig}
+use Rattle.art_server.specs.ArtRefusal.Refusals.{schema_refusal}
+use Rattle.art_server.specs.ArtRefusal.declared.refusals.Refusal.{Refusal}
+use Rattle.art_server.specs.ArtRefusal.declared.refusals.Refusal.TheVariants.{BadConfig}
 use Rattle.art_tools.specs.Loads.{RunsLoad}
 use Rattle.art_tools.specs.Outputs.{Outputs, of_one_pass}
 use Rattle.art_tools.specs.Ranges.{HasServe, IsLoad, IsServe}

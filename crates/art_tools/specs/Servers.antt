@@ -8,7 +8,7 @@ use Rattle.art_server.specs.ArtTable.Opening.{IsOpened}
 use Rattle.art_server.specs.ArtTable.declared.closing.Closed.{Closed}
 use Rattle.art_server.specs.ArtTable.declared.passes.Pass.{Pass}
 use Rattle.art_server.specs.ArtTable.declared.tables.Table.{Table}
-use Rattle.art_server.specs.Refusals.{schema_refusal}
+use Rattle.art_server.specs.ArtRefusal.Refusals.{schema_refusal}
 use Rattle.art_workers.specs.ArtSessions.Talks.{AreOneMap}
 use Rattle.art_tools.specs.Statuses.{unserved}
 use Rattle.art_tools.specs.Tables.{Prints, of_passes}

@@ -4,8 +4,8 @@ use Rattle.art_server.specs.ArtTable.declared.closing.CloseRefusal.{CloseRefusal
 use Rattle.art_server.specs.ArtTable.declared.closing.CloseRefusal.TheVariants as close
 use Rattle.art_server.specs.ArtTable.declared.faults.OpenFault.{OpenFault}
 use Rattle.art_server.specs.ArtTable.declared.faults.OpenFault.TheVariants as opening
-use Rattle.art_server.specs.Refusals.{refusal_text}
-use Rattle.art_server.specs.declared.refusals.Refusal.TheVariants.{BadConfig, PassesMissing}
+use Rattle.art_server.specs.ArtRefusal.Refusals.{refusal_text}
+use Rattle.art_server.specs.ArtRefusal.declared.refusals.Refusal.TheVariants.{BadConfig, PassesMissing}
 use Rattle.art_schedule.specs.declared.stops.ScheduleEnd.{ScheduleEnd}
 use Rattle.art_schedule.specs.declared.stops.ScheduleEnd.TheVariants as schedule
 use Rattle.art_server.specs.declared.sessions.EndCause.{EndCause}

@@ -70,7 +70,7 @@ impl Error for RunFault {}
 
 impl From<SchemaFault> for RunFault {
     ghost use Rattle.std.specs.Prelude.{◌≡◌};
-    ghost use Rattle.art_server.specs.Refusals.{schema_refusal};
+    ghost use Rattle.art_server.specs.ArtRefusal.Refusals.{schema_refusal};
     ghost use Rattle.art_tools.specs.declared.run_faults.RunFault.TheVariants.{Refused};
 
     ghost from_gives = { λ fault e. e ≡ Refused (schema_refusal fault) };

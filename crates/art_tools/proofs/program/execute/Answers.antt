@@ -1,5 +1,5 @@
 use Rattle.std.proofs.Common.{◌∙◌, Some, ap, inl, inr, refl, rules}
-use Rattle.art_server.specs.declared.refusals.Refusal.TheVariants.{BadConfig}
+use Rattle.art_server.specs.ArtRefusal.declared.refusals.Refusal.TheVariants.{BadConfig}
 use Rattle.art_tools.proofs.Performed.{begins, of_serve, of_step, out_of_range, outputs, reads_all, ready, refuses_schema, tells_schema, used_told}
 use Rattle.art_tools.proofs.Runs.{five_tells, seven_tells, six_tells, status_tells, three_tells, zero_tells}
 use Rattle.art_tools.proofs.Stepped.{nothing_read, status_of_fault}

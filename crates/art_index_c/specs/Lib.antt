@@ -1,0 +1,6 @@
+pub mod Statuses
+pub mod Columns
+pub mod Held
+pub mod Calls
+pub mod Listing
+pub mod Opening
