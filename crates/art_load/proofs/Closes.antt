@@ -16,7 +16,7 @@ use Rattle.art_model.specs.declared.commands.Command.{Command}
 use Rattle.art_model.specs.declared.commands.Reply.{Reply}
 use Rattle.art_model.specs.declared.rows.Row.{Row}
 use Rattle.art_sessions.proofs.Points.{commands_are_points}
-use Rattle.art_sessions.specs.ArtServer.declared.refusals.Refusal.{Refusal}
+use Rattle.art_sessions.specs.ArtServer.ArtRefusal.declared.refusals.Refusal.{Refusal}
 use Rattle.art_sessions.specs.Points.{AllAt}
 use Rattle.art_step.specs.Views.{Member}
 use Rattle.art_table.specs.Closing.{places_from}

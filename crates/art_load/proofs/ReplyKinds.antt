@@ -2,7 +2,7 @@
 use Rattle.std.proofs.Common.{◌≡◌, Option, Some, None, refl, subst}
 use Rattle.std.specs.Prelude.{ℕ, Result, Ok, Err}
 use Rattle.art_model.specs.declared.commands.Reply.TheVariants.{Inserted, Present, Removed, Absent, Found}
-use Rattle.art_sessions.specs.ArtServer.Refusals.{fault_refusal}
+use Rattle.art_sessions.specs.ArtServer.ArtTable.Refusals.{fault_refusal}
 use Rattle.art_table.specs.Jobs.{of_got, of_inserted, of_removed, with_result}
 use Rattle.art_table.specs.declared.calls.Inserted.{Inserted as InsertedOf}
 use Rattle.art_table.specs.declared.calls.Inserted.TheVariants as inserted

@@ -14,7 +14,7 @@ use Rattle.art_load.specs.declared.counts.Counts.{Counts}
 use Rattle.art_model.specs.declared.commands.Command.{Command}
 use Rattle.art_model.specs.declared.commands.Command.TheVariants.{Insert, Remove, Get, Scan}
 use Rattle.art_model.specs.declared.commands.Reply.{Reply}
-use Rattle.art_sessions.specs.ArtServer.declared.refusals.Refusal.{Refusal}
+use Rattle.art_sessions.specs.ArtServer.ArtRefusal.declared.refusals.Refusal.{Refusal}
 use Rattle.art_sessions.proofs.Points.{commands_are_points}
 use Rattle.art_sessions.specs.Points.{AllAt, AnswersAll, CallAt, CommandAt, StandsAt}
 use Rattle.art_table.specs.Tables.{number_of, schema_in}

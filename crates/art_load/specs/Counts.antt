@@ -6,7 +6,7 @@ use Rattle.art_load.specs.declared.counts.Kind.{Kind}
 use Rattle.art_load.specs.declared.counts.Kind.TheVariants as kind
 use Rattle.art_model.specs.declared.commands.Reply.{Reply}
 use Rattle.art_model.specs.declared.commands.Reply.TheVariants.{Inserted, Present, Removed, Absent, Found, Rows}
-use Rattle.art_sessions.specs.ArtServer.declared.refusals.Refusal.{Refusal}
+use Rattle.art_sessions.specs.ArtServer.ArtRefusal.declared.refusals.Refusal.{Refusal}
 
 -- of no reply
 abbrev pub none_counted : Counts

@@ -8,7 +8,7 @@ use Rattle.art_model.specs.declared.commands.Command.{Command}
 use Rattle.art_model.specs.declared.commands.Command.TheVariants.{Scan}
 use Rattle.art_model.specs.declared.commands.Reply.{Reply}
 use Rattle.art_sessions.specs.ArtServer.Sessions.{AnswersCommand, IsReplyOf, most_turns}
-use Rattle.art_sessions.specs.ArtServer.declared.refusals.Refusal.{Refusal}
+use Rattle.art_sessions.specs.ArtServer.ArtRefusal.declared.refusals.Refusal.{Refusal}
 use Rattle.art_sessions.specs.Points.{AnswersAll, Asked}
 use Rattle.art_table.specs.Tables.{IsPassOf}
 use Rattle.art_table.specs.declared.faults.Fault.{Fault}

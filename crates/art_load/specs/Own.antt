@@ -9,7 +9,7 @@ use Rattle.art_load.specs.Loads.{IsCall, Loads}
 use Rattle.art_load.specs.declared.counts.Counts.{Counts}
 use Rattle.art_model.specs.declared.commands.Command.{Command}
 use Rattle.art_model.specs.declared.commands.Reply.{Reply}
-use Rattle.art_sessions.specs.ArtServer.declared.refusals.Refusal.{Refusal}
+use Rattle.art_sessions.specs.ArtServer.ArtRefusal.declared.refusals.Refusal.{Refusal}
 use Rattle.art_sessions.specs.Points.{GoesOnAt}
 use Rattle.art_table.specs.Marks.{StartsWith}
 use Rattle.art_table.specs.Tables.{IsPassOf, seen_by}
