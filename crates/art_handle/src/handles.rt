@@ -10,9 +10,8 @@ ghost use Rattle.art_scan.specs.Scans.{Scans};
 use arrayvec::ArrayVec;
 use art_key::Schema;
 use art_model::{Row, Tuple};
-use art_scan::art_table;
 use art_scan::art_table::{Fault, Inserted, Pass, Table};
-use art_scan::{More, ScanFault};
+use art_scan::{More, ScanFault, art_table};
 use std::alloc::Global;
 use std::sync::Arc;
 
