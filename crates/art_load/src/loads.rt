@@ -9,6 +9,7 @@ use crate::commands::{Plan, load_command};
 use crate::counts::{Counts, Kind};
 use art_model::Command;
 use art_table::{Fault, Inserted, Pass, Table, get, insert, remove};
+use std::thread::yield_now;
 
 /// The most turns of one command, as many as a session gives.
 const TURNS: u32 = 1_000_000;
@@ -68,6 +69,13 @@ fn make(table: &Table, pass: &mut Pass, command: &Command) -> Kind
     }
 }
 
+/// Lets other threads run where a command was refused: mostly a pass stands in the middle of a call, and its thread wants the processor.
+fn give_way(kind: Kind) {
+    if matches!(kind, Kind::Refused) {
+        yield_now();
+    }
+}
+
 /// Makes the commands of the thread by the pass, and counts their replies.
 pub(crate) fn load_by(table: &Table, pass: Pass, thread: u64, plan: Plan) -> Loaded
     requires pass { IsPassOf table.now pass }
@@ -80,6 +88,7 @@ pub(crate) fn load_by(table: &Table, pass: Pass, thread: u64, plan: Plan) -> Loa
         let command = load_command(plan, thread, u64::from(step));
         let kind = make(table, &mut pass, &command);
         counts.count(kind);
+        give_way(kind);
     }
     Loaded { pass, counts }
 }
