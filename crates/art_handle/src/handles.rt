@@ -35,7 +35,8 @@ impl Handle {
         requires { IsOfItsTable self.old }
         ensures own { IsOfItsTable self.new }
         ensures table { table_of self.new ≡ table_of self.old }
-        ensures ends { Ends (table_of self.old) (jobs.Insert tuple.now value) turns (pass_of self.old) (with_result of_inserted result) (pass_of self.new) }
+        ensures ends { Ends (table_of self.old) (jobs.Insert tuple.now value) turns
+            (pass_of self.old) (with_result of_inserted result) (pass_of self.new) }
     {
         art_table::insert(&self.table, &mut self.pass, tuple, value, turns)
     }
@@ -45,7 +46,8 @@ impl Handle {
         requires { IsOfItsTable self.old }
         ensures own { IsOfItsTable self.new }
         ensures table { table_of self.new ≡ table_of self.old }
-        ensures ends { Ends (table_of self.old) (jobs.Remove tuple.now) turns (pass_of self.old) (with_result of_removed result) (pass_of self.new) }
+        ensures ends { Ends (table_of self.old) (jobs.Remove tuple.now) turns
+            (pass_of self.old) (with_result of_removed result) (pass_of self.new) }
     {
         art_table::remove(&self.table, &mut self.pass, tuple, turns)
     }
@@ -55,7 +57,8 @@ impl Handle {
         requires { IsOfItsTable self.old }
         ensures own { IsOfItsTable self.new }
         ensures table { table_of self.new ≡ table_of self.old }
-        ensures ends { Ends (table_of self.old) (jobs.Get tuple.now) turns (pass_of self.old) (with_result of_got result) (pass_of self.new) }
+        ensures ends { Ends (table_of self.old) (jobs.Get tuple.now) turns
+            (pass_of self.old) (with_result of_got result) (pass_of self.new) }
     {
         art_table::get(&self.table, &mut self.pass, tuple, turns)
     }

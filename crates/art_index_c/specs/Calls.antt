@@ -37,7 +37,8 @@ HasNoPass status word word_after = (status ≡ 3) × (word_after ≡ word)
 
 -- The handle h was to make a call with the tuple of the columns, which ended so: it is k then. Columns that are no tuple come first, and
 -- change nothing; else the call was made.
-pub record Calls {A : Type 0} (h : Handle) (columns : List Column) (job : Tuple → Job) (outcome : A → Outcome) (r : Result A Fault) (k : Handle) : Type 0 where
+pub record Calls {A : Type 0} (h : Handle) (columns : List Column) (job : Tuple → Job) (outcome : A → Outcome) (r : Result A Fault)
+    (k : Handle) : Type 0 where
   pub own : IsOfItsTable k
   pub table : table_of k ≡ table_of h
   pub refused : (f : ValueFault) → tuple_of columns ≡ Err f → (r ≡ Err (Value f)) × (k ≡ h)

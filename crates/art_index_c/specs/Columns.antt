@@ -53,7 +53,12 @@ abbrev pub over : {A : Type 0} → List A → List A → List A
 over front all = front ++ drop (length front) all
 
 abbrev pub column_with : ℕ → ℕ → ℕ → List ℕ → Column
-column_with kind number count bytes = record { kind = kind; length = count; number = number; text = over bytes (replicate 24 0) }
+column_with kind number count bytes = record {
+  kind = kind;
+  length = count;
+  number = number;
+  text = over bytes (replicate 24 0);
+}
 
 -- a whole number's low 64 bits, in two's complement
 abbrev pub low_bits : ℤ → ℕ

@@ -14,4 +14,5 @@ boxed alloc p x = box_owns (ghosts.dealloc_token alloc) the_row p x
 
 -- nothing, at null; or the box at p of a handle whose pass is one of its table
 abbrev pub owns_held : Global → Ptr → Option the_row.Denot → Fml
-owns_held alloc p held = elim held as (λ _. Fml) [ None ↦ feq Ptr p null_ptr | Some x ↦ fsep (fex (IsOfItsTable x) (λ _. ftrue)) (boxed alloc p x) ]
+owns_held alloc p held =
+    elim held as (λ _. Fml) [ None ↦ feq Ptr p null_ptr | Some x ↦ fsep (fex (IsOfItsTable x) (λ _. ftrue)) (boxed alloc p x) ]

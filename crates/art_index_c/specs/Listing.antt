@@ -17,12 +17,14 @@ use Rattle.art_model.specs.declared.rows.Row.{Row as RowOf}
 
 -- The handle h was to scan from the tuple of some columns to that of others, which ended so: it is k then. Columns that are no tuple come
 -- first, the lower ones before the upper ones, and change nothing; else the scan was made.
-pub record ScansBetween (h : Handle) (lo hi : List Column) (limit : ℕ) (found : List RowOf) (r : Result More ScanFault) (k : Handle) : Type 0 where
+pub record ScansBetween (h : Handle) (lo hi : List Column) (limit : ℕ) (found : List RowOf) (r : Result More ScanFault)
+    (k : Handle) : Type 0 where
   pub own : IsOfItsTable k
   pub table : table_of k ≡ table_of h
   pub refused_lo : (f : ValueFault) → tuple_of lo ≡ Err f → (r ≡ Err (Value f)) × (k ≡ h)
   pub refused_hi : (a : Tuple) (f : ValueFault) → tuple_of lo ≡ Ok a → tuple_of hi ≡ Err f → (r ≡ Err (Value f)) × (k ≡ h)
-  pub scanned : (a b : Tuple) → tuple_of lo ≡ Ok a → tuple_of hi ≡ Ok b → Scans (table_of h) a b limit turns (pass_of h) found r (pass_of k)
+  pub scanned : (a b : Tuple) → tuple_of lo ≡ Ok a → tuple_of hi ≡ Ok b
+      → Scans (table_of h) a b limit turns (pass_of h) found r (pass_of k)
 
 -- what is found stands first in the rows, and those behind are as they were; where the scan is refused, all are
 abbrev pub rows_after : Result More ScanFault → List RowOf → List Row → List Row
@@ -35,7 +37,8 @@ listed_after (Ok more) found listed = length found
 listed_after (Err fault) found listed = listed
 
 -- a scan, of as many rows as there is room for: it answered this status, and left these rows and this word
-pub record Lists (h : Handle) (lo hi : List Column) (rows : List Row) (listed status : ℕ) (rows' : List Row) (listed' : ℕ) (k : Handle) : Type 0 where
+pub record Lists (h : Handle) (lo hi : List Column) (rows : List Row) (listed status : ℕ) (rows' : List Row) (listed' : ℕ)
+    (k : Handle) : Type 0 where
   pub found : List RowOf
   pub told : Result More ScanFault
   pub scans : ScansBetween h lo hi (length rows) found told k

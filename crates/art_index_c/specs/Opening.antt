@@ -20,7 +20,15 @@ schema_named bytes = if is_utf8 bytes then schema_of bytes else Err (BadColumn 0
 
 -- these sizes, with so many passes
 abbrev pub config_of : Sizes → ℕ → Config
-config_of s count = record { leaves = s.leaves; n4 = s.n4; n16 = s.n16; n48 = s.n48; n256 = s.n256; passes = count; counter_start = s.counter_start }
+config_of s count = record {
+  leaves = s.leaves;
+  n4 = s.n4;
+  n16 = s.n16;
+  n48 = s.n48;
+  n256 = s.n256;
+  passes = count;
+  counter_start = s.counter_start;
+}
 
 -- each of the opaque passes holds the handle at its place
 abbrev pub AreHeld : List OpaquePass → List Handle → Type 0
@@ -32,7 +40,8 @@ AreFilled schema config passes = (handles : List Handle) × AreOpened schema con
 
 -- A table was to be opened, by passes as they were: this status was answered, and they are these then. A bad schema comes first, and then a
 -- size out of its range. Where there is no memory, or anything else is amiss, they are as they were.
-pub record Opens (named : Result (List Column) SchemaFault) (config : Config) (passes : List OpaquePass) (status : ℕ) (passes' : List OpaquePass) : Type 0 where
+pub record Opens (named : Result (List Column) SchemaFault) (config : Config) (passes : List OpaquePass) (status : ℕ)
+    (passes' : List OpaquePass) : Type 0 where
   pub unnamed : (f : SchemaFault) → named ≡ Err f → (status ≡ schema_number f) × (passes' ≡ passes)
   pub invalid : (s : List Column) → named ≡ Ok s → ¬ (IsConfig config) → (status ≡ open_number BadConfig) × (passes' ≡ passes)
   pub valid : (s : List Column) → named ≡ Ok s → IsConfig config

@@ -1,4 +1,4 @@
-//! The index for programs that are not Rattle's: a static library, whose header is `art_index.h`.
+//! The index for programs that are not Rattle's: a static library, which C declares as its README says.
 //!
 //! `art_index_open` makes a table and puts all of its passes into an array of the caller's. Each of the other calls takes one of these, an
 //! opaque pointer to a `Handle` of `art_handle`, and does one thing with the table. So there is no handle of a table beside those of its
@@ -66,7 +66,11 @@ pub extern "C" fn art_index_insert(
     value: u64,
     stands: &mut u64,
 ) -> u32
-    ensures { OnHeld (λ h k. Inserts h tuple.now value result stands.old stands.new k) (HasNoPass result stands.old stands.new) pass.old.held pass.new.held }
+    ensures { OnHeld
+        (λ h k. Inserts h tuple.now value result stands.old stands.new k)
+        (HasNoPass result stands.old stands.new)
+        pass.old.held
+        pass.new.held }
 {
     let Some(held) = mem::replace(pass, OpaquePass::none(alloc)).into_box() else {
         return NO_PASS;
@@ -85,7 +89,11 @@ pub extern "C" fn art_index_remove(
     tuple: &[Column],
     gone: &mut u64,
 ) -> u32
-    ensures { OnHeld (λ h k. Removes h tuple.now result gone.old gone.new k) (HasNoPass result gone.old gone.new) pass.old.held pass.new.held }
+    ensures { OnHeld
+        (λ h k. Removes h tuple.now result gone.old gone.new k)
+        (HasNoPass result gone.old gone.new)
+        pass.old.held
+        pass.new.held }
 {
     let Some(held) = mem::replace(pass, OpaquePass::none(alloc)).into_box() else {
         return NO_PASS;
@@ -104,7 +112,11 @@ pub extern "C" fn art_index_get(
     tuple: &[Column],
     found: &mut u64,
 ) -> u32
-    ensures { OnHeld (λ h k. Gets h tuple.now result found.old found.new k) (HasNoPass result found.old found.new) pass.old.held pass.new.held }
+    ensures { OnHeld
+        (λ h k. Gets h tuple.now result found.old found.new k)
+        (HasNoPass result found.old found.new)
+        pass.old.held
+        pass.new.held }
 {
     let Some(held) = mem::replace(pass, OpaquePass::none(alloc)).into_box() else {
         return NO_PASS;

@@ -1,6 +1,7 @@
 //! What a call answers.
 ghost use Rattle.std.specs.Prelude.{◌≡◌};
-ghost use Rattle.art_index_c.specs.Statuses.{fault_number, found_status, inserted_status, open_number, scan_number, scan_status, schema_number, value_number};
+ghost use Rattle.art_index_c.specs.Statuses.{fault_number, open_number, schema_number, value_number};
+ghost use Rattle.art_index_c.specs.Statuses.{found_status, inserted_status, scan_status};
 
 use art_handle::art_scan::art_table::{Fault, Inserted, OpenFault};
 use art_handle::art_scan::{More, ScanFault};
