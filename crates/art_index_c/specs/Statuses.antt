@@ -1,55 +1,34 @@
 -- The statuses, by what came of a call.
 use Rattle.std.specs.Prelude.{ℕ, Option, Some, None, Result, Ok, Err}
 use Rattle.art_key.specs.declared.faults.SchemaFault.{SchemaFault}
-use Rattle.art_key.specs.declared.faults.SchemaFault.TheVariants as schema
-use Rattle.art_key.specs.declared.faults.ValueFault.{ValueFault}
-use Rattle.art_key.specs.declared.faults.ValueFault.TheVariants as value
+use Rattle.art_refusal.specs.Refusals.{refusal_number, schema_refusal}
+use Rattle.art_handle.specs.ArtScan.Refusals.{scan_refusal}
 use Rattle.art_handle.specs.ArtScan.declared.faults.ScanFault.{ScanFault}
-use Rattle.art_handle.specs.ArtScan.declared.faults.ScanFault.TheVariants as scan
 use Rattle.art_handle.specs.ArtScan.declared.scans.More.{More}
 use Rattle.art_handle.specs.ArtScan.declared.scans.More.TheVariants as more
+use Rattle.art_handle.specs.ArtTable.Refusals.{fault_refusal, open_refusal}
 use Rattle.art_handle.specs.ArtTable.declared.calls.Inserted.{Inserted}
 use Rattle.art_handle.specs.ArtTable.declared.calls.Inserted.TheVariants as inserted
 use Rattle.art_handle.specs.ArtTable.declared.faults.Fault.{Fault}
-use Rattle.art_handle.specs.ArtTable.declared.faults.Fault.TheVariants as table
 use Rattle.art_handle.specs.ArtTable.declared.faults.OpenFault.{OpenFault}
-use Rattle.art_handle.specs.ArtTable.declared.faults.OpenFault.TheVariants as opening
 
--- ---- the number of each fault
-
--- of columns that are no tuple, or whose tuple does not stand in the schema
-abbrev pub value_number : ValueFault → ℕ
-value_number value.WrongColumns = 4
-value_number (value.WrongType place) = 5
-value_number (value.OutOfRange place) = 6
-value_number (value.TextTooLong place) = 7
+-- ---- the number of each fault, which is that of its refusal
 
 -- of a call
 abbrev pub fault_number : Fault → ℕ
-fault_number (table.Value fault) = value_number fault
-fault_number table.Busy = 10
-fault_number (table.Full pool) = 11
-fault_number (table.Crowded blocker) = 12
-fault_number (table.Exhausted cell) = 13
+fault_number fault = refusal_number (fault_refusal fault)
 
 -- of a scan
 abbrev pub scan_number : ScanFault → ℕ
-scan_number (scan.Value fault) = value_number fault
-scan_number scan.BadRange = 8
-scan_number scan.BadLimit = 9
-scan_number scan.Busy = 10
+scan_number fault = refusal_number (scan_refusal fault)
 
 -- of a text that names no schema
 abbrev pub schema_number : SchemaFault → ℕ
-schema_number schema.NoColumns = 20
-schema_number schema.TooManyColumns = 21
-schema_number schema.KeyTooWide = 22
-schema_number (schema.BadColumn place) = 23
+schema_number fault = refusal_number (schema_refusal fault)
 
 -- of a table that is not opened
 abbrev pub open_number : OpenFault → ℕ
-open_number opening.NoMemory = 14
-open_number opening.BadConfig = 24
+open_number fault = refusal_number (open_refusal fault)
 
 -- ---- the status of each end
 

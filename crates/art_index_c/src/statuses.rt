@@ -1,11 +1,12 @@
 //! What a call answers.
 ghost use Rattle.std.specs.Prelude.{◌≡◌};
-ghost use Rattle.art_index_c.specs.Statuses.{fault_number, open_number, schema_number, value_number};
+ghost use Rattle.art_index_c.specs.Statuses.{fault_number, open_number, schema_number};
 ghost use Rattle.art_index_c.specs.Statuses.{found_status, inserted_status, scan_status};
 
 use art_handle::art_scan::art_table::{Fault, Inserted, OpenFault};
 use art_handle::art_scan::{More, ScanFault};
-use art_key::{SchemaFault, ValueFault};
+use art_key::SchemaFault;
+use art_refusal::Refusal;
 
 /// It was done: opened, inserted, removed, found, or all rows of the range are listed.
 pub(crate) const DONE: u32 = 0;
@@ -45,22 +46,7 @@ pub(crate) fn of_scanned(told: Result<More, ScanFault>) -> u32
     match told {
         Ok(More::End) => DONE,
         Ok(More::Limit) => STANDS,
-        Err(ScanFault::Value(fault)) => of_value(fault),
-        Err(ScanFault::BadRange) => 8,
-        Err(ScanFault::BadLimit) => 9,
-        Err(ScanFault::Busy) => 10,
-    }
-}
-
-/// The number of columns that are no tuple, or whose tuple does not stand in the schema.
-fn of_value(fault: ValueFault) -> u32
-    ensures { result ≡ value_number fault }
-{
-    match fault {
-        ValueFault::WrongColumns => 4,
-        ValueFault::WrongType(_) => 5,
-        ValueFault::OutOfRange(_) => 6,
-        ValueFault::TextTooLong(_) => 7,
+        Err(fault) => u32::from(Refusal::from(fault).number()),
     }
 }
 
@@ -68,33 +54,19 @@ fn of_value(fault: ValueFault) -> u32
 fn of_fault(fault: Fault) -> u32
     ensures { result ≡ fault_number fault }
 {
-    match fault {
-        Fault::Value(fault) => of_value(fault),
-        Fault::Busy => 10,
-        Fault::Full(_) => 11,
-        Fault::Crowded(_) => 12,
-        Fault::Exhausted(_) => 13,
-    }
+    u32::from(fault.refusal().number())
 }
 
 /// The number of a text that names no schema.
 pub(crate) fn of_schema(fault: SchemaFault) -> u32
     ensures { result ≡ schema_number fault }
 {
-    match fault {
-        SchemaFault::NoColumns => 20,
-        SchemaFault::TooManyColumns => 21,
-        SchemaFault::KeyTooWide => 22,
-        SchemaFault::BadColumn(_) => 23,
-    }
+    u32::from(Refusal::from(fault).number())
 }
 
 /// The number of a table that is not opened.
 pub(crate) fn of_open(fault: OpenFault) -> u32
     ensures { result ≡ open_number fault }
 {
-    match fault {
-        OpenFault::NoMemory => 14,
-        OpenFault::BadConfig => 24,
-    }
+    u32::from(Refusal::from(fault).number())
 }
