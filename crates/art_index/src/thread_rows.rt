@@ -17,7 +17,7 @@ where
     let mut written = Vec::new(alloc);
     let mut said = Vec::new(alloc);
     let mut reader = Counted::new(b"".as_slice());
-    let ended = execute(rt, alloc, words, &mut reader, &mut written, &mut said);
+    let ended = execute(rt, alloc, &*words, &mut reader, &mut written, &mut said);
     assert_eq!(rt; said.as_slice(), faults.as_bytes(), "at {words:?}");
     assert_eq!(rt; written.as_slice(), output.as_bytes());
     assert_eq!(rt; ended, status);
