@@ -88,32 +88,32 @@ fn a_load_of_eight_threads_adds_up(rt: HostRuntime) {
 #[test]
 fn numbers_out_of_their_ranges_end_with_three(rt: HostRuntime) {
     for words in [
-        ["art_index", "load", "--threads=0", "--ops=1"],
-        ["art_index", "load", "--threads=33", "--ops=1"],
-        ["art_index", "load", "--ops=1000001", "--leaves=9"],
-        [
+        ["art_index", "load", "--threads=0", "--ops=1"].as_slice(),
+        &["art_index", "load", "--threads=33", "--ops=1"],
+        &["art_index", "load", "--ops=1000001", "--leaves=9"],
+        &[
             "art_index",
             "load",
             "--seed=18446744073709551616",
             "--ops=1",
         ],
-        ["art_index", "load", "--keys=0", "--ops=1"],
-        [
+        &["art_index", "load", "--keys=0", "--ops=1"],
+        &[
             "art_index",
             "load",
             "--keys=18446744073709551616",
             "--ops=1",
         ],
-        ["art_index", "load", "--leaves=0", "--ops=1"],
-        ["art_index", "serve", "--port=0", "--sessions=0"],
-        ["art_index", "serve", "--port=65536", "--sessions=0"],
-        ["art_index", "serve", "--port=7411", "--workers=0"],
-        ["art_index", "serve", "--port=7411", "--workers=33"],
-        ["art_index", "serve", "--port=7411", "--sessions=4294967296"],
-        ["art_index", "serve", "--port=7411", "--n4=0"],
+        &["art_index", "load", "--leaves=0", "--ops=1"],
+        &["art_index", "serve", "--port=0", "--sessions=0"],
+        &["art_index", "serve", "--port=65536", "--sessions=0"],
+        &["art_index", "serve", "--port=7411", "--workers=0"],
+        &["art_index", "serve", "--port=7411", "--workers=33"],
+        &["art_index", "serve", "--port=7411", "--sessions=4294967296"],
+        &["art_index", "serve", "--port=7411", "--n4=0"],
     ] {
         let said = "art_index: refused 24 BadConfig\n";
-        check_ended(&rt, rt.alloc(), &words, 3, "", said);
+        check_ended(&rt, rt.alloc(), words, 3, "", said);
     }
     let words = ["art_index", "serve", "--port=7411", "--schema=u24"];
     let said = "art_index: refused 23 BadColumn\n";
