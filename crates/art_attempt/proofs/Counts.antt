@@ -26,7 +26,7 @@ use Rattle.art_gather.specs.declared.supplying.Supplying.TheVariants as at
 use Rattle.art_gather.specs.declared.supplying.Wants.{Wants}
 use Rattle.art_gather.specs.declared.asked.Asked.{Asked as SupplyAsked}
 use Rattle.art_make.proofs.Told.{allowed, counts, map_some}
-use Rattle.art_decide.specs.ArtInsert.Puts.{inserted}
+use Rattle.art_plan.specs.Insert.Puts.{inserted}
 use Rattle.art_make.specs.Asking.{Answers as ChangeAnswers, IsAllowed as MayChange}
 use Rattle.art_make.specs.declared.asked.Answer.{Answer as ChangeAnswer}
 use Rattle.art_make.specs.declared.asked.Answer.TheVariants.{Upgraded, Done}

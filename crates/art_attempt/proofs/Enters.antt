@@ -15,9 +15,9 @@ use Rattle.art_cell.specs.declared.cells.Link.TheVariants.{Node as node}
 use Rattle.art_cell.specs.declared.cells.Node.{Node}
 use Rattle.art_cell.specs.declared.layouts.Pool.{Pool}
 use Rattle.art_commit.specs.CommitLaws.{HasNode}
-use Rattle.art_decide.specs.Plans.{HasNeeded, IsLockedAt}
-use Rattle.art_decide.specs.Needs.{needs_of}
-use Rattle.art_decide.specs.Seen.{IsSeen}
+use Rattle.art_plan.specs.ChooseInsert.Plans.{HasNeeded, IsLockedAt}
+use Rattle.art_plan.specs.ChooseInsert.Needs.{needs_of}
+use Rattle.art_plan.specs.ChooseInsert.Seen.{IsSeen}
 use Rattle.art_find.proofs.Counting.{Counted, answers_count}
 use Rattle.art_find.specs.Asking.{Answers as CellAnswers, goes_on}
 use Rattle.art_find.specs.Descents.{IsReading}
@@ -38,17 +38,17 @@ use Rattle.art_gather.specs.declared.vouching.Vouched.{Vouched}
 use Rattle.art_gather.specs.declared.vouching.Vouched.TheVariants.{Unchanged, Changed}
 use Rattle.art_gather.specs.declared.vouching.Vouching.{Vouching}
 use Rattle.art_gather.specs.declared.vouching.Vouching.TheVariants as vouches
-use Rattle.art_decide.specs.ArtInsert.Cases.{IsInHand}
-use Rattle.art_decide.specs.ArtInsert.Puts.{inserted}
+use Rattle.art_plan.specs.Insert.Cases.{IsInHand}
+use Rattle.art_plan.specs.Insert.Puts.{inserted}
 use Rattle.art_make.proofs.PackedLeaves.{packed_leaf}
 use Rattle.art_make.proofs.Told.{ends_as}
 use Rattle.art_make.specs.Making as making
 use Rattle.art_make.specs.Making.{HasFailed, IsOver}
 use Rattle.art_make.specs.Packing.{IsPacked}
-use Rattle.art_place.specs.Findings.{IsStanding}
-use Rattle.art_place.specs.declared.desks.Desk.{Desk}
-use Rattle.art_place.specs.declared.findings.Above.{Above}
-use Rattle.art_place.specs.declared.findings.Stand.{Stand}
+use Rattle.art_find.specs.Findings.{IsStanding}
+use Rattle.art_find.specs.declared.desks.Desk.{Desk}
+use Rattle.art_find.specs.declared.findings.Above.{Above}
+use Rattle.art_find.specs.declared.findings.Stand.{Stand}
 use Rattle.art_plan.specs.Changes.{node_made}
 use Rattle.art_plan.specs.Whole.{twin_node}
 use Rattle.art_plan.specs.declared.changes.Twin.{Twin}

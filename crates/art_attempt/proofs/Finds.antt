@@ -14,7 +14,7 @@ use Rattle.art_attempt.specs.declared.inserting.Inserting.{Inserting}
 use Rattle.art_attempt.specs.declared.rooms.Room.{Room}
 use Rattle.art_cell.specs.declared.cells.Link.{Link}
 use Rattle.art_cell.specs.declared.cells.Link.TheVariants.{Leaf as leaf, Node as node}
-use Rattle.art_decide.specs.Plans.{Comes}
+use Rattle.art_plan.specs.ChooseInsert.Plans.{Comes}
 use Rattle.art_find.proofs.Counting.{few_steps}
 use Rattle.art_find.proofs.Stages.{reads_on, tells_free, wants_word}
 use Rattle.art_find.proofs.Allowed.{allowed}
@@ -33,12 +33,12 @@ use Rattle.art_find.specs.declared.verdicts.Verdict.TheVariants.{Found, Empty, O
 use Rattle.art_frame.proofs.Stocked.{stock_same}
 use Rattle.art_gather.specs.Vouching.{passed}
 use Rattle.art_make.proofs.Told.{map_some}
-use Rattle.art_place.proofs.FoundPlaces.{standing_grows}
-use Rattle.art_place.proofs.Keeping.{passed_grows}
-use Rattle.art_place.specs.Findings.{FindingFits, IsPlaced, IsStanding, PlaceFits, stand_at, stand_of}
-use Rattle.art_place.specs.declared.desks.Desk.{Desk}
-use Rattle.art_place.specs.declared.findings.Finding.{Finding}
-use Rattle.art_place.specs.declared.findings.Stand.{Stand}
+use Rattle.art_find.proofs.FoundPlaces.{standing_grows}
+use Rattle.art_find.proofs.Keeping.{passed_grows}
+use Rattle.art_find.specs.Findings.{FindingFits, IsPlaced, IsStanding, PlaceFits, stand_at, stand_of}
+use Rattle.art_find.specs.declared.desks.Desk.{Desk}
+use Rattle.art_find.specs.declared.findings.Finding.{Finding}
+use Rattle.art_find.specs.declared.findings.Stand.{Stand}
 use Rattle.art_step.proofs.Shows.{failed_rest, insert_settles, passed_rest, told_rest}
 use Rattle.art_step.specs.Shows.{HasValue, OnlyReads, Rest, Shows}
 use Rattle.art_step.specs.Steps.Check as check

@@ -13,9 +13,9 @@ use Rattle.art_find.proofs.Stages.{still_reading}
 use Rattle.art_find.specs.Asking.{Answers, goes_on}
 use Rattle.art_find.specs.declared.asked.Answer.{Answer}
 use Rattle.art_find.specs.declared.asked.Asked.{Asked}
-use Rattle.art_place.specs.Findings.{CameBack, HasHeard, WasLooked, WentOn}
-use Rattle.art_place.specs.declared.desks.Desk.{Desk}
-use Rattle.art_place.specs.declared.findings.Finding.{Finding as FindingOf}
+use Rattle.art_find.specs.Findings.{CameBack, HasHeard, WasLooked, WentOn}
+use Rattle.art_find.specs.declared.desks.Desk.{Desk}
+use Rattle.art_find.specs.declared.findings.Finding.{Finding as FindingOf}
 use Rattle.art_step.specs.declared.views.Sizes.{Sizes}
 use Rattle.art_step.specs.declared.views.View.{View}
 

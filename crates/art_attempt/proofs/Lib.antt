@@ -1,5 +1,5 @@
 -- the crates below, for those above to name
-pub use Rattle.art_decide.proofs as ArtDecide
+pub use Rattle.art_plan.proofs as ArtPlan
 pub use Rattle.art_frame.proofs as ArtFrame
 pub use Rattle.art_gather.proofs as ArtGather
 pub mod Counts

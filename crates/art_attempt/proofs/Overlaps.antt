@@ -21,7 +21,7 @@ use Rattle.art_find.specs.declared.asked.Asked.TheVariants.{Check}
 use Rattle.art_find.specs.declared.verdicts.Verdict.{Verdict}
 use Rattle.art_find.specs.declared.verdicts.Verdict.TheVariants.{Found, Empty, OtherLeaf, OtherPrefix, Free, Overlaps, Torn, Absent}
 use Rattle.art_gather.specs.Vouching.{passed}
-use Rattle.art_place.specs.declared.findings.Stand.{Stand}
+use Rattle.art_find.specs.declared.findings.Stand.{Stand}
 use Rattle.art_step.specs.Histories.{AreApart}
 use Rattle.art_step.specs.Knowledge.{HoldsAmong}
 use Rattle.art_step.specs.Shows.{Shows}

@@ -8,11 +8,11 @@ use Rattle.art_frame.proofs.Stocked.{stock_same}
 use Rattle.art_frame.specs.Stocks.{HasStock}
 use Rattle.art_frame.specs.declared.stocks.Stock.{Stock}
 use Rattle.art_make.specs.Making.{HasFailed, IsCommitted}
-use Rattle.art_place.proofs.FoundPlaces.{standing_grows}
-use Rattle.art_place.proofs.Keeping.{Grows}
-use Rattle.art_place.specs.Findings.{IsStanding}
-use Rattle.art_place.specs.declared.desks.Desk.{Desk}
-use Rattle.art_place.specs.declared.findings.Stand.{Stand}
+use Rattle.art_find.proofs.FoundPlaces.{standing_grows}
+use Rattle.art_find.proofs.Keeping.{Grows}
+use Rattle.art_find.specs.Findings.{IsStanding}
+use Rattle.art_find.specs.declared.desks.Desk.{Desk}
+use Rattle.art_find.specs.declared.findings.Stand.{Stand}
 use Rattle.art_plan.specs.Changes.{unlinked}
 use Rattle.art_plan.specs.declared.changes.Change.{Change}
 use Rattle.art_step.specs.Events.{MakesEvent}

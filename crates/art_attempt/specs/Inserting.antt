@@ -14,7 +14,7 @@ use Rattle.art_attempt.specs.declared.inserting.Stage.TheVariants as stage
 use Rattle.art_attempt.specs.declared.rooms.Room.{Room}
 use Rattle.art_cell.specs.declared.cells.Cell.{Cell as CellOf}
 use Rattle.art_cell.specs.declared.layouts.Pool.{Pool}
-use Rattle.art_decide.specs.Plans.{Comes, IsLockedAt, LocksOnly}
+use Rattle.art_plan.specs.ChooseInsert.Plans.{Comes, IsLockedAt, LocksOnly}
 use Rattle.art_find.specs.Asking.{goes_on}
 use Rattle.art_find.specs.Descents as descents
 use Rattle.art_find.specs.Verdicts.{HasOverlap, value_of}
@@ -29,17 +29,17 @@ use Rattle.art_gather.specs.Supplying.{HasAll, HasNone}
 use Rattle.art_gather.specs.Vouching as vouching
 use Rattle.art_gather.specs.Vouching.{passed}
 use Rattle.art_gather.specs.declared.asked.Asked.{Asked as SupplyAsked}
-use Rattle.art_decide.specs.ArtInsert.Puts.{inserted}
-use Rattle.art_decide.specs.ArtInsert.declared.leaves.NewLeaf.{NewLeaf}
+use Rattle.art_plan.specs.Insert.Puts.{inserted}
+use Rattle.art_plan.specs.declared.insert.leaves.NewLeaf.{NewLeaf}
 use Rattle.art_make.specs.Making as making
 use Rattle.art_make.specs.Making.{HasFailed, fault_of, most_steps}
 use Rattle.art_make.specs.declared.asked.Asked.{Asked as ChangeAsked}
 use Rattle.art_make.specs.declared.making.Making.{Making}
 use Rattle.art_make.specs.declared.making.Making.TheVariants.{Upgrading}
 use Rattle.art_model.specs.declared.commands.Answer.TheVariants as reply
-use Rattle.art_place.specs.Findings.{FindingFits, IsStanding, stand_at}
-use Rattle.art_place.specs.declared.findings.Finding.{Finding}
-use Rattle.art_place.specs.declared.findings.Stand.{Stand}
+use Rattle.art_find.specs.Findings.{FindingFits, IsStanding, stand_at}
+use Rattle.art_find.specs.declared.findings.Finding.{Finding}
+use Rattle.art_find.specs.declared.findings.Stand.{Stand}
 use Rattle.art_plan.specs.Changes.{unlinked}
 use Rattle.art_step.specs.Events.{MakesEvent}
 use Rattle.art_step.specs.Shows.{rest_of}

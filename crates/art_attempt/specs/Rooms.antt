@@ -3,7 +3,7 @@ use Rattle.std.specs.Prelude.{◌≡◌, ℕ, Bool, true, Option}
 use Rattle.std.specs.Option.{option_and_then, unwrap_or}
 use Rattle.art_attempt.specs.declared.rooms.Room.{Room}
 use Rattle.art_cell.specs.declared.layouts.Layout.{Layout}
-use Rattle.art_decide.specs.Needs.{needs_of}
+use Rattle.art_plan.specs.ChooseInsert.Needs.{needs_of}
 use Rattle.art_find.specs.declared.verdicts.Verdict.{Verdict}
 use Rattle.art_frame.specs.Stocks.{node_in, without_all}
 use Rattle.art_frame.specs.declared.stocks.Stock.{Stock}

@@ -4,17 +4,16 @@ ghost use Rattle.art_attempt.specs.Asking.{Answers, IsAllowed, MayAsk, PassesAmo
 ghost use Rattle.art_attempt.specs.Inserting.{present};
 ghost use Rattle.art_attempt.specs.declared.asked.Asked.TheVariants.{Change as change_asked};
 ghost use Rattle.art_find.specs.Asking.{Answers as CellAnswers, PassesAmong as CellPassesAmong};
-ghost use Rattle.art_decide.specs.ArtInsert.Puts.{inserted};
+ghost use Rattle.art_plan.specs.Insert.Puts.{inserted};
 ghost use Rattle.art_make.specs.declared.asked.Asked.{Asked as ChangeAsked};
 
 use crate::{Answer, Asked};
-use art_decide::art_insert::NewLeaf;
 use art_find::{Answer as CellAnswer, Asked as CellAsked};
 use art_gather::make as make_supply;
 use art_key::Key;
 use art_make::make as make_change;
 use art_model::Answer as Reply;
-use art_plan::Change;
+use art_plan::{Change, NewLeaf};
 use art_step::{Act, Deed, EpochSteps, Steps};
 
 /// What an insert of the row does where the key is there with this value.

@@ -21,7 +21,7 @@ ghost use Rattle.art_gather.specs.declared.vouching.Vouched.TheVariants.{Unchang
 ghost use Rattle.art_make.specs.Asking.{Answers as ChangeAnswers};
 ghost use Rattle.art_make.specs.Making.{ended_at as made_at, fault_of};
 ghost use Rattle.art_make.specs.declared.asked.Asked.{Asked as ChangeAsked};
-ghost use Rattle.art_place.specs.Findings.{stand_at};
+ghost use Rattle.art_find.specs.Findings.{stand_at};
 ghost use Rattle.art_step.specs.declared.faults.Changed.{Changed};
 ghost use Rattle.art_step.specs.declared.faults.UpgradeFault.TheVariants.{Changed as changed};
 ghost use Rattle.art_step.specs.declared.views.Sizes.{Sizes};
@@ -31,11 +31,10 @@ use crate::asked::{cell_in, change_in, steps_of, word_in};
 use crate::rooms::wants_of;
 use crate::{Answer, Asked, Room};
 use art_cell::{Cell, Pool};
-use art_decide::{needed, plan_insert};
-use art_find::{Answer as CellAnswer, Asked as CellAsked, Verdict};
+use art_find::{Answer as CellAnswer, Asked as CellAsked, Finding, Stand, Verdict, look};
 use art_gather::{Supplied, Supplying, Vouched, Vouching, make as make_supply, read_cells};
 use art_make::{Answer as ChangeAnswer, Making, make as make_change};
-use art_place::{Finding, Stand, look};
+use art_plan::{needed, plan_insert};
 use art_step::{EpochSteps, Stamp, UpgradeFault};
 
 /// How an attempt of an insert ended.

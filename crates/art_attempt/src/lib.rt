@@ -2,8 +2,8 @@
 //!
 //! # The problem
 //!
-//! The parts of an insert are machines of their own: a descent that finds where the key stands (`art_place`), one that brings
-//! numbers into the hand, one that reads and checks what will be written (`art_gather`), a plan (`art_decide`), and the making
+//! The parts of an insert are machines of their own: a descent that finds where the key stands (`art_find`), one that brings
+//! numbers into the hand, one that reads and checks what will be written (`art_gather`), a plan (`art_plan`), and the making
 //! of a change (`art_make`). Between any two of their steps other passes make theirs. What one part knows when it ends has to
 //! be what the next one asks for when it begins, and has to be known of the same view of the pass.
 //!
@@ -41,7 +41,7 @@ mod rooms;
 
 pub use art_frame;
 pub use art_gather;
-pub use art_remove;
+pub use art_plan;
 pub use asked::{Answer, Asked, cell_in, change_in, steps_in, steps_of, word_in};
 pub use driver::make;
 pub use inserting::{Entered, Inserting, Stage, is_begun, nowhere, passed};

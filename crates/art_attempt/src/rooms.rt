@@ -8,15 +8,11 @@ ghost use Rattle.art_make.specs.Making.{linked};
 
 use arrayvec::ArrayVec;
 use art_cell::{Body, Layout, Reads, Writes};
-use art_decide::art_insert::NewLeaf;
-use art_decide::{Bodies, needed};
-use art_find::Verdict;
+use art_find::{Desk, Verdict};
 use art_frame::Stock;
 use art_gather::Wants;
 use art_key::{Bound, Key};
-use art_place::Desk;
-use art_plan::Change;
-use art_remove::OldLeaf;
+use art_plan::{Bodies, Change, NewLeaf, OldLeaf, needed};
 use art_step::{Deed, Sizes};
 
 /// What stands beside an attempt of an insert or a removal: the row that comes or the leaf that goes, the numbers in hand, the words

@@ -1,10 +1,9 @@
 -- the crates below, for those above to name
 pub use Rattle.art_erase.proofs.ArtAttempt
-pub use Rattle.art_erase.proofs.ArtDecide
+pub use Rattle.art_erase.proofs.ArtPlan
 pub use Rattle.art_erase.proofs as ArtErase
 pub use Rattle.art_find.proofs as ArtFind
-pub use Rattle.art_erase.proofs.ArtLower
-pub use Rattle.art_plan.proofs as ArtPlan
+pub use Rattle.art_erase.proofs.ArtGather
 pub mod Answered
 pub mod Counted
 pub mod EitherKind

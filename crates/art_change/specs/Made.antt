@@ -3,8 +3,8 @@ use Rattle.std.specs.Prelude.{◌≡◌, ℕ, List}
 use Rattle.art_erase.specs.ArtAttempt.declared.rooms.Room.{Room}
 use Rattle.art_change.specs.declared.tries.Trying.{Trying}
 use Rattle.art_change.specs.declared.tries.Trying.TheVariants.{Inserting, Erasing}
-use Rattle.art_erase.specs.ArtInsert.Puts.{inserted}
-use Rattle.art_erase.specs.ArtRemove.Removals.{removed}
+use Rattle.art_erase.specs.ArtPlan.Insert.Puts.{inserted}
+use Rattle.art_erase.specs.ArtPlan.Remove.Removals.{removed}
 
 -- the key of its row
 abbrev pub key_by : Trying → Room → List ℕ

@@ -35,11 +35,11 @@ use Rattle.art_erase.specs.ArtFrame.Openings as openings
 use Rattle.art_erase.specs.ArtFrame.Openings.{IsCrowded, IsOpened, MayOpen, OpeningFits}
 use Rattle.art_erase.specs.ArtFrame.Stocks.{first_in, hinted_at}
 use Rattle.art_erase.specs.ArtFrame.declared.stocks.Stock.{Stock}
-use Rattle.art_erase.specs.ArtInsert.Puts.{inserted}
-use Rattle.art_erase.specs.ArtInsert.declared.leaves.NewLeaf.{NewLeaf}
+use Rattle.art_erase.specs.ArtPlan.Insert.Puts.{inserted}
+use Rattle.art_erase.specs.ArtPlan.declared.insert.leaves.NewLeaf.{NewLeaf}
 use Rattle.art_plan.specs.declared.changes.Change.{Change}
-use Rattle.art_erase.specs.ArtRemove.Removals.{removed}
-use Rattle.art_erase.specs.ArtRemove.declared.leaves.OldLeaf.{OldLeaf}
+use Rattle.art_erase.specs.ArtPlan.Remove.Removals.{removed}
+use Rattle.art_erase.specs.ArtPlan.declared.remove.leaves.OldLeaf.{OldLeaf}
 use Rattle.art_step.specs.Events.{MakesEvent, SeesEvent}
 use Rattle.art_step.specs.Tokens.{links_of}
 use Rattle.art_step.specs.declared.deeds.Deed.{Deed}

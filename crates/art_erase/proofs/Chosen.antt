@@ -10,11 +10,11 @@ use Rattle.art_cell.specs.declared.cells.Node.{Node}
 use Rattle.art_cell.specs.declared.layouts.Layout.{Layout}
 use Rattle.art_cell.specs.declared.layouts.Pool.{Pool}
 use Rattle.art_cell.specs.declared.layouts.Pool.TheVariants.{Leaves}
-use Rattle.art_lower.specs.ArtChoose.Losses.{loss_at, loss_of}
-use Rattle.art_lower.specs.ArtChoose.Plans.{HasOther}
-use Rattle.art_lower.specs.ArtChoose.Seen.{IsSeen}
-use Rattle.art_lower.specs.ArtChoose.declared.losses.Loss.{Loss}
-use Rattle.art_lower.specs.ArtChoose.declared.losses.Loss.TheVariants as loss
+use Rattle.art_gather.specs.ArtPlan.ChooseRemove.Losses.{loss_at, loss_of}
+use Rattle.art_gather.specs.ArtPlan.ChooseRemove.Plans.{HasOther}
+use Rattle.art_gather.specs.ArtPlan.ChooseRemove.Seen.{IsSeen}
+use Rattle.art_gather.specs.ArtPlan.declared.choose_remove.losses.Loss.{Loss}
+use Rattle.art_gather.specs.ArtPlan.declared.choose_remove.losses.Loss.TheVariants as loss
 use Rattle.art_attempt.specs.Trying.{StillTries}
 use Rattle.art_erase.specs.Erasing.{HasNoSmaller, IsChosen, IsNeverSeen, LeavesOther, wants_of}
 use Rattle.art_erase.specs.declared.erasing.Way.{Way}
@@ -22,12 +22,12 @@ use Rattle.art_erase.specs.declared.erasing.Way.TheVariants as way
 use Rattle.art_attempt.specs.ArtFrame.declared.stocks.Stock.{Stock}
 use Rattle.art_attempt.specs.ArtGather.Supplying.{HasNone}
 use Rattle.art_attempt.specs.ArtGather.Vouching.{KnowsHere}
-use Rattle.art_place.specs.Desks.{node_of}
-use Rattle.art_place.specs.Kept.{StaysRead}
-use Rattle.art_place.specs.Rereadings.{AreKnown}
-use Rattle.art_place.specs.declared.desks.Desk.{Desk}
-use Rattle.art_place.specs.declared.findings.Stand.{Stand}
-use Rattle.art_attempt.specs.ArtRemove.declared.leaves.OldLeaf.{OldLeaf}
+use Rattle.art_find.specs.Desks.{node_of}
+use Rattle.art_find.specs.Kept.{StaysRead}
+use Rattle.art_find.specs.Rereadings.{AreKnown}
+use Rattle.art_find.specs.declared.desks.Desk.{Desk}
+use Rattle.art_find.specs.declared.findings.Stand.{Stand}
+use Rattle.art_attempt.specs.ArtPlan.declared.remove.leaves.OldLeaf.{OldLeaf}
 use Rattle.art_step.specs.Views.{pool_of_layout, size_of}
 use Rattle.art_step.specs.declared.views.Sizes.{Sizes}
 use Rattle.art_step.specs.declared.views.View.{View}

@@ -13,7 +13,7 @@ use Rattle.art_erase.specs.declared.erasing.Stage.TheVariants as stage
 use Rattle.art_find.specs.declared.asked.Asked.{Asked as CellAsked}
 use Rattle.art_make.proofs.Told.{allowed, map_some}
 use Rattle.art_make.specs.declared.asked.Asked.{Asked as ChangeAsked}
-use Rattle.art_attempt.specs.ArtRemove.Removals.{removed}
+use Rattle.art_attempt.specs.ArtPlan.Remove.Removals.{removed}
 use Rattle.art_step.specs.declared.views.Sizes.{Sizes}
 use Rattle.art_step.specs.declared.views.View.{View}
 use Rattle.std.specs.Option.{option_map}

@@ -24,11 +24,11 @@ use Rattle.art_find.specs.declared.verdicts.Verdict.{Verdict}
 use Rattle.art_find.specs.declared.verdicts.Verdict.TheVariants.{Found, Empty, OtherLeaf, OtherPrefix, Free, Overlaps, Torn, Absent}
 use Rattle.art_attempt.proofs.ArtFrame.Stocked.{stock_same}
 use Rattle.art_attempt.specs.ArtGather.Vouching.{passed}
-use Rattle.art_place.proofs.FoundPlaces.{standing_grows}
-use Rattle.art_place.proofs.Keeping.{passed_grows}
-use Rattle.art_place.specs.Findings.{IsStanding, stand_at}
-use Rattle.art_place.specs.declared.findings.Finding.{Finding}
-use Rattle.art_place.specs.declared.findings.Stand.{Stand}
+use Rattle.art_find.proofs.FoundPlaces.{standing_grows}
+use Rattle.art_find.proofs.Keeping.{passed_grows}
+use Rattle.art_find.specs.Findings.{IsStanding, stand_at}
+use Rattle.art_find.specs.declared.findings.Finding.{Finding}
+use Rattle.art_find.specs.declared.findings.Stand.{Stand}
 use Rattle.art_step.proofs.Shows.{passed_rest, remove_settles, told_rest}
 use Rattle.art_step.specs.Shows.{HasValue, OnlyReads, Rest, Shows}
 use Rattle.art_step.specs.Steps.Check as check

@@ -17,7 +17,7 @@ use Rattle.art_attempt.specs.ArtGather.Vouching as vouching
 use Rattle.art_attempt.specs.ArtGather.Vouching.{IsVouching}
 use Rattle.art_attempt.specs.ArtGather.declared.vouching.Vouching.{Vouching}
 use Rattle.art_attempt.specs.ArtGather.declared.vouching.Vouching.TheVariants as vouches
-use Rattle.art_place.specs.declared.rereadings.Rereading.{Rereading}
+use Rattle.art_find.specs.declared.rereadings.Rereading.{Rereading}
 use Rattle.art_step.specs.Shows.{Rest, rest_of}
 use Rattle.art_step.specs.declared.views.Holding.{Holding}
 use Rattle.art_step.specs.declared.views.Sizes.{Sizes}

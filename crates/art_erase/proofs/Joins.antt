@@ -5,16 +5,16 @@ use Rattle.art_cell.specs.Reads.{Agrees, word_of}
 use Rattle.art_cell.specs.declared.bodies.Body.{Body}
 use Rattle.art_cell.specs.declared.cells.Cell.TheVariants as cell
 use Rattle.art_cell.specs.declared.cells.Node.{Node}
-use Rattle.art_lower.specs.ArtChoose.Plans.{ArePartsOf, IsAlsoAbove, MayNotMerge}
-use Rattle.art_lower.specs.ArtChoose.declared.lowers.Lower.{Lower}
-use Rattle.art_attempt.specs.ArtDecide.Bodies.{HasWords}
-use Rattle.art_lower.proofs.LowerNames.{body_read, has_over, has_read}
-use Rattle.art_lower.specs.Lowering.{IsLowering, IsReadBelow}
+use Rattle.art_gather.specs.ArtPlan.ChooseRemove.Plans.{ArePartsOf, IsAlsoAbove, MayNotMerge}
+use Rattle.art_gather.specs.ArtPlan.declared.choose_remove.lowers.Lower.{Lower}
+use Rattle.art_attempt.specs.ArtPlan.ChooseInsert.Bodies.{HasWords}
+use Rattle.art_gather.proofs.LowerNames.{body_read, has_over, has_read}
+use Rattle.art_gather.specs.Lowering.{IsLowering, IsReadBelow}
 use Rattle.art_path.specs.declared.prefixes.Parts.{Parts}
-use Rattle.art_place.specs.Desks.{node_of}
-use Rattle.art_place.specs.declared.desks.Desk.{Desk}
-use Rattle.art_place.specs.declared.findings.Stand.{Stand}
-use Rattle.art_attempt.specs.ArtRemove.Removals.{IsTooLong}
+use Rattle.art_find.specs.Desks.{node_of}
+use Rattle.art_find.specs.declared.desks.Desk.{Desk}
+use Rattle.art_find.specs.declared.findings.Stand.{Stand}
+use Rattle.art_attempt.specs.ArtPlan.Remove.Removals.{IsTooLong}
 use Rattle.art_step.specs.declared.views.Sizes.{Sizes}
 use Rattle.art_step.specs.declared.views.View.{View}
 

@@ -1,8 +1,8 @@
 -- the crates below, for those above to name
 pub use Rattle.art_attempt.proofs as ArtAttempt
-pub use Rattle.art_attempt.proofs.ArtDecide
+pub use Rattle.art_attempt.proofs.ArtPlan
 pub use Rattle.art_attempt.proofs.ArtFrame
-pub use Rattle.art_lower.proofs as ArtLower
+pub use Rattle.art_gather.proofs as ArtGather
 pub use Rattle.art_make.proofs as ArtMake
 pub mod Chosen
 pub mod Counts

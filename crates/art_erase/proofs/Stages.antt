@@ -6,7 +6,7 @@ use Rattle.art_erase.specs.Erasing.{Fits, HasLower, HasMade, HasSupplies, HasVou
 use Rattle.art_erase.specs.declared.erasing.Erasing.{Erasing}
 use Rattle.art_erase.specs.declared.erasing.Stage.{Stage}
 use Rattle.art_erase.specs.declared.erasing.Stage.TheVariants as stage
-use Rattle.art_place.specs.declared.rereadings.Rereading.{Rereading}
+use Rattle.art_find.specs.declared.rereadings.Rereading.{Rereading}
 use Rattle.art_step.specs.declared.views.Sizes.{Sizes}
 use Rattle.art_step.specs.declared.views.View.{View}
 

@@ -15,18 +15,18 @@ use Rattle.art_cell.specs.declared.cells.Link.TheVariants.{Node as node}
 use Rattle.art_cell.specs.declared.cells.Node.{Node}
 use Rattle.art_cell.specs.declared.layouts.Layout.{Layout}
 use Rattle.art_cell.specs.declared.layouts.Layout.TheVariants.{Node4}
-use Rattle.art_lower.specs.ArtChoose.Losses.{loss_at}
-use Rattle.art_lower.specs.ArtChoose.Plans.{HasOther, HasSmaller, IsAnyAt, IsEitherAt, IsNodeAt, MayNotMerge}
-use Rattle.art_lower.specs.ArtChoose.declared.losses.Loss.{Loss}
-use Rattle.art_lower.specs.ArtChoose.declared.losses.Loss.TheVariants as loss
-use Rattle.art_lower.specs.ArtChoose.declared.lowers.Lower.{Lower}
+use Rattle.art_gather.specs.ArtPlan.ChooseRemove.Losses.{loss_at}
+use Rattle.art_gather.specs.ArtPlan.ChooseRemove.Plans.{HasOther, HasSmaller, IsAnyAt, IsEitherAt, IsNodeAt, MayNotMerge}
+use Rattle.art_gather.specs.ArtPlan.declared.choose_remove.losses.Loss.{Loss}
+use Rattle.art_gather.specs.ArtPlan.declared.choose_remove.losses.Loss.TheVariants as loss
+use Rattle.art_gather.specs.ArtPlan.declared.choose_remove.lowers.Lower.{Lower}
 use Rattle.art_commit.specs.CommitLaws.{HasNode}
-use Rattle.art_lower.specs.ArtChoose.Seen.{AreSeen, IsLowerSeen, IsSeen, StillKnown}
+use Rattle.art_gather.specs.ArtPlan.ChooseRemove.Seen.{AreSeen, IsLowerSeen, IsSeen, StillKnown}
 use Rattle.art_erase.specs.declared.erasing.Way.{Way}
 use Rattle.art_erase.specs.declared.erasing.Way.TheVariants as way
-use Rattle.art_attempt.specs.ArtDecide.Plans.{LocksOnly}
+use Rattle.art_attempt.specs.ArtPlan.ChooseInsert.Plans.{LocksOnly}
 use Rattle.art_erase.proofs.Joins.{may_merge}
-use Rattle.art_lower.proofs.LowerSeen.{ended_fits, ends_known, ends_seen}
+use Rattle.art_gather.proofs.LowerSeen.{ended_fits, ends_known, ends_seen}
 use Rattle.art_erase.proofs.Finds.{within_so}
 use Rattle.art_erase.specs.Erasing.{EndFits, EndsSo, EndsWithin, HasErased, HasLower, HasMade, HasNumbers, HasSupplies, HasVouched}
 use Rattle.art_erase.specs.Erasing.{IsChecked, IsLockedBy, IsLost, LeavesOther, given_up, goes, wants_of}
@@ -46,25 +46,25 @@ use Rattle.art_attempt.specs.ArtGather.declared.vouching.Vouched.{Vouched}
 use Rattle.art_attempt.specs.ArtGather.declared.vouching.Vouched.TheVariants.{Unchanged, Changed}
 use Rattle.art_attempt.specs.ArtGather.declared.vouching.Vouching.{Vouching}
 use Rattle.art_attempt.specs.ArtGather.declared.vouching.Vouching.TheVariants as vouches
-use Rattle.art_lower.specs.Lowering as lowering
-use Rattle.art_lower.specs.declared.lowering.Lowered.{Lowered}
-use Rattle.art_lower.specs.declared.lowering.Lowered.TheVariants as lowered
-use Rattle.art_lower.specs.declared.lowering.Lowering.{Lowering}
-use Rattle.art_lower.specs.declared.lowering.Lowering.TheVariants as lowers
+use Rattle.art_gather.specs.Lowering as lowering
+use Rattle.art_gather.specs.declared.lowering.Lowered.{Lowered}
+use Rattle.art_gather.specs.declared.lowering.Lowered.TheVariants as lowered
+use Rattle.art_gather.specs.declared.lowering.Lowering.{Lowering}
+use Rattle.art_gather.specs.declared.lowering.Lowering.TheVariants as lowers
 use Rattle.art_make.proofs.Told.{ends_as}
 use Rattle.art_make.specs.Making as making
 use Rattle.art_make.specs.Making.{HasFailed, IsOver}
-use Rattle.art_place.specs.Findings.{IsStanding}
-use Rattle.art_place.specs.Rereadings.{reads_next}
-use Rattle.art_place.specs.declared.rereadings.Rereading.{Rereading}
-use Rattle.art_place.specs.declared.desks.Desk.{Desk}
-use Rattle.art_place.specs.declared.findings.Above.{Above}
-use Rattle.art_place.specs.declared.findings.Stand.{Stand}
+use Rattle.art_find.specs.Findings.{IsStanding}
+use Rattle.art_find.specs.Rereadings.{reads_next}
+use Rattle.art_find.specs.declared.rereadings.Rereading.{Rereading}
+use Rattle.art_find.specs.declared.desks.Desk.{Desk}
+use Rattle.art_find.specs.declared.findings.Above.{Above}
+use Rattle.art_find.specs.declared.findings.Stand.{Stand}
 use Rattle.art_plan.specs.Changes.{node_made}
 use Rattle.art_plan.specs.Whole.{twin_node}
 use Rattle.art_plan.specs.declared.changes.Twin.{Twin}
 use Rattle.art_plan.specs.declared.changes.Change.{Change}
-use Rattle.art_attempt.specs.ArtRemove.Removals.{removed}
+use Rattle.art_attempt.specs.ArtPlan.Remove.Removals.{removed}
 use Rattle.art_step.specs.Events.{MakesEvent}
 use Rattle.art_step.specs.Views.{size_of}
 use Rattle.art_step.specs.declared.views.Stamp.{Stamp}

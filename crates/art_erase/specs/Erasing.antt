@@ -11,11 +11,11 @@ use Rattle.art_cell.specs.declared.cells.Link.{Link}
 use Rattle.art_cell.specs.declared.cells.Link.TheVariants.{Leaf as leaf, Node as node}
 use Rattle.art_cell.specs.declared.cells.Node.{Node as NodeOf}
 use Rattle.art_cell.specs.declared.layouts.Layout.{Layout}
-use Rattle.art_lower.specs.ArtChoose.Losses.{loss_at}
-use Rattle.art_lower.specs.ArtChoose.Plans.{HasFound, HasOther, IsEitherAt, IsNodeAt}
-use Rattle.art_lower.specs.ArtChoose.Seen.{IsSeen}
-use Rattle.art_lower.specs.ArtChoose.declared.losses.Loss.TheVariants as loss
-use Rattle.art_attempt.specs.ArtDecide.Plans.{LocksOnly}
+use Rattle.art_gather.specs.ArtPlan.ChooseRemove.Losses.{loss_at}
+use Rattle.art_gather.specs.ArtPlan.ChooseRemove.Plans.{HasFound, HasOther, IsEitherAt, IsNodeAt}
+use Rattle.art_gather.specs.ArtPlan.ChooseRemove.Seen.{IsSeen}
+use Rattle.art_gather.specs.ArtPlan.declared.choose_remove.losses.Loss.TheVariants as loss
+use Rattle.art_attempt.specs.ArtPlan.ChooseInsert.Plans.{LocksOnly}
 use Rattle.art_erase.specs.declared.erasing.Erased.{Erased}
 use Rattle.art_erase.specs.declared.erasing.Erased.TheVariants.{Gone, Absent, Exhausted, Anew}
 use Rattle.art_erase.specs.declared.erasing.Erasing.{Erasing}
@@ -37,25 +37,25 @@ use Rattle.art_attempt.specs.ArtGather.Vouching as vouching
 use Rattle.art_attempt.specs.ArtGather.Vouching.{IsVouching, KnowsHere}
 use Rattle.art_attempt.specs.ArtGather.declared.asked.Asked.{Asked as SupplyAsked}
 use Rattle.art_attempt.specs.ArtGather.declared.supplying.Wants.{Wants}
-use Rattle.art_lower.specs.Lowering as lowering
-use Rattle.art_lower.specs.Lowering.{CheckedBelow}
-use Rattle.art_lower.specs.declared.lowering.Lowered.TheVariants.{Unchanged}
-use Rattle.art_lower.specs.declared.lowering.Lowering.{Lowering}
+use Rattle.art_gather.specs.Lowering as lowering
+use Rattle.art_gather.specs.Lowering.{CheckedBelow}
+use Rattle.art_gather.specs.declared.lowering.Lowered.TheVariants.{Unchanged}
+use Rattle.art_gather.specs.declared.lowering.Lowering.{Lowering}
 use Rattle.art_make.specs.Making as making
 use Rattle.art_make.specs.Making.{HasFailed, fault_of}
 use Rattle.art_make.specs.declared.asked.Asked.{Asked as ChangeAsked}
 use Rattle.art_make.specs.declared.making.Making.{Making}
 use Rattle.art_model.specs.declared.commands.Answer.TheVariants as reply
-use Rattle.art_place.specs.Desks.{node_of}
-use Rattle.art_place.specs.Findings.{FindingFits, IsStanding, stand_at}
-use Rattle.art_place.specs.Rereadings.{RereadingFits, reads_next}
-use Rattle.art_place.specs.declared.desks.Desk.{Desk}
-use Rattle.art_place.specs.declared.findings.Finding.{Finding}
-use Rattle.art_place.specs.declared.findings.Stand.{Stand}
-use Rattle.art_place.specs.declared.rereadings.Rereading.{Rereading}
+use Rattle.art_find.specs.Desks.{node_of}
+use Rattle.art_find.specs.Findings.{FindingFits, IsStanding, stand_at}
+use Rattle.art_find.specs.Rereadings.{RereadingFits, reads_next}
+use Rattle.art_find.specs.declared.desks.Desk.{Desk}
+use Rattle.art_find.specs.declared.findings.Finding.{Finding}
+use Rattle.art_find.specs.declared.findings.Stand.{Stand}
+use Rattle.art_find.specs.declared.rereadings.Rereading.{Rereading}
 use Rattle.art_plan.specs.Changes.{IsPlanned, unlinked}
-use Rattle.art_attempt.specs.ArtRemove.Removals.{removed}
-use Rattle.art_attempt.specs.ArtRemove.declared.leaves.OldLeaf.{OldLeaf}
+use Rattle.art_attempt.specs.ArtPlan.Remove.Removals.{removed}
+use Rattle.art_attempt.specs.ArtPlan.declared.remove.leaves.OldLeaf.{OldLeaf}
 use Rattle.art_step.specs.Events.{MakesEvent}
 use Rattle.art_step.specs.Shows.{rest_of}
 use Rattle.art_step.specs.Steps.Commit.{all_retired}

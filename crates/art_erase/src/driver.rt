@@ -5,10 +5,10 @@ ghost use Rattle.art_attempt.specs.declared.asked.Asked.TheVariants.{Change as c
 ghost use Rattle.art_erase.specs.Erasing.{absent};
 ghost use Rattle.art_find.specs.Asking.{Answers as CellAnswers, PassesAmong as CellPassesAmong};
 ghost use Rattle.art_make.specs.declared.asked.Asked.{Asked as ChangeAsked};
-ghost use Rattle.art_attempt.specs.ArtRemove.Removals.{removed};
+ghost use Rattle.art_attempt.specs.ArtPlan.Remove.Removals.{removed};
 
 use art_attempt::art_gather::make as make_supply;
-use art_attempt::art_remove::OldLeaf;
+use art_attempt::art_plan::OldLeaf;
 use art_attempt::{Answer, Asked};
 use art_find::{Answer as CellAnswer, Asked as CellAsked};
 use art_key::Key;

@@ -4,10 +4,10 @@ ghost use Rattle.art_attempt.specs.Asking.{Answers, cell_in, steps_in};
 ghost use Rattle.art_attempt.specs.Trying.{StillTries};
 ghost use Rattle.art_attempt.specs.declared.asked.Asked.{Asked as AskedStep};
 ghost use Rattle.art_cell.specs.declared.cells.Link.TheVariants.{Node as node_link};
-ghost use Rattle.art_lower.specs.ArtChoose.Losses.{loss_at};
-ghost use Rattle.art_lower.specs.ArtChoose.Others.{NamesChild};
-ghost use Rattle.art_lower.specs.ArtChoose.Plans.{HasFound};
-ghost use Rattle.art_lower.specs.ArtChoose.declared.losses.Loss.TheVariants as losses;
+ghost use Rattle.art_gather.specs.ArtPlan.ChooseRemove.Losses.{loss_at};
+ghost use Rattle.art_gather.specs.ArtPlan.ChooseRemove.Others.{NamesChild};
+ghost use Rattle.art_gather.specs.ArtPlan.ChooseRemove.Plans.{HasFound};
+ghost use Rattle.art_gather.specs.ArtPlan.declared.choose_remove.losses.Loss.TheVariants as losses;
 ghost use Rattle.art_erase.specs.Erasing.{EndsSo, EndsWithin, Fits, HasSupplies, IsAnewBy, IsChosen, IsFinding, IsKept, IsLost, IsReadingOn, IsRoom, LeavesOther};
 ghost use Rattle.art_erase.specs.Erasing.{absent, asks, check_of, ended_at, finding_asks, free_at, given_up, goes, is_free, reading_asks};
 ghost use Rattle.art_erase.specs.Erasing.{steps_left, supply_asks, wants_of};
@@ -19,7 +19,7 @@ ghost use Rattle.art_attempt.specs.ArtFrame.Stocks.{HasStock};
 ghost use Rattle.art_attempt.specs.ArtGather.Asking.{Answers as SupplyAnswers};
 ghost use Rattle.art_attempt.specs.ArtGather.Vouching.{KnowsHere, word_in as read_in};
 ghost use Rattle.art_attempt.specs.ArtGather.declared.asked.Asked.{Asked as SupplyAsked};
-ghost use Rattle.art_place.specs.Findings.{stand_at};
+ghost use Rattle.art_find.specs.Findings.{stand_at};
 ghost use Rattle.art_step.specs.Views.{size_of};
 ghost use Rattle.art_step.specs.declared.views.Sizes.{Sizes as SizesOf};
 ghost use Rattle.art_step.specs.declared.views.View.{View};
@@ -27,11 +27,12 @@ ghost use Rattle.art_step.specs.declared.views.View.{View};
 use art_attempt::art_gather::{Supplied, Supplying, Vouched, Vouching, Wants};
 use art_attempt::{Answer, Asked, Room, cell_in, change_in, is_begun, nowhere, passed, word_in};
 use art_cell::{Cell, Layout, Link, Node};
-use art_find::{Answer as CellAnswer, Asked as CellAsked, Verdict};
-use art_lower::art_choose::{Loss, lost, other_child};
-use art_lower::{Lowered, Lowering};
+use art_find::{
+    Answer as CellAnswer, Asked as CellAsked, Desk, Finding, Rereading, Stand, Verdict,
+};
+use art_gather::art_plan::{Loss, lost, other_child};
+use art_gather::{Lowered, Lowering};
 use art_make::Making;
-use art_place::{Desk, Finding, Rereading, Stand};
 use art_step::{Sizes, UpgradeFault};
 
 /// How an attempt of a removal ended.
@@ -103,7 +104,7 @@ impl Erasing {
     ghost use Rattle.art_erase.specs.Erasing.{HasLower, HasMade, HasVouched, asks_at};
     ghost use Rattle.art_attempt.specs.ArtGather.Supplying.{ended_at as supplied_at};
     ghost use Rattle.art_attempt.specs.ArtGather.Vouching.{ended_at as vouched_at};
-    ghost use Rattle.art_lower.specs.Lowering.{ended_at as lowered_at};
+    ghost use Rattle.art_gather.specs.Lowering.{ended_at as lowered_at};
     ghost use Rattle.art_make.specs.Making.{ended_at as made_at};
     ghost use Rattle.art_step.specs.declared.deeds.Deed.{Deed};
 

@@ -8,8 +8,8 @@ ghost use Rattle.art_step.specs.declared.views.View.{View};
 use crate::erasing::{Erased, Erasing, Stage, check_of, goes};
 use art_attempt::art_gather::{make as make_supply, read_cells};
 use art_attempt::{Room, is_begun, steps_of};
+use art_find::look;
 use art_make::make as make_change;
-use art_place::look;
 use art_step::EpochSteps;
 
 impl Erasing {

@@ -4,12 +4,12 @@
 //!
 //! As of an insert (`art_attempt`), the parts of a removal are machines of their own, and other passes make steps between any two of
 //! theirs. A removal has one part more, since what it has to read goes by what it has read: a node that names the leaf and one other
-//! child goes with the leaf, and that child takes its place; where the child is a node, its prefix is written too (`art_lower`).
+//! child goes with the leaf, and that child takes its place; where the child is a node, its prefix is written too (`art_gather`).
 //!
 //! # The way
 //!
 //! ```text
-//! Finding ──► the check of the place ──► what goes with the leaf (`lost` of `art_choose`)
+//! Finding ──► the check of the place ──► what goes with the leaf (`lost` of `art_plan`)
 //!    │           │ Absent                  │ the leaf alone ─────────────────────────────► Vouching ─┬► plan ──► Making ──► Gone
 //!    │           │                         │ a smaller node would do ──► Supplying ──────►    │      │             │ Exhausted
 //!    │           │                         │ the node too ──► Reading ─┬─ other child: leaf ► │      │             │

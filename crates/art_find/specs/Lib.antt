@@ -1,7 +1,12 @@
 pub mod Asking
 pub mod Compares
 pub mod Descents
+pub mod Desks
 pub mod Driven
+pub mod Findings
+pub mod Kept
+pub mod Rereadings
+pub mod Runs
 pub mod Straight
 pub mod Verdicts
 pub mod Ways

@@ -72,14 +72,22 @@
 mod asked;
 mod compares;
 mod descents;
+mod desks;
+mod driver;
+mod findings;
 mod got;
 mod reads;
+mod rereadings;
 mod straight;
 mod verdicts;
 
 pub use asked::{Answer, Asked};
 pub use compares::Beside;
 pub use descents::{Descent, LeafSeen, NodeSeen, Stage};
+pub use desks::Desk;
+pub use driver::look;
+pub use findings::{Above, Finding, Stand};
 pub use got::Got;
+pub use rereadings::Rereading;
 pub use straight::{Tally, go_down};
 pub use verdicts::Verdict;

@@ -13,7 +13,7 @@ use Rattle.art_cell.specs.declared.layouts.Layout.{Layout}
 use Rattle.art_cell.specs.declared.layouts.Layout.TheVariants.{Node4, Node16, Node48, Node256}
 use Rattle.art_cell.specs.declared.layouts.Pool.{Pool}
 use Rattle.art_cell.specs.declared.layouts.Pool.TheVariants.{Leaves}
-use Rattle.art_decide.specs.ArtCommit.CommitLaws.{HasNode}
+use Rattle.art_plan.specs.ArtCommit.CommitLaws.{HasNode}
 use Rattle.art_epoch.proofs.Searching.{around_inside, few_looks}
 use Rattle.art_epoch.specs.Asking.{Answers as NumberAnswers}
 use Rattle.art_epoch.specs.Taking.{NoneBefore, OnlyTakes, SearchFits, Takes, TookLowest, TookNone}

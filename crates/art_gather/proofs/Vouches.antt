@@ -7,7 +7,7 @@ use Rattle.art_cell.specs.Reads.{word_read}
 use Rattle.art_cell.specs.declared.cells.Cell.{Cell}
 use Rattle.art_cell.specs.declared.cells.Cell.TheVariants as cell
 use Rattle.art_cell.specs.declared.cells.Node.{Node}
-use Rattle.art_decide.specs.Seen.{WasVouched}
+use Rattle.art_plan.specs.ChooseInsert.Seen.{WasVouched}
 use Rattle.art_find.proofs.Allowed.{none_held}
 use Rattle.art_find.proofs.Stages.{reads_on}
 use Rattle.art_find.specs.Asking.{Answers}
@@ -19,18 +19,18 @@ use Rattle.art_gather.specs.Vouching.{CheckedSince, Fits, HasLeft, IsReadingHere
 use Rattle.art_gather.specs.declared.vouching.Vouched.TheVariants.{Unchanged}
 use Rattle.art_gather.specs.declared.vouching.Vouching.{Vouching}
 use Rattle.art_gather.specs.declared.vouching.Vouching.TheVariants.{CheckHere, Ended}
-use Rattle.art_place.proofs.FoundPlaces.{placed_above, placed_node, standing_grows, standing_stays}
-use Rattle.art_place.proofs.Keeping.{cell_fits, passed_grows}
-use Rattle.art_place.proofs.Runs.{one_read}
-use Rattle.art_place.specs.Desks.{above_of, node_of}
-use Rattle.art_place.specs.Findings.{IsUnder}
-use Rattle.art_place.specs.Kept.{IsKept}
-use Rattle.art_place.specs.Rereadings.{RereadingFits, reads_next}
-use Rattle.art_place.specs.Runs.{HasReadOnly}
-use Rattle.art_place.specs.declared.desks.Desk.{Desk}
-use Rattle.art_place.specs.declared.findings.Above.{Above}
-use Rattle.art_place.specs.declared.findings.Stand.{Stand}
-use Rattle.art_place.specs.declared.rereadings.Rereading.{Rereading}
+use Rattle.art_find.proofs.FoundPlaces.{placed_above, placed_node, standing_grows, standing_stays}
+use Rattle.art_find.proofs.Keeping.{cell_fits, passed_grows}
+use Rattle.art_find.proofs.Runs.{one_read}
+use Rattle.art_find.specs.Desks.{above_of, node_of}
+use Rattle.art_find.specs.Findings.{IsUnder}
+use Rattle.art_find.specs.Kept.{IsKept}
+use Rattle.art_find.specs.Rereadings.{RereadingFits, reads_next}
+use Rattle.art_find.specs.Runs.{HasReadOnly}
+use Rattle.art_find.specs.declared.desks.Desk.{Desk}
+use Rattle.art_find.specs.declared.findings.Above.{Above}
+use Rattle.art_find.specs.declared.findings.Stand.{Stand}
+use Rattle.art_find.specs.declared.rereadings.Rereading.{Rereading}
 use Rattle.art_step.proofs.Shows.{failed_rest, passed_rest}
 use Rattle.art_step.specs.Shows.{HasStamp}
 use Rattle.art_step.specs.Steps.Check as check

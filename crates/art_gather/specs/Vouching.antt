@@ -10,13 +10,13 @@ use Rattle.art_gather.specs.declared.vouching.Vouched.{Vouched}
 use Rattle.art_gather.specs.declared.vouching.Vouched.TheVariants.{Unchanged, Changed}
 use Rattle.art_gather.specs.declared.vouching.Vouching.{Vouching}
 use Rattle.art_gather.specs.declared.vouching.Vouching.TheVariants.{Above, Here, CheckAbove, CheckHere, Ended}
-use Rattle.art_place.specs.Desks.{above_of, node_of}
-use Rattle.art_place.specs.Findings.{IsStanding}
-use Rattle.art_place.specs.Rereadings.{AreKnown, RereadingFits, reads_next}
-use Rattle.art_place.specs.declared.desks.Desk.{Desk}
-use Rattle.art_place.specs.declared.findings.Above.{Above as CellAbove}
-use Rattle.art_place.specs.declared.findings.Stand.{Stand}
-use Rattle.art_place.specs.declared.rereadings.Rereading.{Rereading}
+use Rattle.art_find.specs.Desks.{above_of, node_of}
+use Rattle.art_find.specs.Findings.{IsStanding}
+use Rattle.art_find.specs.Rereadings.{AreKnown, RereadingFits, reads_next}
+use Rattle.art_find.specs.declared.desks.Desk.{Desk}
+use Rattle.art_find.specs.declared.findings.Above.{Above as CellAbove}
+use Rattle.art_find.specs.declared.findings.Stand.{Stand}
+use Rattle.art_find.specs.declared.rereadings.Rereading.{Rereading}
 use Rattle.art_step.specs.Steps.Check as check
 use Rattle.art_step.specs.Views.{size_of}
 use Rattle.art_step.specs.declared.views.Sizes.{Sizes}

@@ -2,7 +2,7 @@
 //!
 //! # The problem
 //!
-//! A descent has found where a key stands, and read as little as it could (`art_place`). Before a change is planned the pass
+//! A descent has found where a key stands, and read as little as it could (`art_find`). Before a change is planned the pass
 //! has to have in hand what comes into the tree, and to have seen each word of each cell that it is about to write: a node
 //! that it replaces is copied from words that it read, and a word that it writes stands in for one that it knew.
 //!
@@ -32,7 +32,7 @@
 //!
 //! Reads go from the top down, in ascending place, past what is known. Each check comes after all reads, also where nothing was
 //! left to read: an unchanged version word shows that at this step there is a tree that has all that was noted, and not only
-//! the words of that cell (`WasVouched` of `art_decide`). Without the second check a plan could join words of different trees.
+//! the words of that cell (`WasVouched` of `art_plan`). Without the second check a plan could join words of different trees.
 //!
 //! # Machines
 //!
@@ -49,9 +49,12 @@
 #![tactic(auto)]
 
 mod asked;
+mod lowering;
 mod supplying;
 mod vouching;
 
+pub use art_plan;
 pub use asked::{Asked, make};
+pub use lowering::{Lowered, Lowering};
 pub use supplying::{Supplied, Supplying, Wants};
 pub use vouching::{Vouched, Vouching, read_cells};

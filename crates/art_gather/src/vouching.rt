@@ -4,17 +4,16 @@ ghost use Rattle.art_find.specs.Asking.{Answers};
 ghost use Rattle.art_find.specs.declared.asked.Asked.{Asked as AskedStep};
 ghost use Rattle.art_gather.specs.Vouching.{Fits, HasLeft, IsPastAbove, IsPastReads, IsVouching, KnowsAbove, KnowsHere, after_check, asks, ended_at, passed, steps_left, word_in, written_above};
 ghost use Rattle.art_gather.specs.declared.vouching.Vouching.TheVariants.{Above as above_read, Here as here_read};
-ghost use Rattle.art_place.specs.Desks.{above_of, node_of};
-ghost use Rattle.art_place.specs.Kept.{StaysRead};
-ghost use Rattle.art_place.specs.Rereadings.{RereadingFits};
-ghost use Rattle.art_place.specs.declared.desks.Desk.{Desk as DeskOf};
+ghost use Rattle.art_find.specs.Desks.{above_of, node_of};
+ghost use Rattle.art_find.specs.Kept.{StaysRead};
+ghost use Rattle.art_find.specs.Rereadings.{RereadingFits};
+ghost use Rattle.art_find.specs.declared.desks.Desk.{Desk as DeskOf};
 ghost use Rattle.art_step.specs.Views.{size_of};
 ghost use Rattle.art_step.specs.declared.deeds.Deed.{Deed};
 ghost use Rattle.art_step.specs.declared.views.Sizes.{Sizes};
 ghost use Rattle.art_step.specs.declared.views.View.{View};
 
-use art_find::{Answer, Asked};
-use art_place::{Above, Desk, Rereading, Stand};
+use art_find::{Above, Answer, Asked, Desk, Rereading, Stand};
 use art_step::Steps;
 
 /// How a vouching ended.

@@ -6,10 +6,10 @@ use Rattle.art_cell.specs.Bodies.{IsBody}
 use Rattle.art_cell.specs.Lemmas.Entries.{nonzero_some}
 use Rattle.art_cell.specs.Lemmas.Packed.{packed_is}
 use Rattle.art_cell.specs.Words.{Words, size, places, first_child, child_of, key_byte, byte_of, nonzero}
-use Rattle.art_sorted.specs.declared.layouts.Sorted.{Sorted}
-use Rattle.art_sorted.specs.declared.layouts.Sorted.TheVariants.{Four, Sixteen}
-use Rattle.art_sorted.specs.Sorted.{layout_of, BelowAll, IsFirstFrom}
-use Rattle.art_sorted.proofs.NodeWords.{child_at, form_is}
+use Rattle.art_node4.specs.declared.layouts.Sorted.{Sorted}
+use Rattle.art_node4.specs.declared.layouts.Sorted.TheVariants.{Four, Sixteen}
+use Rattle.art_node4.specs.Sorted.{layout_of, BelowAll, IsFirstFrom}
+use Rattle.art_node4.proofs.NodeWords.{child_at, form_is}
 use Rattle.art_node.specs.declared.searches.Sought.{Sought}
 use Rattle.art_node.specs.declared.searches.Sought.TheVariants as sought
 use Rattle.art_node.specs.declared.searches.SoughtFrom.{SoughtFrom}

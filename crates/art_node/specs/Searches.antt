@@ -5,8 +5,8 @@ use Rattle.art_cell.specs.declared.layouts.Layout.TheVariants.{Node4, Node16, No
 use Rattle.art_cell.specs.Bodies.{IsBody}
 use Rattle.art_cell.specs.Reads.{NoneFrom}
 use Rattle.art_cell.specs.Words.{Words, size, places, count_of, nonzero, child_of}
-use Rattle.art_sorted.specs.declared.layouts.Sorted.{Sorted}
-use Rattle.art_sorted.specs.Sorted.{layout_of, BelowAll, IsFirstFrom}
+use Rattle.art_node4.specs.declared.layouts.Sorted.{Sorted}
+use Rattle.art_node4.specs.Sorted.{layout_of, BelowAll, IsFirstFrom}
 use Rattle.art_node.specs.declared.searches.KeySearch.{KeySearch}
 use Rattle.art_node.specs.declared.searches.KeySearch.TheVariants as key
 use Rattle.art_node.specs.declared.searches.Sought.{Sought}

@@ -4,13 +4,13 @@
 ghost use Rattle.std.specs.Prelude.{◌≡◌, ◌<◌, ℕ};
 ghost use Rattle.art_cell.specs.declared.layouts.Layout.TheVariants as layouts;
 ghost use Rattle.art_cell.specs.Words.{byte_of};
-ghost use Rattle.art_sorted.specs.Sorted.{layout_of};
+ghost use Rattle.art_node4.specs.Sorted.{layout_of};
 ghost use Rattle.art_node.specs.Searches.{AsksCounted, AsksCountedFrom, GoesOnCounted};
 ghost use Rattle.art_node.specs.Searches.{AsksLater, AsksLaterFrom, IsHeader, IsNextWord, IsNextWordFrom, SoughtTells, SoughtFromTells};
 ghost use Rattle.art_node.specs.Searches.{IsKeyWord, KeySearchTells, PlaceTells, HasWord, HasWordFrom};
 
 use art_cell::Layout;
-use art_sorted::Sorted;
+use art_node4::Sorted;
 
 /// What the words of a node that were read tell of the child of a byte.
 #[derive(Clone, Copy, Debug, PartialEq, Eq)]

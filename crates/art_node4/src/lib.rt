@@ -1,8 +1,22 @@
 //! The smallest nodes: at most 4 children, in ascending order of their bytes, in 15 words.
 #![tactic(auto)]
 
+mod bodies;
+mod edits;
+mod keys;
+mod layouts;
+mod lists;
+mod plans;
+mod probes;
+mod searches;
+mod writes;
+
 use art_cell::{Body, Entries, Entry, NextProbe, NodeKind, Probe, Reads, Writes};
-use art_sorted::Sorted;
+pub use bodies::{add, set, take};
+pub use layouts::Sorted;
+pub use lists::{entry_at, list};
+pub use plans::{plan_add, plan_drop, plan_set};
+pub use probes::{at_least, probe};
 
 /// Nodes of at most 4 children (ICDE 2013): the key bytes in one word, and the children after it.
 pub struct Node4;
@@ -13,42 +27,42 @@ impl NodeKind for Node4 {
     ghost layout = { layouts.Node4 };
 
     fn probe(byte: u8, reads: &Reads) -> Probe {
-        art_sorted::probe(Sorted::Four, byte, reads)
+        crate::probe(Sorted::Four, byte, reads)
     }
 
     fn at_least(byte: u8, reads: &Reads) -> NextProbe {
-        art_sorted::at_least(Sorted::Four, byte, reads)
+        crate::at_least(Sorted::Four, byte, reads)
     }
 
     fn add(body: &mut Body, byte: u8, child: u64) -> bool {
-        art_sorted::add(Sorted::Four, body, byte, child)
+        crate::add(Sorted::Four, body, byte, child)
     }
 
     fn set(body: &mut Body, byte: u8, child: u64) {
-        art_sorted::set(Sorted::Four, body, byte, child);
+        crate::set(Sorted::Four, body, byte, child);
     }
 
     fn take(body: &mut Body, byte: u8) {
-        art_sorted::take(Sorted::Four, body, byte);
+        crate::take(Sorted::Four, body, byte);
     }
 
     fn list(body: &Body) -> Entries {
-        art_sorted::list(Sorted::Four, body)
+        crate::list(Sorted::Four, body)
     }
 
     fn nth(body: &Body, index: usize, _from: usize) -> Entry {
-        art_sorted::entry_at(Sorted::Four, body, index)
+        crate::entry_at(Sorted::Four, body, index)
     }
 
     fn plan_add(body: &Body, byte: u8, child: u64, writes: &mut Writes) -> bool {
-        art_sorted::plan_add(Sorted::Four, body, byte, child, writes)
+        crate::plan_add(Sorted::Four, body, byte, child, writes)
     }
 
     fn plan_set(body: &Body, byte: u8, child: u64, writes: &mut Writes) {
-        art_sorted::plan_set(Sorted::Four, body, byte, child, writes);
+        crate::plan_set(Sorted::Four, body, byte, child, writes);
     }
 
     fn plan_drop(body: &Body, byte: u8, writes: &mut Writes) {
-        art_sorted::plan_drop(Sorted::Four, body, byte, writes);
+        crate::plan_drop(Sorted::Four, body, byte, writes);
     }
 }

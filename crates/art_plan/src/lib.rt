@@ -33,7 +33,7 @@
 //! locks, writes, makes and unlinks. `added`, `replaced` and `dropped` plan the words by which a `Site`, where a child word
 //! stands, gets a child, another one, or none: for a node by the plans of `art_node`, for the anchor its one word.
 //!
-//! The cases of an insert are planned in `art_insert`, those of a removal in `art_remove`. `art_make` makes a change that was
+//! The cases of an insert are planned in `insert`, those of a removal in `remove`. `art_make` makes a change that was
 //! planned.
 //!
 //! # A worn node
@@ -44,11 +44,22 @@
 #![tactic(auto)]
 
 mod changes;
+mod choose_insert;
+mod choose_remove;
+mod insert;
 mod parts;
+mod remove;
 mod renewals;
 mod sites;
 
+pub use art_find;
 pub use changes::{Change, Put, Target, Twin};
+pub use choose_insert::{Bodies, Needs, byte_at, fill, needed, plan_insert, site_at};
+pub use choose_remove::{
+    Loss, Lower, lost, other_child, plan_drop, plan_merge_leaf, plan_merge_node, plan_shrink,
+};
+pub use insert::{NewLeaf, Parting, add, fork_leaf, fork_prefix, grow};
 pub use parts::{Below, begin, lock, make, put, unlink};
+pub use remove::{OldLeaf, drop, merge_leaf, merge_node, shrink};
 pub use renewals::{renew, renew_below};
 pub use sites::{Site, added, dropped, replaced};

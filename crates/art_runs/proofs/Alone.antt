@@ -11,8 +11,8 @@ use Rattle.art_call.specs.declared.driver.Made.{Made}
 use Rattle.art_runs.specs.Alone.{AreTurnsOf, GoesAlone, NamesNoOp}
 use Rattle.art_runs.specs.Ops.{AsksLast, EndsAsCalled, Goes, IsRunOfOps, IsTurnOf, IsUnderWay, MakesLast, caller_in, has_ended, last_in, outcome_in}
 use Rattle.art_runs.specs.declared.ops.Op.{Op}
-use Rattle.art_solo.specs.Alone.{IsAlone}
-use Rattle.art_solo.specs.Solo.{BeginLaw, EndLaw, HasViews, IsSolo, RestartLaw, StepLaw}
+use Rattle.art_runs.specs.OthersIdle.{IsAlone}
+use Rattle.art_runs.specs.Solo.{BeginLaw, EndLaw, HasViews, IsSolo, RestartLaw, StepLaw}
 use Rattle.art_step.proofs.Determined.{steps_count}
 use Rattle.art_step.specs.Sound.{IsSound}
 use Rattle.art_step.specs.Steps.{OneStep}

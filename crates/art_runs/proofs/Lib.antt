@@ -1,6 +1,20 @@
 mod Alone
+pub mod Calls
+pub mod Calm
+pub mod Cells
+pub mod Finding
+pub mod Found
 pub mod Growing
 pub mod Histories
+pub mod Making
+pub mod Numbers
+pub mod OthersIdle
+pub mod Phases
 pub mod Places
+pub mod Restarts
+pub mod Seeks
 pub mod Told
+pub mod Tries
 pub mod Turns
+pub mod Versions
+pub mod Writes

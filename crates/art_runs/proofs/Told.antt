@@ -47,7 +47,7 @@ use Rattle.art_call.specs.ArtFrame.Closings.{ClosingFits}
 use Rattle.art_call.specs.ArtFrame.declared.closings.Closing.{Closing}
 use Rattle.art_call.specs.ArtFrame.declared.closings.Closing.TheVariants as closing
 use Rattle.art_call.specs.ArtFrame.declared.stocks.Stock.{Stock}
-use Rattle.art_call.specs.ArtInsert.Puts.{inserted}
+use Rattle.art_call.specs.ArtPlan.Insert.Puts.{inserted}
 use Rattle.art_key.specs.declared.bounds.Bound.{Bound}
 use Rattle.art_call.proofs.ArtLook.Stages.{still_reading as still_looking}
 use Rattle.art_call.specs.ArtLook.Looks as looks
@@ -58,7 +58,7 @@ use Rattle.art_call.specs.ArtMake.Making.{Fits as MakeFits, ended_at as make_end
 use Rattle.art_call.specs.ArtMake.declared.making.Making.{Making}
 use Rattle.art_call.specs.ArtMake.declared.making.Making.TheVariants.{Upgrading, Claiming, Filling, Writing, Committing, Releasing, ReleasingNode, GivingUp, Ended}
 use Rattle.art_call.specs.ArtPlan.declared.changes.Change.{Change}
-use Rattle.art_call.specs.ArtRemove.Removals.{removed}
+use Rattle.art_call.specs.ArtPlan.Remove.Removals.{removed}
 use Rattle.art_call.proofs.ArtSeek.Closes.{closed_sought, over_told}
 use Rattle.art_call.proofs.ArtSeek.Ends.{key_not_seen, range_not_absent, range_not_found}
 use Rattle.art_call.specs.ArtSeek.Seeks as seeks

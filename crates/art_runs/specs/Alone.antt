@@ -5,7 +5,7 @@ use Rattle.art_call.specs.Calls.{restarts_in}
 use Rattle.art_call.specs.declared.outcomes.Outcome.{Outcome}
 use Rattle.art_runs.specs.Ops.{caller_in, has_ended, outcome_in}
 use Rattle.art_runs.specs.declared.ops.Op.{Op}
-use Rattle.art_solo.specs.Solo.{EndsAlone}
+use Rattle.art_runs.specs.Solo.{EndsAlone}
 use Rattle.art_step.specs.Views.{Member}
 use Rattle.art_step.specs.WordRows.{view_at}
 use Rattle.art_world.specs.Contents.{Contents}

@@ -8,12 +8,11 @@ ghost use Rattle.art_runs.specs.Ops.{IsRunOfOps, IsUnderWay, caller_in};
 ghost use Rattle.art_runs.specs.Runs.{HasOneHistory, IsCarriedOn};
 ghost use Rattle.art_runs.specs.Typed.{AreTyped, HasTypedHistory};
 ghost use Rattle.art_runs.specs.declared.ops.Op.{Op as OpOf};
-ghost use Rattle.art_solo.specs.Alone.{IsAlone};
+ghost use Rattle.art_runs.specs.OthersIdle.{IsAlone};
 ghost use Rattle.art_step.specs.WordRows.{view_at, views_of};
 ghost use Rattle.art_step.specs.declared.views.View.{View};
 
-use crate::Op;
-use art_solo::calls_alone_do_not_fail;
+use crate::{Op, calls_alone_do_not_fail};
 use art_typed::histories_are_typed;
 use art_world::World;
 

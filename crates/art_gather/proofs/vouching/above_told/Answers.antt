@@ -2,12 +2,12 @@ use Rattle.std.proofs.Common.{◌≡◌, ◌∙◌, ℕ, ◌+◌, ◌-◌, arith
 use Rattle.std.proofs.lemmas.Option.{same_Some}
 use Rattle.std.specs.Option.{option_and_then}
 use Rattle.art_gather.proofs.Vouches.{above_on, is_above, read_left, read_told}
-use Rattle.art_place.proofs.Keeping.{cell_fits}
+use Rattle.art_find.proofs.Keeping.{cell_fits}
 use Rattle.art_gather.specs.Vouching.{above_reads}
 use Rattle.art_gather.proofs.vouching.above_told.Goals as goal
-use Rattle.art_place.specs.Desks.{above_of}
-use Rattle.art_place.specs.Rereadings.{RereadingFits}
-use Rattle.art_place.specs.declared.findings.Above.{Above}
+use Rattle.art_find.specs.Desks.{above_of}
+use Rattle.art_find.specs.Rereadings.{RereadingFits}
+use Rattle.art_find.specs.declared.findings.Above.{Above}
 use Rattle.art_step.specs.Steps.Read.{Outcome as ReadOutcome}
 
 pub returns-clause-fits : goal.returns-clause-fits

@@ -1,9 +1,9 @@
 use Rattle.std.proofs.Common.{ℕ, ◌+◌, ◌-◌, arith, subst, sym, Option, List}
 use Rattle.art_gather.proofs.Vouches.{here_on, not_all_known, not_known, read_left, read_told}
-use Rattle.art_place.proofs.Keeping.{cell_fits}
+use Rattle.art_find.proofs.Keeping.{cell_fits}
 use Rattle.art_gather.proofs.vouching.here_told.Goals as goal
-use Rattle.art_place.specs.Desks.{node_of}
-use Rattle.art_place.specs.Rereadings.{AreKnown}
+use Rattle.art_find.specs.Desks.{node_of}
+use Rattle.art_find.specs.Rereadings.{AreKnown}
 use Rattle.art_step.specs.Steps.Read.{Outcome as ReadOutcome}
 use Rattle.art_step.specs.Views.{size_of}
 

@@ -5,10 +5,10 @@ use Rattle.art_gather.proofs.Vouches.{above_after, is_above, left_after}
 use Rattle.art_gather.specs.Vouching.{Fits}
 use Rattle.art_gather.specs.declared.vouching.Vouching.{Vouching}
 use Rattle.art_gather.specs.declared.vouching.Vouching.TheVariants.{Above as above_read}
-use Rattle.art_place.proofs.Keeping.{cell_fits}
-use Rattle.art_place.specs.Desks.{above_of}
-use Rattle.art_place.specs.Rereadings.{RereadingFits}
-use Rattle.art_place.specs.declared.findings.Above.{Above}
+use Rattle.art_find.proofs.Keeping.{cell_fits}
+use Rattle.art_find.specs.Desks.{above_of}
+use Rattle.art_find.specs.Rereadings.{RereadingFits}
+use Rattle.art_find.specs.declared.findings.Above.{Above}
 use Rattle.art_gather.proofs.vouching.read_above.Goals as goal
 
 pub read_on_above-requires-clause-fits : goal.read_on_above-requires-clause-fits

@@ -1,9 +1,9 @@
 -- One after the other.
 use Rattle.std.proofs.Common.{◌∙◌, List, Option, ℕ, sym, subst}
 use Rattle.art_gather.specs.Vouching.{Fits}
-use Rattle.art_place.specs.Desks.{node_of}
-use Rattle.art_place.specs.Kept.{StaysRead}
-use Rattle.art_place.specs.Rereadings.{AreKnown}
+use Rattle.art_find.specs.Desks.{node_of}
+use Rattle.art_find.specs.Kept.{StaysRead}
+use Rattle.art_find.specs.Rereadings.{AreKnown}
 use Rattle.art_step.specs.Views.{size_of}
 use Rattle.art_step.specs.declared.views.Sizes.{Sizes}
 use Rattle.art_gather.proofs.vouching.read_cells.Goals as goal

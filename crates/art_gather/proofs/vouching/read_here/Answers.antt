@@ -4,8 +4,8 @@ use Rattle.art_gather.proofs.Vouches.{here_after, left_after}
 use Rattle.art_gather.specs.Vouching.{Fits}
 use Rattle.art_gather.specs.declared.vouching.Vouching.{Vouching}
 use Rattle.art_gather.specs.declared.vouching.Vouching.TheVariants.{Here}
-use Rattle.art_place.proofs.Keeping.{cell_fits}
-use Rattle.art_place.specs.Rereadings.{AreKnown}
+use Rattle.art_find.proofs.Keeping.{cell_fits}
+use Rattle.art_find.specs.Rereadings.{AreKnown}
 use Rattle.art_step.specs.Views.{size_of}
 use Rattle.art_gather.proofs.vouching.read_here.Goals as goal
 

@@ -3,7 +3,7 @@ use Rattle.std.proofs.lemmas.Bool.{cases_eq}
 use Rattle.std.proofs.lemmas.List.{length-set}
 use Rattle.art_cell.specs.Leaves.{word_of_bytes}
 use Rattle.art_cell.specs.Reads.{word_of}
-use Rattle.art_sorted.proofs.Writing.{below_set}
+use Rattle.art_node4.proofs.Writing.{below_set}
 use Rattle.art_node.proofs.Prefixed.{past_prefix, prefixed}
 use Rattle.art_node.proofs.prefixes.set_prefix.Goals as goal
 

@@ -1,6 +1,6 @@
 use Rattle.std.proofs.Common.{◌≡◌, ◌+◌, ◌*◌, ℕ, ap, sym, subst, ◌∙◌, arith, below_more}
 use Rattle.art_cell.specs.Words.{byte_of, key_byte}
-use Rattle.art_sorted.specs.Sorted.{BelowAll}
+use Rattle.art_node4.specs.Sorted.{BelowAll}
 use Rattle.art_node.proofs.SoughtWords.{key_in}
 use Rattle.art_node.proofs.searches.first_key.Goals as goal
 

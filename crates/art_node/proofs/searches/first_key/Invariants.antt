@@ -1,6 +1,6 @@
 use Rattle.std.proofs.Common.{◌+◌, ◌*◌}
 use Rattle.art_cell.specs.Words.{Words}
-use Rattle.art_sorted.specs.Sorted.{BelowAll}
+use Rattle.art_node4.specs.Sorted.{BelowAll}
 use Rattle.art_node.specs.Searches.{IsKeyWord}
 use Rattle.art_node.proofs.searches.first_key.Given as goal
 

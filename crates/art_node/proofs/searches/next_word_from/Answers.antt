@@ -1,7 +1,7 @@
 use Rattle.std.proofs.Common.{sym, subst}
 use Rattle.art_cell.specs.declared.layouts.Layout.{Layout}
 use Rattle.art_cell.specs.declared.layouts.Layout.TheVariants.{Node48}
-use Rattle.art_sorted.specs.declared.layouts.Sorted.TheVariants.{Four, Sixteen}
+use Rattle.art_node4.specs.declared.layouts.Sorted.TheVariants.{Four, Sixteen}
 use Rattle.art_node.specs.Searches.{IsNextWordFrom, SoughtFromTells}
 use Rattle.art_node.proofs.SoughtWords.{tells_fewer_from, tells_next_from, next_has_word_from}
 use Rattle.art_node.proofs.searches.next_word_from.Goals as goal

@@ -1,7 +1,7 @@
 use Rattle.std.proofs.Common.{◌+◌, sym, ap, ◌∙◌, arith}
 use Rattle.art_cell.specs.Words.{child_of, nonzero}
-use Rattle.art_sorted.specs.Sorted.{layout_of}
-use Rattle.art_sorted.proofs.NodeWords.{none_before, none_past}
+use Rattle.art_node4.specs.Sorted.{layout_of}
+use Rattle.art_node4.proofs.NodeWords.{none_before, none_past}
 use Rattle.art_node.proofs.SoughtWords.{below_known, keys_few, keys_inside, child_found}
 use Rattle.art_node.proofs.searches.sorted_child.Goals as goal
 

@@ -1,6 +1,6 @@
 use Rattle.std.proofs.Common.{ℕ, ◌+◌, sym, ap, ◌∙◌, arith}
 use Rattle.art_cell.specs.Words.{nonzero}
-use Rattle.art_sorted.proofs.NodeWords.{none_before, none_past}
+use Rattle.art_node4.proofs.NodeWords.{none_before, none_past}
 use Rattle.art_node.proofs.SoughtWords.{below_known_from, keys_inside, child_found, found_occupied}
 use Rattle.art_node.proofs.searches.sorted_child_from.Goals as goal
 

@@ -6,7 +6,7 @@ use Rattle.art_attempt.specs.declared.inserting.Inserting.{Inserting}
 use Rattle.art_attempt.specs.declared.inserting.Stage.{Stage}
 use Rattle.art_attempt.specs.declared.inserting.Stage.TheVariants.{Finding}
 use Rattle.art_attempt.specs.declared.rooms.Room.{Room}
-use Rattle.art_place.specs.Findings.{CameBack, Descends, FindingFits, WentOn}
+use Rattle.art_find.specs.Findings.{CameBack, Descends, FindingFits, WentOn}
 use Rattle.art_step.specs.declared.views.Sizes.{Sizes}
 use Rattle.art_step.specs.declared.views.View.{View}
 use Rattle.art_attempt.proofs.inserting.Inserting.find_on.Goals as goal

@@ -5,7 +5,7 @@ use Rattle.art_attempt.specs.Inserting.{asks_place, check_of, deed_at}
 use Rattle.art_find.specs.Asking.{Answers}
 use Rattle.art_find.specs.Descents.{asks}
 use Rattle.art_find.specs.declared.asked.Asked.{Asked}
-use Rattle.art_place.specs.declared.findings.Stand.{Stand}
+use Rattle.art_find.specs.declared.findings.Stand.{Stand}
 
 pub settled-requires : goal.settled-requires
 settled-requires c =

@@ -3,8 +3,8 @@ use Rattle.art_attempt.proofs.Enters.{leaf_ready, node_ready, vouched_each, vouc
 use Rattle.art_attempt.proofs.Tries.{later_first}
 use Rattle.art_attempt.proofs.inserting.Inserting.plan.Goals as goal
 use Rattle.art_attempt.specs.Rooms.{number_for}
-use Rattle.art_decide.specs.Plans.{HasNeeded}
-use Rattle.art_decide.specs.declared.needs.Needs.{Needs}
+use Rattle.art_plan.specs.ChooseInsert.Plans.{HasNeeded}
+use Rattle.art_plan.specs.declared.choose_insert.needs.Needs.{Needs}
 use Rattle.art_plan.proofs.Renewing.{plain_whole}
 
 pub plan_insert-requires-clause-seen : goal.plan_insert-requires-clause-seen

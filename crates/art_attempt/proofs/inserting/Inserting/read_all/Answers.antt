@@ -7,7 +7,7 @@ use Rattle.art_attempt.specs.declared.inserting.Inserting.{Inserting}
 use Rattle.art_attempt.specs.declared.inserting.Stage.{Stage}
 use Rattle.art_attempt.specs.declared.inserting.Stage.TheVariants.{Vouching}
 use Rattle.art_attempt.specs.declared.rooms.Room.{Room}
-use Rattle.art_decide.specs.declared.needs.Needs.{Needs}
+use Rattle.art_plan.specs.declared.choose_insert.needs.Needs.{Needs}
 use Rattle.art_gather.specs.Vouching.{Fits as VouchFits}
 use Rattle.art_step.specs.declared.views.Sizes.{Sizes}
 use Rattle.art_step.specs.declared.views.View.{View}

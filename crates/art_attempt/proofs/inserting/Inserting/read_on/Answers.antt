@@ -9,7 +9,7 @@ use Rattle.art_attempt.specs.declared.inserting.Stage.{Stage as StageOf}
 use Rattle.art_attempt.specs.declared.rooms.Room.{Room}
 use Rattle.art_find.proofs.Stages.{still_reading}
 use Rattle.art_find.specs.Descents.{answer_at, asks}
-use Rattle.art_place.specs.Findings.{FindingFits}
+use Rattle.art_find.specs.Findings.{FindingFits}
 
 pub returns-then-not-on-clause-fits : goal.returns-then-not-on-clause-fits
 returns-then-not-on-clause-fits c z u v w asked room f is row =

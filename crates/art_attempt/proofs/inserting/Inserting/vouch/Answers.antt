@@ -2,7 +2,7 @@ use Rattle.std.proofs.Common.{subst}
 use Rattle.art_attempt.proofs.Enters.{supplies_so, supplies_spent, vouching_begins}
 use Rattle.art_attempt.proofs.Tries.{later_first}
 use Rattle.art_attempt.proofs.inserting.Inserting.vouch.Goals as goal
-use Rattle.art_decide.specs.declared.needs.Needs.{Needs}
+use Rattle.art_plan.specs.declared.choose_insert.needs.Needs.{Needs}
 use Rattle.art_gather.specs.Vouching.{Fits as VouchingFits}
 
 pub returns-clause-fits : goal.returns-clause-fits

@@ -7,7 +7,7 @@ use Rattle.art_attempt.specs.Inserting.{HasVouched, StageFits, deed_at}
 use Rattle.art_attempt.specs.declared.inserting.Inserting.{Inserting}
 use Rattle.art_attempt.specs.declared.inserting.Stage.{Stage as StageOf}
 use Rattle.art_attempt.specs.declared.rooms.Room.{Room}
-use Rattle.art_decide.specs.declared.needs.Needs.{Needs}
+use Rattle.art_plan.specs.declared.choose_insert.needs.Needs.{Needs}
 use Rattle.art_gather.specs.Vouching.{Fits as VouchFits}
 use Rattle.art_gather.specs.declared.vouching.Vouched.{Vouched}
 

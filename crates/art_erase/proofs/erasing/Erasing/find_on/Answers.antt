@@ -10,7 +10,7 @@ use Rattle.art_erase.specs.declared.erasing.Erasing.{Erasing}
 use Rattle.art_erase.specs.declared.erasing.Stage.{Stage as StageOf}
 use Rattle.art_find.proofs.Stages.{still_reading}
 use Rattle.art_find.specs.Descents.{asks}
-use Rattle.art_place.specs.Findings.{FindingFits}
+use Rattle.art_find.specs.Findings.{FindingFits}
 
 pub returns-then-not-on-clause-fits : goal.returns-then-not-on-clause-fits
 returns-then-not-on-clause-fits c z u v w asked room f is row =

@@ -9,7 +9,7 @@ use Rattle.art_erase.proofs.erasing.Erasing.lower_told.Goals as goal
 use Rattle.art_erase.specs.Erasing.{HasLower, StageFits, absent}
 use Rattle.art_erase.specs.declared.erasing.Erasing.{Erasing}
 use Rattle.art_erase.specs.declared.erasing.Stage.{Stage as StageOf}
-use Rattle.art_lower.specs.declared.lowering.Lowered.{Lowered}
+use Rattle.art_gather.specs.declared.lowering.Lowered.{Lowered}
 
 pub plan_lowers-requires : goal.plan_lowers-requires
 plan_lowers-requires c =

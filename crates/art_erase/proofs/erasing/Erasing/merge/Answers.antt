@@ -1,6 +1,6 @@
 use Rattle.std.proofs.Common.{subst}
 use Rattle.art_cell.specs.declared.cells.Link.{Link}
-use Rattle.art_lower.specs.ArtChoose.Others.{NamesChild}
+use Rattle.art_gather.specs.ArtPlan.ChooseRemove.Others.{NamesChild}
 use Rattle.art_erase.proofs.Chosen.{none_left, one_left}
 use Rattle.art_erase.proofs.erasing.Erasing.merge.Goals as goal
 use Rattle.art_erase.specs.Erasing.{LeavesOther}

@@ -1,6 +1,6 @@
 use Rattle.std.proofs.Common.{sym, subst}
 use Rattle.art_attempt.specs.declared.rooms.Room.{Room}
-use Rattle.art_attempt.specs.ArtDecide.Plans.{LocksOnly}
+use Rattle.art_attempt.specs.ArtPlan.ChooseInsert.Plans.{LocksOnly}
 use Rattle.art_erase.proofs.Vouched.{seen_here, vouched_each, vouched_so, vouched_standing}
 use Rattle.art_erase.proofs.erasing.Erasing.plan_stays.Goals as goal
 use Rattle.art_erase.specs.Erasing.{IsLockedBy}

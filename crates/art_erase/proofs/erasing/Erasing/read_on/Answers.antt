@@ -1,7 +1,7 @@
 use Rattle.std.proofs.Common.{arith}
 use Rattle.art_erase.proofs.Vouched.{reading_so}
 use Rattle.art_erase.proofs.erasing.Erasing.read_on.Goals as goal
-use Rattle.art_place.specs.Desks.{node_of}
+use Rattle.art_find.specs.Desks.{node_of}
 
 pub read_whole-requires : goal.read_whole-requires
 read_whole-requires c = c.requires

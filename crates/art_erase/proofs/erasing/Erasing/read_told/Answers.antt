@@ -4,7 +4,7 @@ use Rattle.art_attempt.proofs.Tries.{later_then}
 use Rattle.art_erase.proofs.erasing.Erasing.read_told.Goals as goal
 use Rattle.art_erase.specs.Erasing.{absent}
 use Rattle.art_attempt.proofs.ArtGather.Vouches.{here_on, read_told}
-use Rattle.art_place.proofs.Keeping.{cell_fits}
+use Rattle.art_find.proofs.Keeping.{cell_fits}
 use Rattle.art_step.specs.Steps.Read.{Outcome as ReadOutcome}
 
 pub returns-clause-fits : goal.returns-clause-fits

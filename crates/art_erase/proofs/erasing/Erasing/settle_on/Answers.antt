@@ -11,7 +11,7 @@ use Rattle.art_find.proofs.Counting.{answers_count}
 use Rattle.art_find.specs.Asking.{Answers}
 use Rattle.art_find.specs.Descents.{asks}
 use Rattle.art_find.specs.declared.asked.Asked.{Asked}
-use Rattle.art_place.specs.declared.findings.Stand.{Stand}
+use Rattle.art_find.specs.declared.findings.Stand.{Stand}
 use Rattle.art_step.specs.declared.views.Sizes.{Sizes}
 use Rattle.art_step.specs.declared.views.View.{View}
 use Rattle.std.specs.Prelude.{Option}

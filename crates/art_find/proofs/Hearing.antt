@@ -1,0 +1,166 @@
+-- A finding that made a step and heard it has looked on.
+use Rattle.std.proofs.Common.{◌≡◌, ◌<◌, ℕ, Bool, true, false, List, Option, Some, None, refl, sym, subst}
+use Rattle.std.specs.Prelude.{IfSome, Err, ⊤}
+use Rattle.art_cell.specs.declared.cells.Cell.{Cell}
+use Rattle.art_cell.specs.declared.cells.Link.{Link}
+use Rattle.art_cell.specs.declared.cells.Link.TheVariants.{Leaf as leaf, Node as node}
+use Rattle.art_find.proofs.Allowed.{allowed}
+use Rattle.art_find.specs.Asking.{Answers, IsAllowed, goes_on}
+use Rattle.art_find.proofs.Stages.{reads_on, still_reading}
+use Rattle.art_find.specs.Descents.{Fits, IsExact, IsReading, Stays, answer_at, asks, ended_at, most_steps, stage_begun, stage_below, stage_checked, stands_on}
+use Rattle.art_find.specs.declared.asked.Answer.{Answer}
+use Rattle.art_find.specs.declared.asked.Answer.TheVariants.{Word}
+use Rattle.art_find.specs.declared.asked.Asked.{Asked}
+use Rattle.art_find.specs.declared.asked.Asked.TheVariants.{Begin, ReadLeaf, Check}
+use Rattle.art_find.specs.declared.descents.Descent.{Descent}
+use Rattle.art_find.specs.declared.descents.Stage.{Stage}
+use Rattle.art_find.specs.declared.descents.Stage.TheVariants.{Start, Anchor, Child, Below, Both, Header, Prefix, Keys, Slot, Value, Length, Bytes, Decided, Ended}
+use Rattle.art_find.proofs.Looks.{looked}
+use Rattle.art_find.proofs.Placing.{told_fits}
+use Rattle.art_find.specs.Findings.{FindingFits, HasHeard, IsHeard, Keeps, LookedOn, PlaceFits}
+use Rattle.art_find.specs.declared.desks.Desk.{Desk}
+use Rattle.art_find.specs.declared.findings.Finding.{Finding}
+use Rattle.art_step.proofs.Shows.{begun_rest, failed_rest}
+use Rattle.art_step.specs.Shows.{HasValue}
+use Rattle.art_step.specs.Steps.Begin as begin
+use Rattle.art_step.specs.Steps.Check as check
+use Rattle.art_step.specs.Steps.Read as read
+use Rattle.art_step.specs.declared.deeds.Deed.{Deed}
+use Rattle.art_step.specs.declared.faults.Changed.{Changed}
+use Rattle.art_step.specs.declared.faults.Locked.{Locked}
+use Rattle.art_step.specs.declared.views.Sizes.{Sizes}
+use Rattle.art_step.specs.declared.views.Stamp.{Stamp}
+use Rattle.art_step.specs.declared.views.View.{View}
+use Rattle.art_tree.specs.Heaps.{Cells}
+
+-- ---- what is asked for
+
+-- what its descent asks for may be made, where nothing is settled
+pub may_look : (z : Sizes) (k : List ℕ) (what : Option ℕ → Deed) (m : Finding) (desk : Desk) (u v : View) (a : Asked) → asks m.descent.stage ≡ Some a → FindingFits z k what m desk u v → IsAllowed z (λ s. ⊤) v a
+may_look z k what m desk u v a is fits =
+    let so : Cells → Type 0 = λ s. HasValue s k (answer_at m.descent.stage) in
+    looked z v so a (subst (λ (o : Option Asked). IfSome o (IsAllowed z so v)) is (allowed z k what m.descent.depth m.descent.stage u v fits.descent))
+
+-- ---- it has not ended after a version word was clear, or unchanged
+
+pub begun_going : (stage : Stage) (y : Stamp) (c : Cell) → asks stage ≡ Some (Begin c) → ended_at (stage_begun y stage) ≡ None
+begun_going Start y c is = refl
+begun_going (Below x n) y c is = refl
+begun_going (Anchor x) y c is = cc
+begun_going (Child x d) y c is = cc
+begun_going (Both x a n) y c is = cc
+begun_going (Header x n) y c is = cc
+begun_going (Prefix seen i r) y c is = cc
+begun_going (Keys seen i) y c is = cc
+begun_going (Slot seen place) y c is = cc
+begun_going (Value x l) y c is = cc
+begun_going (Length x l value) y c is = cc
+begun_going (Bytes seen i r) y c is = cc
+begun_going (Decided x found) y c is = cc
+begun_going (Ended o) y c is = cc
+
+below_going : (x : Stamp) (d : Link) → ended_at (stage_below x d) ≡ None
+below_going x (leaf l) = refl
+below_going x (node n) = refl
+
+pub checked_going : (stage : Stage) (x : Stamp) → asks stage ≡ Some (Check x) → ended_at (stage_checked stage) ≡ None
+checked_going (Child y d) x is = below_going y d
+checked_going (Both y a n) x is = refl
+checked_going Start x is = cc
+checked_going (Anchor y) x is = cc
+checked_going (Below y n) x is = cc
+checked_going (Header y n) x is = cc
+checked_going (Prefix seen i r) x is = cc
+checked_going (Keys seen i) x is = cc
+checked_going (Slot seen place) x is = cc
+checked_going (Value y l) x is = cc
+checked_going (Length y l value) x is = cc
+checked_going (Bytes seen i r) x is = cc
+checked_going (Decided y found) x is = cc
+checked_going (Ended o) x is = cc
+
+-- ---- a version word was locked, obsolete or changed
+
+-- what asks for a step has not ended
+asks_going : (stage : Stage) (a : Asked) → asks stage ≡ Some a → ended_at stage ≡ None
+asks_going Start a is = refl
+asks_going (Anchor x) a is = refl
+asks_going (Child x d) a is = refl
+asks_going (Below x n) a is = refl
+asks_going (Both x y n) a is = refl
+asks_going (Header y n) a is = refl
+asks_going (Prefix seen i r) a is = refl
+asks_going (Keys seen i) a is = refl
+asks_going (Slot seen place) a is = refl
+asks_going (Value x l) a is = refl
+asks_going (Length x l value) a is = refl
+asks_going (Bytes seen i r) a is = refl
+asks_going (Decided x found) a is = refl
+asks_going (Ended o) a is = cc
+
+module _ (z : Sizes) (k : List ℕ) (what : Option ℕ → Deed) (m : Descent) (u v w : View) (fits : Fits z k what m u v) where
+  pub begun_fails : (c : Cell) (e : Locked) → asks m.stage ≡ Some (Begin c) → begin.Outcome z v w c (Err e) → IsReading u w
+  begun_fails c e is row = reads_on u v w (begun_rest z v w c e.found row.2) (still_reading z k what m.depth m.stage u v (asks_going m.stage (Begin c) is) fits)
+
+  pub check_fails : (x : Stamp) (e : Changed) → asks m.stage ≡ Some (Check x) → check.Outcome {A = Unit {0}} z v w x None (Err e) → IsReading u w
+  check_fails x e is row = reads_on u v w (failed_rest v w x e.found row.3) (still_reading z k what m.depth m.stage u v (asks_going m.stage (Check x) is) fits)
+
+-- ---- a step was made and heard
+
+-- what its descent came to by an answer, which it has now
+pub record CameTo (z : Sizes) (k : List ℕ) (asked : Asked) (answer : Answer) (m n : Descent) (v w : View) : Type 0 where
+  pub further : goes_on answer ≡ true → most_steps m.depth m.stage < most_steps n.depth n.stage
+  pub anew : goes_on answer ≡ false → most_steps n.depth n.stage ≡ 0
+  pub stays : Stays answer m n
+  pub going : ended_at n.stage ≡ None
+  pub exact : IsExact n.stage
+  pub fits : (what : Option ℕ → Deed) (u : View) → Fits z k what m u v → Fits z k what n u w
+
+module _ (z : Sizes) (k : List ℕ) (on : Bool) (m m' : Finding) (desk desk' : Desk) (v w : View) (asked : Asked) (answer : Answer)
+    (is : asks m.descent.stage ≡ Some asked) (row : (d : Deed) → Answers z d asked answer v w) where
+  placed : (n : Descent) → m'.descent ≡ n → CameTo z k asked answer m.descent n v w → Keeps answer (asks m.descent.stage) (asks n.stage) n.depth m.above desk m'.above desk'
+      → (what : Option ℕ → Deed) (u : View) → FindingFits z k what m desk u v → PlaceFits z k m'.above desk' w (stands_on m'.descent.stage)
+  placed n same came keeps what u before =
+      let so : Cells → Type 0 = λ s. HasValue s k (answer_at m.descent.stage) in
+      let may : IsAllowed z so v asked = subst (λ (o : Option Asked). IfSome o (IsAllowed z so v)) is (allowed z k what m.descent.depth m.descent.stage u v before.descent) in
+      subst (λ (d : Descent). PlaceFits z k m'.above desk' w (stands_on d.stage)) (sym same)
+      (told_fits z k what u v w m.above m'.above desk desk' m.descent n so asked is answer (row (what (answer_at m.descent.stage))) may before.descent came.stays came.anew keeps before.place)
+
+  pub heard : (n : Descent) → m'.descent ≡ n → CameTo z k asked answer m.descent n v w → Keeps answer (asks m.descent.stage) (asks n.stage) n.depth m.above desk m'.above desk'
+      → HasHeard z k answer m desk v m' desk' w
+  heard n same came keeps = record {
+    further = λ goes. subst (λ (d : Descent). most_steps m.descent.depth m.descent.stage < most_steps d.depth d.stage) (sym same) (came.further goes);
+    anew = λ off. subst (λ (d : Descent). most_steps d.depth d.stage ≡ 0) (sym same) (came.anew off);
+    stays = subst (Stays answer m.descent) (sym same) came.stays;
+    going = subst (λ (d : Descent). ended_at d.stage ≡ None) (sym same) came.going;
+    exact = subst (λ (d : Descent). IsExact d.stage) (sym same) came.exact;
+    fits = λ what u before. record {
+      descent = subst (λ (d : Descent). Fits z k what d u w) (sym same) (came.fits what u before.descent);
+      place = placed n same came keeps what u before;
+    };
+  }
+
+  pub looked_on : on ≡ goes_on answer → HasHeard z k answer m desk v m' desk' w → LookedOn z k on m desk v m' desk' w
+  looked_on goes has = (asked, answer, record { asked_it = is; row = row }, has, goes)
+
+-- a word was heard
+pub word_came : (z : Sizes) (k : List ℕ) (v w : View) (m n : Descent) (asked : Asked) (word : ℕ) → asks m.stage ≡ Some asked → ((d : Deed) → Answers z d asked (Word word) v w)
+    → most_steps m.depth m.stage < most_steps n.depth n.stage → stands_on n.stage ≡ stands_on m.stage → ended_at n.stage ≡ None → IsExact n.stage
+    → ((y : Sizes) (what : Option ℕ → Deed) (u before after : View) (a : Asked) → Fits y k what m u before → asks m.stage ≡ Some a → Answers y (what (answer_at m.stage)) a (Word word) before after → Fits y k what n u after)
+    → CameTo z k asked (Word word) m n v w
+word_came z k v w m n asked word is row further stays going exact fits = record {
+  further = λ on. further;
+  anew = λ off. absurd (cc);
+  stays = stays;
+  going = going;
+  exact = exact;
+  fits = λ what u before. fits z what u v w asked before is (row (what (answer_at m.stage)));
+}
+
+-- nothing is kept of a word of a leaf
+pub leaf_heard : (z : Sizes) (k : List ℕ) (v w : View) (m : Finding) (n : Descent) (desk : Desk) (x : Stamp) (l i word : ℕ) → asks m.descent.stage ≡ Some (ReadLeaf x l i) → read.LeafOutcome v w x l i word
+    → CameTo z k (ReadLeaf x l i) (Word word) m.descent n v w → LookedOn z k true m desk v (record m { descent = n }) desk w
+leaf_heard z k v w m n desk x l i word is row came =
+    let kept : IsHeard (asks m.descent.stage) word desk desk = subst (λ (o : Option Asked). IsHeard o word desk desk) (sym is) (record { node = refl; above = refl }) in
+    looked_on z k true m (record m { descent = n }) desk desk v w (ReadLeaf x l i) (Word word) is (λ d. row) refl
+    (heard z k true m (record m { descent = n }) desk desk v w (ReadLeaf x l i) (Word word) is (λ d. row) n refl came (refl, kept))

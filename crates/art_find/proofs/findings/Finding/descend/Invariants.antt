@@ -1,0 +1,17 @@
+-- So far no step failed.
+use Rattle.std.proofs.Common.{◌≡◌, ◌+◌, ◌<◌, ◌≤◌}
+use Rattle.art_find.specs.Findings.{WentOn}
+use Rattle.art_find.proofs.findings.Finding.descend.Given as goal
+
+abbrev pub invariant-loop-left : goal.invariant-loop-left
+invariant-loop-left g l = record {
+  only : g.S.Steps.only l.fn.steps l.steps;
+  sizes : g.S.Steps.sizes l.steps ≡ g.S.Steps.sizes l.fn.steps;
+  turn : 0 < l.left;
+  less : l.left ≤ l.fn.left;
+  made : (g.S.Steps.view l.steps).steps + l.left ≡ (g.S.Steps.view l.fn.steps).steps + l.fn.left;
+  on : WentOn (g.S.Steps.sizes l.fn.steps) l.fn.key l.fn.self l.fn.desk (g.S.Steps.view l.fn.steps) l.self l.desk (g.S.Steps.view l.steps);
+}
+
+abbrev pub decreases-loop-left : goal.decreases-loop-left
+decreases-loop-left g l = l.left

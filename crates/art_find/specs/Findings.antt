@@ -1,0 +1,166 @@
+-- What a finding knows between two of its steps: what its descent does, and of the words that it keeps.
+use Rattle.std.specs.Prelude.{◌≡◌, ◌≢◌, ◌+◌, ◌<◌, ◌≤◌, ◌⊎◌, ℕ, Bool, true, false, List, Option, Some, None, length, replicate, set, take, ⊤}
+use Rattle.std.specs.Option.{option_map}
+use Rattle.art_cell.specs.declared.cells.Cell.{Cell}
+use Rattle.art_cell.specs.declared.cells.Cell.TheVariants as cell
+use Rattle.art_cell.specs.declared.cells.Link.TheVariants.{Node as node}
+use Rattle.art_cell.specs.declared.cells.Node.{Node}
+use Rattle.art_find.specs.Asking.{Answers, goes_on}
+use Rattle.art_find.specs.Descents.{Fits, IsExact, Stays, asks, decided_at, ended_at, most_steps, stands_on}
+use Rattle.art_find.specs.Verdicts.{Says}
+use Rattle.art_find.specs.declared.asked.Answer.{Answer}
+use Rattle.art_find.specs.declared.asked.Answer.TheVariants.{Begun, Checked}
+use Rattle.art_find.specs.declared.asked.Answer.TheVariants as told
+use Rattle.art_find.specs.declared.asked.Asked.{Asked}
+use Rattle.art_find.specs.declared.asked.Asked.TheVariants.{Read, ReadLeaf, Check, Settle}
+use Rattle.art_find.specs.declared.verdicts.Verdict.{Verdict}
+use Rattle.art_find.specs.Desks.{above_of, node_of}
+use Rattle.art_find.specs.Kept.{HasPath, IsKept}
+use Rattle.art_find.specs.declared.desks.Desk.{Desk}
+use Rattle.art_find.specs.declared.findings.Above.{Above}
+use Rattle.art_find.specs.declared.findings.Finding.{Finding}
+use Rattle.art_find.specs.declared.findings.Stand.{Stand}
+use Rattle.art_step.specs.Shows.{HasChild, HasStamp, Shows}
+use Rattle.art_step.specs.Views.{Member, note_of}
+use Rattle.art_step.specs.declared.deeds.Deed.{Deed}
+use Rattle.art_step.specs.declared.views.Fact.TheVariants.{Starts}
+use Rattle.art_step.specs.declared.views.Sizes.{Sizes}
+use Rattle.art_step.specs.declared.views.Stamp.{Stamp}
+use Rattle.art_step.specs.declared.views.View.{View}
+
+-- ---- what it knows
+
+-- the cell above has the node as its child, to which the first bytes of the key lead, so many
+pub record IsAboveOf (z : Sizes) (k : List ℕ) (v : View) (a : Above) (n : Node) : Type 0 where
+  pub on : HasStamp z v a.stamp
+  pub path : HasPath v a.stamp
+  pub deep : a.depth ≤ length k
+  pub shows : Shows z v a.stamp (λ s. HasChild s a.stamp.cell (node n) (take a.depth k))
+
+-- nothing is above the anchor; above a node is a cell that has it as a child, and what is kept of that cell was read of it
+abbrev pub IsUnder : Sizes → List ℕ → Option Above → List (Option ℕ) → View → Cell → Type 0
+IsUnder z k above reads v cell.Anchor = above ≡ None
+IsUnder z k above reads v (cell.Leaf l) = ⊥
+IsUnder z k above reads v (cell.Node n) = (a : Above) × (above ≡ Some a) × IsAboveOf z k v a n × IsKept z v a.stamp reads
+
+-- what is kept was read: of the cell where it stands, to which a path was noted (of a node, the one by which the cell above has it),
+-- and of the cell above
+pub record IsPlaced (z : Sizes) (k : List ℕ) (above : Option Above) (desk : Desk) (v : View) (y : Stamp) : Type 0 where
+  pub kept : IsKept z v y (node_of desk)
+  pub path : HasPath v y
+  pub led : (a : Above) → above ≡ Some a → Member (note_of y (Starts (take a.depth k))) v.notes
+  pub under : IsUnder z k above (above_of desk) v y.cell
+
+-- where it stands on a cell
+abbrev pub PlaceFits : Sizes → List ℕ → Option Above → Desk → View → Option Stamp → Type 0
+PlaceFits z k above desk v None = ⊤
+PlaceFits z k above desk v (Some y) = IsPlaced z k above desk v y
+
+-- at each stage
+pub record FindingFits (z : Sizes) (k : List ℕ) (what : Option ℕ → Deed) (m : Finding) (desk : Desk) (u v : View) : Type 0 where
+  pub descent : Fits z k what m.descent u v
+  pub place : PlaceFits z k m.above desk v (stands_on m.descent.stage)
+
+-- ---- what it has found
+
+abbrev pub stand_of : Finding → Stamp × Verdict → Stand
+stand_of m found = record { stamp = found.0; depth = m.descent.depth; above = m.above; verdict = found.1 }
+
+abbrev pub stand_at : Finding → Option Stand
+stand_at m = option_map (stand_of m) (decided_at m.descent.stage)
+
+-- the cell is stamped, what was read there shows where the key stands, and all that was read is kept
+pub record IsStanding (z : Sizes) (k : List ℕ) (t : Stand) (desk : Desk) (v : View) : Type 0 where
+  pub stamp : HasStamp z v t.stamp
+  pub deep : t.depth ≤ length k
+  pub says : Says z k t.depth t.stamp t.verdict v
+  pub place : IsPlaced z k t.above desk v t.stamp
+
+-- ---- what it keeps
+
+-- the place that is asked for is one of a cell
+abbrev pub AsksPlace : Option Asked → Type 0
+AsksPlace (Some (Read x i)) = i < 266
+AsksPlace asked = ⊤
+
+-- a check is asked for that settles an answer
+abbrev pub IsToSettle : Asked → Type 0
+IsToSettle (Settle x) = ⊤
+IsToSettle asked = ⊥
+
+-- a word of a leaf is asked for
+abbrev pub AsksLeaf : Option Asked → Type 0
+AsksLeaf (Some (ReadLeaf x l i)) = ⊤
+AsksLeaf asked = ⊥
+
+-- a word that was asked for is kept
+abbrev pub reads_heard : Option Asked → ℕ → List (Option ℕ) → List (Option ℕ)
+reads_heard (Some (Read x i)) word reads = set reads i (Some word)
+reads_heard asked word reads = reads
+
+pub record IsHeard (asked : Option Asked) (word : ℕ) (old new : Desk) : Type 0 where
+  pub node : node_of new ≡ reads_heard asked word (node_of old)
+  pub above : above_of new ≡ above_of old
+
+-- nothing is kept yet of the cell where it stands
+pub record IsCleared (reads : List (Option ℕ)) (new : Desk) : Type 0 where
+  pub node : node_of new ≡ replicate 266 None
+  pub above : above_of new ≡ reads
+
+-- a version word was asked for, and this is asked next: a read of a cell where it was entered
+abbrev pub Enters : Option Asked → Option Asked → ℕ → Option Above → Desk → Option Above → Desk → Type 0
+Enters (Some (Check x)) (Some (Read y i)) depth above desk above' desk' = (above' ≡ Some (record { stamp = x; depth = depth })) × IsCleared (node_of desk) desk'
+Enters asked (Some (Read y i)) depth above desk above' desk' = (above' ≡ None) × IsCleared (above_of desk) desk'
+Enters asked next depth above desk above' desk' = (above' ≡ above) × (desk' ≡ desk)
+
+-- by what was asked and answered, and what is asked next
+abbrev pub Keeps : Answer → Option Asked → Option Asked → ℕ → Option Above → Desk → Option Above → Desk → Type 0
+Keeps (told.Word word) asked next depth above desk above' desk' = (above' ≡ above) × IsHeard asked word desk desk'
+Keeps (Begun r) asked next depth above desk above' desk' = Enters asked next depth above desk above' desk'
+Keeps (Checked r) asked next depth above desk above' desk' = Enters asked next depth above desk above' desk'
+
+-- ---- a step of a finding
+
+-- it makes no step more: the place of the key is known, or it has ended
+abbrev pub IsThere : Finding → Type 0
+IsThere m = (stand_at m ≢ None) ⊎ (ended_at m.descent.stage ≢ None)
+
+-- the step that it asked for was made and answered so
+pub record WasLooked (z : Sizes) (m : Finding) (asked : Asked) (answer : Answer) (v w : View) : Type 0 where
+  pub asked_it : asks m.descent.stage ≡ Some asked
+  pub row : (d : Deed) → Answers z d asked answer v w
+
+-- and it heard that: it has come further, or begins anew
+pub record HasHeard (z : Sizes) (k : List ℕ) (answer : Answer) (m : Finding) (desk : Desk) (v : View) (m' : Finding) (desk' : Desk) (w : View) : Type 0 where
+  pub further : goes_on answer ≡ true → most_steps m.descent.depth m.descent.stage < most_steps m'.descent.depth m'.descent.stage
+  pub anew : goes_on answer ≡ false → most_steps m'.descent.depth m'.descent.stage ≡ 0
+  pub stays : Stays answer m.descent m'.descent
+  pub going : ended_at m'.descent.stage ≡ None
+  pub exact : IsExact m'.descent.stage
+  pub fits : (what : Option ℕ → Deed) (u : View) → FindingFits z k what m desk u v → FindingFits z k what m' desk' u w
+
+-- a step was made and heard, after which it goes on or begins anew
+abbrev pub LookedOn : Sizes → List ℕ → Bool → Finding → Desk → View → Finding → Desk → View → Type 0
+LookedOn z k on m desk v m' desk' w = (asked : Asked) × (answer : Answer) × WasLooked z m asked answer v w × HasHeard z k answer m desk v m' desk' w × (on ≡ goes_on answer)
+
+-- steps were made and heard one after another, and none failed: it has come further by as many as there were
+pub record WentOn (z : Sizes) (k : List ℕ) (m : Finding) (desk : Desk) (v : View) (m' : Finding) (desk' : Desk) (w : View) : Type 0 where
+  pub later : v.steps ≤ w.steps
+  pub failures : w.failures ≡ v.failures
+  pub further : w.steps + most_steps m.descent.depth m.descent.stage ≤ v.steps + most_steps m'.descent.depth m'.descent.stage
+  pub going : ended_at m.descent.stage ≡ None → ended_at m'.descent.stage ≡ None
+  pub exact : IsExact m.descent.stage → IsExact m'.descent.stage
+  pub fits : (what : Option ℕ → Deed) (u : View) → FindingFits z k what m desk u v → FindingFits z k what m' desk' u w
+
+-- and then one failed, after which it begins anew
+pub record CameBack (z : Sizes) (k : List ℕ) (m : Finding) (desk : Desk) (v : View) (m' : Finding) (desk' : Desk) (w : View) : Type 0 where
+  pub middle : Finding
+  pub kept : Desk
+  pub view : View
+  pub on : WentOn z k m desk v middle kept view
+  pub back : LookedOn z k false middle kept view m' desk' w
+
+-- whether it went on to the last, or came back
+abbrev pub Descends : Sizes → List ℕ → Bool → Finding → Desk → View → Finding → Desk → View → Type 0
+Descends z k true m desk v m' desk' w = WentOn z k m desk v m' desk' w
+Descends z k false m desk v m' desk' w = CameBack z k m desk v m' desk' w

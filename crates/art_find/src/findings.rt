@@ -1,0 +1,449 @@
+//! The place of a key in the tree, with all that was read there: for an insert or a removal that changes the tree.
+//!
+//! # The problem
+//!
+//! A descent (`Descent` of `art_find`) goes down by a key (ICDE 2013), one word at a time, and ends in a verdict: where the
+//! key stands, or would stand. It keeps no word that it read, since a get needs none. A change needs more. Whoever adds a
+//! child to the node N, or puts another node in its place, upgrades the stamp of N, and where N itself goes, that of the cell
+//! P above it too (DaMoN 2016). So P must still be stamped, and known to have N as its child on the key's way. And the words of
+//! N, which the plan of the change goes by, should not be read a second time: most were read on the way.
+//!
+//! # What is kept
+//!
+//! ```text
+//!        P        above:  its stamp, and all words that were read of it
+//!        │
+//!        ▼
+//!        N        node:   where the descent stands: its stamp, and all words that were read of it
+//! ```
+//!
+//! A `Desk` keeps the words. It is large (two cells of up to 266 words), so it stands beside the machine, and is never copied:
+//! one step down, and N is above. The two halves change roles by a flag, and the half that was P's is cleared, in five words.
+//! N may be the anchor, and then nothing is above it.
+//!
+//! # A finding
+//!
+//! `Finding` is the machine: a descent, and the stamp of P with how many bytes lead to N. `next` asks what the descent asks, and
+//! `told` hands the answer to the descent, and keeps the word, if it was one of a cell. Where a check lets the descent enter a node, the finding sees it by what is
+//! asked next: after a version word that was clear or unchanged, only a cell that was just entered is read. After the check of
+//! P that is N, and the stamp that was checked is P's. After the version word of the anchor it is the anchor.
+//!
+//! # What it knows
+//!
+//! `FindingFits` says what `Fits` says of the descent, and of the cell where it stands (`IsPlaced`): that each word that is
+//! kept was noted under the cell's stamp (`IsKept`), that a path to the cell was too (`HasPath`), which is what an upgrade asks
+//! for, and that the cell above has the node as its child on the key's way, in each tree in which the notes under its stamp hold
+//! (`IsAboveOf`). All of it stays so while the pass only reads: stamps and notes are added, and none goes (`Grows`). Where one goes, at a version
+//! word that is not clear or was changed, the finding begins anew, stands nowhere and claims nothing.
+//!
+//! At a verdict `stand` hands out a `Stand`: the stamp, the cell above, and the verdict; and all of that is known at once
+//! (`IsStanding`). It stays known whatever else the pass does with its numbers (`standing_grows`).
+//!
+//! # The words that are missing
+//!
+//! A descent reads the words of a node that it needs, and no more. A `Rereading` reads the others of one stamped cell, in
+//! ascending place, so that a plan sees all of them. What was found stays found meanwhile (`standing_stays`). `read_on_node`
+//! and `read_on_above` of a desk make its reads in a loop of their own, where only turns can stop it.
+ghost use Rattle.std.specs.Prelude.{◌≡◌, ◌+◌, ◌≤◌, ◌<◌, ◌⊎◌, ℕ, List, Option, length, None};
+ghost use Rattle.art_find.specs.Findings.{AsksPlace, IsHeard};
+
+use crate::{Answer, Asked, Descent, Desk, Stage, Verdict};
+use art_cell::Cell;
+use art_step::{Changed, Locked, Stamp, Steps};
+
+/// The cell that has the node as its child where a finding stands.
+#[derive(Clone, Copy)]
+pub struct Above {
+    pub stamp: Stamp,
+    /// How many bytes of the key lead to the node.
+    pub depth: usize,
+}
+
+/// Where a key stands, or would stand.
+#[derive(Clone, Copy)]
+pub struct Stand {
+    /// The cell under whose stamp that was read.
+    pub stamp: Stamp,
+    /// How many bytes of the key were read as a path on the way there.
+    pub depth: usize,
+    /// Where the stamp's cell is a node, the cell that has it as its child.
+    pub above: Option<Above>,
+    pub verdict: Verdict,
+}
+
+/// A look for where a key stands, or would stand, that keeps the cell above. The key and what was read stand
+/// beside it.
+#[derive(Clone, Copy)]
+pub struct Finding {
+    descent: Descent,
+    /// Where it stands on a node, the cell that has the node as its child.
+    above: Option<Above>,
+}
+
+impl Finding {
+    ghost use Rattle.art_find.specs.Asking.{Answers, IsAllowed, WantsWord, goes_on};
+    ghost use Rattle.art_find.specs.Descents.{IsExact, IsReading, Stays};
+    ghost use Rattle.art_find.specs.Descents.{answer_at, asks, ended_at, most_steps};
+    ghost use Rattle.art_find.specs.declared.asked.Asked.{Asked as AskedStep};
+    ghost use Rattle.art_find.specs.declared.asked.Asked.TheVariants.{Begin as begin_asked, Check as check_asked, Read as read_asked};
+    ghost use Rattle.art_find.specs.Findings.{AsksLeaf, Descends, Enters, FindingFits, IsStanding, IsThere, Keeps, LookedOn, stand_at};
+    ghost use Rattle.art_find.specs.declared.desks.Desk.{Desk as DeskOf};
+    ghost use Rattle.art_step.specs.Shows.{HasValue};
+    ghost use Rattle.art_step.specs.Steps.Begin.{Outcome as Begun};
+    ghost use Rattle.art_step.specs.Steps.Check.{Outcome as WasChecked};
+    ghost use Rattle.art_step.specs.Steps.Read.{Outcome as WasRead};
+    ghost use Rattle.art_step.specs.declared.deeds.Deed.{Deed};
+    ghost use Rattle.art_step.specs.declared.views.Sizes.{Sizes};
+    ghost use Rattle.art_step.specs.declared.views.View.{View};
+    ghost use Rattle.std.specs.Prelude.{Some, IfNone, IfSome, true, false};
+
+    /// At its beginning.
+    pub fn new() -> Finding
+        ensures steps { most_steps result.descent.depth result.descent.stage ≡ 0 }
+        ensures going { ended_at result.descent.stage ≡ None }
+        ensures exact { IsExact result.descent.stage }
+        ensures fits { (z : Sizes) (k : List ℕ) (what : Option ℕ → Deed) (desk : DeskOf) (u v : View) → IsReading u v →
+            FindingFits z k what result desk u v }
+    {
+        Finding {
+            descent: Descent::new(),
+            above: None,
+        }
+    }
+
+    /// The next step, or none where it has ended.
+    #[inline(always)]
+    pub fn next(&self) -> Option<Asked>
+        ensures asks { result ≡ asks self.now.descent.stage }
+        ensures allowed { (z : Sizes) (k : List ℕ) (what : Option ℕ → Deed) (desk : DeskOf) (u v : View) →
+            FindingFits z k what self.now desk u v →
+            IfSome result (IsAllowed z (λ s. HasValue s k (answer_at self.now.descent.stage)) v) }
+    {
+        self.descent.next()
+    }
+
+    /// Where the key stands or would stand, once that was read: a check of the stamp comes next.
+    #[inline(always)]
+    pub fn stand(&self) -> Option<Stand>
+        ensures at { result ≡ stand_at self.now }
+        ensures stands { IfSome result (λ t. (z : Sizes) (k : List ℕ) (what : Option ℕ → Deed) (desk : DeskOf) (u v : View) →
+            FindingFits z k what self.now desk u v → IsReading u v × IsStanding z k t desk v) }
+    {
+        let (stamp, verdict) = self.descent.decided()?;
+        Some(Stand {
+            stamp,
+            depth: self.descent.depth(),
+            above: self.above,
+            verdict,
+        })
+    }
+
+    /// The step that it asked for was made, with this answer. Whether it goes on: else it begins anew.
+    #[inline(always)]
+    pub fn told(&mut self, desk: &mut Desk, key: &[u8], answer: Answer) -> bool
+        requires few { length key.now ≤ 64 }
+        requires fits { (z : Sizes) × (what : Option ℕ → Deed) × (u : View) × (v : View) × (w : View) × (asked : AskedStep) ×
+            FindingFits z key.now what self.old desk.old u v × (asks self.old.descent.stage ≡ Some asked) ×
+            Answers z (what (answer_at self.old.descent.stage)) asked answer v w }
+        ensures on { result ≡ goes_on answer }
+        ensures steps { result ≡ true → most_steps self.old.descent.depth self.old.descent.stage <
+            most_steps self.new.descent.depth self.new.descent.stage }
+        ensures anew { result ≡ false → most_steps self.new.descent.depth self.new.descent.stage ≡ 0 }
+        ensures stays { Stays answer self.old.descent self.new.descent }
+        ensures keeps { Keeps answer (asks self.old.descent.stage) (asks self.new.descent.stage) self.new.descent.depth
+            self.old.above desk.old self.new.above desk.new }
+        ensures exact { IsExact self.new.descent.stage }
+        ensures fits { (z : Sizes) (what : Option ℕ → Deed) (u v w : View) (asked : AskedStep) →
+            FindingFits z key.now what self.old desk.old u v → asks self.old.descent.stage ≡ Some asked →
+            Answers z (what (answer_at self.old.descent.stage)) asked answer v w → FindingFits z key.now what self.new desk.new u w }
+    {
+        let asked = self.descent.next();
+        let on = self.descent.told(key, answer);
+        self.keep(desk, asked, answer);
+        on
+    }
+
+    /// Makes steps and hears them until the place is known, as long as more than one turn is left. Whether it goes on: else the last one
+    /// failed, and it begins anew.
+    pub fn descend<S: Steps>(
+        &mut self,
+        steps: &mut S,
+        desk: &mut Desk,
+        key: &[u8],
+        left: &mut u32,
+    ) -> bool
+        requires few { length key.now ≤ 64 }
+        requires turn { 0 < left.old }
+        requires fits { (what : Option ℕ → Deed) × (u : View) ×
+            FindingFits (S.sizes steps.old) key.now what self.old desk.old u (S.view steps.old) }
+        ensures only { S.only steps.old steps.new }
+        ensures turn { 0 < left.new }
+        ensures less { left.new ≤ left.old }
+        ensures made { (S.view steps.new).steps + left.new ≡ (S.view steps.old).steps + left.old }
+        ensures there { result ≡ true → IsThere self.new ⊎ (left.new ≡ 1) }
+        ensures descends { Descends (S.sizes steps.old) key.now result self.old desk.old (S.view steps.old)
+            self.new desk.new (S.view steps.new) }
+    {
+        while *left > 1 {
+            let Some(on) = self.look_on(steps, desk, key) else {
+                return true;
+            };
+            *left -= 1;
+            if !on {
+                return false;
+            }
+        }
+        true
+    }
+
+    /// Makes the next step, unless the place is known or it has ended, and hears it. Whether it goes on: else it begins anew.
+    pub fn look_on<S: Steps>(&mut self, steps: &mut S, desk: &mut Desk, key: &[u8]) -> Option<bool>
+        requires few { length key.now ≤ 64 }
+        requires fits { (what : Option ℕ → Deed) × (u : View) ×
+            FindingFits (S.sizes steps.old) key.now what self.old desk.old u (S.view steps.old) }
+        ensures only { S.only steps.old steps.new }
+        ensures none { IfNone result (IsThere self.old × (self.new ≡ self.old) × (desk.new ≡ desk.old) × (S.view steps.new ≡ S.view steps.old)) }
+        ensures looked { IfSome result (λ on. LookedOn (S.sizes steps.old) key.now on self.old desk.old (S.view steps.old)
+            self.new desk.new (S.view steps.new)) }
+    {
+        // what a step needs is taken out of the stage before it: memory is read anew behind it, since other threads write there
+        match *self.descent.stage() {
+            Stage::Start => {
+                let begun = steps.begin(Cell::Anchor);
+                Some(self.hear_begun(desk, Stage::Start, Cell::Anchor, begun))
+            }
+            Stage::Below(above, node) => {
+                let begun = steps.begin(Cell::Node(node));
+                Some(self.hear_begun(desk, Stage::Below(above, node), Cell::Node(node), begun))
+            }
+            Stage::Child(stamp, link) => {
+                let checked = steps.check(stamp, None);
+                Some(self.hear_checked(desk, Stage::Child(stamp, link), stamp, checked))
+            }
+            Stage::Both(above, stamp, node) => {
+                let checked = steps.check(above, None);
+                Some(self.hear_checked(desk, Stage::Both(above, stamp, node), above, checked))
+            }
+            Stage::Decided(_, _) | Stage::Ended(_) => None,
+            _ => {
+                self.read_on(steps, desk, key);
+                Some(true)
+            }
+        }
+    }
+
+    /// Reads the word that comes next of a cell or of a leaf, and hears it.
+    #[inline(always)]
+    fn read_on<S: Steps>(&mut self, steps: &mut S, desk: &mut Desk, key: &[u8])
+        requires few { length key.now ≤ 64 }
+        requires word { WantsWord (asks self.old.descent.stage) }
+        requires fits { (what : Option ℕ → Deed) × (u : View) ×
+            FindingFits (S.sizes steps.old) key.now what self.old desk.old u (S.view steps.old) }
+        ensures only { S.only steps.old steps.new }
+        ensures looked { LookedOn (S.sizes steps.old) key.now true self.old desk.old (S.view steps.old)
+            self.new desk.new (S.view steps.new) }
+    {
+        match *self.descent.stage() {
+            Stage::Anchor(stamp) => {
+                let word = steps.read(stamp, 1);
+                self.hear_word(desk, key, Stage::Anchor(stamp), stamp, 1, word);
+            }
+            Stage::Header(stamp, node) => {
+                let word = steps.read(stamp, 1);
+                self.hear_word(desk, key, Stage::Header(stamp, node), stamp, 1, word);
+            }
+            Stage::Prefix(seen, number, before) => {
+                let place = 2 + usize::from(number);
+                let word = steps.read(seen.stamp, place);
+                let stage = Stage::Prefix(seen, number, before);
+                self.hear_word(desk, key, stage, seen.stamp, place, word);
+            }
+            Stage::Keys(seen, number) => {
+                let place = 10 + usize::from(number);
+                let word = steps.read(seen.stamp, place);
+                self.hear_word(
+                    desk,
+                    key,
+                    Stage::Keys(seen, number),
+                    seen.stamp,
+                    place,
+                    word,
+                );
+            }
+            Stage::Slot(seen, place) => {
+                let word = steps.read(seen.stamp, place);
+                self.hear_word(desk, key, Stage::Slot(seen, place), seen.stamp, place, word);
+            }
+            _ => self.read_leaf_on(steps, key),
+        }
+    }
+
+    /// Reads the word of a leaf that comes next, and hears it. Nothing is kept of a leaf.
+    #[inline(always)]
+    fn read_leaf_on<S: Steps>(&mut self, steps: &mut S, key: &[u8])
+        requires few { length key.now ≤ 64 }
+        requires leaf { AsksLeaf (asks self.old.descent.stage) }
+        requires fits { (what : Option ℕ → Deed) × (desk : DeskOf) × (u : View) ×
+            FindingFits (S.sizes steps.old) key.now what self.old desk u (S.view steps.old) }
+        ensures only { S.only steps.old steps.new }
+        ensures looked { (desk : DeskOf) → LookedOn (S.sizes steps.old) key.now true self.old desk (S.view steps.old)
+            self.new desk (S.view steps.new) }
+    {
+        match *self.descent.stage() {
+            Stage::Value(stamp, leaf) => {
+                let word = steps.read_leaf(stamp, leaf, 0);
+                self.descent.read_at(Stage::Value(stamp, leaf), key, word);
+            }
+            Stage::Length(stamp, leaf, value) => {
+                let word = steps.read_leaf(stamp, leaf, 1);
+                self.descent
+                    .read_at(Stage::Length(stamp, leaf, value), key, word);
+            }
+            Stage::Bytes(seen, number, before) => {
+                let word = steps.read_leaf(seen.stamp, seen.leaf, 2 + usize::from(number));
+                self.descent
+                    .read_at(Stage::Bytes(seen, number, before), key, word);
+            }
+            _ => unreachable!(),
+        }
+    }
+
+    /// The version word that it asked for, where its descent stood at this stage, was found so. Whether it goes on.
+    #[inline(always)]
+    fn hear_begun(
+        &mut self,
+        desk: &mut Desk,
+        stage: Stage,
+        cell: Cell,
+        begun: Result<Stamp, Locked>,
+    ) -> bool
+        requires at { self.old.descent.stage ≡ stage }
+        requires asked { asks stage ≡ Some (begin_asked cell) }
+        ensures looked { (z : Sizes) (k : List ℕ) (v w : View) → Begun z v w cell begun →
+            LookedOn z k result self.old desk.old v self.new desk.new w }
+    {
+        match begun {
+            Ok(stamp) => {
+                self.descent.began_at(stage, stamp);
+                self.enter(desk, Some(Asked::Begin(cell)));
+                true
+            }
+            Err(_) => {
+                self.descent.failed();
+                false
+            }
+        }
+    }
+
+    /// The word of a cell that it asked for, where its descent stood at this stage, is this: it is kept.
+    #[inline(always)]
+    fn hear_word(
+        &mut self,
+        desk: &mut Desk,
+        key: &[u8],
+        stage: Stage,
+        stamp: Stamp,
+        place: usize,
+        word: u64,
+    )
+        requires few { length key.now ≤ 64 }
+        requires at { self.old.descent.stage ≡ stage }
+        requires asked { asks stage ≡ Some (read_asked stamp place) }
+        requires inside { place < 266 }
+        requires fits { (z : Sizes) × (what : Option ℕ → Deed) × (u : View) × (v : View) ×
+            FindingFits z key.now what self.old desk.old u v }
+        ensures looked { (z : Sizes) (v w : View) → WasRead z v w stamp place word →
+            LookedOn z key.now true self.old desk.old v self.new desk.new w }
+    {
+        let _ = stamp.version;
+        self.descent.read_at(stage, key, word);
+        desk.note(place, word);
+    }
+
+    /// The cell that it asked for, where its descent stood at this stage, was checked. Whether it goes on.
+    #[inline(always)]
+    fn hear_checked(
+        &mut self,
+        desk: &mut Desk,
+        stage: Stage,
+        stamp: Stamp,
+        checked: Result<(), Changed>,
+    ) -> bool
+        requires at { self.old.descent.stage ≡ stage }
+        requires asked { asks stage ≡ Some (check_asked stamp) }
+        ensures looked { (z : Sizes) (k : List ℕ) (v w : View) → WasChecked z v w stamp None checked →
+            LookedOn z k result self.old desk.old v self.new desk.new w }
+    {
+        match checked {
+            Ok(()) => {
+                self.descent.checked_at(stage);
+                self.enter(desk, Some(Asked::Check(stamp)));
+                true
+            }
+            Err(_) => {
+                self.descent.failed();
+                false
+            }
+        }
+    }
+
+    /// A version word was locked, obsolete or changed: the finding begins anew.
+    pub fn failed(&mut self)
+        ensures steps { most_steps self.new.descent.depth self.new.descent.stage ≡ 0 }
+        ensures exact { IsExact self.new.descent.stage }
+        ensures fits { (z : Sizes) (k : List ℕ) (what : Option ℕ → Deed) (desk : DeskOf) (u v : View) → IsReading u v →
+            FindingFits z k what self.new desk u v }
+    {
+        *self = Finding::new();
+    }
+
+    /// Keeps what was read by the step that was asked for.
+    #[inline(always)]
+    fn keep(&mut self, desk: &mut Desk, asked: Option<Asked>, answer: Answer)
+        requires { AsksPlace asked }
+        ensures descent { self.new.descent ≡ self.old.descent }
+        ensures keeps { Keeps answer asked (asks self.old.descent.stage) self.old.descent.depth self.old.above desk.old
+            self.new.above desk.new }
+    {
+        match answer {
+            Answer::Word(word) => hear(desk, asked, word),
+            Answer::Begun(_) => self.enter(desk, asked),
+            Answer::Checked(_) => self.enter(desk, asked),
+        }
+    }
+
+    /// A version word was asked for. Where a read of a cell comes next, the finding stands on that cell from now on.
+    #[inline(always)]
+    fn enter(&mut self, desk: &mut Desk, asked: Option<Asked>)
+        ensures descent { self.new.descent ≡ self.old.descent }
+        ensures enters { Enters asked (asks self.old.descent.stage) self.old.descent.depth self.old.above desk.old
+            self.new.above desk.new }
+    {
+        match self.descent.next() {
+            Some(Asked::Read(_, _)) => match asked {
+                Some(Asked::Check(stamp)) => {
+                    let depth = self.descent.depth();
+                    self.above = Some(Above { stamp, depth });
+                    desk.go_down();
+                }
+                _ => {
+                    self.above = None;
+                    desk.clear();
+                }
+            },
+            _ => {}
+        }
+    }
+}
+
+/// Keeps a word that was read.
+#[inline(always)]
+fn hear(desk: &mut Desk, asked: Option<Asked>, word: u64)
+    requires { AsksPlace asked }
+    ensures { IsHeard asked word desk.old desk.new }
+{
+    match asked {
+        Some(Asked::Read(_, place)) => desk.note(place, word),
+        _ => {}
+    }
+}

@@ -1,6 +1,0 @@
-pub mod ForkNodes
-pub mod GrownNodes
-pub mod PlannedAdds
-pub mod PlannedForks
-pub mod PlannedGrows
-pub mod PlannedPrefixes

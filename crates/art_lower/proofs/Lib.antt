@@ -1,5 +1,0 @@
-pub mod LowerNames
-pub mod LowerOthers
-pub mod LowerSeen
-pub mod Lowers
-mod Rereads

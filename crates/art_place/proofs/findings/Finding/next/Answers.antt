@@ -1,4 +1,0 @@
-use Rattle.art_place.proofs.findings.Finding.next.Goals as goal
-
-pub returns-clause-asks : goal.returns-clause-asks
-returns-clause-asks c = c.next.ensures.asks

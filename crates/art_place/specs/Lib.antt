@@ -1,5 +1,0 @@
-pub mod Desks
-pub mod Findings
-pub mod Kept
-pub mod Rereadings
-pub mod Runs

@@ -1,0 +1,15 @@
+use Rattle.std.proofs.Common.{inl, refl}
+use Rattle.art_plan.proofs.EmptyTrees.{root_knows}
+use Rattle.art_plan.proofs.LockedCells.{one_locked}
+use Rattle.art_plan.specs.ChooseInsert.Plans.{IsLockedAt}
+use Rattle.art_plan.specs.Seen.{kept}
+use Rattle.art_plan.proofs.choose_insert.frees.to_anchor.Goals as goal
+
+pub returns-clause-planned : goal.returns-clause-planned
+returns-clause-planned c = λ desk made z u seen standing hand needed.
+    c.add.ensures.planned z u 0 (root_knows z c.args.stand.now desk c.args.new.now u c.requires seen standing hand)
+
+pub returns-clause-locks : goal.returns-clause-locks
+returns-clause-locks c =
+    let x = c.args.stand.now.stamp in
+    one_locked (IsLockedAt c.args.stand.now) c.add.new.change (kept x) (inl refl) (c.add.ensures.locks)

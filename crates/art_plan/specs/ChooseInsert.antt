@@ -1,0 +1,4 @@
+pub mod Bodies
+pub mod Needs
+pub mod Plans
+pub mod Seen

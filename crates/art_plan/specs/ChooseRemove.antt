@@ -1,0 +1,4 @@
+pub mod Losses
+pub mod Others
+pub mod Plans
+pub mod Seen

@@ -1,0 +1,55 @@
+//! The leaf goes, and the node that names it gives way to a smaller one.
+ghost use Rattle.std.specs.Prelude.{◌≡◌, None};
+ghost use Rattle.art_cell.specs.declared.layouts.Layout.{Layout};
+ghost use Rattle.art_plan.specs.ChooseRemove.Losses.{loss_at};
+ghost use Rattle.art_plan.specs.ChooseRemove.Plans.{HasFound, IsEitherAt, PlansShrink};
+ghost use Rattle.art_plan.specs.ChooseRemove.Seen.{AreSeen};
+ghost use Rattle.art_plan.specs.declared.choose_remove.losses.Loss.TheVariants as losses;
+ghost use Rattle.art_plan.specs.ChooseInsert.Plans.{LocksOnly};
+ghost use Rattle.art_plan.specs.Changes.{targets};
+ghost use Rattle.art_plan.specs.Remove.Removals.{removed};
+ghost use Rattle.art_step.specs.declared.views.Sizes.{Sizes};
+
+use crate::art_find::{Desk, Stand};
+use crate::choose_insert::{Bodies, byte_at, fill, site_at};
+use crate::remove::{OldLeaf, shrink};
+use crate::{Below, Change};
+use art_cell::Cell;
+
+/// The leaf goes from a node that keeps few children: the next smaller one, which has this number, takes its place in the cell
+/// above. All words of both cells were read and checked.
+pub fn plan_shrink(
+    change: &mut Change,
+    bodies: &mut Bodies,
+    stand: &Stand,
+    desk: &Desk,
+    old: &OldLeaf,
+    made: u32,
+)
+    requires found { HasFound stand.now old.now }
+    requires shrinks { (k : Layout) × (loss_at stand.now desk.now ≡ losses.Shrinks k) }
+    requires seen { (z : Sizes) × AreSeen z old.now.key.items stand.now desk.now }
+    ensures planned { PlansShrink stand.now desk.now old.now made change.new }
+    ensures targets { targets change.new ≡ 2 }
+    ensures locks { LocksOnly (IsEitherAt stand.now) change.new }
+    ensures deed { change.new.deed ≡ removed old.now }
+    ensures leaf { change.new.leaf ≡ None }
+{
+    let Cell::Node(node) = stand.stamp.cell else {
+        unreachable!();
+    };
+    let Some(above) = stand.above else {
+        unreachable!();
+    };
+    fill(&mut bodies.node, stand.stamp.cell, desk.node());
+    fill(&mut bodies.above, above.stamp.cell, desk.above());
+    let key = old.key.as_slice();
+    let site = site_at(above.stamp, &bodies.above, key, above.depth);
+    let below = Below {
+        node,
+        stamp: stand.stamp,
+        body: &bodies.node,
+    };
+    let byte = byte_at(key, stand.depth - 1);
+    shrink(change, &site, &below, byte, old, made);
+}

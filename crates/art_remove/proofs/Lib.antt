@@ -1,6 +1,0 @@
-pub mod FewChildren
-pub mod GoneNodes
-pub mod PlannedDrops
-pub mod PlannedMerges
-pub mod PlannedShrinks
-pub mod ShrunkNodes

@@ -1,0 +1,111 @@
+-- A bit that is taken is set: nobody else took its number since its word was found, and the pass has it not in hand.
+use Rattle.std.proofs.Common.{◌≡◌, ◌≤◌, ℕ, List, Option, Some, None, sym, ap, ◌∙◌, subst, arith, ⊎_elim}
+use Rattle.std.proofs.lemmas.Bool.{cond_both}
+use Rattle.std.proofs.lemmas.Option.{same_Some}
+use Rattle.std.specs.Option.{option_and_then, option_map}
+use Rattle.std.specs.Prelude.{nat_lt}
+use Rattle.art_cell.specs.declared.layouts.Layout.{Layout}
+use Rattle.art_cell.specs.declared.layouts.Layout.TheVariants.{Node4, Node16, Node48, Node256}
+use Rattle.art_cell.specs.declared.layouts.Pool.{Pool}
+use Rattle.art_cell.specs.declared.layouts.Pool.TheVariants.{Leaves}
+use Rattle.art_epoch.specs.Taking as taking
+use Rattle.art_epoch.specs.Taking.{IsSeen, SearchFits, around}
+use Rattle.art_epoch.specs.declared.asked.Asked.{Asked as NumberAsked}
+use Rattle.art_epoch.specs.declared.asked.Asked.TheVariants.{Clear}
+use Rattle.art_epoch.specs.declared.taking.Search.{Search}
+use Rattle.art_epoch.specs.declared.taking.Search.TheVariants.{Looking, Clearing, Took}
+use Rattle.art_epoch.specs.declared.taking.Taking.{Taking}
+use Rattle.art_call.specs.ArtFrame.Stocks.{IsIn, node_in}
+use Rattle.art_call.specs.ArtFrame.declared.stocks.Stock.{Stock}
+use Rattle.art_call.specs.ArtGather.Supplying as supplying
+use Rattle.art_call.specs.ArtGather.Supplying.{leaf_asked, leaf_write}
+use Rattle.art_call.specs.ArtGather.declared.asked.Asked.{Asked}
+use Rattle.art_call.specs.ArtGather.declared.asked.Asked.TheVariants as asked
+use Rattle.art_call.specs.ArtGather.declared.supplying.Supplying.{Supplying}
+use Rattle.art_call.specs.ArtGather.declared.supplying.Supplying.TheVariants as supplies
+use Rattle.art_call.specs.ArtGather.declared.supplying.Wants.{Wants}
+use Rattle.art_call.proofs.ArtMake.Told.{map_some}
+use Rattle.art_call.specs.ArtMake.Packing.{word_asked}
+use Rattle.art_call.specs.ArtMake.declared.packing.Packing.{Packing}
+use Rattle.art_runs.proofs.Calm.{IsFrameFounded, IsSupplyFounded}
+use Rattle.art_runs.proofs.Finding.{found_since}
+use Rattle.art_runs.specs.OthersIdle.{HasFound}
+use Rattle.art_step.specs.Views.{Member, Memory, bit_of, number_at, pool_of_layout}
+use Rattle.art_step.specs.declared.views.InHand.{InHand}
+use Rattle.art_step.specs.declared.views.Sizes.{Sizes}
+use Rattle.art_step.specs.declared.views.View.{View}
+use Rattle.art_world.specs.Lasting.{IsTimely}
+
+-- no number of the pool is in hand
+abbrev pub HasNoneOf : Pool → List InHand → Type 0
+HasNoneOf pool hand = (i k : ℕ) (x : InHand) → Member x hand → x.link ≡ number_at pool i k → ⊥
+
+-- ---- what is in hand of a stock
+
+no_leaf : (s : Stock) (hand : List InHand) → ((x : InHand) → Member x hand → IsIn s x.link) → s.leaf ≡ None → HasNoneOf Leaves hand
+no_leaf s hand only none i k x there same = let in_stock : IsIn s (number_at Leaves i k) = subst (IsIn s) same (only x there) in cc
+
+layout_in : (s : Stock) (layout : Layout) (i k : ℕ) → IsIn s (number_at (pool_of_layout layout) i k) → (n : ℕ) × (node_in s layout ≡ Some n)
+layout_in s Node4 i k there = (_, there)
+layout_in s Node16 i k there = (_, there)
+layout_in s Node48 i k there = (_, there)
+layout_in s Node256 i k there = (_, there)
+
+no_node : (s : Stock) (hand : List InHand) (layout : Layout) → ((x : InHand) → Member x hand → IsIn s x.link) → node_in s layout ≡ None → HasNoneOf (pool_of_layout layout) hand
+no_node s hand layout only none i k x there same =
+    let n = layout_in s layout i k (subst (IsIn s) same (only x there)) in
+    let no : None ≡ Some n.0 = sym none ∙ n.1 in
+    cc
+
+-- ---- a search, of a call that began with the view u and made no event yet
+
+module _ (m : Memory) (u v : View) (had : HasFound m u v) (timely : IsTimely u) (own : v.own ≡ u.own) where
+  seen_set : (b : View) (pool : Pool) (words first n k : ℕ) → u.steps ≤ b.steps → HasNoneOf pool b.hand → IsSeen b v pool words first n k → bit_of (m.free_word pool (around words first n)) k ≡ 1
+  seen_set b pool words first n k late none s =
+      let i = around words first n in
+      let later = s.found.later in
+      let last = found_since m u v pool i s.word s.at had timely (omega (arith, late, later)) s.found.found ∙ s.last in
+      ⊎_elim
+      (λ (set : bit_of (m.free_word pool i) k ≡ 1). set)
+      (λ (has : (x : InHand) × Member x v.hand × (x.link ≡ number_at pool i k)). absurd (none i k has.0 (subst (Member has.0) s.hand has.1) has.2))
+      (had.free own pool i k s.lowest.low (ap (λ (x : ℕ). bit_of x k) last ∙ s.lowest.is))
+
+  search_founded : (z : Sizes) (b : View) (pool : Pool) (words first : ℕ) (a : NumberAsked) → u.steps ≤ b.steps → HasNoneOf pool b.hand → (s : Search) → SearchFits z b v pool words first s
+      → taking.asks_at pool words first s ≡ Some a → IsFrameFounded m a
+  search_founded z b pool words first a late none (Looking i) fits is =
+      let Founds : Option NumberAsked → Type 0 = λ o. o ≡ Some a → IsFrameFounded m a in
+      cond_both (nat_lt i words) (Some (Clear pool (around words first i) None)) None Founds
+      (λ e is. subst (IsFrameFounded m) (same_Some (Clear pool (around words first i) None) a is) tt)
+      (λ e is. absurd (cc))
+      is
+  search_founded z b pool words first a late none (Clearing i k) fits is = subst (IsFrameFounded m) (same_Some (Clear pool (around words first i) (Some k)) a is) (seen_set b pool words first i k late none fits)
+  search_founded z b pool words first a late none (Took i k) fits is = absurd (cc)
+
+  taking_founded : (z : Sizes) (b : View) (t : Taking) (pool : Pool) (a : NumberAsked) → t.pool ≡ pool → u.steps ≤ b.steps → HasNoneOf pool b.hand → taking.Fits z b t v → taking.asks t ≡ Some a
+      → IsFrameFounded m a
+  taking_founded z b t pool a same late none fits is = search_founded z b t.pool t.words t.first a late (subst (λ (q : Pool). HasNoneOf q b.hand) (sym same) none) t.search fits.search is
+
+  -- ---- a supply
+
+  packing_founded : (k : List ℕ) (value : ℕ) (p : Packing) (a : Asked) (o : Option ℕ) → option_and_then (leaf_asked k value p) o ≡ Some a → IsSupplyFounded m a
+  packing_founded k value p a (Some l) is =
+      let q = map_some (leaf_write l) (word_asked k value p.place) a is in
+      subst (IsSupplyFounded m) q.2 tt
+  packing_founded k value p a None is = absurd (cc)
+
+  number_founded : (a : Asked) (o : Option NumberAsked) → option_map asked.Number o ≡ Some a → ((n : NumberAsked) → o ≡ Some n → IsFrameFounded m n) → IsSupplyFounded m a
+  number_founded a o is founded = let q = map_some asked.Number o a is in subst (IsSupplyFounded m) q.2 (founded q.0 q.1)
+
+  pub supply_founded : (z : Sizes) (wants : Wants) (k : List ℕ) (value : ℕ) (stock : Stock) (b : View) (a : Asked) → u.steps ≤ b.steps → (s : Supplying) → supplying.StageFits z wants k value s stock b v
+      → supplying.asks k value stock s ≡ Some a → IsSupplyFounded m a
+  supply_founded z wants k value stock b a late (supplies.Leaf t) fits is =
+      let q = fits.2.sought in
+      let later = q.base.later in
+      number_founded a (taking.asks t) is (λ n asks. taking_founded z q.early t Leaves n q.pool_is (omega (arith, late, later)) (no_leaf stock q.early.hand q.base.has.only fits.1) q.seeks asks)
+  supply_founded z wants k value stock b a late (supplies.Packing p) fits is = packing_founded k value p a stock.leaf is
+  supply_founded z wants k value stock b a late (supplies.Node t) fits is =
+      let s = fits.1 in
+      let q = s.seeking.sought in
+      let later = q.base.later in
+      number_founded a (taking.asks t) is (λ n asks. taking_founded z q.early t (pool_of_layout s.layout) n q.pool_is (omega (arith, late, later)) (no_node stock q.early.hand s.layout q.base.has.only s.none) q.seeks asks)
+  supply_founded z wants k value stock b a late (supplies.Ended r) fits is = absurd (cc)

@@ -1,0 +1,218 @@
+-- How far an attempt has come: while it looks at version words it has told nothing and many steps are left; and a cell is released
+-- only after an event, after a failure, or where few steps are left.
+use Rattle.std.proofs.Common.{◌≡◌, ◌<◌, ◌≤◌, ◌∷◌, ℕ, Bool, true, false, List, [], length, Option, Some, None, refl, sym, ap, ◌∙◌, subst, arith, ⊎_elim}
+use Rattle.std.proofs.lemmas.Bool.{cases_Bool}
+use Rattle.std.proofs.lemmas.List.{length-append}
+use Rattle.std.specs.Option.{option_and_then, option_map}
+use Rattle.std.specs.Prelude.{◌==◌, ◌++◌}
+use Rattle.art_call.proofs.ArtAttempt.Free.{free_so}
+use Rattle.art_call.proofs.ArtAttempt.Left.{tries_some}
+use Rattle.art_call.specs.ArtAttempt.Inserting as inserts
+use Rattle.art_call.specs.ArtAttempt.Inserting.{free_at, held_left, is_begun, last_left, making_left, tries_left}
+use Rattle.art_call.specs.ArtAttempt.Trying.{StillTries}
+use Rattle.art_call.specs.ArtAttempt.declared.asked.Asked.{Asked}
+use Rattle.art_call.specs.ArtAttempt.declared.asked.Asked.TheVariants.{Cell, Supply, Change}
+use Rattle.art_call.specs.ArtAttempt.declared.inserting.Inserting.{Inserting as Insertion}
+use Rattle.art_call.specs.ArtAttempt.declared.inserting.Stage.{Stage as InsertStage}
+use Rattle.art_call.specs.ArtAttempt.declared.inserting.Stage.TheVariants as insert
+use Rattle.art_call.specs.ArtAttempt.declared.rooms.Room.{Room}
+use Rattle.art_cell.specs.declared.cells.Cell.{Cell as CellOf}
+use Rattle.art_cell.specs.declared.cells.Cell.TheVariants as cell
+use Rattle.art_cell.specs.declared.cells.Node.{Node}
+use Rattle.art_cell.specs.Reads.{word_of}
+use Rattle.art_call.proofs.ArtErase.Free as erase_free
+use Rattle.art_call.specs.ArtErase.Erasing as erases
+use Rattle.art_call.specs.ArtErase.declared.erasing.Erasing.{Erasing as Erasure}
+use Rattle.art_call.specs.ArtErase.declared.erasing.Stage.{Stage as EraseStage}
+use Rattle.art_call.specs.ArtErase.declared.erasing.Stage.TheVariants as erase
+use Rattle.art_call.specs.ArtFind.declared.asked.Asked.{Asked as CellAsked}
+use Rattle.art_call.specs.ArtGather.declared.asked.Asked.{Asked as SupplyAsked}
+use Rattle.art_call.proofs.ArtMake.Told.{map_some}
+use Rattle.art_call.specs.ArtMake.Making as making
+use Rattle.art_call.specs.ArtMake.Making.{Fails, IsCommitted, put_into, releases}
+use Rattle.art_call.specs.ArtMake.declared.asked.Asked.{Asked as ChangeAsked}
+use Rattle.art_call.specs.ArtMake.declared.asked.Asked.TheVariants as change
+use Rattle.art_call.specs.ArtMake.declared.making.Making.{Making}
+use Rattle.art_call.specs.ArtMake.declared.making.Making.TheVariants.{Upgrading, Claiming, Filling, Writing, Committing, Releasing, ReleasingNode, GivingUp, Ended}
+use Rattle.art_call.specs.ArtPlan.Changes.{put_at, target_at}
+use Rattle.art_call.specs.ArtPlan.Whole.{made_at, made_word}
+use Rattle.art_call.specs.ArtPlan.declared.changes.Change.{Change as ChangeOf}
+use Rattle.art_call.specs.ArtPlan.declared.changes.Put.{Put}
+use Rattle.art_call.specs.ArtPlan.declared.changes.Target.{Target}
+use Rattle.art_runs.proofs.Making.{IsLook}
+use Rattle.art_step.specs.Events.{MakesEvent}
+use Rattle.art_step.specs.Shows.{Rest}
+use Rattle.art_step.specs.declared.deeds.Deed.{Deed}
+use Rattle.art_step.specs.declared.faults.UpgradeFault.{UpgradeFault}
+use Rattle.art_step.specs.declared.faults.UpgradeFault.TheVariants as fault
+use Rattle.art_step.specs.declared.views.Sizes.{Sizes}
+use Rattle.art_step.specs.declared.views.View.{View}
+
+-- ---- how many steps are left
+
+-- more than 575 of them: an upgrade may come, and each step after those of a change that is given up
+many_tries : (left : ℕ) → 0 < left → 575 < tries_left left
+many_tries left some = let same = tries_some left some in omega (arith, same)
+
+many_held : (left i : ℕ) → i ≤ 4 → 575 < held_left left (Upgrading i)
+many_held left i few = ⊎_elim
+    (λ (e : (left == 0) ≡ true). rw e (omega (arith, few)))
+    (λ (e : (left == 0) ≡ false). rw e (omega arith))
+    (cases_Bool (left == 0))
+
+many_upgrades : (left i : ℕ) → i ≤ 4 → (is_begun (Upgrading i) ≡ true → 0 < left) → 575 < making_left left (Upgrading i)
+many_upgrades left i few some = ⊎_elim
+    (λ (e : (i == 0) ≡ true). rw e (many_tries left (some e)))
+    (λ (e : (i == 0) ≡ false). rw e (many_held left i few))
+    (cases_Bool (i == 0))
+
+-- at most so many are left of a change that is given up for a counter
+few_given_up : (left locked released : ℕ) (c : CellOf) → held_left left (GivingUp locked released (fault.Exhausted c)) ≤ 575
+few_given_up left locked released c = ⊎_elim
+    (λ (e : (left == 0) ≡ true). rw e (omega arith))
+    (λ (e : (left == 0) ≡ false). rw e (omega arith))
+    (cases_Bool (left == 0))
+
+-- ---- the making of a change
+
+no_event : (v w : View) (what : Deed) → MakesEvent v w what → w.own ≡ v.own → ⊥
+no_event v w what made own =
+    let long = ap (λ (o : List ℕ). length o) made.own ∙ length-append v.own (length (v.seen ++ made.between) ∷ []) in
+    let same = ap (λ (o : List ℕ). length o) own in
+    absurd (omega (arith, long, same))
+
+-- it asks for a release
+abbrev AsksRelease : ChangeAsked → Type 0
+AsksRelease a = (d : CellOf) × (b : Bool) × (a ≡ change.Release d b)
+
+-- it asks for an upgrade
+abbrev AsksUpgrade : ChangeAsked → Type 0
+AsksUpgrade a = (x : _) × (a ≡ change.Upgrade x)
+
+module _ (z : Sizes) (c : ChangeOf) (u v : View) (a : ChangeAsked) where
+  by_none : {A : Type 0} (P : ChangeAsked → Type 0) (f : A → ChangeAsked) (o : Option A) → option_map f o ≡ Some a → ((x : A) → P (f x)) → P a
+  by_none P f o is each = let k = map_some f o a is in subst P k.2 (each k.0)
+
+  by_put : (P : ChangeAsked → Type 0) (o : Option Put) → option_and_then (λ (q : Put). option_map (put_into q) (target_at c q.target)) o ≡ Some a → ((q : Put) (x : Target) → P (put_into q x)) → P a
+  by_put P (Some q) is each = by_none P (put_into q) (target_at c q.target) is (each q)
+  by_put P None is each = absurd (cc)
+
+  -- an upgrade comes while nothing is told
+  abbrev IsEarly : ℕ → Making → Type 0
+  IsEarly left m = (v.own ≡ u.own) × (575 < making_left left m)
+
+  upgrade_early : (left : ℕ) (m : Making) → making.Fits z c m u v → (is_begun m ≡ true → 0 < left) → making.asks c m ≡ Some a → AsksUpgrade a → IsEarly left m
+  upgrade_early left (Upgrading i) fits some is up =
+      let few = fits.small.targets in
+      let low = fits.stage.0 in
+      (ap (λ (o : Rest). o.own) fits.stage.1.same.rest, many_upgrades left i (omega (arith, few, low)) some)
+  upgrade_early left (Claiming b) fits some is up = absurd (by_none (λ q. AsksUpgrade q → ⊥) change.Claim (made_at b c) is (λ n o. (let e = o.1 in cc)) up)
+  upgrade_early left (Filling b place) fits some is up = absurd (by_none (λ q. AsksUpgrade q → ⊥) (λ (n : Node). change.Write (cell.Node n) place (made_word b c place)) (made_at b c) is (λ n o. (let e = o.1 in cc)) up)
+  upgrade_early left (Writing j) fits some is up = absurd (by_put (λ q. AsksUpgrade q → ⊥) (put_at c j) is (λ q x o. (let e = o.1 in cc)) up)
+  upgrade_early left Committing fits some is up = absurd (by_none (λ q. AsksUpgrade q → ⊥) (λ (x : Target). change.Commit x.stamp.cell x.obsolete) (target_at c 0) is (λ x o. (let e = o.1 in cc)) up)
+  upgrade_early left (Releasing i) fits some is up = absurd (by_none (λ q. AsksUpgrade q → ⊥) releases (target_at c i) is (λ x o. (let e = o.1 in cc)) up)
+  upgrade_early left (ReleasingNode b) fits some is up = absurd (by_none (λ q. AsksUpgrade q → ⊥) (λ (n : Node). change.Release (cell.Node n) false) (made_at b c) is (λ n o. (let e = o.1 in cc)) up)
+  upgrade_early left (GivingUp locked released e) fits some is up = absurd (by_none (λ q. AsksUpgrade q → ⊥) (λ (x : Target). change.Release x.stamp.cell false) (target_at c released) is (λ x o. (let e = o.1 in cc)) up)
+  upgrade_early left (Ended r) fits some is up = absurd (cc)
+
+  given_up_few : (left locked released : ℕ) (e : UpgradeFault) (x : Target) → Fails u x e v → v.failures ≤ u.failures → held_left left (GivingUp locked released e) ≤ 575
+  given_up_few left locked released (fault.Changed e) x fails few = let more = fails.3 in absurd (omega (arith, more, few))
+  given_up_few left locked released (fault.Exhausted d) x fails few = few_given_up left locked released d
+
+  -- a release comes after an event, after a failure, or where few steps are left
+  release_late : (left : ℕ) (m : Making) → making.Fits z c m u v → making.asks c m ≡ Some a → AsksRelease a → v.own ≡ u.own → v.failures ≤ u.failures → 575 < making_left left m → ⊥
+  release_late left (Releasing i) fits is up own few many = no_event u v c.deed fits.stage.1.done.event own
+  release_late left (ReleasingNode b) fits is up own few many = no_event u v c.deed fits.stage.1.done.event own
+  release_late left (GivingUp locked released e) fits is up own few many =
+      let failed = fits.stage.2.failed in
+      let low = given_up_few left locked released e failed.target failed.fails few in
+      absurd (omega (arith, low, many))
+  release_late left (Upgrading i) fits is up own few many = by_none (λ q. AsksRelease q → ⊥) (λ (x : Target). change.Upgrade x.stamp) (target_at c i) is (λ x o. (let e = o.2 in cc)) up
+  release_late left (Claiming b) fits is up own few many = by_none (λ q. AsksRelease q → ⊥) change.Claim (made_at b c) is (λ n o. (let e = o.2 in cc)) up
+  release_late left (Filling b place) fits is up own few many = by_none (λ q. AsksRelease q → ⊥) (λ (n : Node). change.Write (cell.Node n) place (made_word b c place)) (made_at b c) is (λ n o. (let e = o.2 in cc)) up
+  release_late left (Writing j) fits is up own few many = by_put (λ q. AsksRelease q → ⊥) (put_at c j) is (λ q x o. (let e = o.2 in cc)) up
+  release_late left Committing fits is up own few many = by_none (λ q. AsksRelease q → ⊥) (λ (x : Target). change.Commit x.stamp.cell x.obsolete) (target_at c 0) is (λ x o. (let e = o.2 in cc)) up
+  release_late left (Ended r) fits is up own few many = absurd (cc)
+
+-- ---- an attempt that began with the view b
+
+look_upgrade : (x : ChangeAsked) → IsLook (Change x) → AsksUpgrade x
+look_upgrade (change.Upgrade x) look = (x, refl)
+look_upgrade (change.Claim n) look = absurd look
+look_upgrade (change.Write c i x) look = absurd look
+look_upgrade (change.Commit c b) look = absurd look
+look_upgrade (change.Release c b) look = absurd look
+
+-- the attempt asks for a release
+abbrev pub IsRelease : Asked → Type 0
+IsRelease a = (d : CellOf) × (b : Bool) × (a ≡ Change (change.Release d b))
+
+module _ (z : Sizes) (b v : View) (r : Room) (a : Asked) (left : ℕ) where
+  -- it has told nothing, and many steps are left
+  abbrev IsEarlyBy : ℕ → Type 0
+  IsEarlyBy n = (v.own ≡ b.own) × (575 < n)
+
+  no_look_supply : (o : Option SupplyAsked) → option_map Supply o ≡ Some a → IsLook a → ⊥
+  no_look_supply o is look = let k = map_some Supply o a is in subst IsLook (sym k.2) look
+
+  look_change : (early : View) (n : Making) → StillTries b early → making.Fits z r.change n early v → (is_begun n ≡ true → 0 < left) → option_map Change (making.asks r.change n) ≡ Some a → IsLook a
+      → IsEarlyBy (making_left left n)
+  look_change early n base fits some is look =
+      let k = map_some Change (making.asks r.change n) a is in
+      let e = upgrade_early z r.change early v k.0 left n fits some k.1 (look_upgrade k.0 (subst IsLook (sym k.2) look)) in
+      (e.0 ∙ ap (λ (o : Rest). o.own) base.rest, e.1)
+
+  no_release_cell : (o : Option CellAsked) → option_map Cell o ≡ Some a → IsRelease a → ⊥
+  no_release_cell o is up = let k = map_some Cell o a is in let e : Cell k.0 ≡ Change (change.Release up.0 up.1) = k.2 ∙ up.2 in cc
+
+  no_release_supply : (o : Option SupplyAsked) → option_map Supply o ≡ Some a → IsRelease a → ⊥
+  no_release_supply o is up = let k = map_some Supply o a is in let e : Supply k.0 ≡ Change (change.Release up.0 up.1) = k.2 ∙ up.2 in cc
+
+  release_change : (early : View) (n : Making) → StillTries b early → making.Fits z r.change n early v → option_map Change (making.asks r.change n) ≡ Some a → IsRelease a → v.own ≡ b.own → v.failures ≤ b.failures
+      → 575 < making_left left n → ⊥
+  release_change early n base fits is up own few many =
+      let k = map_some Change (making.asks r.change n) a is in
+      let e : Change k.0 ≡ Change (change.Release up.0 up.1) = k.2 ∙ up.2 in
+      let same : k.0 ≡ change.Release up.0 up.1 = cc in
+      let later = base.later.failures in
+      release_late z r.change early v k.0 left n fits k.1 (up.0, up.1, same) (own ∙ sym (ap (λ (o : Rest). o.own) base.rest)) (omega (arith, few, later)) many
+
+  -- ---- of an insert
+
+  pub insert_look : (i : Insertion) → length r.row.key.items ≤ 64 → (s : InsertStage) → inserts.StageFits z b s i r v → (free_at s i.making ≡ true → 0 < left) → inserts.asks_at s i r ≡ Some a → IsLook a
+      → IsEarlyBy (inserts.left_at left s i.making)
+  insert_look i short insert.Finding fits some is look = (ap (λ (o : Rest). o.own) (free_so z b i r v short insert.Finding refl refl fits).still.rest, many_tries left (some refl))
+  insert_look i short insert.Supplying fits some is look = absurd (no_look_supply (inserts.supply_asks i r) is look)
+  insert_look i short insert.Vouching fits some is look = (ap (λ (o : Rest). o.own) (free_so z b i r v short insert.Vouching refl refl fits).still.rest, many_tries left (some refl))
+  insert_look i short insert.Making fits some is look = look_change fits.0.early i.making fits.0.base fits.0.fits some is look
+  insert_look i short (insert.Ended e) fits some is look = absurd (cc)
+
+  pub insert_release : (i : Insertion) (s : InsertStage) → inserts.StageFits z b s i r v → inserts.asks_at s i r ≡ Some a → IsRelease a → v.own ≡ b.own → v.failures ≤ b.failures
+      → 575 < inserts.left_at left s i.making → ⊥
+  insert_release i insert.Finding fits is up own few many = no_release_cell (inserts.finding_asks i.finding) is up
+  insert_release i insert.Supplying fits is up own few many = no_release_supply (inserts.supply_asks i r) is up
+  insert_release i insert.Vouching fits is up own few many = no_release_cell (inserts.vouching_asks i) is up
+  insert_release i insert.Making fits is up own few many = release_change fits.0.early i.making fits.0.base fits.0.fits is up own few many
+  insert_release i (insert.Ended e) fits is up own few many = absurd (cc)
+
+  -- ---- of a removal
+
+  pub erase_look : (i : Erasure) → length r.gone.key.items ≤ 64 → (s : EraseStage) → erases.StageFits z b s i r v → (erases.free_at s i.making ≡ true → 0 < left) → erases.asks_at s i r ≡ Some a → IsLook a
+      → IsEarlyBy (erases.left_at left s i.making)
+  erase_look i short erase.Finding fits some is look = (ap (λ (o : Rest). o.own) (erase_free.free_so z b i r v short erase.Finding refl refl fits).still.rest, many_tries left (some refl))
+  erase_look i short (erase.Supplying layout) fits some is look = absurd (no_look_supply (erases.supply_asks i r) is look)
+  erase_look i short (erase.Reading q) fits some is look = (ap (λ (o : Rest). o.own) (erase_free.free_so z b i r v short (erase.Reading q) refl refl fits).still.rest, many_tries left (some refl))
+  erase_look i short erase.Vouching fits some is look = (ap (λ (o : Rest). o.own) (erase_free.free_so z b i r v short erase.Vouching refl refl fits).still.rest, many_tries left (some refl))
+  erase_look i short erase.Lowering fits some is look = (ap (λ (o : Rest). o.own) (erase_free.free_so z b i r v short erase.Lowering refl refl fits).still.rest, many_tries left (some refl))
+  erase_look i short erase.Making fits some is look = look_change fits.0.early i.making fits.0.base fits.0.fits some is look
+  erase_look i short (erase.Ended e) fits some is look = absurd (cc)
+
+  pub erase_release : (i : Erasure) (s : EraseStage) → erases.StageFits z b s i r v → erases.asks_at s i r ≡ Some a → IsRelease a → v.own ≡ b.own → v.failures ≤ b.failures
+      → 575 < erases.left_at left s i.making → ⊥
+  erase_release i erase.Finding fits is up own few many = no_release_cell (erases.finding_asks i.finding) is up
+  erase_release i (erase.Supplying layout) fits is up own few many = no_release_supply (erases.supply_asks i r) is up
+  erase_release i (erase.Reading q) fits is up own few many = no_release_cell (erases.reading_asks i q) is up
+  erase_release i erase.Vouching fits is up own few many = no_release_cell (erases.vouching_asks i) is up
+  erase_release i erase.Lowering fits is up own few many = no_release_cell (erases.lower_asks i) is up
+  erase_release i erase.Making fits is up own few many = release_change fits.0.early i.making fits.0.base fits.0.fits is up own few many
+  erase_release i (erase.Ended e) fits is up own few many = absurd (cc)

@@ -1,0 +1,140 @@
+-- How often a call began anew: at most as often as its steps failed, and so never where none did.
+use Rattle.std.proofs.Common.{◌≡◌, ◌+◌, ◌≤◌, ℕ, List, None, refl, ap, ◌∙◌, arith}
+use Rattle.std.proofs.lemmas.Bool.{cond_both}
+use Rattle.std.specs.Prelude.{◌==◌}
+use Rattle.art_call.specs.ArtAttempt.Inserting as inserts
+use Rattle.art_call.specs.ArtAttempt.declared.inserting.Inserting.{Inserting as Insertion}
+use Rattle.art_call.specs.ArtAttempt.declared.inserting.Stage.{Stage as InsertStage}
+use Rattle.art_call.specs.ArtAttempt.declared.inserting.Stage.TheVariants as insert
+use Rattle.art_call.specs.ArtAttempt.declared.rooms.Room.{Room}
+use Rattle.art_call.specs.Calls.{GoesOn, Wish, restarts_of}
+use Rattle.art_call.specs.declared.callers.Call.{Call}
+use Rattle.art_call.specs.declared.callers.Call.TheVariants as call
+use Rattle.art_call.specs.declared.callers.Caller.{Caller}
+use Rattle.art_call.proofs.ArtChange.Counted.{write_counted}
+use Rattle.art_call.proofs.ArtChange.EitherKind.{left_by, map_none}
+use Rattle.art_call.specs.ArtChange.Tries as tries
+use Rattle.art_call.specs.ArtChange.Tries.{key_of, value_of}
+use Rattle.art_call.specs.ArtChange.Writes as writes
+use Rattle.art_call.specs.ArtChange.Writes.{IsClosing, gone_by}
+use Rattle.art_call.specs.ArtChange.declared.tries.Job.{Job}
+use Rattle.art_call.specs.ArtChange.declared.tries.Job.TheVariants.{Insert, Remove}
+use Rattle.art_call.specs.ArtChange.declared.tries.Trying.{Trying}
+use Rattle.art_call.specs.ArtChange.declared.tries.Trying.TheVariants.{Inserting, Erasing}
+use Rattle.art_call.specs.ArtChange.declared.writes.Stage.{Stage}
+use Rattle.art_call.specs.ArtChange.declared.writes.Stage.TheVariants as stage
+use Rattle.art_call.specs.ArtChange.declared.writes.Write.{Write}
+use Rattle.art_step.specs.Tokens.{links_of}
+use Rattle.art_cell.specs.declared.cells.Link.{Link}
+use Rattle.art_epoch.specs.Limbo.{places_of}
+use Rattle.art_epoch.specs.declared.limbo.Place.{Place}
+use Rattle.art_call.specs.ArtErase.Erasing as erases
+use Rattle.art_call.specs.ArtErase.declared.erasing.Erasing.{Erasing as Erasure}
+use Rattle.art_call.specs.ArtErase.declared.erasing.Stage.{Stage as EraseStage}
+use Rattle.art_call.specs.ArtErase.declared.erasing.Stage.TheVariants as erase
+use Rattle.art_call.specs.ArtFrame.Closings.{ClosingFits}
+use Rattle.art_call.specs.ArtFrame.declared.closings.Closing.{Closing}
+use Rattle.art_call.specs.ArtFrame.declared.closings.Closing.TheVariants.{Labelling, Giving, Ended}
+use Rattle.art_call.specs.ArtFrame.declared.stocks.Stock.{Stock}
+use Rattle.art_key.specs.declared.bounds.Bound.{Bound}
+use Rattle.art_call.specs.ArtLook.declared.trails.Trail.{Trail}
+use Rattle.art_call.specs.ArtSeek.Seeks as seeks
+use Rattle.art_call.specs.ArtSeek.Walks as walks
+use Rattle.art_call.specs.ArtSeek.declared.seeks.Seek.{Seek}
+use Rattle.art_call.specs.ArtSeek.declared.seeks.SeekStage.{SeekStage}
+use Rattle.art_call.specs.ArtSeek.declared.seeks.SeekStage.TheVariants as seek
+use Rattle.art_call.specs.ArtSeek.declared.walks.Walk.{Walk}
+use Rattle.art_call.specs.ArtSeek.declared.walks.Walk.TheVariants.{Key, Range}
+use Rattle.art_runs.proofs.Calls.{seek_fits, write_fits}
+use Rattle.art_runs.specs.Solo.{RestartLaw}
+use Rattle.art_step.specs.Steps.Epoch as epoch
+use Rattle.art_step.specs.Steps.Pin as pin
+use Rattle.art_step.specs.declared.views.Sizes.{Sizes}
+use Rattle.art_step.specs.declared.views.View.{View}
+
+-- ---- attempts take no failure back
+
+module _ (z : Sizes) (b : View) (r : Room) (v : View) where
+  insert_later : (i : Insertion) (s : InsertStage) → inserts.StageFits z b s i r v → inserts.entered_at s ≡ None → b.failures ≤ v.failures
+  insert_later i insert.Finding fits going = let first = fits.base.later.failures in let more = fits.later.failures in omega (arith, first, more)
+  insert_later i insert.Supplying fits going = let first = fits.0.base.later.failures in let more = fits.0.fits.only.failures in omega (arith, first, more)
+  insert_later i insert.Vouching fits going = let first = fits.0.base.later.failures in let more = fits.0.later.failures in omega (arith, first, more)
+  insert_later i insert.Making fits going = let first = fits.0.base.later.failures in let more = fits.0.later.failures in omega (arith, first, more)
+  insert_later i (insert.Ended e) fits going = absurd (cc)
+
+  erase_later : (i : Erasure) (s : EraseStage) → erases.StageFits z b s i r v → erases.erased_at s ≡ None → b.failures ≤ v.failures
+  erase_later i erase.Finding fits going = let first = fits.base.later.failures in let more = fits.later.failures in omega (arith, first, more)
+  erase_later i (erase.Supplying layout) fits going = let first = fits.0.base.later.failures in let more = fits.0.fits.only.failures in omega (arith, first, more)
+  erase_later i (erase.Reading q) fits going = let first = fits.0.base.later.failures in let more = fits.0.later.failures in omega (arith, first, more)
+  erase_later i erase.Vouching fits going = let first = fits.0.base.later.failures in let more = fits.0.later.failures in omega (arith, first, more)
+  erase_later i erase.Lowering fits going = let first = fits.0.base.later.failures in let more = fits.0.later.failures in omega (arith, first, more)
+  erase_later i erase.Making fits going = let first = fits.0.base.later.failures in let more = fits.0.later.failures in omega (arith, first, more)
+  erase_later i (erase.Ended e) fits going = absurd (cc)
+
+  try_later : (j : Job) (t : Trying) → tries.Fits z b j t r v → tries.ended_at t ≡ None → b.failures ≤ v.failures
+  try_later Insert (Inserting i) fits going = insert_later i i.stage fits.stage (map_none tries.of_entered (inserts.ended_at i) going)
+  try_later Remove (Erasing i) fits going = erase_later i i.stage fits.stage (map_none tries.of_erased (erases.ended_at i) going)
+  try_later Insert (Erasing i) fits going = absurd fits
+  try_later Remove (Inserting i) fits going = absurd fits
+
+-- ---- a write
+
+-- a close fails nowhere
+closing_same : (z : Sizes) (k : List ℕ) (value : ℕ) (u v : View) (ps qs : List Place) (us : List Link) (s : Stock) (c : Closing) → ClosingFits z k value u ps us c qs s v → v.failures ≡ u.failures
+closing_same z k value u v ps qs us s Labelling fits = ap (λ (x : View). x.failures) fits.is
+closing_same z k value u v ps qs us s Giving fits = ap (λ (x : View). x.failures) fits.is
+closing_same z k value u v ps qs us s Ended fits = ap (λ (x : View). x.failures) fits.0.is
+
+module _ (z : Sizes) (u : View) (ps : List Place) (n : Write) (r : Room) (qs : List Place) (v : View) where
+  closing_failed : IsClosing z u ps n r qs v → u.failures + n.restarts ≤ v.failures
+  closing_failed k =
+      let failed = k.begun.failed in
+      let more = (left_by z k.began (record r { stock = k.stock }) k.ended n.job n.trying n.outcome n.left k.outcome).later.failures in
+      let first = ap (λ (x : View). x.failures) k.frame.frame.is in
+      let last = closing_same z (key_of n.job r).items (value_of n.job r) k.ended v k.waiting qs (links_of (gone_by n.outcome r.change)) r.stock n.closing k.fits in
+      omega (arith, failed, more, first, last)
+
+  write_failed : (s : Stage) → writes.StageFits z u ps s n r qs v → v.failures ≡ u.failures → n.restarts ≡ 0
+  write_failed stage.Opening fits none = fits.fresh
+  write_failed stage.Trying fits none =
+      let t = fits.0 in
+      let failed = t.begun.failed in
+      let more = try_later z t.began r v n.job n.trying t.fits t.going in
+      let first = ap (λ (x : View). x.failures) t.frame.frame.is in
+      omega (arith, failed, more, first, none)
+  write_failed stage.Closing fits none = let failed = closing_failed fits.0 in omega (arith, failed, none)
+  write_failed stage.Ended fits none = let failed = (write_counted z u ps n r qs v n.outcome refl fits).failed in omega (arith, failed, none)
+
+-- ---- a seek
+
+pinned_same : (v : View) (x : ℕ) → (pin.view_after v x).failures ≡ v.failures
+pinned_same v x = cond_both (x == 0) _ _ (λ (u : View). u.failures ≡ v.failures) (λ e. refl) (λ e. refl)
+
+walk_failed : (z : Sizes) (k : List ℕ) (hi : Bound) (u : View) (t : Trail) (restarts : ℕ) (v : View) (n : Walk) → walks.Fits z k hi u n t restarts v → v.failures ≡ u.failures + restarts
+walk_failed z k hi u t restarts v (Key n) fits = fits.counts.failures
+walk_failed z k hi u t restarts v (Range n) fits = fits.counts.failures
+
+module _ (z : Sizes) (k : List ℕ) (hi : Bound) (u : View) (n : Seek) (t : Trail) where
+  walking_failed : (v : View) → seeks.IsWalking z k hi u n t v → v.failures ≡ u.failures + n.restarts
+  walking_failed v q =
+      let counted = walk_failed z k hi q.opened t n.restarts v n.walk q.walk in
+      let opened = ap (λ (x : View). x.failures) q.pins_to.is ∙ pinned_same (epoch.view_after u q.pins_to.found) q.pins_to.found in
+      omega (arith, counted, opened)
+
+  seek_failed : (v : View) (s : SeekStage) → seeks.StageFits z k hi u s n t v → v.failures ≡ u.failures → n.restarts ≡ 0
+  seek_failed v seek.Pinning fits none = fits.none
+  seek_failed v seek.Walking fits none = let failed = walking_failed v fits.walking in omega (arith, failed, none)
+  seek_failed v seek.Closing fits none = let failed = walking_failed v fits.walking in omega (arith, failed, none)
+  seek_failed v seek.Ended fits none =
+      let failed = walking_failed fits.before fits.over.walking in
+      let same = ap (λ (x : View). x.failures) fits.is ∙ pinned_same fits.before 0 in
+      omega (arith, failed, same, none)
+
+-- ---- a call
+
+call_failed : (z : Sizes) (turns : ℕ) (u : View) (c : Caller) (v : View) (w : Wish) (n : Call) → GoesOn z w turns u c n v → v.failures ≡ u.failures → restarts_of n ≡ 0
+call_failed z turns u c v w (call.Write n) goes none = let f = write_fits z turns u c n v w goes in write_failed z u f.0 n c.room (places_of c.limbo) v n.stage f.1.stage none
+call_failed z turns u c v w (call.Seek n) goes none = seek_failed z c.key.items c.hi u n c.trail v n.stage (seek_fits z turns u c n v w goes) none
+
+pub restarts_never : RestartLaw
+restarts_never z wish given turns u c v calling none = call_failed z turns u c v wish c.call calling.goes_on none

@@ -1,0 +1,125 @@
+-- A seek that alone makes steps: no step of it fails, and its stamps stay current until it has told its event.
+use Rattle.std.proofs.Common.{◌≡◌, ◌+◌, ℕ, Bool, true, false, List, length, Option, Some, None, IfSome, if◌then◌else◌, [], refl, sym, ap, ◌∙◌, subst, arith, ⊎_elim}
+use Rattle.std.proofs.lemmas.Bool.{cond_both}
+use Rattle.std.proofs.lemmas.Option.{same_Some}
+use Rattle.std.specs.Prelude.{◌==◌}
+use Rattle.art_call.specs.AsAsked.{SeekMakes}
+use Rattle.art_call.proofs.ArtChange.EitherKind.{map_none}
+use Rattle.art_epoch.specs.Pins as pins
+use Rattle.art_epoch.specs.Pins.{Pins}
+use Rattle.art_epoch.specs.declared.asked.Asked.{Asked as FrameAsked}
+use Rattle.art_epoch.specs.declared.asked.Asked.TheVariants as frame
+use Rattle.art_call.proofs.ArtFind.Stages.{still_reading}
+use Rattle.art_call.specs.ArtFind.Asking.{Answers as CellAnswers}
+use Rattle.art_call.specs.ArtFind.Descents as descents
+use Rattle.art_call.specs.ArtFind.Descents.{IsReading}
+use Rattle.art_call.specs.ArtFind.Driven.{get_done}
+use Rattle.art_call.specs.ArtFind.declared.asked.Answer.{Answer as CellAnswer}
+use Rattle.art_call.specs.ArtFind.declared.asked.Asked.{Asked as CellAsked}
+use Rattle.art_key.specs.declared.bounds.Bound.{Bound}
+use Rattle.art_call.proofs.ArtLook.Stages as look_stages
+use Rattle.art_call.specs.ArtLook.Looks as looks
+use Rattle.art_call.specs.ArtLook.declared.trails.Trail.{Trail}
+use Rattle.art_call.proofs.ArtMake.Told.{map_some}
+use Rattle.art_call.specs.ArtSeek.Asking.{Answers}
+use Rattle.art_call.specs.ArtSeek.Seeks.{Fits, StageFits, asks_at}
+use Rattle.art_call.specs.ArtSeek.Walks as walks
+use Rattle.art_call.specs.ArtSeek.Walks.{deed_at, of_value}
+use Rattle.art_call.specs.ArtSeek.declared.asked.Answer.{Answer}
+use Rattle.art_call.specs.ArtSeek.declared.asked.Answer.TheVariants as told
+use Rattle.art_call.specs.ArtSeek.declared.asked.Asked.{Asked}
+use Rattle.art_call.specs.ArtSeek.declared.asked.Asked.TheVariants.{Frame, Cell}
+use Rattle.art_call.specs.ArtSeek.declared.seeks.Seek.{Seek}
+use Rattle.art_call.specs.ArtSeek.declared.seeks.SeekStage.{SeekStage}
+use Rattle.art_call.specs.ArtSeek.declared.seeks.SeekStage.TheVariants as stage
+use Rattle.art_call.specs.ArtSeek.declared.walks.Outcome.TheVariants.{Seen}
+use Rattle.art_call.specs.ArtSeek.declared.walks.Walk.{Walk}
+use Rattle.art_call.specs.ArtSeek.declared.walks.Walk.TheVariants.{Key, Range}
+use Rattle.art_runs.proofs.Calm.{IsCellFounded, IsFrameFounded, IsMoment, calm_current, cell_calm, frame_calm}
+use Rattle.art_runs.proofs.Cells.{descent_founded, look_founded}
+use Rattle.art_runs.proofs.Versions.{own_grows}
+use Rattle.art_runs.proofs.Writes.{pin_founded}
+use Rattle.art_runs.specs.OthersIdle.{AreCurrent, HasFound}
+use Rattle.art_epoch.specs.Asking.{Answers as FrameAnswers}
+use Rattle.art_step.specs.Shows.{Rest}
+use Rattle.art_step.specs.Steps.Epoch as epoch
+use Rattle.art_step.specs.Steps.Pin as pin
+use Rattle.art_step.specs.Views.{Memory, Views}
+use Rattle.art_step.specs.declared.deeds.Deed.{Deed}
+use Rattle.art_step.specs.declared.views.Sizes.{Sizes}
+use Rattle.art_step.specs.declared.views.View.{View}
+
+-- a pin makes no event
+pinned_own : (v : View) (x : ℕ) → (pin.view_after v x).own ≡ v.own
+pinned_own v x = cond_both (x == 0) _ _ (λ (u : View). u.own ≡ v.own) (λ e. refl) (λ e. refl)
+
+pins_own : (z : Sizes) (u opened : View) → Pins z u opened → opened.own ≡ u.own
+pins_own z u opened pinned = ap (λ (x : View). x.own) pinned.is ∙ pinned_own (epoch.view_after u pinned.found) pinned.found
+
+-- a walk that goes on has only read
+look_going : (b : Bool) → (if b then Some Seen else None) ≡ None → b ≡ false
+look_going true is = cc
+look_going false is = refl
+
+walk_reads : (z : Sizes) (k : List ℕ) (hi : Bound) (u : View) (t : Trail) (restarts : ℕ) (v : View) (n : Walk) → walks.Fits z k hi u n t restarts v → walks.ended_at n ≡ None → IsReading u v
+walk_reads z k hi u t restarts v (Key n) fits going = still_reading z k (get_done k) n.depth n.stage u v (map_none of_value (descents.ended_at n.stage) going) fits.fits
+walk_reads z k hi u t restarts v (Range n) fits going = look_stages.still_reading z k hi n.depth t n.stage u v (look_going (looks.has_ended n.stage) going) fits.fits
+
+walk_founded : (z : Sizes) (k : List ℕ) (hi : Bound) (u : View) (t : Trail) (restarts : ℕ) (v : View) (n : Walk) → v.held ≡ [] → walks.Fits z k hi u n t restarts v → IfSome (walks.asks n) (IsCellFounded z v)
+walk_founded z k hi u t restarts v (Key n) free fits = descent_founded z k (get_done k) n.depth n.stage u v free fits.fits
+walk_founded z k hi u t restarts v (Range n) free fits = look_founded z k hi n.depth n.stage t u v free fits.fits
+
+-- ---- a step of a seek, of a call that began with the view u
+
+module _ (z : Sizes) (p : ℕ) (m : Memory) (f : Views) (m' : Memory) (f' : Views) (u v w : View) (had : HasFound m u v) (at : IsMoment z p m f m' f' v w) where
+  -- it did not fail, and where nothing is told stamps are current still
+  record Goes : Type 0 where
+    failures : w.failures ≡ v.failures
+    keeps : v.own ≡ u.own → w.own ≡ v.own → AreCurrent m' w
+
+  module _ (d : Deed) (asked : Asked) (answer : Answer) (row : Answers z d asked answer v w) (current : v.own ≡ u.own → AreCurrent m v) where
+    frame_row : (a : FrameAsked) (r : Answer) → Answers z d (Frame a) r v w → (x : ℕ) × FrameAnswers z a x v w
+    frame_row a (told.Word x) row = (x, row)
+    frame_row a (told.Cell x) row = absurd row
+
+    cell_row : (a : CellAsked) (r : Answer) → Answers z d (Cell a) r v w → (x : CellAnswer) × CellAnswers z d a x v w
+    cell_row a (told.Cell x) row = (x, row)
+    cell_row a (told.Word x) row = absurd row
+
+    frame_goes : (a : FrameAsked) → Frame a ≡ asked → IsFrameFounded m a → Goes
+    frame_goes a is founded =
+        let x = frame_row a answer (subst (λ (b : Asked). Answers z d b answer v w) (sym is) row) in
+        let calm = frame_calm z p m f m' f' v w at a x.0 founded x.1 in
+        record { failures = calm.failures; keeps = λ own stays. calm_current z p m f m' f' v w at calm stays (current own) }
+
+    cell_goes : (a : CellAsked) → Cell a ≡ asked → AreCurrent m v → IsCellFounded z v a → Goes
+    cell_goes a is now founded =
+        let x = cell_row a answer (subst (λ (b : Asked). Answers z d b answer v w) (sym is) row) in
+        let calm = cell_calm z p m f m' f' v w at now d a x.0 founded x.1 in
+        record { failures = calm.failures; keeps = λ own stays. calm_current z p m f m' f' v w at calm stays now }
+
+    seek_goes : (k : List ℕ) (hi : Bound) (n : Seek) (t : Trail) (s : SeekStage) → StageFits z k hi u s n t v → asks_at s n ≡ Some asked → Goes
+    seek_goes k hi n t stage.Pinning fits is =
+        let a = map_some Frame (pins.asks n.pinning) asked is in
+        frame_goes a.0 a.2 (pin_founded m a.0 n.pinning a.1)
+    seek_goes k hi n t stage.Walking fits is =
+        let a = map_some Cell (walks.asks n.walk) asked is in
+        let q = fits.walking in
+        let reads = walk_reads z k hi q.opened t n.restarts v n.walk q.walk fits.going in
+        let own : v.own ≡ u.own = ap (λ (o : Rest). o.own) reads.only ∙ pins_own z u q.opened q.pins_to in
+        cell_goes a.0 a.2 (current own) (subst (λ (o : Option CellAsked). IfSome o (IsCellFounded z v)) a.1 (walk_founded z k hi q.opened t n.restarts v n.walk reads.free q.walk))
+    seek_goes k hi n t stage.Closing fits is = frame_goes (frame.Store 0) (same_Some (Frame (frame.Store 0)) asked is) tt
+    seek_goes k hi n t stage.Ended fits is = absurd (cc)
+
+  -- what was asked for was made
+  pub seek_makes : (k : List ℕ) (hi : Bound) (n : Seek) (t : Trail) (a : Seek) (s : Trail) → Fits z k hi u n t v → (v.own ≡ u.own → AreCurrent m v) → SeekMakes z k hi v n t w a s
+      → (w.failures ≡ v.failures) × (w.own ≡ u.own → AreCurrent m' w)
+  seek_makes k hi n t a s fits current makes =
+      let g = seek_goes (deed_at n.walk k hi t) makes.asked makes.answer makes.row current k hi n t n.stage fits makes.asks in
+      let low = had.events in (
+        g.failures,
+        λ own. ⊎_elim
+            (λ (stays : w.own ≡ v.own). g.keeps (sym stays ∙ own) stays)
+            (λ (longer : length w.own ≡ length v.own + 1). let same = ap (λ (o : List ℕ). length o) own in absurd (omega (arith, longer, low, same)))
+            (own_grows z p v w m f m' f' at.step at.before at.after),
+      )

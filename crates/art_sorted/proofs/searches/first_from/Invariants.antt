@@ -1,7 +1,0 @@
-use Rattle.art_cell.specs.Words.{Words}
-use Rattle.art_cell.specs.Reads.{Agrees}
-use Rattle.art_sorted.specs.Sorted.{BelowAll}
-use Rattle.art_sorted.proofs.searches.first_from.Given as goal
-
-abbrev pub invariant-loop-index : goal.invariant-loop-index
-invariant-loop-index l = (w : Words) → Agrees l.reads w → BelowAll w l.index l.byte
