@@ -6,7 +6,7 @@ pub mod Counts
 pub mod Enters
 pub mod Finds
 pub mod Free
-pub mod Heard
+mod Heard
 pub mod Left
 pub mod Looks
 pub mod Overlaps

@@ -1,8 +1,8 @@
-pub mod Counted
-pub mod Listed
+mod Counted
+mod Listed
 pub mod Members
-pub mod Read
+mod Read
 pub mod Spelled
 pub mod Waiting
-pub mod Walk
-pub mod Whole
+mod Walk
+mod Whole

@@ -4,12 +4,12 @@ pub use Rattle.art_attempt.proofs.ArtPlan
 pub use Rattle.art_attempt.proofs.ArtFrame
 pub use Rattle.art_gather.proofs as ArtGather
 pub use Rattle.art_make.proofs as ArtMake
-pub mod Chosen
+mod Chosen
 pub mod Counts
-pub mod Finds
+mod Finds
 pub mod Free
-pub mod Heard
-pub mod Joins
-pub mod Left
-pub mod Stages
-pub mod Vouched
+mod Heard
+mod Joins
+mod Left
+mod Stages
+mod Vouched

@@ -1,18 +1,18 @@
 pub mod Allowed
-pub mod ComparedWords
+mod ComparedWords
 pub mod Counting
-pub mod Descending
+mod Descending
 pub mod Driven
 pub mod FoundPlaces
-pub mod Going
+mod Going
 mod Hearing
-pub mod Judged
+mod Judged
 pub mod Keeping
-pub mod LeafKeys
-pub mod Looks
-pub mod NodeWords
-pub mod Placing
+mod LeafKeys
+mod Looks
+mod NodeWords
+mod Placing
 pub mod Runs
 pub mod Stages
-pub mod Standing
-pub mod VerdictValues
+mod Standing
+mod VerdictValues

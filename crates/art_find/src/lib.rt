@@ -1,4 +1,4 @@
-//! Looks that walk the tree: so far the look for one key.
+//! The descent to a key, for a get and for a change of the tree.
 //!
 //! # The problem
 //!
@@ -62,6 +62,12 @@
 //! steps in the same order, each a call of its own that hands the next one what it needs. Its contracts say at which stage the
 //! descent would stand (`GetGoes`), so that where something does stop it (a version word that is locked or changed, few turns)
 //! the machine goes on from there.
+//!
+//! # For a change
+//!
+//! An insert or a removal that goes on from there needs more than a get: the cell above stays stamped, and the words that were
+//! read are kept. `Finding` is a descent that keeps them on a `Desk` (`src/findings.rt` teaches it), and a `Rereading` reads the
+//! words of a cell that the descent had no need of.
 //!
 //! # How many steps
 //!

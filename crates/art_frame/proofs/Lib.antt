@@ -1,6 +1,6 @@
 -- the crates below, for those above to name
 pub use Rattle.art_make.proofs as ArtMake
-pub mod Blocking
-pub mod Closes
+mod Blocking
+mod Closes
 pub mod Opens
 pub mod Stocked

@@ -1,7 +1,7 @@
 pub mod LowerNames
-pub mod LowerOthers
+mod LowerOthers
 pub mod LowerSeen
-pub mod Lowers
+mod Lowers
 mod Rereads
 pub mod Supplies
 pub mod Vouches

@@ -34,6 +34,11 @@
 //! left to read: an unchanged version word shows that at this step there is a tree that has all that was noted, and not only
 //! the words of that cell (`WasVouched` of `art_plan`). Without the second check a plan could join words of different trees.
 //!
+//! # A third cell
+//!
+//! Where a removal merges two nodes, the lower one is written too: it is stamped and read first, and all three cells are checked
+//! then (`Lowering`; `src/lowering.rt` teaches it).
+//!
 //! # Machines
 //!
 //! Both are values of scalars with `next` and `told`, as those of `art_epoch` and `art_find`; the stock, the place and the

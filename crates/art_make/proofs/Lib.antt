@@ -1,7 +1,7 @@
-pub mod Allowed
+mod Allowed
 pub mod Committing
-pub mod Holding
-pub mod Locking
+mod Holding
+mod Locking
 pub mod PackedLeaves
 pub mod Told
 pub mod Written

@@ -1,10 +1,10 @@
 pub mod ChildWords
 pub mod Copies
-pub mod Forked
-pub mod InOrder
-pub mod KeyBytes
-pub mod LeafWords
-pub mod Lookups
+mod Forked
+mod InOrder
+mod KeyBytes
+mod LeafWords
+mod Lookups
 pub mod OfLayout
-pub mod Prefixed
-pub mod SoughtWords
+mod Prefixed
+mod SoughtWords

@@ -1,8 +1,8 @@
-pub mod Ascending
-pub mod Differing
-pub mod Edited
-pub mod Keyed
+mod Ascending
+mod Differing
+mod Edited
+mod Keyed
 pub mod NodeWords
-pub mod Planned
-pub mod Shifted
+mod Planned
+mod Shifted
 pub mod Writing

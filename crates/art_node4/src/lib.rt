@@ -1,4 +1,7 @@
 //! The smallest nodes: at most 4 children, in ascending order of their bytes, in 15 words.
+//!
+//! A Node16 stands in the same order, so both layouts are one piece of code here, with a number of positions (`Sorted`;
+//! `src/layouts.rt` teaches it), and `art_node16` gives it the other number.
 #![tactic(auto)]
 
 mod bodies;

@@ -1,46 +1,46 @@
 -- the crates below, for those above to name
 pub use Rattle.art_commit.proofs as ArtCommit
 pub mod AboveSites
-pub mod BesideWords
-pub mod BodyForms
+mod BesideWords
+mod BodyForms
 pub mod ChildPlaces
-pub mod ChildSites
-pub mod EmptyTrees
+mod ChildSites
+mod EmptyTrees
 pub mod FewChildren
-pub mod ForkNodes
-pub mod FoundLeaves
-pub mod FreeBytes
-pub mod FullNodes
+mod ForkNodes
+mod FoundLeaves
+mod FreeBytes
+mod FullNodes
 pub mod GoneNodes
-pub mod GrownNodes
-pub mod LedChildren
-pub mod LeftChildren
-pub mod ListedPairs
-pub mod LockedCells
-pub mod LowerNodes
-pub mod MadeChanges
-pub mod MadeNodes
-pub mod MovedPuts
+mod GrownNodes
+mod LedChildren
+mod LeftChildren
+mod ListedPairs
+mod LockedCells
+mod LowerNodes
+mod MadeChanges
+mod MadeNodes
+mod MovedPuts
 pub mod NamedChildren
-pub mod OtherChildren
-pub mod OtherLeaves
-pub mod OtherPrefixes
-pub mod PlannedAdds
-pub mod PlannedDrops
-pub mod PlannedForks
-pub mod PlannedGrows
-pub mod PlannedMerges
-pub mod PlannedPrefixes
-pub mod PlannedShrinks
-pub mod Planning
-pub mod PrefixBytes
-pub mod PutWords
-pub mod ReadyCells
+mod OtherChildren
+mod OtherLeaves
+mod OtherPrefixes
+mod PlannedAdds
+mod PlannedDrops
+mod PlannedForks
+mod PlannedGrows
+mod PlannedMerges
+mod PlannedPrefixes
+mod PlannedShrinks
+mod Planning
+mod PrefixBytes
+mod PutWords
+mod ReadyCells
 pub mod Renewing
-pub mod RenewingBelow
+mod RenewingBelow
 pub mod SeenBodies
-pub mod ShrunkNodes
+mod ShrunkNodes
 pub mod SiteWords
-pub mod SmallerNodes
+mod SmallerNodes
 pub mod WholeCells
-pub mod WordsWithin
+mod WordsWithin

@@ -33,8 +33,15 @@
 //! locks, writes, makes and unlinks. `added`, `replaced` and `dropped` plan the words by which a `Site`, where a child word
 //! stands, gets a child, another one, or none: for a node by the plans of `art_node`, for the anchor its one word.
 //!
-//! The cases of an insert are planned in `insert`, those of a removal in `remove`. `art_make` makes a change that was
-//! planned.
+//! | module | what stands there |
+//! |---|---|
+//! | `changes`, `sites`, `parts`, `renewals` | what a change is, and the parts of which it is made |
+//! | `insert` | the four changes of an insert |
+//! | `remove` | the four changes of a removal |
+//! | `choose_insert` | which change an insert makes, by where its key stands, planned from the words that a descent kept |
+//! | `choose_remove` | which change a removal makes, by where its leaf stands |
+//!
+//! `art_make` makes a change that was planned.
 //!
 //! # A worn node
 //!
