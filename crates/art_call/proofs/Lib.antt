@@ -9,9 +9,9 @@ pub use Rattle.art_seek.proofs.ArtLook
 pub use Rattle.art_change.proofs.ArtGather
 pub use Rattle.art_frame.proofs.ArtMake
 pub use Rattle.art_seek.proofs as ArtSeek
-pub mod AtOnce
-pub mod Events
+mod AtOnce
+mod Events
 pub mod GivenUp
-pub mod Sought
-pub mod StepKinds
-pub mod Written
+mod Sought
+mod StepKinds
+mod Written

@@ -7,11 +7,11 @@ pub use Rattle.art_erase.proofs.ArtGather
 pub mod Answered
 pub mod Counted
 pub mod EitherKind
-pub mod Frames
+mod Frames
 pub mod GivenUp
-pub mod Looked
+pub mod Newcomers
 pub mod Overlaps
-pub mod Parts
+mod Parts
 pub mod Ready
-pub mod SameWrite
-pub mod Steps
+mod SameWrite
+mod Steps

@@ -1,9 +1,9 @@
-pub mod Totals
-pub mod Members
-pub mod Starts
-pub mod Counted
-pub mod ReplyKinds
-pub mod Told
-pub mod Left
-pub mod Passes
+mod Totals
+mod Members
+mod Starts
+mod Counted
+mod ReplyKinds
+mod Told
+mod Left
+mod Passes
 pub mod Closes

@@ -1,8 +1,8 @@
-pub mod Allowed
+mod Allowed
 pub mod Counting
 pub mod Driven
-pub mod Ends
+mod Ends
 mod Going
-pub mod Spelling
+mod Spelling
 pub mod Stages
-pub mod Table
+mod Table

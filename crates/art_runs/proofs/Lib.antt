@@ -1,20 +1,20 @@
 mod Alone
-pub mod Calls
-pub mod Calm
-pub mod Cells
-pub mod Finding
-pub mod Found
-pub mod Growing
-pub mod Histories
-pub mod Making
-pub mod Numbers
-pub mod OthersIdle
-pub mod Phases
-pub mod Places
-pub mod Restarts
-pub mod Seeks
-pub mod Told
-pub mod Tries
-pub mod Turns
-pub mod Versions
-pub mod Writes
+mod Calls
+mod Calm
+mod Cells
+mod Finding
+mod Found
+mod Growing
+mod Histories
+mod Making
+mod Numbers
+mod OthersIdle
+mod Phases
+mod Places
+mod Restarts
+mod Seeks
+mod Told
+mod Tries
+mod Turns
+mod Versions
+mod Writes

@@ -1,13 +1,13 @@
-pub mod Followed
-pub mod Fronts
-pub mod LineLaws
-pub mod StepLaws
-pub mod Ends
-pub mod SeatLaws
-pub mod AdvanceLaws
-pub mod DeskLaws
-pub mod TaskLaws
-pub mod WayLaws
+mod Followed
+mod Fronts
+mod LineLaws
+mod StepLaws
+mod Ends
+mod SeatLaws
+mod AdvanceLaws
+mod DeskLaws
+mod TaskLaws
+mod WayLaws
 mod Tellings
 mod Standings
 mod Places

@@ -1,11 +1,11 @@
-pub mod Steps
+mod Steps
 pub mod Alone
 pub mod Places
-pub mod Events
+mod Events
 pub mod Goes
-pub mod Calls
-pub mod Scans
+mod Calls
+mod Scans
 pub mod Points
 pub mod Talks
-pub mod Standing
+mod Standing
 pub mod OneMap

@@ -1,14 +1,14 @@
-pub mod Apps
-pub mod Subcommands
-pub mod Asked
-pub mod Refused
+mod Apps
+mod Subcommands
+mod Asked
+mod Refused
 pub mod Known
-pub mod Runs
-pub mod Numbers
-pub mod Passes
-pub mod Stepped
-pub mod Ranges
-pub mod Backs
-pub mod Loaded
-pub mod Digits
-pub mod Performed
+mod Runs
+mod Numbers
+mod Passes
+mod Stepped
+mod Ranges
+mod Backs
+mod Loaded
+mod Digits
+mod Performed
