@@ -146,7 +146,15 @@ fn a_prefix_is_split_and_a_node_merged(rt: HostRuntime) {
     fills(&rt, &shared, &mut pass, &mut caller, 257, 259);
     fills(&rt, &shared, &mut pass, &mut caller, 513, 515);
     empties(&rt, &shared, &mut pass, &mut caller, 513, 515);
-    check_find(&rt, &shared, &mut pass, &mut caller, 258, TURNS, Got::Found(258));
+    check_find(
+        &rt,
+        &shared,
+        &mut pass,
+        &mut caller,
+        258,
+        TURNS,
+        Got::Found(258),
+    );
     check_limbo(&rt, &caller);
     let closed = ended(&rt, rt.alloc(), shared, Vec::new(rt.alloc()), pass);
     let counts = closed.in_tree(&rt, rt.alloc());
@@ -172,7 +180,15 @@ fn check_refused(
     let mut caller = caller_of(rt, &shared, &pass);
     fills(rt, &shared, &mut pass, &mut caller, 0, number);
     check_put(rt, &shared, &mut pass, &mut caller, number, 1, wanted);
-    check_find(rt, &shared, &mut pass, &mut caller, number, TURNS, Got::Absent);
+    check_find(
+        rt,
+        &shared,
+        &mut pass,
+        &mut caller,
+        number,
+        TURNS,
+        Got::Absent,
+    );
     check_limbo(rt, &caller);
     let closed = ended(rt, alloc, shared, Vec::new(alloc), pass);
     let free = sizes.leaves.wrapping_sub(u32::from(number));
