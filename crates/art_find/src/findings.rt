@@ -387,16 +387,6 @@ impl Finding {
         }
     }
 
-    /// A version word was locked, obsolete or changed: the finding begins anew.
-    pub fn failed(&mut self)
-        ensures steps { most_steps self.new.descent.depth self.new.descent.stage ≡ 0 }
-        ensures exact { IsExact self.new.descent.stage }
-        ensures fits { (z : Sizes) (k : List ℕ) (what : Option ℕ → Deed) (desk : DeskOf) (u v : View) → IsReading u v →
-            FindingFits z k what self.new desk u v }
-    {
-        *self = Finding::new();
-    }
-
     /// Keeps what was read by the step that was asked for.
     #[inline(always)]
     fn keep(&mut self, desk: &mut Desk, asked: Option<Asked>, answer: Answer)
