@@ -50,6 +50,10 @@ module _ (t : Stand) (desk now : Desk) where
   pub loss_stays : StaysRead (node_of desk) (node_of now) → loss_at t desk ≢ loss.Merges → loss_at t now ≡ loss_at t desk
   loss_stays stays other = by_cell t.stamp.cell (word_read (node_of desk) 1) (word_read (node_of now) 1) (stays 1) other
 
+  -- and once the header is known nothing tells otherwise
+  pub loss_known : (header : ℕ) → word_read (node_of desk) 1 ≡ Some header → StaysRead (node_of desk) (node_of now) → loss_at t now ≡ loss_at t desk
+  loss_known header known stays = ap (λ (o : Option ℕ). loss_of t.stamp.cell (unwrap_or o 0)) (stays 1 header known ∙ sym known)
+
   module _ (same : node_of now ≡ node_of desk) where
     pub loss_same : loss_at t now ≡ loss_at t desk
     loss_same = ap (λ (reads : List (Option ℕ)). loss_of t.stamp.cell (unwrap_or (word_read reads 1) 0)) same
@@ -68,10 +72,8 @@ module _ (t : Stand) (desk now : Desk) where
       let kept : (l : Loss) → l ≢ loss.Merges → loss_at t desk ≡ l → loss_at t now ≡ l = λ l other is. loss_stays stays (λ merges. other (sym is ∙ merges)) ∙ is in
       ⊎_elim
       (λ (is : loss_at t desk ≡ loss.Leaf). inl (kept loss.Leaf (λ no. cc) is))
-      (λ (more : HasNoSmaller z t desk u v ⊎ (KnowsHere t desk × (loss_at t desk ≢ loss.Merges))). inr (⊎_elim
-      (λ (k : HasNoSmaller z t desk u v). inl (record { layout = k.layout; shrinks = kept (loss.Shrinks k.layout) (λ no. cc) k.shrinks; none = k.none }))
-      (λ (k : KnowsHere t desk × (loss_at t desk ≢ loss.Merges)). inr (knows_same (node k.0) k.0, λ merges. k.1 (sym (loss_same (node k.0)) ∙ merges)))
-      more)) c
+      (λ (k : HasNoSmaller z t desk u v). inr (record { layout = k.layout; shrinks = kept (loss.Shrinks k.layout) (λ no. cc) k.shrinks; none = k.none }))
+      c
   chosen_stays z (way.Shrinks layout) old s u v stays node c =
       let other : loss_at t desk ≢ loss.Merges = λ merges. let no : loss.Shrinks layout ≡ loss.Merges = sym c.0 ∙ merges in cc in
       (loss_stays stays other ∙ c.0, c.1)

@@ -11,5 +11,6 @@ pub mod Free
 mod Heard
 mod Joins
 mod Left
+mod Rereads
 mod Stages
 mod Vouched

@@ -168,10 +168,9 @@ pub record HasNoSmaller (z : Sizes) (t : Stand) (desk : Desk) (u v : View) : Typ
   pub shrinks : loss_at t desk ≡ loss.Shrinks layout
   pub none : supplying.HasNone z (wants_of z layout) (pool_of_layout layout) u v
 
--- the leaf goes alone: its cell keeps its layout, or no smaller node was found; or all words of the node were read to tell that it stays
+-- the leaf goes alone: its cell keeps its layout, or no smaller node was found
 abbrev pub MayStay : Sizes → Stand → Desk → View → View → Type 0
-MayStay z t desk u v =
-    (loss_at t desk ≡ loss.Leaf) ⊎ HasNoSmaller z t desk u v ⊎ (KnowsHere t desk × (loss_at t desk ≢ loss.Merges))
+MayStay z t desk u v = (loss_at t desk ≡ loss.Leaf) ⊎ HasNoSmaller z t desk u v
 
 -- what is known of the way that was chosen, of a pass that had the view u at the beginning
 abbrev pub IsChosen : Sizes → Way → Stand → Desk → OldLeaf → Stock → View → View → Type 0
@@ -237,7 +236,7 @@ pub record IsFinding (z : Sizes) (u : View) (m : Erasing) (r : Room) (v : View) 
 pub record HasSupplies (z : Sizes) (u : View) (layout : Layout) (m : Erasing) (r : Room) (v : View) : Type 0 where
   pub early : View
   pub base : StillTries u early
-  pub spent : HasSpent z u 1201 early
+  pub spent : HasSpent z u 1203 early
   pub lost : IsLost z m.stand r early
   pub shrinks : loss_at m.stand r.desk ≡ loss.Shrinks layout
   pub fits : supplying.Fits z (wants_of z layout) r.gone.key.items 0 m.supplying r.stock early v
@@ -246,7 +245,7 @@ pub record HasSupplies (z : Sizes) (u : View) (layout : Layout) (m : Erasing) (r
 abbrev pub reading_most : Rereading → ℕ
 reading_most q = 1467 - (266 - q.place)
 
--- the words of the node are read, or all are known
+-- the words of the node are read, or all are known; it goes by those that were read
 pub record IsReadingOn (z : Sizes) (u : View) (m : Erasing) (q : Rereading) (r : Room) (v : View) : Type 0 where
   pub early : View
   pub base : StillTries u early
@@ -255,6 +254,7 @@ pub record IsReadingOn (z : Sizes) (u : View) (m : Erasing) (q : Rereading) (r :
   pub has : HasNumbers z early r
   pub found : HasFound m.stand r.gone
   pub reads : IsVouching z r.gone.key.items m.stand r.desk early v
+  pub merges : loss_at m.stand r.desk ≡ loss.Merges
   pub fits : RereadingFits z v m.stand.stamp q (node_of r.desk)
 
 -- what is still to be read is read, and the cells are checked

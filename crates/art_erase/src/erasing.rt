@@ -351,11 +351,11 @@ impl Erasing {
 
     /// A smaller node would do: its number is sought.
     fn supply(&mut self, room: &mut Room, layout: Layout)
-        requires { (z : SizesOf) × (u : View) × (v : View) × IsRoom z room.old × EndsWithin z u 1201 room.old v }
+        requires { (z : SizesOf) × (u : View) × (v : View) × IsRoom z room.old × EndsWithin z u 1203 room.old v }
         ensures kept { IsKept room.old room.new }
         ensures not_anew { ended_at self.new ≢ Some anew }
         ensures free { is_free self.new ≡ true }
-        ensures fits { (z : SizesOf) (u v : View) → IsRoom z room.old → EndsWithin z u 1201 room.old v →
+        ensures fits { (z : SizesOf) (u v : View) → IsRoom z room.old → EndsWithin z u 1203 room.old v →
             IsLost z self.old.stand room.old v → loss_at self.old.stand room.old.desk ≡ losses.Shrinks layout →
             Fits z u self.new room.new v }
     {
@@ -393,10 +393,12 @@ impl Erasing {
         }
     }
 
-    /// A word of the node was read.
+    /// A word of the node was read. Where its header was not known before, it is now, and may tell that the node stays, or shrinks.
     pub(crate) fn read_told(&mut self, room: &mut Room, rereading: Rereading, answer: CellAnswer)
-        requires found { HasFound self.old.stand room.old.gone }
         requires more { rereading.place < size_of self.old.stand.stamp.cell }
+        requires told { (z : SizesOf) × (u : View) × (v : View) × (w : View) × (asked : CellAskedStep) × IsRoom z room.old ×
+            IsReadingOn z u self.old rereading room.old v × (reading_asks self.old rereading ≡ Some asked) ×
+            CellAnswers z (absent room.old.gone) asked answer v w }
         ensures kept { IsKept room.old room.new }
         ensures not_anew { ended_at self.new ≢ Some anew }
         ensures free { is_free self.new ≡ true }
@@ -406,10 +408,14 @@ impl Erasing {
     {
         let mut rereading = rereading;
         room.desk.reread_node(&mut rereading, read_in(answer));
-        self.read_on(room, rereading);
+        match self.loss(&room.desk) {
+            Loss::Leaf => self.vouch(room, Way::Stays),
+            Loss::Shrinks(layout) => self.supply(room, layout),
+            Loss::Merges => self.read_on(room, rereading),
+        }
     }
 
-    /// The node is read on, or all its words are known.
+    /// The node is read on, or all its words are known: it goes, and gives way to its other child.
     fn read_on(&mut self, room: &Room, rereading: Rereading)
         requires { HasFound self.old.stand room.now.gone }
         ensures not_anew { ended_at self.new ≢ Some anew }
@@ -419,21 +425,7 @@ impl Erasing {
     {
         match rereading.next(self.stand.stamp) {
             Some(_) => self.stage = Stage::Reading(rereading),
-            None => self.read_whole(room),
-        }
-    }
-
-    /// All words of the node are known: it goes, and gives way to its other child, or it keeps two.
-    fn read_whole(&mut self, room: &Room)
-        requires { HasFound self.old.stand room.now.gone }
-        ensures not_anew { ended_at self.new ≢ Some anew }
-        ensures free { is_free self.new ≡ true }
-        ensures fits { (z : SizesOf) (u v : View) → IsRoom z room.now → EndsWithin z u 21700 room.now v →
-            IsLost z self.old.stand room.now v → KnowsHere self.old.stand room.now.desk → Fits z u self.new room.now v }
-    {
-        match self.loss(&room.desk) {
-            Loss::Merges => self.merge(room),
-            _ => self.vouch(room, Way::Stays),
+            None => self.merge(room),
         }
     }
 

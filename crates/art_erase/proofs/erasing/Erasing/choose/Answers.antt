@@ -21,8 +21,19 @@ returns-in-Merges-clause-fits c z u v room so lost =
       has = so.has;
       found = lost.found;
       reads = p;
+      merges = sym c.loss.ensures ∙ c.in-Merges.is;
       fits = here_begins z r.gone.key.items m.stand r.desk v v p c.new.result c.node.result.now c.node.ensures (c.new.ensures.fits z v m.stand.stamp);
     })
+
+pub supply-requires : goal.supply-requires
+supply-requires c =
+    let q = c.requires in
+    (q.0, q.1, q.2, q.3, within_more q.0 q.1 1201 1203 c.args.room.now q.2 (omega arith) q.4)
+
+pub returns-in-Shrinks-clause-fits : goal.returns-in-Shrinks-clause-fits
+returns-in-Shrinks-clause-fits c z u v room so lost =
+    let r = c.args.room.now in
+    c.supply.ensures.fits z u v room (within_more z u 1201 1203 r v (omega arith) so) lost (sym c.loss.ensures ∙ c.in-Shrinks.is)
 
 pub returns-in-Leaf-clause-fits : goal.returns-in-Leaf-clause-fits
 returns-in-Leaf-clause-fits c z u v room so lost =

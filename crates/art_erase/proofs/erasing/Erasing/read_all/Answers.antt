@@ -22,10 +22,18 @@ look-requires g c =
           (c.in-Some.ensures.allowed z v _ h.fits);
     }
 
-pub read_told-requires-clause-found : goal.read_told-requires-clause-found
-read_told-requires-clause-found g c =
+pub read_told-requires-clause-told : goal.read_told-requires-clause-told
+read_told-requires-clause-told g c =
+    let z = g.S.Steps.sizes c.args.steps.now in
+    let v = g.S.Steps.view c.loop-left.steps in
+    let w = g.S.Steps.view c.look.new.steps in
     let i = c.loop-left.invariant in
-    (reads_on (g.S.Steps.sizes c.args.steps.now) i.here.0 c.loop-left.self c.loop-left.room (g.S.Steps.view c.loop-left.steps) c.in-Reading.rereading c.in-Reading.is i.here.1).0.found
+    let m = c.loop-left.self in
+    let r = c.loop-left.room in
+    let d = absent r.gone in
+    let a = c.in-Some.asked in
+    let row : Answers z d a c.in-Some-look.answer v w = subst (λ (y : Sizes). Answers y d a c.in-Some-look.answer v w) i.sizes (c.in-Some-look.ensures.row d) in
+    (z, i.here.0, v, w, a, i.here.1.room, (reads_on z i.here.0 m r v c.in-Reading.rereading c.in-Reading.is i.here.1).0, sym c.next.ensures.asks ∙ c.in-Some.is, row)
 
 pub read_told-requires-clause-more : goal.read_told-requires-clause-more
 read_told-requires-clause-more g c =

@@ -1,38 +1,59 @@
-use Rattle.std.proofs.Common.{ℕ, subst, sym, arith}
-use Rattle.art_attempt.proofs.Steps.{cell_later, cell_step}
-use Rattle.art_attempt.proofs.Tries.{later_then}
+use Rattle.std.proofs.Common.{◌∙◌, inl, sym}
+use Rattle.art_erase.proofs.Rereads.{reread_lost, reread_on, reread_shrinks, reread_so}
 use Rattle.art_erase.proofs.erasing.Erasing.read_told.Goals as goal
-use Rattle.art_erase.specs.Erasing.{absent}
-use Rattle.art_attempt.proofs.ArtGather.Vouches.{here_on, read_told}
-use Rattle.art_find.proofs.Keeping.{cell_fits}
-use Rattle.art_step.specs.Steps.Read.{Outcome as ReadOutcome}
 
-pub returns-clause-fits : goal.returns-clause-fits
-returns-clause-fits c z u v w asked room h is row =
+pub supply-requires : goal.supply-requires
+supply-requires c =
+    let p = c.requires.told in
     let m = c.args.self.now in
     let r = c.args.room.now in
-    let t = m.stand in
-    let x = t.stamp in
-    let d = absent r.gone in
-    let q = c.args.rereading in
-    let read = read_told z d x q asked c.args.answer v w c.requires.more is row in
-    let word = subst (λ (n : ℕ). ReadOutcome z v w x q.place n) (sym c.read_in.ensures) read in
-    let now = c.reread_node.ensures.fits z v w x h.fits c.requires.more word in
-    let one = cell_later z d asked c.args.answer v w row in
-    let step = cell_step z d asked c.args.answer v w row in
-    let further = c.reread_node.ensures.steps in
-    let more = c.requires.more in
-    let cell = cell_fits x.cell in
+    let desk = c.reread_node.new.self in
+    let noted = record { steps = c.reread_node.ensures.steps; above = c.reread_node.ensures.above; stays = c.reread_node.ensures.stays; fits = λ z v w. c.reread_node.ensures.fits z v w m.stand.stamp } in
+    let so = reread_shrinks p.0 p.1 m c.args.rereading c.reread_node.new.rereading r p.2 p.3 desk c.read_in.result p.4 c.args.answer p.6 c.requires.more p.7 p.8 c.read_in.ensures noted
+        c.in-Shrinks.layout (sym c.loss.ensures ∙ c.in-Shrinks.is) in
+    (p.0, p.1, p.3, record { sizes = p.5.sizes; key = p.5.key }, record { still = so.still; spent = so.spent; has = so.has })
+
+pub returns-in-Shrinks-clause-fits : goal.returns-in-Shrinks-clause-fits
+returns-in-Shrinks-clause-fits c z u v w asked room h is row =
+    let m = c.args.self.now in
+    let r = c.args.room.now in
+    let desk = c.reread_node.new.self in
+    let noted = record { steps = c.reread_node.ensures.steps; above = c.reread_node.ensures.above; stays = c.reread_node.ensures.stays; fits = λ z v w. c.reread_node.ensures.fits z v w m.stand.stamp } in
+    let shrinks = sym c.loss.ensures ∙ c.in-Shrinks.is in
+    let so = reread_shrinks z u m c.args.rereading c.reread_node.new.rereading r v w desk c.read_in.result asked c.args.answer h c.requires.more is row c.read_in.ensures noted c.in-Shrinks.layout shrinks in
+    let lost = reread_lost z u m c.args.rereading c.reread_node.new.rereading r v w desk c.read_in.result asked c.args.answer h c.requires.more is row c.read_in.ensures noted in
+    c.supply.ensures.fits z u w (record { sizes = room.sizes; key = room.key }) (record { still = so.still; spent = so.spent; has = so.has })
+    (record { standing = lost.standing; found = lost.found }) shrinks
+
+pub returns-in-Leaf-clause-fits : goal.returns-in-Leaf-clause-fits
+returns-in-Leaf-clause-fits c z u v w asked room h is row =
+    let m = c.args.self.now in
+    let r = c.args.room.now in
+    let desk = c.reread_node.new.self in
+    let noted = record { steps = c.reread_node.ensures.steps; above = c.reread_node.ensures.above; stays = c.reread_node.ensures.stays; fits = λ z v w. c.reread_node.ensures.fits z v w m.stand.stamp } in
+    let so = reread_so z u m c.args.rereading c.reread_node.new.rereading r v w desk c.read_in.result asked c.args.answer h c.requires.more is row c.read_in.ensures noted in
+    let lost = reread_lost z u m c.args.rereading c.reread_node.new.rereading r v w desk c.read_in.result asked c.args.answer h c.requires.more is row c.read_in.ensures noted in
+    c.vouch.ensures.fits z u w (record { sizes = room.sizes; key = room.key }) (record { still = so.still; spent = so.spent; has = so.has })
+    (record { standing = lost.standing; found = lost.found }) (inl (sym c.loss.ensures ∙ c.in-Leaf.is))
+
+pub returns-in-Merges-clause-fits : goal.returns-in-Merges-clause-fits
+returns-in-Merges-clause-fits c z u v w asked room h is row =
+    let m = c.args.self.now in
+    let r = c.args.room.now in
+    let desk = c.reread_node.new.self in
+    let noted = record { steps = c.reread_node.ensures.steps; above = c.reread_node.ensures.above; stays = c.reread_node.ensures.stays; fits = λ z v w. c.reread_node.ensures.fits z v w m.stand.stamp } in
+    let on = reread_on z u m c.args.rereading c.reread_node.new.rereading r v w desk c.read_in.result asked c.args.answer h c.requires.more is row c.read_in.ensures noted (sym c.loss.ensures ∙ c.in-Merges.is) in
     c.read_on.ensures.fits z u w (record { sizes = room.sizes; key = room.key }) (record {
-      early = h.early;
-      base = h.base;
-      later = later_then h.early v w h.later one;
-      spent = λ limited. (let spent = h.spent limited in let failed = one.failures in omega (arith, spent, step, further, more, cell, failed));
-      has = h.has;
-      found = h.found;
-      reads = here_on z r.gone.key.items t r.desk c.reread_node.new.self h.early v w x q.place c.read_in.result word h.reads c.reread_node.ensures.above now.kept;
-      fits = now;
+      early = on.early;
+      base = on.base;
+      later = on.later;
+      spent = on.spent;
+      has = on.has;
+      found = on.found;
+      reads = on.reads;
+      merges = on.merges;
+      fits = on.fits;
     })
 
 pub read_on-requires : goal.read_on-requires
-read_on-requires c = c.requires.found
+read_on-requires c = c.requires.told.6.found

@@ -27,4 +27,4 @@ returns-in-Some-Full-clause-fits c z u v room h =
     let is = sym c.ended.ensures.at ∙ (c.in-Some-Full.is ∙ ap (λ (s : Supplied). Some s) c.in-Some-Full.field-0-is) in
     let none = subst (λ (s : Supplying). SupplyStage z (wants_of z layout) r.gone.key.items 0 s r.stock h.early v) (supplied_at m.supplying (Full c.in-Some-Full.field-0-0) is) h.fits.stage in
     c.vouch-in-Some-Full.ensures.fits z u v room (supplies_so z u layout m r v h) (supplies_lost z u layout m r v h)
-    (inr (inl (no_smaller z m.stand layout r.desk u h.early v c.in-Some-Full.field-0-0 h.shrinks h.base none)))
+    (inr (no_smaller z m.stand layout r.desk u h.early v c.in-Some-Full.field-0-0 h.shrinks h.base none))

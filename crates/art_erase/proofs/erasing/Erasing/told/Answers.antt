@@ -93,3 +93,14 @@ lower_told-requires-clause-told c =
     let at = sym (ap (λ (s : StageOf). asks_at s m r) c.in-Lowering.is) ∙ q.6 in
     let k = cell_told q.0 d r.change q.2 q.3 (lower_asks m) q.4 c.args.answer at q.7 in
     (q.0, q.1, q.2, q.3, k.0, q.5.room, stage.0, k.1, subst (λ (a : CellAnswer). CellAnswers q.0 d k.0 a q.2 q.3) (sym c.cell_in-in-Lowering.ensures) k.2)
+
+pub read_told-requires-clause-told : goal.read_told-requires-clause-told
+read_told-requires-clause-told c =
+    let m = c.args.self.now in
+    let r = c.args.room.now in
+    let q = c.requires in
+    let d = absent r.gone in
+    let stage = subst (λ (s : StageOf). StageFits q.0 q.1 s m r q.2) c.in-Reading.is q.5.stage in
+    let at = sym (ap (λ (s : StageOf). asks_at s m r) c.in-Reading.is) ∙ q.6 in
+    let k = cell_told q.0 d r.change q.2 q.3 (reading_asks m c.in-Reading.rereading) q.4 c.args.answer at q.7 in
+    (q.0, q.1, q.2, q.3, k.0, q.5.room, stage.0, k.1, subst (λ (a : CellAnswer). CellAnswers q.0 d k.0 a q.2 q.3) (sym c.cell_in-in-Reading.ensures) k.2)

@@ -1,0 +1,114 @@
+-- A word of the node was read: it is read on, or its header has told that the node stays, or gives way to a smaller one.
+use Rattle.std.proofs.Common.{◌≡◌, ◌≢◌, ◌<◌, ◌≤◌, ℕ, nat_lt, true, false, Some, None, ⊎_elim, ◌∙◌, sym, subst, arith}
+use Rattle.std.proofs.lemmas.Bool.{cases_Bool, ltb-true, ltb-false}
+use Rattle.art_attempt.proofs.ArtGather.Vouches.{here_on, read_told}
+use Rattle.art_attempt.proofs.Steps.{cell_later, cell_step}
+use Rattle.art_attempt.proofs.Tries.{later_then}
+use Rattle.art_attempt.specs.ArtGather.Vouching.{IsVouching, word_in}
+use Rattle.art_attempt.specs.Trying.{HasSpent, IsLater}
+use Rattle.art_attempt.specs.declared.rooms.Room.{Room}
+use Rattle.art_cell.specs.Reads.{word_read}
+use Rattle.art_cell.specs.declared.layouts.Layout.{Layout}
+use Rattle.art_erase.proofs.Chosen.{loss_known}
+use Rattle.art_erase.proofs.Vouched.{reading_so}
+use Rattle.art_erase.specs.Erasing.{EndsWithin, IsLost, IsReadingOn, absent, reading_asks, reading_most}
+use Rattle.art_erase.specs.declared.erasing.Erasing.{Erasing}
+use Rattle.art_find.proofs.Keeping.{cell_fits}
+use Rattle.art_find.specs.Asking.{Answers}
+use Rattle.art_find.specs.Desks.{above_of, node_of}
+use Rattle.art_find.specs.Kept.{StaysRead}
+use Rattle.art_find.specs.Rereadings.{RereadingFits}
+use Rattle.art_find.specs.declared.asked.Answer.{Answer}
+use Rattle.art_find.specs.declared.asked.Asked.{Asked}
+use Rattle.art_find.specs.declared.desks.Desk.{Desk}
+use Rattle.art_find.specs.declared.rereadings.Rereading.{Rereading}
+use Rattle.art_gather.specs.ArtPlan.ChooseRemove.Losses.{loss_at}
+use Rattle.art_gather.specs.ArtPlan.declared.choose_remove.losses.Loss.TheVariants as loss
+use Rattle.art_step.specs.Steps.Read.{Outcome}
+use Rattle.art_step.specs.Views.{size_of}
+use Rattle.art_step.specs.declared.views.Sizes.{Sizes}
+use Rattle.art_step.specs.declared.views.View.{View}
+
+-- the word was noted, and the rereading has come further
+pub record IsNotedBy (m : Erasing) (r : Room) (q : Rereading) (word : ℕ) (q' : Rereading) (desk : Desk) : Type 0 where
+  pub steps : q.place < q'.place
+  pub above : above_of desk ≡ above_of r.desk
+  pub stays : word_read (node_of r.desk) q.place ≡ None → StaysRead (node_of r.desk) (node_of desk)
+  pub fits : (z : Sizes) (v w : View) → RereadingFits z v m.stand.stamp q (node_of r.desk) → q.place < size_of m.stand.stamp.cell
+      → Outcome z v w m.stand.stamp q.place word → RereadingFits z w m.stand.stamp q' (node_of desk)
+
+module _ (z : Sizes) (u : View) (m : Erasing) (q q' : Rereading) (r : Room) (v w : View) (desk : Desk) (word : ℕ) (asked : Asked) (answer : Answer) (h : IsReadingOn z u m q r v)
+    (more : q.place < size_of m.stand.stamp.cell) (is : reading_asks m q ≡ Some asked) (row : Answers z (absent r.gone) asked answer v w) (at : word ≡ word_in answer)
+    (noted : IsNotedBy m r q word q' desk) where
+  abbrev pub reread : Room
+  reread = record r { desk = desk }
+
+  got : Outcome z v w m.stand.stamp q.place word
+  got = subst (λ (n : ℕ). Outcome z v w m.stand.stamp q.place n) (sym at) (read_told z (absent r.gone) m.stand.stamp q asked answer v w more is row)
+
+  now : RereadingFits z w m.stand.stamp q' (node_of desk)
+  now = noted.fits z v w h.fits more got
+
+  later : IsLater v w
+  later = cell_later z (absent r.gone) asked answer v w row
+
+  past : IsLater h.early w
+  past = later_then h.early v w h.later later
+
+  reads : IsVouching z r.gone.key.items m.stand desk h.early w
+  reads = here_on z r.gone.key.items m.stand r.desk desk h.early v w m.stand.stamp q.place word got h.reads noted.above now.kept
+
+  spent : HasSpent z u (reading_most q') w
+  spent limited =
+      let spent = h.spent limited in
+      let failed = later.failures in
+      let step = cell_step z (absent r.gone) asked answer v w row in
+      let further = noted.steps in
+      let cell = cell_fits m.stand.stamp.cell in
+      omega (arith, spent, step, further, more, cell, failed)
+
+  so : (n : ℕ) → HasSpent z u n w → EndsWithin z u n reread w
+  so n few = reading_so z u h.early h.base reread w past h.has reads.reads n few
+
+  -- the leaf stands there
+  pub reread_lost : IsLost z m.stand reread w
+  reread_lost = record { standing = reads.standing; found = h.found }
+
+  pub reread_so : EndsWithin z u 21700 reread w
+  reread_so = so 21700 (λ limited. let few = spent limited in omega (arith, few))
+
+  -- it goes as before
+  pub reread_on : loss_at m.stand desk ≡ loss.Merges → IsReadingOn z u m q' reread w
+  reread_on merges = record {
+    early = h.early;
+    base = h.base;
+    later = past;
+    spent = spent;
+    has = h.has;
+    found = h.found;
+    reads = reads;
+    merges = merges;
+    fits = now;
+  }
+
+  -- the header was known before, and told that it goes
+  header_known : 2 ≤ q.place → loss_at m.stand desk ≡ loss.Merges
+  header_known high =
+      let cell = cell_fits m.stand.stamp.cell in
+      let stays = noted.stays (h.fits.unknown (omega (arith, more, cell))) in
+      let header = h.fits.known 1 (omega arith) (omega (arith, high)) in
+      loss_known m.stand r.desk desk header.0 header.1 stays ∙ h.merges
+
+  -- so where it tells otherwise now, this was the first word that was read, and few steps were made
+  pub reread_first : loss_at m.stand desk ≢ loss.Merges → EndsWithin z u 1203 reread w
+  reread_first other = so 1203 (λ limited.
+      let spent = h.spent limited in
+      let failed = later.failures in
+      let step = cell_step z (absent r.gone) asked answer v w row in
+      ⊎_elim
+      (λ (low : nat_lt q.place 2 ≡ true). let first = ltb-true q.place 2 low in omega (arith, spent, step, failed, first))
+      (λ (high : nat_lt q.place 2 ≡ false). absurd (other (header_known (ltb-false q.place 2 high))))
+      (cases_Bool (nat_lt q.place 2)))
+
+  pub reread_shrinks : (layout : Layout) → loss_at m.stand desk ≡ loss.Shrinks layout → EndsWithin z u 1203 reread w
+  reread_shrinks layout shrinks = reread_first (λ merges. let no : loss.Shrinks layout ≡ loss.Merges = sym shrinks ∙ merges in cc)
