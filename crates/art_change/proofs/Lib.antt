@@ -10,7 +10,7 @@ pub mod Counted
 pub mod EitherKind
 pub mod Frames
 pub mod GivenUp
-pub mod Looked
+pub mod Newcomers
 pub mod Overlaps
 pub mod Parts
 pub mod Ready

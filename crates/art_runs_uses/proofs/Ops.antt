@@ -2,11 +2,10 @@
 use Rattle.std.proofs.Common.{◌≡◌, ◌⊎◌, ◌∙◌, ◌+◌, ◌<◌, ◌≤◌, ℕ, zero, suc, List, [], ◌∷◌, ◌++◌, Some, length, inl, inr, refl, sym, ap, subst, arith, ⊎_elim}
 use Rattle.std.proofs.lemmas.List.Edits.{length-insert, length-remove}
 use Rattle.std.proofs.lemmas.Option.{same_Some, slice_get_within}
-use Rattle.std.specs.Prelude.{slice_index_or}
 use Rattle.std.specs.List.{insert, remove, slice_get}
 use Rattle.art_runs.specs.ArtCall.Calls.{IsCaller}
 use Rattle.art_runs.specs.ArtCall.declared.callers.Caller.{Caller}
-use Rattle.art_change.proofs.Looked.{newcomer_fresh}
+use Rattle.art_change.proofs.Newcomers.{newcomer_at, newcomer_fresh}
 use Rattle.art_change.specs.Writes.{IsFresh}
 use Rattle.art_runs.specs.Ops.{IsUnderWay}
 use Rattle.art_runs.specs.declared.ops.Op.{Op}
@@ -39,12 +38,6 @@ module _ {A : Type 0} where
 
 -- ---- a world that just opened
 
--- the view of each pass is that of a newcomer
-newcomer_at : (k n p q : ℕ) → q ≡ k + p → slice_index_or (newcomers k n) p (newcomer q) ≡ newcomer q
-newcomer_at k zero p q is = refl
-newcomer_at k (suc n) zero q is = let same : k ≡ q = omega (arith, is) in ap newcomer same
-newcomer_at k (suc n) (suc p) q is = newcomer_at (suc k) n p q (omega (arith, is))
-
 newcomers_count : (k n : ℕ) → length (newcomers k n) ≡ n
 newcomers_count k zero = refl
 newcomers_count k (suc n) = ap suc (newcomers_count (suc k) n)
@@ -67,7 +60,7 @@ pub opened_bench : (z : Sizes) (k : ℕ) (w : Contents) (xs : List Op) → Opens
 opened_bench z k w xs opens few each = record {
   few = let count = ap (λ (vs : List View). length vs) opens.views ∙ newcomers_count 0 z.passes in omega (arith, few, count);
   each = λ p a e.
-      let view : view_at w.views p ≡ newcomer p = ap (λ (vs : List View). view_at vs p) opens.views ∙ newcomer_at 0 z.passes p p (omega arith) in
+      let view : view_at w.views p ≡ newcomer p = ap (λ (vs : List View). view_at vs p) opens.views ∙ newcomer_at z.passes p in
       subst (λ (y : Sizes). IsUnderWay y a (view_at w.views p)) (sym opens.sizes) (subst (λ (v : View). IsUnderWay z a v) (sym view) (each p a e));
 }
 

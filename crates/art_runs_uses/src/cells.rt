@@ -120,7 +120,7 @@ pub(crate) fn account(rt: &impl Abort, alloc: Global, world: &World, callers: &[
     }
 }
 
-/// The same of a world of one writer; and as many leaves are named as there are rows.
+/// The same of a world in which one pass calls; and as many leaves are named as there are rows.
 pub(crate) fn account_with_rows(
     rt: &impl Abort,
     alloc: Global,

@@ -1,77 +1,63 @@
 //! The first pass of a world writes, and looks up.
 ghost use Rattle.std.specs.Prelude.{◌<◌, ◌≤◌};
-ghost use Rattle.art_change.specs.Writes.{IsWriter};
 ghost use Rattle.art_runs_uses.specs.Writes.{WritesFirst};
 ghost use Rattle.art_step.specs.Views.{last_counter};
-ghost use Rattle.art_world.specs.Stepper.{OnlyStepped, sizes_of, view_of};
 
-use art_change::{Outcome, Writer};
-use art_find::Got;
+use art_change::Outcome;
 use art_key::Key;
-use art_seek::Seeker;
+use art_runs::art_call::Caller;
+use art_seek::Outcome as Got;
 use art_step::Sizes;
-use art_world::{Stepper, World};
+use art_world::World;
 use std::alloc::Global;
 use std::process::Abort;
 
 /// More turns than any call needs.
 const TURNS: u32 = 1_000_000;
 
-/// A world, and the writer of its first pass.
+/// A world, and what its first pass keeps beside it.
 pub(crate) struct Client {
     pub(crate) world: World,
-    pub(crate) writer: Writer,
+    pub(crate) caller: Caller,
 }
 
-/// A world whose counters begin there, and its writer.
+/// A world whose counters begin there, and what its first pass keeps.
 pub(crate) fn opened(rt: &impl Abort, alloc: Global, sizes: &Sizes, counter_start: u64) -> Client
     requires counter { counter_start ≤ last_counter }
-    requires passes { 0 < sizes.now.passes }
-    ensures { WritesFirst result.world result.writer }
+    requires some { 0 < sizes.now.passes }
+    requires few { sizes.now.passes ≤ 32 }
+    ensures { WritesFirst result.world result.caller }
 {
     let world = World::open(alloc, sizes, counter_start).expect(rt, "room for a world");
-    let writer = Writer::new(0, sizes);
-    Client { world, writer }
+    let caller = Caller::new(0, sizes);
+    Client { world, caller }
 }
 
 /// How an insert of the row ends.
 fn puts(client: &mut Client, key: &Key, value: u64) -> Outcome
-    requires { WritesFirst client.old.world client.old.writer }
-    ensures { WritesFirst client.new.world client.new.writer }
+    requires { WritesFirst client.old.world client.old.caller }
+    ensures { WritesFirst client.new.world client.new.caller }
 {
     let mut stepper = client.world.at(0);
-    client
-        .writer
-        .insert(&mut stepper, key, value, TURNS)
-        .outcome
+    client.caller.insert(&mut stepper, key, value, TURNS)
 }
 
 /// How a removal of the key ends.
 fn takes(client: &mut Client, key: &Key) -> Outcome
-    requires { WritesFirst client.old.world client.old.writer }
-    ensures { WritesFirst client.new.world client.new.writer }
+    requires { WritesFirst client.old.world client.old.caller }
+    ensures { WritesFirst client.new.world client.new.caller }
 {
     let mut stepper = client.world.at(0);
-    client.writer.remove(&mut stepper, key, TURNS).outcome
-}
-
-/// How a get of the key ends, of the pass of the writer.
-fn looks_up(stepper: &mut Stepper<'_>, writer: &Writer, key: &Key) -> Got
-    requires { IsWriter (sizes_of stepper.old) (view_of stepper.old) writer.now }
-    ensures only { OnlyStepped stepper.old stepper.new }
-    ensures may { IsWriter (sizes_of stepper.new) (view_of stepper.new) writer.now }
-{
-    let _ = writer.limbo();
-    Seeker::new().get(stepper, key, TURNS).got
+    client.caller.remove(&mut stepper, key, TURNS)
 }
 
 /// How a get of the key ends.
 fn finds(client: &mut Client, key: &Key) -> Got
-    requires { WritesFirst client.old.world client.old.writer }
-    ensures { WritesFirst client.new.world client.new.writer }
+    requires { WritesFirst client.old.world client.old.caller }
+    ensures { WritesFirst client.new.world client.new.caller }
 {
     let mut stepper = client.world.at(0);
-    looks_up(&mut stepper, &client.writer, key)
+    client.caller.get(&mut stepper, key, TURNS)
 }
 
 /// An insert of the row ends so.
@@ -82,24 +68,24 @@ pub(crate) fn check_put(
     value: u64,
     wanted: Outcome,
 )
-    requires { WritesFirst client.old.world client.old.writer }
-    ensures { WritesFirst client.new.world client.new.writer }
+    requires { WritesFirst client.old.world client.old.caller }
+    ensures { WritesFirst client.new.world client.new.caller }
 {
     assert_eq!(rt; puts(client, key, value), wanted);
 }
 
 /// A removal of the key ends so.
 pub(crate) fn check_take(rt: &impl Abort, client: &mut Client, key: &Key, wanted: Outcome)
-    requires { WritesFirst client.old.world client.old.writer }
-    ensures { WritesFirst client.new.world client.new.writer }
+    requires { WritesFirst client.old.world client.old.caller }
+    ensures { WritesFirst client.new.world client.new.caller }
 {
     assert_eq!(rt; takes(client, key), wanted);
 }
 
 /// A get of the key ends so.
 pub(crate) fn check_find(rt: &impl Abort, client: &mut Client, key: &Key, wanted: Got)
-    requires { WritesFirst client.old.world client.old.writer }
-    ensures { WritesFirst client.new.world client.new.writer }
+    requires { WritesFirst client.old.world client.old.caller }
+    ensures { WritesFirst client.new.world client.new.caller }
 {
     assert_eq!(rt; finds(client, key), wanted);
 }

@@ -4,9 +4,9 @@ ghost use Rattle.art_runs_uses.specs.Writes.{WritesFirst};
 use crate::cells::account_with_rows;
 use crate::clients::{Client, check_find, check_put, check_take, opened};
 use art_change::Outcome;
-use art_find::Got;
 use art_key::{Schema, encode};
 use art_model::{Command, Reply, SortedRows, Tuple, Value};
+use art_seek::Outcome as Got;
 use art_step::Sizes;
 use rand_pcg::Pcg32;
 use rand_pcg::rand_core::{Rng, SeedableRng};
@@ -96,8 +96,8 @@ fn check_drawn(
     tuple: Tuple,
     drawn: Drawn,
 )
-    requires { WritesFirst client.old.world client.old.writer }
-    ensures { WritesFirst client.new.world client.new.writer }
+    requires { WritesFirst client.old.world client.old.caller }
+    ensures { WritesFirst client.new.world client.new.caller }
 {
     let key = encode(schema, &tuple).expect(rt, "a tuple of the schema");
     match drawn {
@@ -127,8 +127,8 @@ fn check_commands(rt: &impl Abort, alloc: Global, columns: &str, bounds: &[u32])
         let drawn = draw(&mut numbers);
         check_drawn(rt, &mut client, &mut rows, &schema, tuple, drawn);
     }
-    let Client { world, writer } = client;
-    account_with_rows(rt, alloc, &world, &writer.end(), rows.rows().len());
+    let limbo = client.caller.limbo();
+    account_with_rows(rt, alloc, &client.world, limbo, rows.rows().len());
 }
 
 #[test]

@@ -5,9 +5,9 @@ use crate::cells::check_free_word;
 use crate::clients::{Client, check_find, check_put, check_take, opened};
 use art_cell::{Cell, Pool};
 use art_change::Outcome;
-use art_find::Got;
 use art_key::{Key, Schema, encode};
 use art_model::{Tuple, Value};
+use art_seek::Outcome as Got;
 use art_step::Sizes;
 use art_world::World;
 use std::process::Abort;
@@ -39,16 +39,14 @@ fn check_root(rt: &impl Abort, world: &World, kind: u64) {
     assert_eq!(rt; world.word(Cell::Anchor, 1) % 8, kind);
 }
 
-/// Nothing waits in the limbo of the writer.
-fn check_limbo(rt: &impl Abort, client: Client) {
-    let Client { world: _, writer } = client;
-    assert_eq!(rt; writer.end().room(), 64);
+/// Nothing waits in the limbo of the pass.
+fn check_limbo(rt: &impl Abort, client: &Client) {
+    assert_eq!(rt; client.caller.limbo().room(), 64);
 }
 
-/// At most three numbers wait in the limbo of the writer.
-fn check_few_wait(rt: &impl Abort, client: Client) {
-    let Client { world: _, writer } = client;
-    assert!(rt; writer.end().room() > 60);
+/// At most three numbers wait in the limbo of the pass.
+fn check_few_wait(rt: &impl Abort, client: &Client) {
+    assert!(rt; client.caller.limbo().room() > 60);
 }
 
 #[test]
@@ -64,13 +62,13 @@ fn rows_that_are_inserted_are_found(rt: HostRuntime) {
     check_find(&rt, &mut client, &one, Got::Found(10));
     check_find(&rt, &mut client, &five, Got::Found(50));
     check_anchor(&rt, &client.world, 2);
-    check_limbo(&rt, client);
+    check_limbo(&rt, &client);
 }
 
 /// Rows with the numbers from `first` on before `end` are inserted: each is new, and found.
 pub(crate) fn fills(rt: &impl Abort, client: &mut Client, schema: &str, first: u16, end: u16)
-    requires { WritesFirst client.old.world client.old.writer }
-    ensures { WritesFirst client.new.world client.new.writer }
+    requires { WritesFirst client.old.world client.old.caller }
+    ensures { WritesFirst client.new.world client.new.caller }
 {
     for number in first..end {
         let key = key_of(rt, schema, number);
@@ -82,8 +80,8 @@ pub(crate) fn fills(rt: &impl Abort, client: &mut Client, schema: &str, first: u
 
 /// Rows with the numbers from `first` on before `end` are removed: each had its value, and is absent then.
 pub(crate) fn empties(rt: &impl Abort, client: &mut Client, schema: &str, first: u16, end: u16)
-    requires { WritesFirst client.old.world client.old.writer }
-    ensures { WritesFirst client.new.world client.new.writer }
+    requires { WritesFirst client.old.world client.old.caller }
+    ensures { WritesFirst client.new.world client.new.caller }
 {
     for number in first..end {
         let key = key_of(rt, schema, number);
@@ -112,7 +110,7 @@ fn nodes_shrink_at_thirty_six_twelve_three_and_one(rt: HostRuntime) {
     }
     empties(&rt, &mut client, "u8", 59, 60);
     check_anchor(&rt, &client.world, 0);
-    check_few_wait(&rt, client);
+    check_few_wait(&rt, &client);
 }
 
 #[test]
@@ -131,7 +129,7 @@ fn nodes_grow_at_five_seventeen_and_forty_nine(rt: HostRuntime) {
     }
     let last_word = 0xffff_ffff_ffff_ff00;
     check_free_word(&rt, &client.world, Pool::Leaves, 3, last_word);
-    check_limbo(&rt, client);
+    check_limbo(&rt, &client);
 }
 
 const NO_NODE16: Sizes = Sizes {
@@ -156,7 +154,7 @@ fn a_third_row_finds_two_leaves_full(rt: HostRuntime) {
     let full = Outcome::Full(Pool::Leaves);
     check_put(&rt, &mut client, &third, 2, full);
     check_find(&rt, &mut client, &third, Got::Absent);
-    check_limbo(&rt, client);
+    check_limbo(&rt, &client);
 }
 
 #[test]
@@ -167,7 +165,7 @@ fn a_full_node4_finds_no_node16(rt: HostRuntime) {
     let full = Outcome::Full(Pool::N16);
     check_put(&rt, &mut client, &fifth, 4, full);
     check_free_word(&rt, &client.world, Pool::Leaves, 0, 0xf0);
-    check_limbo(&rt, client);
+    check_limbo(&rt, &client);
 }
 
 /// The end of a counter.
@@ -181,7 +179,7 @@ fn the_anchor_at_the_end_of_its_counter_is_exhausted(rt: HostRuntime) {
     check_put(&rt, &mut client, &one, 1, exhausted);
     check_find(&rt, &mut client, &one, Got::Absent);
     check_free_word(&rt, &client.world, Pool::Leaves, 0, u64::MAX);
-    check_limbo(&rt, client);
+    check_limbo(&rt, &client);
 }
 
 /// A node begins its counter anew, so it is changed below an anchor whose counter is at its end.
@@ -195,5 +193,5 @@ fn a_node_below_an_anchor_at_its_end_is_changed(rt: HostRuntime) {
     let third = key_of(&rt, "u8", 2);
     check_take(&rt, &mut client, &third, Outcome::Gone(2));
     check_find(&rt, &mut client, &third, Got::Absent);
-    check_few_wait(&rt, client);
+    check_few_wait(&rt, &client);
 }

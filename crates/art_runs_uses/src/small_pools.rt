@@ -6,7 +6,7 @@ use crate::clients::{Client, check_find, check_put, opened};
 use crate::rows::{empties, fills, key_of};
 use art_cell::{Cell, Layout, Node, Pool};
 use art_change::Outcome;
-use art_find::Got;
+use art_seek::Outcome as Got;
 use art_step::Sizes;
 use art_world::World;
 use std::alloc::Global;
@@ -24,8 +24,8 @@ const SMALL: Sizes = Sizes {
 
 /// The rows with the numbers from `first` on before `end` stand.
 fn check_rows(rt: &impl Abort, client: &mut Client, first: u16, end: u16)
-    requires { WritesFirst client.old.world client.old.writer }
-    ensures { WritesFirst client.new.world client.new.writer }
+    requires { WritesFirst client.old.world client.old.caller }
+    ensures { WritesFirst client.new.world client.new.caller }
 {
     for number in first..end {
         let key = key_of(rt, "u16", number);
@@ -56,8 +56,7 @@ fn check_stays(rt: &impl Abort, alloc: Global, many: u16, beside: u16, left: u16
     check_rows(rt, &mut client, 0, left);
     check_rows(rt, &mut client, 256, end);
     let rows = usize::from(left).wrapping_add(usize::from(beside));
-    let Client { world, writer } = client;
-    account_with_rows(rt, alloc, &world, &writer.end(), rows);
+    account_with_rows(rt, alloc, &client.world, client.caller.limbo(), rows);
 }
 
 #[test]
@@ -82,7 +81,7 @@ fn a_full_node4_waits_for_the_only_node16(rt: HostRuntime) {
     let full = Outcome::Full(Pool::N16);
     check_put(&rt, &mut client, &fifth, 260, full);
     check_unpinned(&rt, &client.world);
-    account_with_rows(&rt, rt.alloc(), &client.world, client.writer.limbo(), 9);
+    account_with_rows(&rt, rt.alloc(), &client.world, client.caller.limbo(), 9);
     check_find(&rt, &mut client, &fifth, Got::Absent);
     check_rows(&rt, &mut client, 0, 5);
     check_rows(&rt, &mut client, 256, 260);
@@ -90,6 +89,5 @@ fn a_full_node4_waits_for_the_only_node16(rt: HostRuntime) {
     fills(&rt, &mut client, "u16", 260, 261);
     check_rows(&rt, &mut client, 0, 1);
     check_rows(&rt, &mut client, 256, 261);
-    let Client { world, writer } = client;
-    account_with_rows(&rt, rt.alloc(), &world, &writer.end(), 6);
+    account_with_rows(&rt, rt.alloc(), &client.world, client.caller.limbo(), 6);
 }

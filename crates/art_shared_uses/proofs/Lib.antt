@@ -1,3 +1,4 @@
+pub mod Learnt
 pub mod Lent
 pub mod Many
 pub mod New

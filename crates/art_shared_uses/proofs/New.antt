@@ -1,8 +1,8 @@
--- A pass that made no step yet is ready to write.
+-- A pass that made no step yet may call.
 use Rattle.std.proofs.Common.{◌≡◌, ◌<◌, ℕ, zero, suc, List, [], ◌∷◌, take, Some, ap}
 use Rattle.std.specs.List.{slice_get}
-use Rattle.art_change.specs.Writes.{IsFresh, IsWriter}
-use Rattle.art_change.specs.declared.writers.Writer.{Writer}
+use Rattle.art_call.specs.Calls.{IsCaller, IsFresh}
+use Rattle.art_call.specs.declared.callers.Caller.{Caller}
 use Rattle.art_shared.specs.declared.law.Known.{Known}
 use Rattle.art_shared.specs.declared.pass.Pass.{Pass}
 use Rattle.art_shared.specs.declared.shared.Shared.{Shared}
@@ -11,8 +11,8 @@ use Rattle.art_shared.specs.Tables.{sizes_in, view_of_pass}
 use Rattle.art_shared_uses.specs.Clients.{IsNew, Writes}
 use Rattle.art_step.specs.declared.views.View.{View}
 
-pub writes_new : (t : Shared) (a : Pass) (w : Writer) (own : ℕ) → IsNew t a → own ≡ (view_of_pass a).pass → own < (sizes_in t).passes → ((u : View) → IsFresh (sizes_in t) u own → IsWriter (sizes_in t) u w) → Writes t a w
-writes_new t a w own is own_is inside new = record {
+pub writes_new : (t : Shared) (a : Pass) (c : Caller) (own : ℕ) → IsNew t a → own ≡ (view_of_pass a).pass → own < (sizes_in t).passes → ((u : View) → IsFresh (sizes_in t) u own → IsCaller (sizes_in t) u c) → Writes t a c
+writes_new t a c own is own_is inside new = record {
   of = is.of;
   may = new (view_of_pass a) record {
     own_is = own_is;

@@ -2,9 +2,8 @@
 use Rattle.art_key.specs.Spelling.{IsKeyOf}
 use Rattle.std.specs.Prelude.{◌≡◌, ℕ, List, Some}
 use Rattle.std.specs.List.{slice_get}
-use Rattle.art_change.specs.Writes.{IsWriter}
-use Rattle.art_change.specs.declared.writers.Writer.{Writer}
-use Rattle.art_epoch.specs.Pins.{MayPin}
+use Rattle.art_call.specs.Calls.{IsCaller}
+use Rattle.art_call.specs.declared.callers.Caller.{Caller}
 use Rattle.art_shared.specs.declared.pass.Pass.{Pass}
 use Rattle.art_shared.specs.declared.shared.Shared.{Shared}
 use Rattle.art_shared.specs.Passes.{newcomer_known}
@@ -23,15 +22,10 @@ AreNew t passes = (p : ℕ) (a : Pass) → slice_get passes p ≡ Some a → IsN
 abbrev pub AreOf : Shared → List Pass → Type 0
 AreOf t passes = (p : ℕ) (a : Pass) → slice_get passes p ≡ Some a → IsPassOf t a
 
--- one that is idle and holds nothing
-pub record IsIdle (t : Shared) (a : Pass) : Type 0 where
+-- one that may call
+pub record Writes (t : Shared) (a : Pass) (c : Caller) : Type 0 where
   pub of : IsPassOf t a
-  pub may : MayPin (view_of_pass a)
-
--- one that is ready to write
-pub record Writes (t : Shared) (a : Pass) (w : Writer) : Type 0 where
-  pub of : IsPassOf t a
-  pub may : IsWriter (sizes_in t) (view_of_pass a) w
+  pub may : IsCaller (sizes_in t) (view_of_pass a) c
 
 -- the key is one of the table's schema
 abbrev pub IsKey : Shared → List ℕ → Type 0

@@ -1,17 +1,14 @@
-//! Tables that open, and passes of theirs that write and look up.
-ghost use Rattle.art_key.specs.Spelling.{IsKeyOf};
+//! Tables that open, and passes of theirs that call.
 ghost use Rattle.std.specs.Prelude.{◌≤◌, IfSome};
-ghost use Rattle.art_change.specs.Writes.{IsWriter};
-ghost use Rattle.art_shared.specs.Stepper.{OnlyStepped, schema_of, sizes_of, view_of};
-ghost use Rattle.art_shared_uses.specs.Clients.{AreNew, IsIdle, IsKey, IsNew, Writes};
+ghost use Rattle.art_shared_uses.specs.Clients.{AreNew, IsKey, IsNew, Writes};
 ghost use Rattle.art_step.specs.Views.{last_counter};
 
-use art_change::{Outcome, Writer};
-use art_find::Got;
+use art_call::Caller;
+use art_change::Outcome;
 use art_key::{Key, Schema, encode};
 use art_model::{Tuple, Value};
-use art_seek::Seeker;
-use art_shared::{Pass, Shared, Stepper};
+use art_seek::Outcome as Got;
+use art_shared::{Pass, Shared};
 use art_step::Sizes;
 use std::alloc::Global;
 use std::process::Abort;
@@ -53,12 +50,14 @@ pub(crate) fn last_of(rt: &impl Abort, shared: &Shared, passes: &mut Vec<Pass>) 
     popped(shared, passes).expect(rt, "a pass")
 }
 
-/// What a pass keeps beside the table to change it.
-pub(crate) fn writer_of(shared: &Shared, pass: &Pass) -> Writer
+/// What a pass keeps beside the table to call it.
+pub(crate) fn caller_of(rt: &impl Abort, shared: &Shared, pass: &Pass) -> Caller
     requires { IsNew shared.now pass.now }
     ensures { Writes shared.now pass.now result }
 {
-    Writer::new(pass.number(), &shared.sizes())
+    let sizes = shared.sizes();
+    assert!(rt; sizes.passes <= 32);
+    Caller::new(pass.number(), &sizes)
 }
 
 /// The key that spells a number under the schema of the table, which has one column.
@@ -75,16 +74,16 @@ pub(crate) fn puts(
     rt: &impl Abort,
     shared: &Shared,
     pass: &mut Pass,
-    writer: &mut Writer,
+    caller: &mut Caller,
     number: u16,
     value: u64,
 ) -> Outcome
-    requires { Writes shared.now pass.old writer.old }
-    ensures { Writes shared.now pass.new writer.new }
+    requires { Writes shared.now pass.old caller.old }
+    ensures { Writes shared.now pass.new caller.new }
 {
     let key = key_of(rt, shared, number);
     let mut stepper = shared.at(pass);
-    writer.insert(&mut stepper, &key, value, TURNS).outcome
+    caller.insert(&mut stepper, &key, value, TURNS)
 }
 
 /// How a removal of the row of a number ends.
@@ -92,52 +91,46 @@ pub(crate) fn takes(
     rt: &impl Abort,
     shared: &Shared,
     pass: &mut Pass,
-    writer: &mut Writer,
+    caller: &mut Caller,
     number: u16,
 ) -> Outcome
-    requires { Writes shared.now pass.old writer.old }
-    ensures { Writes shared.now pass.new writer.new }
+    requires { Writes shared.now pass.old caller.old }
+    ensures { Writes shared.now pass.new caller.new }
 {
     let key = key_of(rt, shared, number);
     let mut stepper = shared.at(pass);
-    writer.remove(&mut stepper, &key, TURNS).outcome
+    caller.remove(&mut stepper, &key, TURNS)
 }
 
 /// How a get of the row of a number ends, in so many turns.
-fn finds(rt: &impl Abort, shared: &Shared, pass: &mut Pass, number: u16, turns: u32) -> Got
-    requires { IsIdle shared.now pass.old }
-    ensures { IsIdle shared.now pass.new }
+fn finds(
+    rt: &impl Abort,
+    shared: &Shared,
+    pass: &mut Pass,
+    caller: &mut Caller,
+    number: u16,
+    turns: u32,
+) -> Got
+    requires { Writes shared.now pass.old caller.old }
+    ensures { Writes shared.now pass.new caller.new }
 {
     let key = key_of(rt, shared, number);
     let mut stepper = shared.at(pass);
-    Seeker::new().get(&mut stepper, &key, turns).got
+    caller.get(&mut stepper, &key, turns)
 }
 
-/// How a get of the key ends, of the pass of the writer.
-fn looks_up(stepper: &mut Stepper<'_>, writer: &Writer, key: &Key) -> Got
-    requires may { IsWriter (sizes_of stepper.old) (view_of stepper.old) writer.now }
-    requires key { IsKeyOf (schema_of stepper.old) key.now.items }
-    ensures only { OnlyStepped stepper.old stepper.new }
-    ensures may { IsWriter (sizes_of stepper.new) (view_of stepper.new) writer.now }
-{
-    let _ = writer.limbo();
-    Seeker::new().get(stepper, key, TURNS).got
-}
-
-/// How a get of the row of a number ends, between two writes.
+/// How a get of the row of a number ends, while others call.
 pub(crate) fn asks(
     rt: &impl Abort,
     shared: &Shared,
     pass: &mut Pass,
-    writer: &Writer,
+    caller: &mut Caller,
     number: u16,
 ) -> Got
-    requires { Writes shared.now pass.old writer.now }
-    ensures { Writes shared.now pass.new writer.now }
+    requires { Writes shared.now pass.old caller.old }
+    ensures { Writes shared.now pass.new caller.new }
 {
-    let key = key_of(rt, shared, number);
-    let mut stepper = shared.at(pass);
-    looks_up(&mut stepper, writer, &key)
+    finds(rt, shared, pass, caller, number, TURNS)
 }
 
 /// An insert of the row of a number ends so.
@@ -145,15 +138,15 @@ pub(crate) fn check_put(
     rt: &impl Abort,
     shared: &Shared,
     pass: &mut Pass,
-    writer: &mut Writer,
+    caller: &mut Caller,
     number: u16,
     value: u64,
     wanted: Outcome,
 )
-    requires { Writes shared.now pass.old writer.old }
-    ensures { Writes shared.now pass.new writer.new }
+    requires { Writes shared.now pass.old caller.old }
+    ensures { Writes shared.now pass.new caller.new }
 {
-    assert_eq!(rt; puts(rt, shared, pass, writer, number, value), wanted);
+    assert_eq!(rt; puts(rt, shared, pass, caller, number, value), wanted);
 }
 
 /// A removal of the row of a number ends so.
@@ -161,29 +154,14 @@ pub(crate) fn check_take(
     rt: &impl Abort,
     shared: &Shared,
     pass: &mut Pass,
-    writer: &mut Writer,
+    caller: &mut Caller,
     number: u16,
     wanted: Outcome,
 )
-    requires { Writes shared.now pass.old writer.old }
-    ensures { Writes shared.now pass.new writer.new }
+    requires { Writes shared.now pass.old caller.old }
+    ensures { Writes shared.now pass.new caller.new }
 {
-    assert_eq!(rt; takes(rt, shared, pass, writer, number), wanted);
-}
-
-/// A get of the row of a number, between two writes, ends so.
-pub(crate) fn check_ask(
-    rt: &impl Abort,
-    shared: &Shared,
-    pass: &mut Pass,
-    writer: &Writer,
-    number: u16,
-    wanted: Got,
-)
-    requires { Writes shared.now pass.old writer.now }
-    ensures { Writes shared.now pass.new writer.now }
-{
-    assert_eq!(rt; asks(rt, shared, pass, writer, number), wanted);
+    assert_eq!(rt; takes(rt, shared, pass, caller, number), wanted);
 }
 
 /// A get of the row of a number, in so many turns, ends so.
@@ -191,12 +169,13 @@ pub(crate) fn check_find(
     rt: &impl Abort,
     shared: &Shared,
     pass: &mut Pass,
+    caller: &mut Caller,
     number: u16,
     turns: u32,
     wanted: Got,
 )
-    requires { IsIdle shared.now pass.old }
-    ensures { IsIdle shared.now pass.new }
+    requires { Writes shared.now pass.old caller.old }
+    ensures { Writes shared.now pass.new caller.new }
 {
-    assert_eq!(rt; finds(rt, shared, pass, number, turns), wanted);
+    assert_eq!(rt; finds(rt, shared, pass, caller, number, turns), wanted);
 }

@@ -1,12 +1,13 @@
 //! Eight threads insert, remove and look up rows with the same few keys.
 ghost use Rattle.std.specs.Prelude.{IfOk};
 ghost use Rattle.art_shared.specs.Tables.{IsPassOf};
-ghost use Rattle.art_shared_uses.specs.Clients.{AreNew, AreOf, IsIdle, IsNew, Writes};
+ghost use Rattle.art_shared_uses.specs.Clients.{AreNew, AreOf, IsNew, Writes};
 
-use crate::clients::{asks, check_find, last_of, opened, puts, takes, writer_of};
+use crate::clients::{asks, caller_of, check_find, last_of, opened, puts, takes};
 use crate::closing::{Closed, Counts, POOLS, ended};
-use art_change::{Outcome, Writer};
-use art_find::Got;
+use art_call::Caller;
+use art_change::Outcome;
+use art_seek::Outcome as Got;
 use art_shared::{Pass, Shared};
 use art_step::Sizes;
 use std::alloc::AllocError;
@@ -15,7 +16,7 @@ use std::sync::{Mutex, Wait};
 use std::thread;
 use std::thread::Threads;
 
-/// Enough for what waits in the limbo of eight writers.
+/// Enough for what waits in the limbos of eight passes.
 const SIZES: Sizes = Sizes {
     leaves: 1024,
     n4: 1024,
@@ -99,19 +100,19 @@ fn call(
     rt: &impl Abort,
     shared: &Shared,
     pass: &mut Pass,
-    writer: &mut Writer,
+    caller: &mut Caller,
     tally: &mut Tally,
     number: u16,
     kind: u16,
 )
-    requires { Writes shared.now pass.old writer.old }
-    ensures { Writes shared.now pass.new writer.new }
+    requires { Writes shared.now pass.old caller.old }
+    ensures { Writes shared.now pass.new caller.new }
 {
     let value = u64::from(number);
     match kind {
-        0 => tally.saw(number, asks(rt, shared, pass, writer, number)),
-        1 => tally.wrote(number, takes(rt, shared, pass, writer, number)),
-        _ => tally.wrote(number, puts(rt, shared, pass, writer, number, value)),
+        0 => tally.saw(number, asks(rt, shared, pass, caller, number)),
+        1 => tally.wrote(number, takes(rt, shared, pass, caller, number)),
+        _ => tally.wrote(number, puts(rt, shared, pass, caller, number, value)),
     }
 }
 
@@ -120,15 +121,15 @@ fn contends<R: Wait + Abort>(rt: &R, shared: &Shared, mut pass: Pass, total: &Mu
     requires { IsNew shared.now pass }
     ensures { IsPassOf shared.now result }
 {
-    let mut writer = writer_of(shared, &pass);
+    let mut caller = caller_of(rt, shared, &pass);
     let first = u16::try_from(pass.number()).unwrap_or(0);
     let mut tally = Tally::empty();
     for round in 0..CALLS {
         let number = round.wrapping_mul(7).wrapping_add(first) % 50;
         let kind = round.wrapping_add(first) % 3;
-        call(rt, shared, &mut pass, &mut writer, &mut tally, number, kind);
+        call(rt, shared, &mut pass, &mut caller, &mut tally, number, kind);
     }
-    tally.waiting.note_all(&writer.end());
+    tally.waiting.note_all(caller.limbo());
     total.lock(rt).add(&tally);
     pass
 }
@@ -155,12 +156,13 @@ fn all_contend<R: Threads + Wait + Abort + Sync>(
 
 /// With each key as many rows are found as the calls left.
 fn check_left(rt: &impl Abort, shared: &Shared, pass: &mut Pass, tally: &Tally)
-    requires { IsIdle shared.now pass.old }
-    ensures { IsIdle shared.now pass.new }
+    requires { IsNew shared.now pass.old }
+    ensures { IsPassOf shared.now pass.new }
 {
+    let mut caller = caller_of(rt, shared, pass);
     for number in 0..50 {
         let wanted = tally.wanted(rt, number);
-        check_find(rt, shared, pass, number, TURNS, wanted);
+        check_find(rt, shared, pass, &mut caller, number, TURNS, wanted);
     }
 }
 

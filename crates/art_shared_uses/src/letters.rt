@@ -2,7 +2,7 @@
 ghost use Rattle.std.specs.Prelude.{◌≡◌};
 ghost use Rattle.art_shared.specs.Marks.{IsMarkOf};
 ghost use Rattle.art_shared.specs.Tables.{IsPassOf};
-ghost use Rattle.art_shared_uses.specs.Clients.{IsIdle, IsNew};
+ghost use Rattle.art_shared_uses.specs.Clients.{IsNew};
 ghost use Rattle.art_shared_uses.specs.Letters.{IsNamed, basis_of_mark, table_of_mark};
 
 use crate::clients::{last_of, opened};
@@ -74,7 +74,7 @@ fn receives<N: Naming, R: Wait + Abort>(
     pass: Pass,
     receiver: Receiver<Letter<N>>,
 )
-    requires pass { IsIdle shared.now pass }
+    requires pass { IsNew shared.now pass }
     requires named { IsNamed shared.now N.table N.basis }
 {
     let letter = receiver.recv(rt).ok().expect(rt, "a letter");
@@ -91,7 +91,7 @@ fn over_a_channel<N: Naming + Send + Sync, R: Threads + Wait + Abort + Sync>(
     two: Pass,
 )
     requires one { IsNew shared.now one }
-    requires two { IsIdle shared.now two }
+    requires two { IsNew shared.now two }
     requires named { IsNamed shared.now N.table N.basis }
 {
     let channel = bounded::<Letter<N>, Global>(alloc, 1);

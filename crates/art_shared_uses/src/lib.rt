@@ -1,4 +1,4 @@
-//! Machines of looks and changes over a table that threads share: on one thread, and on up to eight. Nothing stands above this crate.
+//! Calls over a table that threads share: on one thread, and on up to eight. Nothing stands above this crate.
 #![tactic(auto)]
 
 #[cfg(test)]

@@ -1,11 +1,11 @@
 //! Looks over a table see one row after another, and tile their range.
-ghost use Rattle.art_shared_uses.specs.Clients.{IsIdle};
+ghost use Rattle.art_shared_uses.specs.Clients.{Writes};
 
-use crate::clients::{check_put, key_of, last_of, opened, writer_of};
+use crate::clients::{caller_of, check_put, key_of, last_of, opened};
+use art_call::Caller;
 use art_change::Outcome;
-use art_epoch::{pin, unpin};
 use art_key::{Bound, Key};
-use art_look::{Seen, look_from};
+use art_look::Seen;
 use art_shared::{Pass, Shared};
 use art_step::Sizes;
 use std::process::Abort;
@@ -23,15 +23,12 @@ const TWO_PASSES: Sizes = Sizes {
 const TURNS: u32 = 1_000;
 
 /// What a look from the key on sees.
-fn sees(shared: &Shared, pass: &mut Pass, lo: &Key) -> Option<Seen>
-    requires { IsIdle shared.now pass.old }
-    ensures { IsIdle shared.now pass.new }
+fn sees(shared: &Shared, pass: &mut Pass, caller: &mut Caller, lo: &Key) -> Option<Seen>
+    requires { Writes shared.now pass.old caller.old }
+    ensures { Writes shared.now pass.new caller.new }
 {
     let mut stepper = shared.at(pass);
-    pin(&mut stepper);
-    let seen = look_from(&mut stepper, lo, &Bound::End, TURNS).seen;
-    unpin(&mut stepper);
-    seen
+    caller.look(&mut stepper, lo, &Bound::End, TURNS)
 }
 
 /// A look from the key of the number on sees all up to the bound, with this row.
@@ -39,37 +36,47 @@ fn check_look(
     rt: &impl Abort,
     shared: &Shared,
     pass: &mut Pass,
+    caller: &mut Caller,
     from: u16,
     hi: Bound,
     row: Option<(Key, u64)>,
 )
-    requires { IsIdle shared.now pass.old }
-    ensures { IsIdle shared.now pass.new }
+    requires { Writes shared.now pass.old caller.old }
+    ensures { Writes shared.now pass.new caller.new }
 {
     let lo = key_of(rt, shared, from);
     let wanted = Seen { lo, hi, row };
-    assert_eq!(rt; sees(shared, pass, &wanted.lo), Some(wanted));
+    assert_eq!(rt; sees(shared, pass, caller, &wanted.lo), Some(wanted));
 }
 
 #[test]
 fn looks_tile_a_range(rt: HostRuntime) {
     let (shared, mut passes) = opened(&rt, rt.alloc(), "u8", &TWO_PASSES, 0);
-    let mut looker = last_of(&rt, &shared, &mut passes);
+    let mut other = last_of(&rt, &shared, &mut passes);
     let mut pass = last_of(&rt, &shared, &mut passes);
-    let mut writer = writer_of(&shared, &pass);
+    let mut writer = caller_of(&rt, &shared, &pass);
     check_put(&rt, &shared, &mut pass, &mut writer, 1, 1, Outcome::New);
     check_put(&rt, &shared, &mut pass, &mut writer, 5, 5, Outcome::New);
-    let _ = writer.end();
+    let mut looker = caller_of(&rt, &shared, &other);
     let (one, two) = (key_of(&rt, &shared, 1), key_of(&rt, &shared, 2));
-    check_look(&rt, &shared, &mut looker, 0, Bound::At(two), Some((one, 1)));
+    check_look(
+        &rt,
+        &shared,
+        &mut other,
+        &mut looker,
+        0,
+        Bound::At(two),
+        Some((one, 1)),
+    );
     let (five, six) = (key_of(&rt, &shared, 5), key_of(&rt, &shared, 6));
     check_look(
         &rt,
         &shared,
+        &mut other,
         &mut looker,
         2,
         Bound::At(six),
         Some((five, 5)),
     );
-    check_look(&rt, &shared, &mut looker, 6, Bound::End, None);
+    check_look(&rt, &shared, &mut other, &mut looker, 6, Bound::End, None);
 }

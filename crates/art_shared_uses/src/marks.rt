@@ -1,11 +1,11 @@
 //! What passes saw in two threads is learnt by passes in two others.
 ghost use Rattle.art_shared.specs.Marks.{IsMarkOf};
 ghost use Rattle.art_shared.specs.Tables.{IsPassOf};
-ghost use Rattle.art_shared_uses.specs.Clients.{IsIdle, IsNew};
+ghost use Rattle.art_shared_uses.specs.Clients.{IsNew};
 
-use crate::clients::{check_find, check_put, last_of, opened, writer_of};
+use crate::clients::{caller_of, check_find, check_put, last_of, opened};
 use art_change::Outcome;
-use art_find::Got;
+use art_seek::Outcome as Got;
 use art_shared::{Mark, Pass, Shared};
 use art_step::Sizes;
 use std::process::Abort;
@@ -36,17 +36,16 @@ pub(crate) fn puts_and_marks(
     ensures pass { IsPassOf shared.now result.0 }
     ensures mark { IsMarkOf shared.now result.1 }
 {
-    let mut writer = writer_of(shared, &pass);
+    let mut caller = caller_of(rt, shared, &pass);
     check_put(
         rt,
         shared,
         &mut pass,
-        &mut writer,
+        &mut caller,
         number,
         value,
         Outcome::New,
     );
-    let _ = writer.end();
     let mark = shared.mark(&mut pass);
     (pass, mark)
 }
@@ -60,11 +59,13 @@ pub(crate) fn learns_and_finds(
     number: u16,
     value: u64,
 )
-    requires pass { IsIdle shared.now pass }
+    requires pass { IsNew shared.now pass }
     requires mark { IsMarkOf shared.now mark }
 {
+    let mut caller = caller_of(rt, shared, &pass);
     shared.learn(&mut pass, mark);
-    check_find(rt, shared, &mut pass, number, TURNS, Got::Found(value));
+    let found = Got::Found(value);
+    check_find(rt, shared, &mut pass, &mut caller, number, TURNS, found);
 }
 
 /// A row from each of two threads.
@@ -93,8 +94,8 @@ fn both_learn<R: Threads + Abort + Sync>(
     one: (Pass, Mark),
     two: (Pass, Mark),
 )
-    requires one { IsIdle shared.now one.0 × IsMarkOf shared.now one.1 }
-    requires two { IsIdle shared.now two.0 × IsMarkOf shared.now two.1 }
+    requires one { IsNew shared.now one.0 × IsMarkOf shared.now one.1 }
+    requires two { IsNew shared.now two.0 × IsMarkOf shared.now two.1 }
 {
     let (three, mark) = one;
     let (four, other) = two;

@@ -1,13 +1,14 @@
-//! One thread opens a table, and runs machines over it: the worked rows of looks and changes.
+//! One thread opens a table, and calls it: the worked rows of gets and changes.
 ghost use Rattle.std.specs.Prelude.{◌≤◌};
 ghost use Rattle.art_shared_uses.specs.Clients.{IsNew, Writes};
 ghost use Rattle.art_step.specs.Views.{last_counter};
 
-use crate::clients::{check_ask, check_find, check_put, check_take, last_of, opened, writer_of};
+use crate::clients::{caller_of, check_find, check_put, check_take, last_of, opened};
 use crate::closing::ended;
+use art_call::Caller;
 use art_cell::{Cell, Pool};
-use art_change::{Outcome, Writer};
-use art_find::Got;
+use art_change::Outcome;
+use art_seek::Outcome as Got;
 use art_shared::{Pass, Shared};
 use art_step::Sizes;
 use std::alloc::Global;
@@ -22,6 +23,9 @@ const ONE_PASS: Sizes = Sizes {
     passes: 1,
 };
 
+/// Turns enough for a get that nobody disturbs.
+const TURNS: u32 = 1_000;
+
 /// A table of one pass, and the pass.
 fn alone(rt: &impl Abort, alloc: Global, sizes: &Sizes, counter_start: u64) -> (Shared, Pass)
     requires { counter_start ≤ last_counter }
@@ -35,10 +39,11 @@ fn alone(rt: &impl Abort, alloc: Global, sizes: &Sizes, counter_start: u64) -> (
 #[test]
 fn a_get_on_an_empty_table_takes_three_steps(rt: HostRuntime) {
     let (shared, mut pass) = alone(&rt, rt.alloc(), &ONE_PASS, 0);
-    check_find(&rt, &shared, &mut pass, 7, 0, Got::Busy);
-    check_find(&rt, &shared, &mut pass, 7, 2, Got::Busy);
-    check_find(&rt, &shared, &mut pass, 7, 3, Got::Absent);
-    check_find(&rt, &shared, &mut pass, 7, 1_000, Got::Absent);
+    let mut caller = caller_of(&rt, &shared, &pass);
+    check_find(&rt, &shared, &mut pass, &mut caller, 7, 0, Got::Busy);
+    check_find(&rt, &shared, &mut pass, &mut caller, 7, 2, Got::Busy);
+    check_find(&rt, &shared, &mut pass, &mut caller, 7, 3, Got::Absent);
+    check_find(&rt, &shared, &mut pass, &mut caller, 7, 1_000, Got::Absent);
 }
 
 /// Rows with the numbers from `first` on before `end` are inserted: each is new, found, and keeps its value.
@@ -46,22 +51,22 @@ fn fills(
     rt: &impl Abort,
     shared: &Shared,
     pass: &mut Pass,
-    writer: &mut Writer,
+    caller: &mut Caller,
     first: u16,
     end: u16,
 )
-    requires { Writes shared.now pass.old writer.old }
-    ensures { Writes shared.now pass.new writer.new }
+    requires { Writes shared.now pass.old caller.old }
+    ensures { Writes shared.now pass.new caller.new }
 {
     for number in first..end {
         let value = u64::from(number);
-        check_put(rt, shared, pass, writer, number, value, Outcome::New);
-        check_ask(rt, shared, pass, writer, number, Got::Found(value));
+        check_put(rt, shared, pass, caller, number, value, Outcome::New);
+        check_find(rt, shared, pass, caller, number, TURNS, Got::Found(value));
         check_put(
             rt,
             shared,
             pass,
-            writer,
+            caller,
             number,
             1_000,
             Outcome::Present(value),
@@ -74,18 +79,18 @@ fn empties(
     rt: &impl Abort,
     shared: &Shared,
     pass: &mut Pass,
-    writer: &mut Writer,
+    caller: &mut Caller,
     first: u16,
     end: u16,
 )
-    requires { Writes shared.now pass.old writer.old }
-    ensures { Writes shared.now pass.new writer.new }
+    requires { Writes shared.now pass.old caller.old }
+    ensures { Writes shared.now pass.new caller.new }
 {
     for number in first..end {
         let value = u64::from(number);
-        check_take(rt, shared, pass, writer, number, Outcome::Gone(value));
-        check_ask(rt, shared, pass, writer, number, Got::Absent);
-        check_take(rt, shared, pass, writer, number, Outcome::Absent);
+        check_take(rt, shared, pass, caller, number, Outcome::Gone(value));
+        check_find(rt, shared, pass, caller, number, TURNS, Got::Absent);
+        check_take(rt, shared, pass, caller, number, Outcome::Absent);
     }
 }
 
@@ -93,10 +98,9 @@ fn empties(
 /// Node48, 5 a Node256.
 fn check_root(rt: &impl Abort, alloc: Global, rows: u16, gone: u16, kind: u64) {
     let (shared, mut pass) = alone(rt, alloc, &ONE_PASS, 0);
-    let mut writer = writer_of(&shared, &pass);
-    fills(rt, &shared, &mut pass, &mut writer, 0, rows);
-    empties(rt, &shared, &mut pass, &mut writer, 0, gone);
-    let _ = writer.end();
+    let mut caller = caller_of(rt, &shared, &pass);
+    fills(rt, &shared, &mut pass, &mut caller, 0, rows);
+    empties(rt, &shared, &mut pass, &mut caller, 0, gone);
     let closed = ended(rt, alloc, shared, Vec::new(alloc), pass);
     assert_eq!(rt;
         closed.word(Cell::Anchor, 1) % 8,
@@ -129,21 +133,21 @@ fn nodes_shrink_at_thirty_six_twelve_three_and_one(rt: HostRuntime) {
     }
 }
 
-/// Nothing waits in the limbo of the writer.
-fn check_limbo(rt: &impl Abort, writer: Writer) {
-    assert_eq!(rt; writer.end().room(), 64);
+/// Nothing waits in the limbo of the pass.
+fn check_limbo(rt: &impl Abort, caller: &Caller) {
+    assert_eq!(rt; caller.limbo().room(), 64);
 }
 
 /// Two rows stand below one byte, and two come below another; when these are gone, the node of the first two is the root again.
 #[test]
 fn a_prefix_is_split_and_a_node_merged(rt: HostRuntime) {
     let (shared, mut pass) = alone(&rt, rt.alloc(), &ONE_PASS, 0);
-    let mut writer = writer_of(&shared, &pass);
-    fills(&rt, &shared, &mut pass, &mut writer, 257, 259);
-    fills(&rt, &shared, &mut pass, &mut writer, 513, 515);
-    empties(&rt, &shared, &mut pass, &mut writer, 513, 515);
-    check_ask(&rt, &shared, &mut pass, &writer, 258, Got::Found(258));
-    check_limbo(&rt, writer);
+    let mut caller = caller_of(&rt, &shared, &pass);
+    fills(&rt, &shared, &mut pass, &mut caller, 257, 259);
+    fills(&rt, &shared, &mut pass, &mut caller, 513, 515);
+    empties(&rt, &shared, &mut pass, &mut caller, 513, 515);
+    check_find(&rt, &shared, &mut pass, &mut caller, 258, TURNS, Got::Found(258));
+    check_limbo(&rt, &caller);
     let closed = ended(&rt, rt.alloc(), shared, Vec::new(rt.alloc()), pass);
     let counts = closed.in_tree(&rt, rt.alloc());
     assert_eq!(rt; (counts.of(Pool::Leaves), counts.of(Pool::N4)), (2, 1));
@@ -165,11 +169,11 @@ fn check_refused(
     requires { counter_start ≤ last_counter }
 {
     let (shared, mut pass) = alone(rt, alloc, sizes, counter_start);
-    let mut writer = writer_of(&shared, &pass);
-    fills(rt, &shared, &mut pass, &mut writer, 0, number);
-    check_put(rt, &shared, &mut pass, &mut writer, number, 1, wanted);
-    check_ask(rt, &shared, &mut pass, &writer, number, Got::Absent);
-    check_limbo(rt, writer);
+    let mut caller = caller_of(rt, &shared, &pass);
+    fills(rt, &shared, &mut pass, &mut caller, 0, number);
+    check_put(rt, &shared, &mut pass, &mut caller, number, 1, wanted);
+    check_find(rt, &shared, &mut pass, &mut caller, number, TURNS, Got::Absent);
+    check_limbo(rt, &caller);
     let closed = ended(rt, alloc, shared, Vec::new(alloc), pass);
     let free = sizes.leaves.wrapping_sub(u32::from(number));
     assert_eq!(rt; closed.free(Pool::Leaves), free);

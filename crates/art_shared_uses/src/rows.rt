@@ -1,13 +1,13 @@
 //! Four threads, each with a pass of its own, insert rows; a fifth pass finds them, and as many numbers are gone.
 ghost use Rattle.std.specs.Prelude.{IfOk};
 ghost use Rattle.art_shared.specs.Tables.{IsPassOf};
-ghost use Rattle.art_shared_uses.specs.Clients.{AreNew, AreOf, IsIdle, IsNew};
+ghost use Rattle.art_shared_uses.specs.Clients.{AreNew, AreOf, IsNew};
 
-use crate::clients::{check_find, check_put, last_of, opened, writer_of};
+use crate::clients::{caller_of, check_find, check_put, last_of, opened};
 use crate::closing::ended;
 use art_cell::Pool;
 use art_change::Outcome;
-use art_find::Got;
+use art_seek::Outcome as Got;
 use art_shared::{Pass, Shared};
 use art_step::Sizes;
 use std::alloc::AllocError;
@@ -37,7 +37,7 @@ fn fills(rt: &impl Abort, shared: &Shared, mut pass: Pass) -> Pass
     requires { IsNew shared.now pass }
     ensures { IsPassOf shared.now result }
 {
-    let mut writer = writer_of(shared, &pass);
+    let mut caller = caller_of(rt, shared, &pass);
     let first = u16::try_from(pass.number()).unwrap_or(0);
     for row in 0..ROWS {
         let number = first.wrapping_mul(ROWS).wrapping_add(row);
@@ -46,13 +46,12 @@ fn fills(rt: &impl Abort, shared: &Shared, mut pass: Pass) -> Pass
             rt,
             shared,
             &mut pass,
-            &mut writer,
+            &mut caller,
             number,
             value,
             Outcome::New,
         );
     }
-    let _ = writer.end();
     pass
 }
 
@@ -77,12 +76,13 @@ fn all_fill<R: Threads + Abort + Sync>(
 
 /// All of the rows are found.
 fn check_rows(rt: &impl Abort, shared: &Shared, pass: &mut Pass)
-    requires { IsIdle shared.now pass.old }
-    ensures { IsIdle shared.now pass.new }
+    requires { IsNew shared.now pass.old }
+    ensures { IsPassOf shared.now pass.new }
 {
+    let mut caller = caller_of(rt, shared, pass);
     for number in 0..4 * ROWS {
         let wanted = Got::Found(u64::from(number));
-        check_find(rt, shared, pass, number, TURNS, wanted);
+        check_find(rt, shared, pass, &mut caller, number, TURNS, wanted);
     }
 }
 

@@ -1,12 +1,13 @@
 //! Two threads, each with a pass of its own, insert rows; and a third pass finds them.
 ghost use Rattle.art_shared.specs.Tables.{IsPassOf};
-ghost use Rattle.art_shared_uses.specs.Clients.{IsIdle, IsNew, Writes};
+ghost use Rattle.art_shared_uses.specs.Clients.{IsNew, Writes};
 
-use crate::clients::{check_find, check_put, check_take, last_of, opened, writer_of};
+use crate::clients::{caller_of, check_find, check_put, check_take, last_of, opened};
 use crate::closing::{ended, with_last};
+use art_call::Caller;
 use art_cell::Cell;
-use art_change::{Outcome, Writer};
-use art_find::Got;
+use art_change::Outcome;
+use art_seek::Outcome as Got;
 use art_shared::{Pass, Shared};
 use art_step::Sizes;
 use std::process::Abort;
@@ -30,14 +31,14 @@ const ROWS: u16 = 250;
 const TURNS: u32 = 1_000;
 
 /// Inserts a row, which is new, and removes every tenth again, which had its value.
-fn round(rt: &impl Abort, shared: &Shared, pass: &mut Pass, writer: &mut Writer, number: u16)
-    requires { Writes shared.now pass.old writer.old }
-    ensures { Writes shared.now pass.new writer.new }
+fn round(rt: &impl Abort, shared: &Shared, pass: &mut Pass, caller: &mut Caller, number: u16)
+    requires { Writes shared.now pass.old caller.old }
+    ensures { Writes shared.now pass.new caller.new }
 {
     let value = u64::from(number);
-    check_put(rt, shared, pass, writer, number, value, Outcome::New);
+    check_put(rt, shared, pass, caller, number, value, Outcome::New);
     if number % 10 == 9 {
-        check_take(rt, shared, pass, writer, number, Outcome::Gone(value));
+        check_take(rt, shared, pass, caller, number, Outcome::Gone(value));
     }
 }
 
@@ -46,11 +47,10 @@ fn works(rt: &impl Abort, shared: &Shared, mut pass: Pass, first: u16) -> Pass
     requires { IsNew shared.now pass }
     ensures { IsPassOf shared.now result }
 {
-    let mut writer = writer_of(shared, &pass);
+    let mut caller = caller_of(rt, shared, &pass);
     for row in 0..ROWS {
-        round(rt, shared, &mut pass, &mut writer, first.wrapping_add(row));
+        round(rt, shared, &mut pass, &mut caller, first.wrapping_add(row));
     }
-    let _ = writer.end();
     pass
 }
 
@@ -79,11 +79,12 @@ fn left(number: u16) -> Got {
 
 /// All of the rows are found as they were left.
 fn check_rows(rt: &impl Abort, shared: &Shared, pass: &mut Pass)
-    requires { IsIdle shared.now pass.old }
-    ensures { IsIdle shared.now pass.new }
+    requires { IsNew shared.now pass.old }
+    ensures { IsPassOf shared.now pass.new }
 {
+    let mut caller = caller_of(rt, shared, pass);
     for number in 0..2 * ROWS {
-        check_find(rt, shared, pass, number, TURNS, left(number));
+        check_find(rt, shared, pass, &mut caller, number, TURNS, left(number));
     }
 }
 

@@ -1,15 +1,15 @@
 //! Gets and looks from their pin to their close, over a world of one thread.
 ghost use Rattle.std.specs.Prelude.{◌≤◌, length};
+ghost use Rattle.art_call.specs.Calls.{IsCaller};
 ghost use Rattle.art_epoch.specs.Pins.{MayPin};
-ghost use Rattle.art_world.specs.Stepper.{OnlyStepped, view_of};
+ghost use Rattle.art_world.specs.Stepper.{OnlyStepped, sizes_of, view_of};
 
-use crate::gets::check_get;
 use crate::keys::key_of;
-use crate::worlds::opened;
-use art_find::Got;
+use crate::worlds::{caller_of, opened};
+use art_call::{Caller, Outcome};
 use art_key::Bound;
 use art_look::{Seen, Trail};
-use art_seek::{Aim, RangeSought, Seek, Seeker, Stepped, step};
+use art_seek::{Aim, Seek, Stepped, step};
 use art_step::{EpochSteps, Sizes};
 use art_world::Stepper;
 use std::alloc::Global;
@@ -25,47 +25,69 @@ const EIGHT_LEAVES: Sizes = Sizes {
     passes: 2,
 };
 
+/// A get of the key of 7 that is begun, and then run, ends so in so many turns, and met no failure.
+fn check_get(
+    rt: &impl Abort,
+    pass: &mut Stepper<'_>,
+    caller: &mut Caller,
+    turns: u32,
+    wanted: Outcome,
+)
+    requires { IsCaller (sizes_of pass.old) (view_of pass.old) caller.old }
+    ensures only { OnlyStepped pass.old pass.new }
+    ensures may { IsCaller (sizes_of pass.new) (view_of pass.new) caller.new }
+{
+    let key = key_of([7]);
+    caller.begin_get(&key, turns);
+    let outcome = caller.run(pass);
+    assert_eq!(rt; outcome, wanted);
+    assert_eq!(rt; caller.restarts(), 0);
+}
+
 #[test]
-fn a_seeker_gets_from_an_empty_tree_in_three_turns(rt: HostRuntime) {
+fn a_begun_get_of_an_empty_tree_takes_three_turns(rt: HostRuntime) {
     let mut world = opened(&rt, rt.alloc(), &EIGHT_LEAVES);
-    let mut seeker = Seeker::new();
+    let mut caller = caller_of(&rt, &world, &EIGHT_LEAVES, 1);
     let mut pass = world.at(1);
-    check_get(&rt, &mut pass, &mut seeker, 0, Got::Busy);
-    check_get(&rt, &mut pass, &mut seeker, 2, Got::Busy);
-    check_get(&rt, &mut pass, &mut seeker, 3, Got::Absent);
-    check_get(&rt, &mut pass, &mut seeker, 1_000, Got::Absent);
+    check_get(&rt, &mut pass, &mut caller, 0, Outcome::Busy);
+    check_get(&rt, &mut pass, &mut caller, 2, Outcome::Busy);
+    check_get(&rt, &mut pass, &mut caller, 3, Outcome::Absent);
+    check_get(&rt, &mut pass, &mut caller, 1_000, Outcome::Absent);
     assert_eq!(rt; world.pass_word(1), 0);
 }
 
-/// A look from the key of 7 on sees so much in so many turns, and met no failure.
+/// A look from the key of 7 on that is begun, and then run, ends so in so many turns, and met no failure.
 fn check_look(
     rt: &impl Abort,
     pass: &mut Stepper<'_>,
-    seeker: &mut Seeker,
+    caller: &mut Caller,
     turns: u32,
-    seen: Option<Seen>,
+    wanted: Outcome,
 )
-    requires { MayPin (view_of pass.old) }
+    requires { IsCaller (sizes_of pass.old) (view_of pass.old) caller.old }
     ensures only { OnlyStepped pass.old pass.new }
-    ensures may { MayPin (view_of pass.new) }
+    ensures may { IsCaller (sizes_of pass.new) (view_of pass.new) caller.new }
 {
-    let sought = seeker.look(pass, &key_of([7]), &Bound::End, turns);
-    assert_eq!(rt; sought, RangeSought { seen, restarts: 0 });
+    let key = key_of([7]);
+    caller.begin_look(&key, &Bound::End, turns);
+    let outcome = caller.run(pass);
+    assert_eq!(rt; outcome, wanted);
+    assert_eq!(rt; caller.restarts(), 0);
 }
 
 #[test]
-fn a_seeker_sees_all_of_an_empty_tree(rt: HostRuntime) {
+fn a_begun_look_sees_all_of_an_empty_tree(rt: HostRuntime) {
     let mut world = opened(&rt, rt.alloc(), &EIGHT_LEAVES);
-    let mut seeker = Seeker::new();
+    let mut caller = caller_of(&rt, &world, &EIGHT_LEAVES, 1);
     let all = Seen {
         lo: key_of([7]),
         hi: Bound::End,
         row: None,
     };
     let mut pass = world.at(1);
-    check_look(&rt, &mut pass, &mut seeker, 0, None);
-    check_look(&rt, &mut pass, &mut seeker, 2, None);
-    check_look(&rt, &mut pass, &mut seeker, 3, Some(all));
+    check_look(&rt, &mut pass, &mut caller, 0, Outcome::Busy);
+    check_look(&rt, &mut pass, &mut caller, 2, Outcome::Busy);
+    check_look(&rt, &mut pass, &mut caller, 3, Outcome::Seen(all));
     assert_eq!(rt; world.pass_word(1), 0);
 }
 

@@ -3,4 +3,4 @@ use Rattle.art_runs_uses.proofs.Ready.{opened_writes}
 use Rattle.art_runs_uses.proofs.clients.opened.Goals as goal
 
 pub returns : goal.returns
-returns g c = opened_writes c.args.sizes.now c.args.counter_start c.expect-world.result c.new-writer.result (search rules) c.requires.passes c.new-writer.ensures
+returns g c = opened_writes c.args.sizes.now c.args.counter_start c.expect-world.result c.new-caller.result (search rules) c.requires.some c.new-caller.ensures

@@ -9,4 +9,4 @@ returns g c =
     let t = c.args.shared.now in
     let at = c.at-stepper.ensures in
     subst (λ (a : Pass). Writes t a c.insert.new.self) (search rules)
-    (writes_still t c.args.pass.now c.at-stepper.result c.insert.new.steps c.requires.of at.pass at.basis c.insert.ensures.only c.insert.new.self c.insert.ensures.may)
+    (writes_still t c.args.pass.now c.at-stepper.result c.insert.new.steps c.requires.of at.pass at.basis c.insert.ensures.only c.insert.new.self c.insert.ensures.called.1.caller)

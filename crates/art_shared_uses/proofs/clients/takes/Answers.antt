@@ -9,4 +9,4 @@ returns g c =
     let t = c.args.shared.now in
     let at = c.at-stepper.ensures in
     subst (λ (a : Pass). Writes t a c.remove.new.self) (search rules)
-    (writes_still t c.args.pass.now c.at-stepper.result c.remove.new.steps c.requires.of at.pass at.basis c.remove.ensures.only c.remove.new.self c.remove.ensures.may)
+    (writes_still t c.args.pass.now c.at-stepper.result c.remove.new.steps c.requires.of at.pass at.basis c.remove.ensures.only c.remove.new.self c.remove.ensures.called.1.caller)

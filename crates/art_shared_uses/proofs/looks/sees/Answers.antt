@@ -1,15 +1,12 @@
 use Rattle.std.proofs.Common.{rules, subst}
 use Rattle.art_shared.specs.declared.pass.Pass.{Pass}
-use Rattle.art_shared.specs.Stepper.{only_then, view_of}
-use Rattle.art_shared_uses.specs.Clients.{IsIdle}
-use Rattle.art_shared_uses.proofs.Lent.{idle_still}
+use Rattle.art_shared_uses.specs.Clients.{Writes}
+use Rattle.art_shared_uses.proofs.Lent.{writes_still}
 use Rattle.art_shared_uses.proofs.looks.sees.Goals as goal
 
 pub returns : goal.returns
 returns c =
     let t = c.args.shared.now in
     let at = c.at-stepper.ensures in
-    let a = c.at-stepper.result in
-    let only = only_then a c.look_from-seen.new.steps c.unpin.new.steps (only_then a c.pin.new.steps c.look_from-seen.new.steps c.pin.ensures.only c.look_from-seen.ensures.only) c.unpin.ensures.only in
-    subst (λ (p : Pass). IsIdle t p) (search rules)
-    (idle_still t c.args.pass.now a c.unpin.new.steps c.requires.of at.pass at.basis only (view_of c.look_from-seen.new.steps) c.look_from-seen.ensures.free c.unpin.ensures.row)
+    subst (λ (a : Pass). Writes t a c.look.new.self) (search rules)
+    (writes_still t c.args.pass.now c.at-stepper.result c.look.new.steps c.requires.of at.pass at.basis c.look.ensures.only c.look.new.self c.look.ensures.called.1.caller)

@@ -1,5 +1,5 @@
-use Rattle.art_shared_uses.specs.Clients.{IsIdle}
+use Rattle.art_shared_uses.specs.Clients.{Writes}
 use Rattle.art_shared_uses.proofs.threads.check_rows.Given as goal
 
 abbrev pub invariant-loop-number : goal.invariant-loop-number
-invariant-loop-number g l = IsIdle l.shared l.pass
+invariant-loop-number g l = Writes l.shared l.pass l.caller

@@ -1,0 +1,11 @@
+use Rattle.std.proofs.Common.{sym, subst}
+use Rattle.art_call.specs.Calls.{IsCaller}
+use Rattle.art_step.specs.declared.views.Sizes.{Sizes}
+use Rattle.art_world.specs.Stepper.{only_sizes, view_of}
+use Rattle.art_world_uses.proofs.gets.check_get.Goals as goal
+
+pub returns-clause-may : goal.returns-clause-may
+returns-clause-may g c =
+    let b = c.get-outcome.new.steps in
+    let e = c.get-outcome.ensures in
+    subst (λ (z : Sizes). IsCaller z (view_of b) c.get-outcome.new.self) (sym (only_sizes c.args.stepper.now b e.only)) e.called.1.caller
