@@ -17,7 +17,7 @@ use Rattle.art_erase.specs.ArtAttempt.declared.rooms.Room.{Room}
 use Rattle.art_change.specs.Asking.{PassesAmong, attempt_in}
 use Rattle.art_change.specs.Tries as tries
 use Rattle.art_change.specs.Tries.{IsOverlapBy, ended_at, key_of, of_entered, of_erased}
-use Rattle.art_change.specs.Writes.{Fits, StageFits, asks, asks_at, or_busy, outcome_at, outcome_of}
+use Rattle.art_change.specs.Writes.{Fits, StageFits, asks, asks_at, or_busy, outcome_of}
 use Rattle.art_change.specs.declared.asked.Answer.{Answer}
 use Rattle.art_change.specs.declared.asked.Answer.TheVariants as told
 use Rattle.art_change.specs.declared.asked.Asked.{Asked}
@@ -79,13 +79,6 @@ outcome_overlaps left (tried.Full pool) o is overlaps = absurd (busy_apart left 
 outcome_overlaps left (tried.Exhausted c) o is overlaps = cc
 outcome_overlaps left tried.Overlaps o is overlaps = refl
 outcome_overlaps left tried.Anew o is overlaps = cc
-
--- a write that has ended has its outcome
-pub ended_apart : (s : Stage) (had o : Outcome) → outcome_at s had ≡ Some o → had ≢ Overlaps → o ≢ Overlaps
-ended_apart stage.Opening had o is apart overlaps = cc
-ended_apart stage.Trying had o is apart overlaps = cc
-ended_apart stage.Closing had o is apart overlaps = cc
-ended_apart stage.Ended had o is apart overlaps = apart (same_Some {A = Outcome} had o is ∙ overlaps)
 
 -- ---- where keys are apart
 

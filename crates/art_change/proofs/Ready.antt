@@ -1,13 +1,12 @@
 -- A pass that is ready for a write is so again after it.
 use Rattle.std.proofs.Common.{◌≡◌, ℕ, List, [], true, Option, Some, None, refl, sym, ap, ◌∙◌, subst}
-use Rattle.std.proofs.lemmas.Option.{same_Some}
 use Rattle.art_erase.specs.ArtAttempt.declared.rooms.Room.{Room}
 use Rattle.art_cell.specs.declared.cells.Link.{Link}
 use Rattle.art_cell.specs.declared.cells.Link.TheVariants.{Leaf as leaf, Node as node}
 use Rattle.art_change.proofs.Answered.{answered, left_opened}
 use Rattle.art_change.specs.Tries.{IsRoom, key_of, value_of}
 use Rattle.art_change.specs.declared.tries.Job.{Job}
-use Rattle.art_change.specs.Writes.{Fits, HasGround, IsClosing, IsDone, IsReady, MayWrite, StageFits, ended_at, gone_by, outcome_at}
+use Rattle.art_change.specs.Writes.{Fits, IsClosing, IsDone, IsReady, MayWrite, StageFits, ended_at, gone_by, outcome_at}
 use Rattle.art_change.specs.declared.writes.Write.{Write}
 use Rattle.art_change.specs.declared.writes.Outcome.{Outcome}
 use Rattle.art_change.specs.declared.writes.Outcome.TheVariants.{New, Present, Gone, Absent, Full, Exhausted, Overlaps, Busy, Crowded}
@@ -103,28 +102,3 @@ module _ (z : Sizes) (u : View) (own : ℕ) (s : Stock) (ps : List Place) (m : W
 
   pub ready_again : (o : Outcome) → ended_at m ≡ Some o → Fits z u ps m r qs v → IsReady z v own qs r.stock
   ready_again o is fits = by_stage m.stage o is fits.stage
-
--- ---- the ground of its outcome
-
-module _ (z : Sizes) (u : View) (ps : List Place) (m : Write) (r : Room) (qs : List Place) (v : View) where
-  ground_at : (s : Stage) (o : Outcome) → outcome_at s m.outcome ≡ Some o → StageFits z u ps s m r qs v → IsDone z u ps o m r qs v
-  ground_at stage.Opening o is fits = cc
-  ground_at stage.Trying o is fits = cc
-  ground_at stage.Closing o is fits = cc
-  ground_at stage.Ended o is fits = subst (λ (a : Outcome). IsDone z u ps a m r qs v) (same_Some {A = Outcome} m.outcome o is) fits
-
-  outcome_told : (s : Stage) (o : Outcome) → outcome_at s m.outcome ≡ Some o → m.outcome ≡ o
-  outcome_told stage.Opening o is = cc
-  outcome_told stage.Trying o is = cc
-  outcome_told stage.Closing o is = cc
-  outcome_told stage.Ended o is = same_Some {A = Outcome} m.outcome o is
-
-  pub ends_with : (o : Outcome) → ended_at m ≡ Some o → Fits z u ps m r qs v → HasGround z u m.job ps m.turns m.restarts o r qs v
-  ends_with o is fits = record {
-    machine = m;
-    job_is = refl;
-    turns_are = refl;
-    restarts_are = refl;
-    outcome_is = outcome_told m.stage o is;
-    done = ground_at m.stage o is fits.stage;
-  }

@@ -22,8 +22,7 @@ use Rattle.art_change.specs.declared.writes.Outcome.TheVariants.{New, Present, G
 use Rattle.art_change.specs.declared.writes.Stage.{Stage}
 use Rattle.art_change.specs.declared.writes.Stage.TheVariants as stage
 use Rattle.art_change.specs.declared.writes.Write.{Write}
-use Rattle.art_change.specs.declared.writers.Writer.{Writer}
-use Rattle.art_epoch.specs.Limbo.{IsLimbo, places_of}
+use Rattle.art_epoch.specs.Limbo.{IsLimbo}
 use Rattle.art_epoch.specs.Pins.{MayPin}
 use Rattle.art_epoch.specs.declared.asked.Asked.{Asked as FrameAsked}
 use Rattle.art_epoch.specs.declared.asked.Asked.TheVariants.{Free}
@@ -275,11 +274,6 @@ pub record IsFresh (z : Sizes) (u : View) (own : ℕ) : Type 0 where
   pub may : MayPin u
   pub hand : u.hand ≡ []
   pub limbo : u.limbo ≡ []
-
--- a pass that is ready, of a table with so many numbers
-pub record IsWriter (z : Sizes) (u : View) (w : Writer) : Type 0 where
-  pub sizes : w.room.sizes ≡ z
-  pub ready : IsReady z u w.own (places_of w.limbo) w.room.stock
 
 -- it ended so, with what its outcome came of: as a machine of this job has it that was run to its end, with these turns and restarts
 pub record HasGround (z : Sizes) (u : View) (j : Job) (ps : List Place) (turns restarts : ℕ) (o : Outcome) (r : Room) (qs : List Place)

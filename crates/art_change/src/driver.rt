@@ -1,23 +1,22 @@
 //! Makes the steps of a write.
-ghost use Rattle.std.specs.Prelude.{◌≡◌, ◌≢◌, ℕ, ◌+◌, ◌<◌, ◌≤◌, List, None, Some};
+ghost use Rattle.std.specs.Prelude.{◌≡◌, ◌+◌, ◌<◌, ◌≤◌, List, None, Some};
 ghost use Rattle.art_erase.specs.ArtAttempt.declared.asked.Asked.{Asked as AttemptAsked};
 ghost use Rattle.art_erase.specs.ArtAttempt.declared.asked.Asked.TheVariants.{Change as change_asked};
 ghost use Rattle.art_change.specs.Asking.{Answers, IsAllowed, PassesAmong};
-ghost use Rattle.art_change.specs.Tries.{IsRoom, SameKey, deed_at, key_of, value_of};
+ghost use Rattle.art_change.specs.Tries.{SameKey, deed_at, key_of};
 ghost use Rattle.art_change.specs.Made.{IsMadeBy, key_by};
 ghost use Rattle.art_change.specs.Asking.{attempt_in};
-ghost use Rattle.art_change.specs.Writes.{Fits, HasAnswered, HasCounted, HasGround, IsApart, IsReady, RestartsBy, WillRefuse, asks, deed_at as deed_of};
-ghost use Rattle.art_change.specs.Writes.{ended_at, most_steps, steps_left};
+ghost use Rattle.art_change.specs.Writes.{Fits, IsApart, RestartsBy, WillRefuse, asks, deed_at as deed_of};
+ghost use Rattle.art_change.specs.Writes.{ended_at, steps_left};
 ghost use Rattle.art_change.specs.declared.asked.Asked.TheVariants.{Attempt as attempt_asked};
 ghost use Rattle.art_change.specs.declared.writes.Outcome.{Outcome as OutcomeOf};
-ghost use Rattle.art_change.specs.declared.writes.Outcome.TheVariants.{Overlaps as overlaps};
 ghost use Rattle.art_epoch.specs.Limbo.{places_of};
 ghost use Rattle.art_epoch.specs.declared.limbo.Place.{Place};
 ghost use Rattle.art_erase.specs.ArtMake.declared.asked.Asked.{Asked as ChangeAsked};
 ghost use Rattle.art_step.specs.Histories.{AreApart};
 ghost use Rattle.art_step.specs.declared.views.View.{View};
 
-use crate::{Answer, Asked, Job, Trying, Write, Written};
+use crate::{Answer, Asked, Trying, Write};
 use art_epoch::{Limbo, make as make_frame};
 use art_erase::art_attempt::{Room, make as make_insert};
 use art_erase::make as make_removal;
@@ -118,38 +117,5 @@ pub fn finish<S: EpochSteps>(steps: &mut S, write: &mut Write, room: &mut Room, 
             return;
         }
         step(steps, write, room, limbo);
-    }
-}
-
-/// Writes what the room has, in so many turns. The pass `own` is idle, with nothing in hand, before and after.
-pub(crate) fn write<S: EpochSteps>(
-    steps: &mut S,
-    job: Job,
-    own: u32,
-    turns: u32,
-    room: &mut Room,
-    limbo: &mut Limbo,
-) -> Written
-    requires admitted { S.admits steps.old (key_of job room.old).items }
-    requires ready { IsReady (S.sizes steps.old) (S.view steps.old) own (places_of limbo.old) room.old.stock }
-    requires room { IsRoom (S.sizes steps.old) job room.old }
-    ensures only { S.only steps.old steps.new }
-    ensures key { SameKey job room.old room.new }
-    ensures sizes { room.new.sizes ≡ room.old.sizes }
-    ensures answered { HasAnswered (S.sizes steps.old) (S.view steps.old) job result.outcome (key_of job room.old) (value_of job room.old)
-        (places_of limbo.new) (S.view steps.new) }
-    ensures grounds { HasGround (S.sizes steps.old) (S.view steps.old) job (places_of limbo.old) turns result.restarts result.outcome
-        room.new (places_of limbo.new) (S.view steps.new) }
-    ensures apart { AreApart (S.admits steps.old) → result.outcome ≢ overlaps }
-    ensures counted { HasCounted (S.sizes steps.old) (S.view steps.old) turns result.restarts result.outcome (S.view steps.new) }
-    ensures ready { IsReady (S.sizes steps.old) (S.view steps.new) own (places_of limbo.new) room.new.stock }
-    ensures steps { (S.view steps.new).steps ≤
-        (S.view steps.old).steps + most_steps turns (S.sizes steps.old).passes (places_of limbo.old) }
-{
-    let mut write = Write::new(job, own, turns, room, limbo);
-    finish(steps, &mut write, room, limbo);
-    Written {
-        outcome: write.ended().unwrap(),
-        restarts: write.restarts(),
     }
 }

@@ -33,13 +33,12 @@
 //! refusal), and the frame is closed: the pass is idle and has nothing in hand. `Busy` comes only where as many steps were made
 //! as turns were given, and these are few beside the failures that were met; each restart was a failure (`HasCounted`). `Overlaps`
 //! never comes where no admitted key begins another, as those of one schema never do: the check of such a place shows a tree with
-//! two keys, both admitted, of which one begins the other (`apart` of `step` and of the calls).
+//! two keys, both admitted, of which one begins the other (`apart` of `step` and of `finish`).
 #![tactic(auto)]
 
 mod asked;
 mod driver;
 mod tries;
-mod writers;
 mod writes;
 
 pub use art_erase::{art_attempt, art_gather};
@@ -47,5 +46,4 @@ pub use art_find;
 pub use asked::{Answer, Asked};
 pub use driver::{Stepped, finish, step};
 pub use tries::{Job, Tried, Trying};
-pub use writers::{Writer, Written};
 pub use writes::{Outcome, Stage, Write};
