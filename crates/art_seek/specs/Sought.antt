@@ -1,15 +1,9 @@
 -- What a client sees of a get or a look, from its pin to its close.
-use Rattle.std.specs.Prelude.{◌≡◌, ℕ, ◌+◌, ◌*◌, ◌<◌, ◌≤◌, List, [], map, Option, Some, None}
+use Rattle.std.specs.Prelude.{◌≡◌, ℕ, ◌+◌, ◌*◌, ◌<◌, ◌≤◌, List, [], map}
 use Rattle.art_epoch.specs.Limbo.{IsLimbo}
 use Rattle.art_epoch.specs.Pins.{MayPin}
 use Rattle.art_epoch.specs.declared.limbo.Place.{Place}
-use Rattle.art_find.specs.Driven.{get_done}
-use Rattle.art_find.specs.declared.got.Got.{Got}
-use Rattle.art_find.specs.declared.got.Got.TheVariants as got
-use Rattle.art_seek.specs.declared.walks.Outcome.{Outcome}
-use Rattle.art_seek.specs.declared.walks.Outcome.TheVariants.{Found, Absent, Seen, Busy}
 use Rattle.art_step.specs.Steps.Epoch.{labelled}
-use Rattle.art_step.specs.declared.deeds.Deed.{Deed}
 use Rattle.art_step.specs.declared.views.View.{View}
 
 -- the pass is idle and holds nothing, so it may begin again: what it has in hand is as it was, and so is what waits, but that each
@@ -36,16 +30,3 @@ pub record UsedTurns (u : View) (turns restarts : ℕ) (v : View) : Type 0 where
 pub record HasSpent (u : View) (turns left : ℕ) (v : View) : Type 0 where
   pub all : v.steps + left ≡ u.steps + turns + 3
   pub few : turns + 30000 * u.failures < left + 30000 * (v.failures + 1)
-
--- how a get ends
-abbrev pub got_of : Outcome → Got
-got_of (Found value) = got.Found value
-got_of Absent = got.Absent
-got_of Seen = got.Busy
-got_of Busy = got.Busy
-
--- its event, if it made one
-abbrev pub told_by_get : List ℕ → Got → Option Deed
-told_by_get k (got.Found value) = Some (get_done k (Some value))
-told_by_get k got.Absent = Some (get_done k None)
-told_by_get k got.Busy = None

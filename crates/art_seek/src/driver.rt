@@ -1,6 +1,5 @@
 //! Makes the steps of a seek.
-ghost use Rattle.std.specs.Prelude.{◌≡◌, ℕ, ◌+◌, ◌<◌, ◌≤◌, List, length, Option, Some, None};
-ghost use Rattle.art_epoch.specs.Pins.{MayPin};
+ghost use Rattle.std.specs.Prelude.{◌≡◌, ◌+◌, ◌<◌, ◌≤◌, length, Some, None};
 ghost use Rattle.art_find.specs.Asking.{Answers as CellAnswers, IsAllowed as IsCellAllowed};
 ghost use Rattle.art_seek.specs.Asking.{Answers, IsAllowed, is_counted, restarts_by, stepped_by, told_by};
 ghost use Rattle.art_seek.specs.Seeks.{Fits, WillBeBusy, asks, ended_at, is_walking, steps_left};
@@ -12,7 +11,7 @@ ghost use Rattle.art_step.specs.Events.{SeesEvent};
 ghost use Rattle.art_step.specs.declared.views.View.{View};
 
 use crate::walks::Walk;
-use crate::{Aim, Answer, Asked, Seek};
+use crate::{Answer, Asked, Seek};
 use art_epoch::make as make_frame;
 use art_find::{Answer as CellAnswer, Asked as CellAsked};
 use art_key::Bound;
@@ -72,7 +71,7 @@ pub(crate) fn look_at<S: Steps>(
 }
 
 /// Makes the step that a seek asks for. The key is the one that is looked for, or the lower end of the range.
-pub fn make<S: EpochSteps>(
+fn make<S: EpochSteps>(
     steps: &mut S,
     asked: Asked,
     seek: &Seek,
@@ -174,27 +173,4 @@ pub fn finish<S: EpochSteps>(
         }
         seek.walk_by(steps, key, hi, trail);
     }
-}
-
-/// Makes all steps of a seek of this, in so many turns. The pass is idle and holds nothing, before and after.
-pub(crate) fn sought<S: EpochSteps>(
-    steps: &mut S,
-    aim: Aim,
-    turns: u32,
-    key: &[u8],
-    hi: &Bound,
-    trail: &mut Trail,
-) -> Seek
-    requires short { length key.now ≤ 64 }
-    requires admitted { aim ≡ aims.Key → S.admits steps.old key.now }
-    requires may { MayPin (S.view steps.old) }
-    ensures only { S.only steps.old steps.new }
-    ensures aim { aim_of result.walk ≡ aim }
-    ensures turns { result.turns ≡ turns }
-    ensures ended { (o : OutcomeOf) × (ended_at result ≡ Some o) }
-    ensures fits { Fits (S.sizes steps.old) key.now hi.now (S.view steps.old) result trail.new (S.view steps.new) }
-{
-    let mut seek = Seek::new(aim, turns);
-    finish(steps, &mut seek, key, hi, trail);
-    seek
 }

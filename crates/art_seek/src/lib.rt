@@ -36,14 +36,12 @@
 
 mod asked;
 mod driver;
-mod seekers;
 mod seeks;
 mod straight;
 mod walks;
 
 pub use art_look;
 pub use asked::{Answer, Asked};
-pub use driver::{Made, Stepped, finish, make, step};
-pub use seekers::{KeySought, RangeSought, Seeker};
+pub use driver::{Made, Stepped, finish, step};
 pub use seeks::{Seek, SeekStage};
 pub use walks::{Aim, Outcome};
