@@ -1,7 +1,6 @@
 -- A look that is driven, step by step and once it has ended.
-use Rattle.std.proofs.Common.{◌≡◌, ◌≢◌, ◌⊎◌, ℕ, ◌<◌, true, List, [], ◌∷◌, get_or, Option, Some, None, sym, subst}
+use Rattle.std.proofs.Common.{◌≡◌, ◌⊎◌, ℕ, ◌<◌, true, List, [], ◌∷◌, get_or, Option, Some, None, sym, subst}
 use Rattle.std.specs.Prelude.{IfSome, suc}
-use Rattle.art_find.proofs.Stages.{tells_free, tells_pinned}
 use Rattle.art_key.specs.Bounds.{is_before}
 use Rattle.art_key.specs.declared.bounds.Bound.{Bound as KeyBound}
 use Rattle.art_look.specs.Driven.{LookEnds, LookFits}
@@ -33,14 +32,6 @@ module _ (z : Sizes) (lo : List ℕ) (hi : KeyBound) (u w : View) where
     pub ended_with : (o : Option Seen) → seen_at lo hi t m.stage ≡ o → LookEnds z lo hi u w o
     ended_with (Some seen) is = look_ends z lo hi m.depth t m.stage seen u w ended is fits.fits
     ended_with None is = absurd (has_seen lo hi t m.stage ended is)
-
-    pub ended_free : (o : Option Seen) → seen_at lo hi t m.stage ≡ o → u.held ≡ [] → w.held ≡ []
-    ended_free (Some seen) is free = tells_free u w ((ended_with (Some seen) is).1) free
-    ended_free None is free = absurd (has_seen lo hi t m.stage ended is)
-
-    pub ended_pinned : (o : Option Seen) → seen_at lo hi t m.stage ≡ o → u.pin ≢ 0 → w.pin ≢ 0
-    ended_pinned (Some seen) is pinned = tells_pinned u w ((ended_with (Some seen) is).1) pinned
-    ended_pinned None is pinned = absurd (has_seen lo hi t m.stage ended is)
 
   -- what it saw goes on after the lower end, and not past the upper one
   pub sees_after : (o : Option Seen) → ((i : ℕ) → get_or lo i 0 < 256) → is_before (bound_at (To lo)) hi ≡ true → LookEnds z lo hi u w o → IfSome o (λ seen. IsBelow lo (bound_of seen.hi))

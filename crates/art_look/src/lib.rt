@@ -50,14 +50,12 @@
 //! from the byte on until a child is found. So a look that meets no failure ends within 30,000 steps.
 #![tactic(auto)]
 
-mod driver;
 mod fronts;
 mod looks;
 mod reads;
 mod straight;
 mod trails;
 
-pub use driver::{Looked, look_from, step};
 pub use fronts::Front;
 pub use looks::{ChildSought, Look, LookStage, Reach, Reached, Seen};
 pub use straight::look_on;

@@ -100,7 +100,7 @@ impl Look {
     ghost use Rattle.art_find.specs.Descents.{IsReading};
     ghost use Rattle.art_find.specs.declared.asked.Answer.TheVariants as told;
     ghost use Rattle.art_find.specs.declared.asked.Asked.{Asked as AskedStep};
-    ghost use Rattle.art_look.specs.Looks.{Fits, IsSettling, Settles, asks, deed_at, has_ended, least_steps, most_steps, reached_at, seen_at};
+    ghost use Rattle.art_look.specs.Looks.{Fits, IsSettling, Settles, asks, deed_at, has_ended, least_steps, most_steps, reached_at};
     ghost use Rattle.art_look.specs.declared.trails.Trail.{Trail as Trailed};
     ghost use Rattle.art_step.specs.declared.views.Sizes.{Sizes};
     ghost use Rattle.art_step.specs.declared.views.View.{View};
@@ -168,16 +168,6 @@ impl Look {
             LookStage::Ended(reach, value) => Some(Reached { reach, value }),
             _ => None,
         }
-    }
-
-    /// What it has seen, of the range from the key on, before the bound: at the step that settles it, and once that is settled.
-    #[inline(always)]
-    pub fn seen(&self, lo: &[u8], hi: &Bound, trail: &Trail) -> Option<Seen>
-        requires { length lo.now ≤ 64 }
-        ensures { result ≡ seen_at lo.now hi.now trail.now self.now.stage }
-    {
-        let reached = self.reached()?;
-        Some(reached.seen(lo, hi, trail))
     }
 
     /// The step that it asked for was made, with this answer. Whether it goes on: else it begins anew.
