@@ -1,6 +1,6 @@
 use Rattle.art_runs.proofs.Calls.{begins_solo, ends_alone, steps_solo}
 use Rattle.art_runs.proofs.Restarts.{restarts_never}
-use Rattle.art_runs.proofs.calls_alone_do_not_fail.Goals as goal
+use Rattle.art_runs.proofs.solo.calls_alone_do_not_fail.Goals as goal
 
 pub returns-clause-begins : goal.returns-clause-begins
 returns-clause-begins c = begins_solo
