@@ -16,6 +16,7 @@ use std::process::Abort;
 const TURNS: u32 = 1_000_000;
 
 /// A world, and what its first pass keeps beside it.
+#[derive(Drop)]
 pub(crate) struct Client {
     pub(crate) world: World,
     pub(crate) caller: Caller,
