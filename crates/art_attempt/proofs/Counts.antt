@@ -1,165 +1,110 @@
--- Each answer of an attempt takes as many steps as it says, and one at most; what is made is the insert.
-use Rattle.std.proofs.Common.{◌≡◌, ℕ, ◌+◌, ◌≤◌, List, Some, refl, sym, ap, subst, arith}
-use Rattle.std.specs.Prelude.{Ok, Err}
-use Rattle.art_attempt.specs.Asking.{Answers, steps_in, steps_of, steps_of_fault}
+-- Each step of an attempt is as many as its answer says; what it commits is the insert of the row.
+use Rattle.std.proofs.Common.{◌≡◌, ◌∙◌, ◌+◌, ℕ, nat_lt, Bool, List, Option, Some, None, sym, ap, subst}
+use Rattle.std.proofs.lemmas.Option.{same_Some}
+use Rattle.art_attempt.proofs.Finds.{finding_allowed}
+use Rattle.art_attempt.proofs.Given.{ask_looks, if_some, look_once, look_row, made_row, making_asks_made, plain_row, supply_asks_supply, supply_once, supply_plain, vouch_asks_look}
+use Rattle.art_attempt.specs.Asking.{Answers, given}
+use Rattle.art_attempt.specs.Inserting.{Fits, StageFits, asks, asks_at, deed_at}
 use Rattle.art_attempt.specs.Rooms.{wants_of}
-use Rattle.art_attempt.specs.Inserting.{Fits, StageFits, asks, asks_at, deed_at, finding_asks, making_asks, supply_asks, vouching_asks}
-use Rattle.art_attempt.specs.declared.asked.Answer.{Answer}
-use Rattle.art_attempt.specs.declared.asked.Answer.TheVariants as told
-use Rattle.art_attempt.specs.declared.asked.Asked.{Asked}
-use Rattle.art_attempt.specs.declared.asked.Asked.TheVariants.{Cell, Supply, Change}
 use Rattle.art_attempt.specs.declared.inserting.Inserting.{Inserting}
 use Rattle.art_attempt.specs.declared.inserting.Stage.{Stage}
 use Rattle.art_attempt.specs.declared.inserting.Stage.TheVariants as stage
 use Rattle.art_attempt.specs.declared.rooms.Room.{Room}
-use Rattle.art_epoch.proofs.Counting.{answers_count as number_counts}
-use Rattle.art_epoch.specs.Taking.{asks as taking_asks}
-use Rattle.art_find.proofs.Counting.{answers_count as cell_counts}
-use Rattle.art_find.specs.declared.asked.Asked.{Asked as CellAsked}
+use Rattle.art_cell.specs.declared.cells.Cell.{Cell}
+use Rattle.art_cell.specs.declared.layouts.Pool.{Pool}
+use Rattle.art_epoch.specs.Taking as taking
+use Rattle.art_epoch.specs.declared.taking.Search.{Search}
+use Rattle.art_epoch.specs.declared.taking.Search.TheVariants.{Looking, Clearing, Took}
+use Rattle.art_epoch.specs.declared.taking.Taking.{Taking}
 use Rattle.art_frame.specs.declared.stocks.Stock.{Stock}
-use Rattle.art_gather.proofs.Supplies.{number_answers, wrote_word}
-use Rattle.art_gather.specs.Asking.{Answers as SupplyAnswers}
+use Rattle.art_gather.proofs.Supplies.{one_written}
 use Rattle.art_gather.specs.Supplying as supplying
 use Rattle.art_gather.specs.Supplying.{Fits as SupplyFits}
 use Rattle.art_gather.specs.declared.supplying.Supplying.{Supplying}
 use Rattle.art_gather.specs.declared.supplying.Supplying.TheVariants as at
 use Rattle.art_gather.specs.declared.supplying.Wants.{Wants}
-use Rattle.art_gather.specs.declared.asked.Asked.{Asked as SupplyAsked}
-use Rattle.art_make.proofs.Told.{allowed, counts, map_some}
+use Rattle.art_machine.proofs.Counting.{look_counts, steps_made, taking_counts}
+use Rattle.art_machine.specs.Acting as acting
+use Rattle.art_machine.specs.Acting.{IsLook, steps_in}
+use Rattle.art_machine.specs.declared.actions.Action.{Action}
+use Rattle.art_machine.specs.declared.actions.Action.TheVariants.{ClearBit, Commit}
+use Rattle.art_machine.specs.declared.actions.Answer.{Answer}
+use Rattle.art_machine.specs.declared.actions.Answer.TheVariants.{Begun, Word, Checked, Upgraded, Done}
+use Rattle.art_make.proofs.Told.{allowed}
+use Rattle.art_make.specs.Making as making
+use Rattle.art_make.specs.declared.making.Making.{Making}
 use Rattle.art_plan.specs.Insert.Puts.{inserted}
-use Rattle.art_make.specs.Asking.{Answers as ChangeAnswers, IsAllowed as MayChange}
-use Rattle.art_make.specs.declared.asked.Answer.{Answer as ChangeAnswer}
-use Rattle.art_make.specs.declared.asked.Answer.TheVariants.{Upgraded, Done}
-use Rattle.art_make.specs.declared.asked.Asked.{Asked as ChangeAsked}
-use Rattle.art_make.specs.declared.asked.Asked.TheVariants.{Upgrade, Claim, Write, Commit, Release}
 use Rattle.art_plan.specs.declared.changes.Change.{Change as ChangeOf}
-use Rattle.art_step.specs.Steps.Upgrade as upgrade
 use Rattle.art_step.specs.declared.deeds.Deed.{Deed}
-use Rattle.art_step.specs.declared.faults.UpgradeFault.{UpgradeFault}
-use Rattle.art_step.specs.declared.faults.UpgradeFault.TheVariants as fault
 use Rattle.art_step.specs.declared.views.Sizes.{Sizes}
-use Rattle.art_step.specs.declared.views.Stamp.{Stamp}
 use Rattle.art_step.specs.declared.views.View.{View}
 
-refused_counts : (v w : View) (x : Stamp) (e : UpgradeFault) → upgrade.Refused v w x e → v.steps + steps_of_fault e ≤ w.steps
-refused_counts v w x (fault.Changed e) k = let is = ap (λ (t : View). t.steps) k.3.is in omega arith
-refused_counts v w x (fault.Exhausted e) k = let is = ap (λ (t : View). t.steps) k.2 in omega arith
+-- ---- of a part
 
-pub change_counts : (z : Sizes) (v w : View) (c : ChangeOf) (a : ChangeAsked) (answer : ChangeAnswer) → MayChange z c v a → ChangeAnswers c a answer v w → v.steps + steps_of answer ≤ w.steps
-change_counts z v w c (Upgrade x) (Upgraded (Ok done)) may row = let is = ap (λ (t : View). t.steps) row.is in omega arith
-change_counts z v w c (Upgrade x) (Upgraded (Err e)) may row = refused_counts v w x e row
-change_counts z v w c (Upgrade x) Done may row = absurd row
-change_counts z v w c (Claim n) (Upgraded r) may row = absurd row
-change_counts z v w c (Claim n) Done may row = let is = ap (λ (t : View). t.steps) row.is in omega arith
-change_counts z v w c (Write d i x) (Upgraded r) may row = absurd row
-change_counts z v w c (Write d i x) Done may row = let o = row may.holding (may.may.held, may.cell) in let is = ap (λ (t : View). t.steps) o.is in omega arith
-change_counts z v w c (Commit d b) (Upgraded r) may row = absurd row
-change_counts z v w c (Commit d b) Done may row = let o = row.outcome may.holding (may.first.held, may.cell) in let is = ap (λ (t : View). t.steps) o.is in omega arith
-change_counts z v w c (Release d b) (Upgraded r) may row = absurd row
-change_counts z v w c (Release d b) Done may row = let o = row may.holding (may.may.0, may.cell) in let is = ap (λ (t : View). t.steps) o.is in omega arith
+module _ (z : Sizes) (v w : View) where
+  clear_one : (p : Pool) (i : ℕ) (bit : Option ℕ) (r : Answer) → acting.Answers z None (ClearBit p i bit) r v w → w.steps ≡ v.steps + 1
+  clear_one p i bit (Word x) row = ap (λ (t : View). t.steps) row.is ∙ taking_counts v p i bit x row.words
+  clear_one p i bit (Begun s) row = absurd row
+  clear_one p i bit (Checked s) row = absurd row
+  clear_one p i bit (Upgraded s) row = absurd row
+  clear_one p i bit Done row = absurd row
 
--- of a look at a cell, or of a supplying, there is one
-pub cell_one : (z : Sizes) (d : Deed) (c : ChangeOf) (a : CellAsked) (answer : Answer) (v w : View) → Answers z d c (Cell a) answer v w → v.steps + steps_in answer ≤ w.steps
-cell_one z d c a (told.Cell r) v w row = let one = (cell_counts z d a r v w row).steps in omega arith
-cell_one z d c a (told.Word x) v w row = absurd row
-cell_one z d c a (told.Change r) v w row = absurd row
+  taking_one : (t : Taking) (a : Action) (r : Answer) → taking.asks t ≡ Some a → acting.Answers z None a r v w → w.steps ≡ v.steps + 1
+  taking_one t a r is row = by_search t.search is
+    where
+      by_search : (s : Search) → taking.asks_at t.pool t.words t.first s ≡ Some a → w.steps ≡ v.steps + 1
+      by_search (Looking n) e =
+          let clear = ClearBit t.pool (taking.around t.words t.first n) None in
+          subst (λ (b : Action). acting.Answers z None b r v w → w.steps ≡ v.steps + 1) (if_some (nat_lt n t.words) clear a e) (clear_one t.pool (taking.around t.words t.first n) None r) row
+      by_search (Clearing n k) e =
+          let clear = ClearBit t.pool (taking.around t.words t.first n) (Some k) in
+          subst (λ (b : Action). acting.Answers z None b r v w → w.steps ≡ v.steps + 1) (same_Some clear a e) (clear_one t.pool (taking.around t.words t.first n) (Some k) r) row
+      by_search (Took n k) e = absurd (cc)
 
-pub supply_one : (z : Sizes) (wants : Wants) (k : List ℕ) (value : ℕ) (s : Stock) (u v w : View) (m : Supplying) (a : SupplyAsked) (x : ℕ) → SupplyFits z wants k value m s u v
-    → supplying.asks k value s m ≡ Some a → SupplyAnswers z a x v w → v.steps + 1 ≤ w.steps
-supply_one z wants k value s u v w (at.Leaf t) a x f is row =
-    let k = number_answers z (taking_asks t) a x v w is row in let one = number_counts z k.0 x v w k.2 in omega (arith, one)
-supply_one z wants k value s u v w (at.Packing p) a x f is row =
-    let packed = f.stage.1.packs.packed.is in
-    let o = wrote_word z wants k value s u p v w f a x is row packed.hand packed.has in
-    let one = ap (λ (t : View). t.steps) o.is in omega (arith, one)
-supply_one z wants k value s u v w (at.Node t) a x f is row =
-    let k = number_answers z (taking_asks t) a x v w is row in let one = number_counts z k.0 x v w k.2 in omega (arith, one)
-supply_one z wants k value s u v w (at.Ended r) a x f is row = cc
+  supplying_one : (wants : Wants) (k : List ℕ) (value : ℕ) (s : Stock) (u : View) (m : Supplying) (a : Action) (r : Answer) → SupplyFits z wants k value m s u v
+      → supplying.asks k value s m ≡ Some a → acting.Answers z None a r v w → w.steps ≡ v.steps + 1
+  supplying_one wants k value s u (at.Leaf t) a r f is row = taking_one t a r is row
+  supplying_one wants k value s u (at.Packing p) a r f is row = one_written z wants k value s u p v w f a r is row
+  supplying_one wants k value s u (at.Node t) a r f is row = taking_one t a r is row
+  supplying_one wants k value s u (at.Ended o) a r f is row = absurd (cc)
 
-pub cell_few : (z : Sizes) (d : Deed) (c : ChangeOf) (a : CellAsked) (answer : Answer) (v w : View) → Answers z d c (Cell a) answer v w → w.steps ≤ v.steps + 1
-cell_few z d c a (told.Cell r) v w row = let one = (cell_counts z d a r v w row).steps in omega arith
-cell_few z d c a (told.Word x) v w row = absurd row
-cell_few z d c a (told.Change r) v w row = absurd row
+  module _ (d : Deed) (c : ChangeOf) (a : Action) (r : Answer) (row : Answers z d c a r v w) where
+    pub look_made : IsLook a → w.steps ≡ v.steps + steps_in r
+    look_made is = (look_counts z d a r v w is (look_row z d c a r v w is row)).steps ∙ sym (ap (λ (n : ℕ). v.steps + n) (look_once z (given d c a) a r v w is row))
 
-pub supply_few : (z : Sizes) (wants : Wants) (k : List ℕ) (value : ℕ) (s : Stock) (u v w : View) (m : Supplying) (a : SupplyAsked) (x : ℕ) → SupplyFits z wants k value m s u v
-    → supplying.asks k value s m ≡ Some a → SupplyAnswers z a x v w → w.steps ≤ v.steps + 1
-supply_few z wants k value s u v w (at.Leaf t) a x f is row =
-    let k = number_answers z (taking_asks t) a x v w is row in let one = number_counts z k.0 x v w k.2 in omega (arith, one)
-supply_few z wants k value s u v w (at.Packing p) a x f is row =
-    let packed = f.stage.1.packs.packed.is in
-    let o = wrote_word z wants k value s u p v w f a x is row packed.hand packed.has in
-    let one = ap (λ (t : View). t.steps) o.is in omega (arith, one)
-supply_few z wants k value s u v w (at.Node t) a x f is row =
-    let k = number_answers z (taking_asks t) a x v w is row in let one = number_counts z k.0 x v w k.2 in omega (arith, one)
-supply_few z wants k value s u v w (at.Ended r) a x f is row = cc
+    pub supply_made : (wants : Wants) (k : List ℕ) (value : ℕ) (s : Stock) (u : View) (m : Supplying) → SupplyFits z wants k value m s u v → supplying.asks k value s m ≡ Some a
+        → w.steps ≡ v.steps + steps_in r
+    supply_made wants k value s u m f is =
+        let supply = supply_asks_supply k value s m a is in
+        supplying_one wants k value s u m a r f is (plain_row z d c a r v w (supply_plain a supply) row)
+        ∙ sym (ap (λ (n : ℕ). v.steps + n) (supply_once z (given d c a) a r v w supply row))
 
-pub change_few : (z : Sizes) (d : Deed) (c : ChangeOf) (a : ChangeAsked) (answer : Answer) (v w : View) → MayChange z c v a → Answers z d c (Change a) answer v w → w.steps ≤ v.steps + 1
-change_few z d c a (told.Cell r) v w may row = absurd row
-change_few z d c a (told.Word x) v w may row = absurd row
-change_few z d c a (told.Change r) v w may row = counts z v w c a r may row
+    pub change_made : (u : View) (m : Making) → making.Fits z c m u v → making.asks c m ≡ Some a → w.steps ≡ v.steps + steps_in r
+    change_made u m f is = steps_made z (making.brings c) a r v w (allowed z u v c m a f is) (made_row z d c a r v w (making_asks_made c m a is) row)
 
-pub supply_in : (z : Sizes) (d : Deed) (c : ChangeOf) (a : SupplyAsked) (answer : Answer) (v w : View) → Answers z d c (Supply a) answer v w → (x : ℕ) × (steps_in answer ≡ 1) × SupplyAnswers z a x v w
-supply_in z d c a (told.Cell r) v w row = absurd row
-supply_in z d c a (told.Word x) v w row = (x, refl, row)
-supply_in z d c a (told.Change r) v w row = absurd row
+-- ---- of an attempt
 
-pub change_one : (z : Sizes) (d : Deed) (c : ChangeOf) (a : ChangeAsked) (answer : Answer) (v w : View) → MayChange z c v a → Answers z d c (Change a) answer v w → v.steps + steps_in answer ≤ w.steps
-change_one z d c a (told.Cell r) v w may row = absurd row
-change_one z d c a (told.Word x) v w may row = absurd row
-change_one z d c a (told.Change r) v w may row = change_counts z v w c a r may row
+module _ (z : Sizes) (u : View) (m : Inserting) (r : Room) (v w : View) (a : Action) (answer : Answer) (row : Answers z (deed_at m r) r.change a answer v w) where
+  made_at : (s : Stage) → StageFits z u s m r v → asks_at s m r ≡ Some a → w.steps ≡ v.steps + steps_in answer
+  made_at stage.Finding fits is = look_made z v w (deed_at m r) r.change a answer row (ask_looks z (deed_at m r) v a (finding_allowed z u m r v fits a is))
+  made_at stage.Supplying fits is =
+      supply_made z v w (deed_at m r) r.change a answer row (wants_of z m.stand.verdict) r.row.key.items r.row.value r.stock fits.0.early m.supplying fits.0.fits is
+  made_at stage.Vouching fits is = look_made z v w (deed_at m r) r.change a answer row (vouch_asks_look m.stand m.vouching a is)
+  made_at stage.Making fits is = change_made z v w (deed_at m r) r.change a answer row fits.0.early m.making fits.0.fits is
+  made_at (stage.Ended e) fits is = absurd (cc)
 
-module _ (z : Sizes) (u : View) (m : Inserting) (r : Room) (v w : View) (asked : Asked) (answer : Answer) (row : Answers z (deed_at m r) r.change asked answer v w) where
-  at_stage : (s : Stage) → StageFits z u s m r v → asks_at s m r ≡ Some asked → v.steps + steps_in answer ≤ w.steps
-  at_stage stage.Finding fits is =
-      let k = map_some Cell (finding_asks m.finding) asked is in
-      cell_one z (deed_at m r) r.change k.0 answer v w (subst (λ (q : Asked). Answers z (deed_at m r) r.change q answer v w) (sym k.2) row)
-  at_stage stage.Supplying fits is =
-      let k = map_some Supply (supply_asks m r) asked is in
-      let n = supply_in z (deed_at m r) r.change k.0 answer v w (subst (λ (q : Asked). Answers z (deed_at m r) r.change q answer v w) (sym k.2) row) in
-      let one = supply_one z (wants_of z m.stand.verdict) r.row.key.items r.row.value r.stock fits.0.early v w m.supplying k.0 n.0 fits.0.fits k.1 n.2 in
-      let count = n.1 in omega (arith, one, count)
-  at_stage stage.Vouching fits is =
-      let k = map_some Cell (vouching_asks m) asked is in
-      cell_one z (deed_at m r) r.change k.0 answer v w (subst (λ (q : Asked). Answers z (deed_at m r) r.change q answer v w) (sym k.2) row)
-  at_stage stage.Making fits is =
-      let k = map_some Change (making_asks m r) asked is in
-      change_one z (deed_at m r) r.change k.0 answer v w (allowed z fits.0.early v r.change m.making k.0 fits.0.fits k.1)
-      (subst (λ (q : Asked). Answers z (deed_at m r) r.change q answer v w) (sym k.2) row)
-  at_stage (stage.Ended e) fits is = cc
+  pub attempt_steps : Fits z u m r v → asks m r ≡ Some a → w.steps ≡ v.steps + steps_in answer
+  attempt_steps fits is = made_at m.stage fits.stage is
 
-  few_at : (s : Stage) → StageFits z u s m r v → asks_at s m r ≡ Some asked → w.steps ≤ v.steps + 1
-  few_at stage.Finding fits is =
-      let k = map_some Cell (finding_asks m.finding) asked is in
-      cell_few z (deed_at m r) r.change k.0 answer v w (subst (λ (q : Asked). Answers z (deed_at m r) r.change q answer v w) (sym k.2) row)
-  few_at stage.Supplying fits is =
-      let k = map_some Supply (supply_asks m r) asked is in
-      let n = supply_in z (deed_at m r) r.change k.0 answer v w (subst (λ (q : Asked). Answers z (deed_at m r) r.change q answer v w) (sym k.2) row) in
-      supply_few z (wants_of z m.stand.verdict) r.row.key.items r.row.value r.stock fits.0.early v w m.supplying k.0 n.0 fits.0.fits k.1 n.2
-  few_at stage.Vouching fits is =
-      let k = map_some Cell (vouching_asks m) asked is in
-      cell_few z (deed_at m r) r.change k.0 answer v w (subst (λ (q : Asked). Answers z (deed_at m r) r.change q answer v w) (sym k.2) row)
-  few_at stage.Making fits is =
-      let k = map_some Change (making_asks m r) asked is in
-      change_few z (deed_at m r) r.change k.0 answer v w (allowed z fits.0.early v r.change m.making k.0 fits.0.fits k.1)
-      (subst (λ (q : Asked). Answers z (deed_at m r) r.change q answer v w) (sym k.2) row)
-  few_at (stage.Ended e) fits is = cc
+-- ---- what is committed is the insert of the row
 
-  -- and it takes one at most
-  pub attempt_few : Fits z u m r v → asks m r ≡ Some asked → w.steps ≤ v.steps + 1
-  attempt_few fits is = few_at m.stage fits.stage is
-
-  pub attempt_counts : Fits z u m r v → asks m r ≡ Some asked → v.steps + steps_in answer ≤ w.steps
-  attempt_counts fits is = at_stage m.stage fits.stage is
-
--- ---- what is made is the insert of the row
-
-module _ (z : Sizes) (u : View) (m : Inserting) (r : Room) (v : View) (a : ChangeAsked) where
-  deed_made : (s : Stage) → StageFits z u s m r v → asks_at s m r ≡ Some (Change a) → r.change.deed ≡ inserted r.row
-  deed_made stage.Finding fits is = let k = map_some Cell (finding_asks m.finding) (Change a) is in let no = k.2 in absurd (cc)
-  deed_made stage.Supplying fits is = let k = map_some Supply (supply_asks m r) (Change a) is in let no = k.2 in absurd (cc)
-  deed_made stage.Vouching fits is = let k = map_some Cell (vouching_asks m) (Change a) is in let no = k.2 in absurd (cc)
+module _ (z : Sizes) (u : View) (m : Inserting) (r : Room) (v : View) (c : Cell) (b : Bool) where
+  deed_made : (s : Stage) → StageFits z u s m r v → asks_at s m r ≡ Some (Commit c b) → r.change.effects.deed ≡ inserted r.row
+  deed_made stage.Finding fits is = absurd (ask_looks z (deed_at m r) v (Commit c b) (finding_allowed z u m r v fits (Commit c b) is))
+  deed_made stage.Supplying fits is = absurd (supply_asks_supply r.row.key.items r.row.value r.stock m.supplying (Commit c b) is)
+  deed_made stage.Vouching fits is = absurd (vouch_asks_look m.stand m.vouching (Commit c b) is)
   deed_made stage.Making fits is = fits.0.deed
   deed_made (stage.Ended e) fits is = cc
 
-  pub makes_insert : Fits z u m r v → asks m r ≡ Some (Change a) → r.change.deed ≡ inserted r.row
+  pub makes_insert : Fits z u m r v → asks m r ≡ Some (Commit c b) → r.change.effects.deed ≡ inserted r.row
   makes_insert fits is = deed_made m.stage fits.stage is

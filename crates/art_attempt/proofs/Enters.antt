@@ -18,11 +18,12 @@ use Rattle.art_commit.specs.CommitLaws.{HasNode}
 use Rattle.art_plan.specs.ChooseInsert.Plans.{HasNeeded, IsLockedAt}
 use Rattle.art_plan.specs.ChooseInsert.Needs.{needs_of}
 use Rattle.art_plan.specs.ChooseInsert.Seen.{IsSeen}
-use Rattle.art_find.proofs.Counting.{Counted, answers_count}
-use Rattle.art_find.specs.Asking.{Answers as CellAnswers, goes_on}
+use Rattle.art_attempt.proofs.Given.{vouch_asks_look}
+use Rattle.art_machine.proofs.Counting.{Counted, look_counts}
 use Rattle.art_find.specs.Descents.{IsReading}
-use Rattle.art_find.specs.declared.asked.Answer.{Answer as CellAnswer}
-use Rattle.art_find.specs.declared.asked.Asked.{Asked as CellAsked}
+use Rattle.art_machine.specs.Acting.{Answers, goes_on, telling}
+use Rattle.art_machine.specs.declared.actions.Action.{Action}
+use Rattle.art_machine.specs.declared.actions.Answer.{Answer}
 use Rattle.art_frame.proofs.Stocked.{linked_are_in, stock_commits}
 use Rattle.art_frame.specs.Stocks.{IsIn, words_written}
 use Rattle.art_gather.proofs.Vouches.{was_vouched}
@@ -136,7 +137,7 @@ locked_checked z k t desk u v p x = ⊎_elim
     subst (λ (y : Stamp). CheckedSince z k t desk u y v) (sym q.3) (p.above q.0 (ap (λ (b : Bool). written_above b t) q.2 ∙ q.1)))
 
 -- a vouching that has not ended met no failure
-going_failures : (t : Stand) (m : Vouching) (a : CellAsked) (n : ℕ) → vouching.asks t m ≡ Some a → vouching.failures_of m n ≡ n
+going_failures : (t : Stand) (m : Vouching) (a : Action) (n : ℕ) → vouching.asks t m ≡ Some a → vouching.failures_of m n ≡ n
 going_failures t (vouches.Above q) a n is = refl
 going_failures t (vouches.Here q) a n is = refl
 going_failures t vouches.CheckAbove a n is = refl
@@ -144,11 +145,11 @@ going_failures t vouches.CheckHere a n is = refl
 going_failures t (vouches.Ended r) a n is = cc
 
 -- so where it ends as changed, it is the answer that does not go on
-pub changed_by : (z : Sizes) (k : List ℕ) (both : Bool) (t : Stand) (m m' : Vouching) (desk desk' : Desk) (d : Deed) (a : CellAsked) (r : CellAnswer) (u v w : View) → vouching.Fits z k both t m desk u v
-    → vouching.Fits z k both t m' desk' u w → vouching.asks t m ≡ Some a → CellAnswers z d a r v w → vouching.ended_at m' ≡ Some Changed → goes_on r ≡ false
+pub changed_by : (z : Sizes) (k : List ℕ) (both : Bool) (t : Stand) (m m' : Vouching) (desk desk' : Desk) (d : Deed) (a : Action) (r : Answer) (u v w : View) → vouching.Fits z k both t m desk u v
+    → vouching.Fits z k both t m' desk' u w → vouching.asks t m ≡ Some a → Answers z (telling d) a r v w → vouching.ended_at m' ≡ Some Changed → goes_on r ≡ false
 changed_by z k both t m m' desk desk' d a r u v w before after is row ended = ⊎_elim
     (λ (on : goes_on r ≡ true).
-    let step : Counted v w true = subst (Counted v w) on (answers_count z d a r v w row) in
+    let step : Counted v w true = subst (Counted v w) on (look_counts z d a r v w (vouch_asks_look t m a is) row) in
     let same = step.failures in
     let old = before.failures ∙ going_failures t m a u.failures is in
     let new = after.failures ∙ ap (λ (s : Vouching). vouching.failures_of s u.failures) (vouched_as m' Changed ended) in
@@ -232,7 +233,7 @@ module _ (z : Sizes) (u : View) (m : Inserting) (r : Room) (v : View) (h : HasMa
     pub change_entered : made ≡ Ok tt → HasEntered z u (record r { stock = spent_by r.change r.stock }) v
     change_entered ok =
         let done = over.done tt ok in
-        let leaves : (l : ℕ) → r.change.leaf ≡ Some l → r.stock.leaf ≡ Some l = λ l at. sym h.leaf ∙ at in
+        let leaves : (l : ℕ) → r.change.effects.leaf ≡ Some l → r.stock.leaf ≡ Some l = λ l at. sym h.leaf ∙ at in
         let nodes : (n : Node) → node_made r.change ≡ Some n → IsIn r.stock (node n) =
         λ n at. let hand = (h.fits.planned.new false n at).hand in subst (IsIn r.stock) hand.2 (h.has.only hand.0 hand.1) in
         record {

@@ -5,6 +5,7 @@ use Rattle.std.specs.Option.{option_map, unwrap_or}
 use Rattle.std.proofs.lemmas.Option.{same_Some}
 use Rattle.art_attempt.proofs.Steps.{cell_fails}
 use Rattle.art_attempt.proofs.Tries.{checked_since, event_since, later_then, rest_told, still_later, still_reads, stock_reads}
+use Rattle.art_attempt.proofs.Given.{check_look}
 use Rattle.art_attempt.specs.Asking.{MayAsk}
 use Rattle.art_attempt.specs.Inserting.{EndFits, EndsSo, IsFinding, IsPresent, asks_place, check_by, check_of, deed_at, entered_by, finding_asks, present, present_of, value_found}
 use Rattle.art_attempt.specs.Trying.{HasChecked, HasSpent, IsLater}
@@ -16,22 +17,25 @@ use Rattle.art_cell.specs.declared.cells.Link.{Link}
 use Rattle.art_cell.specs.declared.cells.Link.TheVariants.{Leaf as leaf, Node as node}
 use Rattle.art_plan.specs.ChooseInsert.Plans.{Comes}
 use Rattle.art_find.proofs.Counting.{few_steps}
-use Rattle.art_find.proofs.Stages.{reads_on, tells_free, wants_word}
+use Rattle.art_find.proofs.Stages.{reads_on, tells_free}
 use Rattle.art_find.proofs.Allowed.{allowed}
-use Rattle.art_find.specs.Asking.{Answers, IsAllowed, WantsWord, goes_on}
+use Rattle.art_find.specs.Asking.{MayLook, WantsWord}
 use Rattle.art_find.specs.Descents.{IsExact, IsReading, StageFits, Stays, answer_at, asks, decided_at, ended_at, most_steps, stage_begun, stage_below, stage_checked, stands_on}
 use Rattle.art_find.specs.Verdicts.{Says, value_of}
-use Rattle.art_find.specs.declared.asked.Answer.{Answer}
-use Rattle.art_find.specs.declared.asked.Answer.TheVariants.{Begun, Word, Checked}
-use Rattle.art_find.specs.declared.asked.Asked.{Asked}
-use Rattle.art_find.specs.declared.asked.Asked.TheVariants.{Begin, Read, ReadLeaf, Check, Settle}
 use Rattle.art_find.specs.declared.descents.Descent.{Descent}
 use Rattle.art_find.specs.declared.descents.Stage.{Stage}
 use Rattle.art_find.specs.declared.descents.Stage.TheVariants.{Start, Anchor, Child, Below, Both, Header, Prefix, Keys, Slot, Value, Length, Bytes, Decided, Ended}
 use Rattle.art_find.specs.declared.verdicts.Verdict.{Verdict}
 use Rattle.art_find.specs.declared.verdicts.Verdict.TheVariants.{Found, Empty, OtherLeaf, OtherPrefix, Free, Overlaps, Torn, Absent}
 use Rattle.art_frame.proofs.Stocked.{stock_same}
-use Rattle.art_gather.specs.Vouching.{passed}
+use Rattle.art_machine.proofs.AnswerKinds.{answers_plain, finds_word}
+use Rattle.art_machine.specs.Acting.{Answers, IsPlain, goes_on, passed, telling}
+use Rattle.art_machine.specs.declared.actions.Action.{Action}
+use Rattle.art_machine.specs.declared.actions.Action.TheVariants.{Begin, Read, ReadLeaf, Check, Settle, Upgrade, Claim, Write, WriteLeaf, Commit, Release}
+use Rattle.art_machine.specs.declared.actions.Action.TheVariants.{ClearBit, GiveBack, ReadEpoch, StorePin, RaiseEpoch, ReadPin}
+use Rattle.art_machine.specs.declared.actions.Action.TheVariants as action
+use Rattle.art_machine.specs.declared.actions.Answer.{Answer}
+use Rattle.art_machine.specs.declared.actions.Answer.TheVariants.{Begun, Word, Checked, Upgraded, Done}
 use Rattle.art_make.proofs.Told.{map_some}
 use Rattle.art_find.proofs.FoundPlaces.{standing_grows}
 use Rattle.art_find.proofs.Keeping.{passed_grows}
@@ -51,7 +55,7 @@ use Rattle.art_tree.specs.Heaps.{Cells}
 
 -- ---- what is asked
 
-pub no_place : (m : Finding) (o : Option Asked) (a : Asked) → stand_at m ≡ None → asks_place (stand_at m) o ≡ Some a → o ≡ Some a
+pub no_place : (m : Finding) (o : Option Action) (a : Action) → stand_at m ≡ None → asks_place (stand_at m) o ≡ Some a → o ≡ Some a
 no_place m o a nowhere is = sym (ap (λ (t : Option Stand). asks_place t o) nowhere) ∙ is
 
 map_none : {A B : Type 0} (f : A → B) (o : Option A) → option_map f o ≡ None → o ≡ None
@@ -62,43 +66,24 @@ pub undecided : (m : Finding) → stand_at m ≡ None → decided_at m.descent.s
 undecided m is = map_none (stand_of m) (decided_at m.descent.stage) is
 
 -- only where a place is settled does an answer speak of a deed
-abbrev pub TellsNothing : Asked → Type 0
-TellsNothing (Settle x) = ⊥
-TellsNothing a = ⊤
+pub place_plain : (s : Stage) → decided_at s ≡ None → (a : Action) → asks s ≡ Some a → IsPlain a
+place_plain Start none a is = subst IsPlain (same_Some {A = Action} _ a is) tt
+place_plain (Anchor x) none a is = subst IsPlain (same_Some {A = Action} _ a is) tt
+place_plain (Child x d) none a is = subst IsPlain (same_Some {A = Action} _ a is) tt
+place_plain (Below x n) none a is = subst IsPlain (same_Some {A = Action} _ a is) tt
+place_plain (Both x y n) none a is = subst IsPlain (same_Some {A = Action} _ a is) tt
+place_plain (Header y n) none a is = subst IsPlain (same_Some {A = Action} _ a is) tt
+place_plain (Prefix seen i r) none a is = subst IsPlain (same_Some {A = Action} _ a is) tt
+place_plain (Keys seen i) none a is = subst IsPlain (same_Some {A = Action} _ a is) tt
+place_plain (Slot seen place) none a is = subst IsPlain (same_Some {A = Action} _ a is) tt
+place_plain (Value x l) none a is = subst IsPlain (same_Some {A = Action} _ a is) tt
+place_plain (Length x l value) none a is = subst IsPlain (same_Some {A = Action} _ a is) tt
+place_plain (Bytes seen i r) none a is = subst IsPlain (same_Some {A = Action} _ a is) tt
+place_plain (Decided x found) none a is = cc
+place_plain (Ended o) none a is = cc
 
-other_deed : (z : Sizes) (d e : Deed) (a : Asked) (r : Answer) (v w : View) → TellsNothing a → Answers z d a r v w → Answers z e a r v w
-other_deed z d e (Begin c) (Begun r) v w none row = row
-other_deed z d e (Begin c) (Word x) v w none row = absurd row
-other_deed z d e (Begin c) (Checked r) v w none row = absurd row
-other_deed z d e (Read x i) (Begun r) v w none row = absurd row
-other_deed z d e (Read x i) (Word y) v w none row = row
-other_deed z d e (Read x i) (Checked r) v w none row = absurd row
-other_deed z d e (ReadLeaf x l i) (Begun r) v w none row = absurd row
-other_deed z d e (ReadLeaf x l i) (Word y) v w none row = row
-other_deed z d e (ReadLeaf x l i) (Checked r) v w none row = absurd row
-other_deed z d e (Check x) (Begun r) v w none row = absurd row
-other_deed z d e (Check x) (Word y) v w none row = absurd row
-other_deed z d e (Check x) (Checked r) v w none row = row
-other_deed z d e (Settle x) r v w none row = absurd none
-
-pub tells_nothing : (s : Stage) → decided_at s ≡ None → (a : Asked) → asks s ≡ Some a → TellsNothing a
-tells_nothing Start none a is = subst TellsNothing (same_Some {A = Asked} _ a is) tt
-tells_nothing (Anchor x) none a is = subst TellsNothing (same_Some {A = Asked} _ a is) tt
-tells_nothing (Child x d) none a is = subst TellsNothing (same_Some {A = Asked} _ a is) tt
-tells_nothing (Below x n) none a is = subst TellsNothing (same_Some {A = Asked} _ a is) tt
-tells_nothing (Both x y n) none a is = subst TellsNothing (same_Some {A = Asked} _ a is) tt
-tells_nothing (Header y n) none a is = subst TellsNothing (same_Some {A = Asked} _ a is) tt
-tells_nothing (Prefix seen i r) none a is = subst TellsNothing (same_Some {A = Asked} _ a is) tt
-tells_nothing (Keys seen i) none a is = subst TellsNothing (same_Some {A = Asked} _ a is) tt
-tells_nothing (Slot seen place) none a is = subst TellsNothing (same_Some {A = Asked} _ a is) tt
-tells_nothing (Value x l) none a is = subst TellsNothing (same_Some {A = Asked} _ a is) tt
-tells_nothing (Length x l value) none a is = subst TellsNothing (same_Some {A = Asked} _ a is) tt
-tells_nothing (Bytes seen i r) none a is = subst TellsNothing (same_Some {A = Asked} _ a is) tt
-tells_nothing (Decided x found) none a is = cc
-tells_nothing (Ended o) none a is = cc
-
-pub any_deed : (z : Sizes) (d e : Deed) (s : Stage) (a : Asked) (r : Answer) (v w : View) → decided_at s ≡ None → asks s ≡ Some a → Answers z d a r v w → Answers z e a r v w
-any_deed z d e s a r v w none is row = other_deed z d e a r v w (tells_nothing s none a is) row
+pub any_deed : (z : Sizes) (d e : Deed) (s : Stage) (a : Action) (r : Answer) (v w : View) → decided_at s ≡ None → asks s ≡ Some a → Answers z (telling d) a r v w → Answers z (telling e) a r v w
+any_deed z d e s a r v w none is row = answers_plain z (telling d) (telling e) a r v w (place_plain s none a is) row
 
 -- ---- the descent goes on
 
@@ -187,15 +172,17 @@ standing_going (Decided y found) x is = refl
 standing_going (Ended o) x is = cc
 
 -- a descent that has not decided does not end at its next answer
-pub still_going : (z : Sizes) (d : Deed) (a : Asked) (r : Answer) (v w : View) (m m' : Descent) → Stays r m m' → asks m.stage ≡ Some a → Answers z d a r v w
+pub still_going : (z : Sizes) (d : Deed) (a : Action) (r : Answer) (v w : View) (m m' : Descent) → Stays r m m' → asks m.stage ≡ Some a → Answers z (telling d) a r v w
     → decided_at m.stage ≡ None → ended_at m.stage ≡ None → goes_on r ≡ true → ended_at m'.stage ≡ None
 still_going z d a (Begun (Ok x)) v w m m' stays is row none going on = ap (λ (n : Descent). ended_at n.stage) stays ∙ begun_going x m.stage going
 still_going z d a (Begun (Err e)) v w m m' stays is row none going on = cc
 still_going z d a (Word word) v w m m' stays is row none going on =
-    let some = stands_some m.stage (subst WantsWord (sym is) (wants_word z d a word v w row)) in
+    let some = stands_some m.stage (subst WantsWord (sym is) (finds_word z (telling d) a word v w row)) in
     standing_going m'.stage some.0 (stays ∙ some.1)
 still_going z d a (Checked (Ok x)) v w m m' stays is row none going on = ap (λ (n : Descent). ended_at n.stage) stays ∙ checked_going m.stage none going
 still_going z d a (Checked (Err e)) v w m m' stays is row none going on = cc
+still_going z d a (Upgraded s) v w m m' stays is row none going on = absurd stays
+still_going z d a Done v w m m' stays is row none going on = absurd stays
 
 -- ---- the place is known
 
@@ -245,19 +232,23 @@ abbrev told_by : Verdict → Deed → Option Deed
 told_by (Found l value) d = Some d
 told_by found d = None
 
-pub settle_passed : (z : Sizes) (d : Deed) (x : Stamp) (r : Answer) (v w : View) → Answers z d (Settle x) r v w → passed r ≡ true → check.Unchanged z v w x (Some d)
+pub settle_passed : (z : Sizes) (d : Deed) (x : Stamp) (r : Answer) (v w : View) → Answers z (telling d) (Settle x) r v w → passed r ≡ true → check.Unchanged z v w x (Some d)
 settle_passed z d x (Begun r) v w row is = absurd row
 settle_passed z d x (Word y) v w row is = absurd row
+settle_passed z d x (Upgraded s) v w row is = absurd row
+settle_passed z d x Done v w row is = absurd row
 settle_passed z d x (Checked (Ok done)) v w row is = row
 settle_passed z d x (Checked (Err e)) v w row is = cc
 
-pub check_passed : (z : Sizes) (d : Deed) (x : Stamp) (r : Answer) (v w : View) → Answers z d (Check x) r v w → passed r ≡ true → check.Unchanged z v w x None
+pub check_passed : (z : Sizes) (d : Deed) (x : Stamp) (r : Answer) (v w : View) → Answers z (telling d) (Check x) r v w → passed r ≡ true → check.Unchanged z v w x None
 check_passed z d x (Begun r) v w row is = absurd row
 check_passed z d x (Word y) v w row is = absurd row
+check_passed z d x (Upgraded s) v w row is = absurd row
+check_passed z d x Done v w row is = absurd row
 check_passed z d x (Checked (Ok done)) v w row is = row
 check_passed z d x (Checked (Err e)) v w row is = cc
 
-pub place_passed : (z : Sizes) (d : Deed) (found : Verdict) (t : Stand) (r : Answer) (v w : View) → Answers z d (check_by found t) r v w → passed r ≡ true
+pub place_passed : (z : Sizes) (d : Deed) (found : Verdict) (t : Stand) (r : Answer) (v w : View) → Answers z (telling d) (check_by found t) r v w → passed r ≡ true
     → check.Unchanged z v w t.stamp (told_by found d)
 place_passed z d (Found l value) t r v w row is = settle_passed z d t.stamp r v w row is
 place_passed z d Empty t r v w row is = check_passed z d t.stamp r v w row is
@@ -268,19 +259,23 @@ place_passed z d Overlaps t r v w row is = check_passed z d t.stamp r v w row is
 place_passed z d Torn t r v w row is = check_passed z d t.stamp r v w row is
 place_passed z d Absent t r v w row is = check_passed z d t.stamp r v w row is
 
-pub settle_failed : (z : Sizes) (d : Deed) (x : Stamp) (r : Answer) (v w : View) → Answers z d (Settle x) r v w → passed r ≡ false → OnlyReads v w
+pub settle_failed : (z : Sizes) (d : Deed) (x : Stamp) (r : Answer) (v w : View) → Answers z (telling d) (Settle x) r v w → passed r ≡ false → OnlyReads v w
 settle_failed z d x (Begun r) v w row is = absurd row
 settle_failed z d x (Word y) v w row is = absurd row
+settle_failed z d x (Upgraded s) v w row is = absurd row
+settle_failed z d x Done v w row is = absurd row
 settle_failed z d x (Checked (Ok done)) v w row is = cc
 settle_failed z d x (Checked (Err e)) v w row is = failed_rest v w x e.found row.3
 
-pub check_failed : (z : Sizes) (d : Deed) (x : Stamp) (r : Answer) (v w : View) → Answers z d (Check x) r v w → passed r ≡ false → OnlyReads v w
+pub check_failed : (z : Sizes) (d : Deed) (x : Stamp) (r : Answer) (v w : View) → Answers z (telling d) (Check x) r v w → passed r ≡ false → OnlyReads v w
 check_failed z d x (Begun r) v w row is = absurd row
 check_failed z d x (Word y) v w row is = absurd row
+check_failed z d x (Upgraded s) v w row is = absurd row
+check_failed z d x Done v w row is = absurd row
 check_failed z d x (Checked (Ok done)) v w row is = cc
 check_failed z d x (Checked (Err e)) v w row is = failed_rest v w x e.found row.3
 
-pub place_failed : (z : Sizes) (d : Deed) (found : Verdict) (t : Stand) (r : Answer) (v w : View) → Answers z d (check_by found t) r v w → passed r ≡ false → OnlyReads v w
+pub place_failed : (z : Sizes) (d : Deed) (found : Verdict) (t : Stand) (r : Answer) (v w : View) → Answers z (telling d) (check_by found t) r v w → passed r ≡ false → OnlyReads v w
 place_failed z d (Found l value) t r v w row is = settle_failed z d t.stamp r v w row is
 place_failed z d Empty t r v w row is = check_failed z d t.stamp r v w row is
 place_failed z d (OtherLeaf l at byte) t r v w row is = check_failed z d t.stamp r v w row is
@@ -291,19 +286,23 @@ place_failed z d Torn t r v w row is = check_failed z d t.stamp r v w row is
 place_failed z d Absent t r v w row is = check_failed z d t.stamp r v w row is
 
 -- so it does not go on
-pub settle_off : (z : Sizes) (d : Deed) (x : Stamp) (r : Answer) (v w : View) → Answers z d (Settle x) r v w → passed r ≡ false → goes_on r ≡ false
+pub settle_off : (z : Sizes) (d : Deed) (x : Stamp) (r : Answer) (v w : View) → Answers z (telling d) (Settle x) r v w → passed r ≡ false → goes_on r ≡ false
 settle_off z d x (Begun r) v w row is = absurd row
 settle_off z d x (Word y) v w row is = absurd row
+settle_off z d x (Upgraded s) v w row is = absurd row
+settle_off z d x Done v w row is = absurd row
 settle_off z d x (Checked (Ok done)) v w row is = cc
 settle_off z d x (Checked (Err e)) v w row is = refl
 
-pub check_off : (z : Sizes) (d : Deed) (x : Stamp) (r : Answer) (v w : View) → Answers z d (Check x) r v w → passed r ≡ false → goes_on r ≡ false
+pub check_off : (z : Sizes) (d : Deed) (x : Stamp) (r : Answer) (v w : View) → Answers z (telling d) (Check x) r v w → passed r ≡ false → goes_on r ≡ false
 check_off z d x (Begun r) v w row is = absurd row
 check_off z d x (Word y) v w row is = absurd row
+check_off z d x (Upgraded s) v w row is = absurd row
+check_off z d x Done v w row is = absurd row
 check_off z d x (Checked (Ok done)) v w row is = cc
 check_off z d x (Checked (Err e)) v w row is = refl
 
-pub place_off : (z : Sizes) (d : Deed) (found : Verdict) (t : Stand) (r : Answer) (v w : View) → Answers z d (check_by found t) r v w → passed r ≡ false → goes_on r ≡ false
+pub place_off : (z : Sizes) (d : Deed) (found : Verdict) (t : Stand) (r : Answer) (v w : View) → Answers z (telling d) (check_by found t) r v w → passed r ≡ false → goes_on r ≡ false
 place_off z d (Found l value) t r v w row is = settle_off z d t.stamp r v w row is
 place_off z d Empty t r v w row is = check_off z d t.stamp r v w row is
 place_off z d (OtherLeaf l at byte) t r v w row is = check_off z d t.stamp r v w row is
@@ -410,18 +409,18 @@ module _ (z : Sizes) (u : View) (m : Inserting) (r : Room) (v w : View) (short :
     entered_there Torn e is says p at = cc
     entered_there Absent e is says p at = cc
 
-    pub ends_there : (a : Answer) (e : Entered) → d ≡ present r.row (unwrap_or (value_of t.verdict) 0) → Answers z d (check_of t) a v w → passed a ≡ true
+    pub ends_there : (a : Answer) (e : Entered) → d ≡ present r.row (unwrap_or (value_of t.verdict) 0) → Answers z (telling d) (check_of t) a v w → passed a ≡ true
         → entered_by t.verdict ≡ Some e → EndFits z u t r e w
     ends_there a e is row on at = entered_there t.verdict e is s.standing.says (place_passed z d t.verdict t a v w row on) at
 
-    pub fails_there : (a : Answer) → Answers z d (check_of t) a v w → passed a ≡ false → EndsSo z u r w × (u.failures < w.failures)
+    pub fails_there : (a : Answer) → Answers z (telling d) (check_of t) a v w → passed a ≡ false → EndsSo z u r w × (u.failures < w.failures)
     fails_there a row off =
-        let more = cell_fails z d (check_of t) a v w row (place_off z d t.verdict t a v w row off) in
+        let more = cell_fails z d (check_of t) a v w (check_look t.verdict t) row (place_off z d t.verdict t a v w row off) in
         let before = (still_later u f.early f.base v f.later).failures in
         (ends_reading (only_then (place_failed z d t.verdict t a v w row off)), omega (arith, more, before))
 
     -- a leaf may come
-    module _ (a : Answer) (row : Answers z d (check_of t) a v w) (on : passed a ≡ true) (none : entered_by t.verdict ≡ None) where
+    module _ (a : Answer) (row : Answers z (telling d) (check_of t) a v w) (on : passed a ≡ true) (none : entered_by t.verdict ≡ None) where
       unchanged : check.Unchanged z v w t.stamp (told_by t.verdict d)
       unchanged = place_passed z d t.verdict t a v w row on
 
@@ -443,12 +442,25 @@ deed_there m r t is = ap (λ (o : Option Stand). present r.row (value_found o)) 
 
 -- ---- each step may be made
 
-pub not_settling : (z : Sizes) (d : Deed) (so : Cells → Type 0) (v : View) (a : Asked) → TellsNothing a → IsAllowed z so v a → MayAsk z d v a
+pub not_settling : (z : Sizes) (d : Deed) (so : Cells → Type 0) (v : View) (a : Action) → IsPlain a → MayLook z so v a → MayAsk z d v a
 not_settling z d so v (Begin c) none may = may
 not_settling z d so v (Read x i) none may = may
 not_settling z d so v (ReadLeaf x l i) none may = may
 not_settling z d so v (Check x) none may = may
 not_settling z d so v (Settle x) none may = absurd none
+not_settling z d so v (Upgrade x) none may = absurd may
+not_settling z d so v (Claim n) none may = absurd may
+not_settling z d so v (Write b i word) none may = absurd may
+not_settling z d so v (WriteLeaf l i word) none may = absurd may
+not_settling z d so v (Commit b o) none may = absurd may
+not_settling z d so v (Release b o) none may = absurd may
+not_settling z d so v (ClearBit p i o) none may = absurd may
+not_settling z d so v (GiveBack e) none may = absurd may
+not_settling z d so v (action.Free e) none may = absurd may
+not_settling z d so v ReadEpoch none may = absurd may
+not_settling z d so v (StorePin word) none may = absurd may
+not_settling z d so v RaiseEpoch none may = absurd may
+not_settling z d so v (ReadPin q) none may = absurd may
 
 module _ (z : Sizes) (u : View) (m : Inserting) (r : Room) (v : View) (f : IsFinding z u m r v) where
   abbrev k : List ℕ
@@ -457,8 +469,8 @@ module _ (z : Sizes) (u : View) (m : Inserting) (r : Room) (v : View) (f : IsFin
   abbrev so : Cells → Type 0
   so s = HasValue s k (answer_at m.finding.descent.stage)
 
-  descent_allowed : (a : Asked) → asks m.finding.descent.stage ≡ Some a → IsAllowed z so v a
-  descent_allowed a is = subst (λ (o : Option Asked). IfSome o (IsAllowed z so v)) is (allowed z k (present_of r.row) m.finding.descent.depth m.finding.descent.stage f.early v f.fits.descent)
+  descent_allowed : (a : Action) → asks m.finding.descent.stage ≡ Some a → MayLook z so v a
+  descent_allowed a is = subst (λ (o : Option Action). IfSome o (MayLook z so v)) is (allowed z k (present_of r.row) m.finding.descent.depth m.finding.descent.stage f.early v f.fits.descent)
 
   module _ (t : Stand) (s : StandsThere z k m.finding r.desk f.early v t) where
     plain : HasVersion z t.stamp.cell × check.May z v t.stamp None
@@ -478,25 +490,63 @@ module _ (z : Sizes) (u : View) (m : Inserting) (r : Room) (v : View) (f : IsFin
     check_allowed Torn at = plain
     check_allowed Absent at = plain
 
-  place_allowed : (o : Option Stand) (a : Asked) → stand_at m.finding ≡ o → asks_place o (asks m.finding.descent.stage) ≡ Some a → MayAsk z (deed_at m r) v a
+  place_allowed : (o : Option Stand) (a : Action) → stand_at m.finding ≡ o → asks_place o (asks m.finding.descent.stage) ≡ Some a → MayAsk z (deed_at m r) v a
   place_allowed (Some t) a at is =
       let s = stands_there z k (present_of r.row) m.finding r.desk f.early v f.fits f.exact t at in
       let may : MayAsk z (deed_at m r) v (check_of t) = subst (λ (d : Deed). MayAsk z d v (check_of t)) (sym (deed_there m r t at)) (check_allowed t s t.verdict refl) in
-      subst (MayAsk z (deed_at m r) v) (same_Some {A = Asked} (check_of t) a is) may
+      subst (MayAsk z (deed_at m r) v) (same_Some {A = Action} (check_of t) a is) may
   place_allowed None a at is =
-      not_settling z (deed_at m r) so v a (tells_nothing m.finding.descent.stage (undecided m.finding at) a is) (descent_allowed a is)
+      not_settling z (deed_at m r) so v a (place_plain m.finding.descent.stage (undecided m.finding at) a is) (descent_allowed a is)
 
-  pub finding_allowed : (a : Asked) → finding_asks m.finding ≡ Some a → MayAsk z (deed_at m r) v a
+  pub finding_allowed : (a : Action) → finding_asks m.finding ≡ Some a → MayAsk z (deed_at m r) v a
   finding_allowed a is = place_allowed (stand_at m.finding) a refl is
 
 -- what may be asked of a place may be asked of a look, where it tells nothing of a row
-pub may_look : (z : Sizes) (d : Deed) (v : View) (a : Asked) → MayAsk z d v a → IsAllowed z (λ s. ⊤) v a
+pub may_look : (z : Sizes) (d : Deed) (v : View) (a : Action) → MayAsk z d v a → MayLook z (λ s. ⊤) v a
 may_look z d v (Begin c) may = may
 may_look z d v (Read x i) may = may
 may_look z d v (ReadLeaf x l i) may = may
 may_look z d v (Check x) may = may
 may_look z d v (Settle x) may = (may.0, record { stamp = may.1.stamp; shows = λ s shape holds. tt })
+may_look z d v (Upgrade x) may = absurd may
+may_look z d v (Claim n) may = absurd may
+may_look z d v (Write b i word) may = absurd may
+may_look z d v (WriteLeaf l i word) may = absurd may
+may_look z d v (Commit b o) may = absurd may
+may_look z d v (Release b o) may = absurd may
+may_look z d v (ClearBit p i o) may = absurd may
+may_look z d v (GiveBack e) may = absurd may
+may_look z d v (action.Free e) may = absurd may
+may_look z d v ReadEpoch may = absurd may
+may_look z d v (StorePin word) may = absurd may
+may_look z d v RaiseEpoch may = absurd may
+may_look z d v (ReadPin q) may = absurd may
 
 -- where the place is known, its check is asked for
 pub asks_check : (m : Finding) (t : Stand) → stand_at m ≡ Some t → finding_asks m ≡ Some (check_of t)
 asks_check m t is = ap (λ (o : Option Stand). asks_place o (asks m.descent.stage)) is
+
+-- ---- while it goes on a step is asked for
+
+pub stage_asks : (s : Stage) → ended_at s ≡ None → (a : Action) × (asks s ≡ Some a)
+stage_asks Start going = (_, refl)
+stage_asks (Anchor x) going = (_, refl)
+stage_asks (Child x d) going = (_, refl)
+stage_asks (Below x n) going = (_, refl)
+stage_asks (Both x y n) going = (_, refl)
+stage_asks (Header y n) going = (_, refl)
+stage_asks (Prefix seen i r) going = (_, refl)
+stage_asks (Keys seen i) going = (_, refl)
+stage_asks (Slot seen place) going = (_, refl)
+stage_asks (Value x l) going = (_, refl)
+stage_asks (Length x l value) going = (_, refl)
+stage_asks (Bytes seen i r) going = (_, refl)
+stage_asks (Decided x found) going = (_, refl)
+stage_asks (Ended o) going = absurd (cc)
+
+place_asks : (o : Option Stand) (s : Stage) → ended_at s ≡ None → (a : Action) × (asks_place o (asks s) ≡ Some a)
+place_asks (Some t) s going = (check_of t, refl)
+place_asks None s going = stage_asks s going
+
+pub finding_going : (m : Finding) → ended_at m.descent.stage ≡ None → (a : Action) × (finding_asks m ≡ Some a)
+finding_going m going = place_asks (stand_at m) m.descent.stage going

@@ -9,10 +9,11 @@ use Rattle.art_attempt.specs.declared.inserting.Inserting.{Inserting}
 use Rattle.art_attempt.specs.declared.inserting.Stage.{Stage}
 use Rattle.art_attempt.specs.declared.inserting.Stage.TheVariants.{Finding, Ended}
 use Rattle.art_attempt.specs.declared.rooms.Room.{Room}
+use Rattle.art_find.proofs.Counting.{asks_look}
 use Rattle.art_find.proofs.Stages.{still_reading}
-use Rattle.art_find.specs.Asking.{Answers, goes_on}
-use Rattle.art_find.specs.declared.asked.Answer.{Answer}
-use Rattle.art_find.specs.declared.asked.Asked.{Asked}
+use Rattle.art_machine.specs.Acting.{Answers, IsLook, goes_on, telling}
+use Rattle.art_machine.specs.declared.actions.Action.{Action}
+use Rattle.art_machine.specs.declared.actions.Answer.{Answer}
 use Rattle.art_find.specs.Findings.{CameBack, HasHeard, WasLooked, WentOn}
 use Rattle.art_find.specs.declared.desks.Desk.{Desk}
 use Rattle.art_find.specs.declared.findings.Finding.{Finding as FindingOf}
@@ -20,7 +21,7 @@ use Rattle.art_step.specs.declared.views.Sizes.{Sizes}
 use Rattle.art_step.specs.declared.views.View.{View}
 
 module _ (z : Sizes) (u : View) (m : Inserting) (r : Room) (v w : View) (room : IsRoom z r) (f : IsFinding z u m r v)
-    (asked : Asked) (answer : Answer) (looked : WasLooked z m.finding asked answer v w)
+    (asked : Action) (answer : Answer) (looked : WasLooked z m.finding asked answer v w)
     (n : FindingOf) (desk : Desk) (heard : HasHeard z r.row.key.items answer m.finding r.desk v n desk w) where
   abbrev then : Room
   then = record r { desk = desk }
@@ -28,7 +29,10 @@ module _ (z : Sizes) (u : View) (m : Inserting) (r : Room) (v w : View) (room : 
   same_room : IsRoom z then
   same_room = record { sizes = room.sizes; key = room.key }
 
-  one_more : Answers z (deed_at m r) asked answer v w
+  one_look : IsLook asked
+  one_look = asks_look m.finding.descent.stage asked looked.asked_it
+
+  one_more : Answers z (telling (deed_at m r)) asked answer v w
   one_more = looked.row (deed_at m r)
 
   -- its way was changed: nothing was told
@@ -39,8 +43,8 @@ module _ (z : Sizes) (u : View) (m : Inserting) (r : Room) (v w : View) (room : 
       let fits = heard.fits what f.early f.fits in
       let going = zero_going n.descent.depth n.descent.stage (heard.anew off) in
       let reads = still_reading z r.row.key.items what n.descent.depth n.descent.stage f.early w going fits.descent in
-      let so = ends_reading z u m r v w room.key.short f (cell_later z d asked answer v w one_more) (cell_step z d asked answer v w one_more) reads.only in
-      let more = cell_fails z d asked answer v w one_more off in
+      let so = ends_reading z u m r v w room.key.short f (cell_later z d asked answer v w one_look one_more) (cell_step z d asked answer v w one_look one_more) reads.only in
+      let more = cell_fails z d asked answer v w one_look one_more off in
       let before = (still_later u f.early f.base v f.later).failures in
       record { room = same_room; stage = (record { still = so.still; spent = so.spent; has = so.has }, omega (arith, more, before)) }
 

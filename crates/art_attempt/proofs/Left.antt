@@ -1,34 +1,23 @@
 -- Each answer leaves fewer steps.
-use Rattle.std.proofs.Common.{◌≡◌, ◌⊎◌, ℕ, ◌+◌, ◌-◌, ◌<◌, ◌≤◌, true, false, Option, Some, None, inl, inr, refl, sym, ap, ◌∙◌, subst, arith, ⊎_elim}
+use Rattle.std.proofs.Common.{◌≡◌, ◌⊎◌, ℕ, ◌+◌, ◌-◌, ◌<◌, ◌≤◌, true, false, Option, Some, None, inl, inr, refl, ap, ◌∙◌, arith, ⊎_elim}
 use Rattle.std.proofs.lemmas.Bool.{cases_Bool, eqb-true, eqb-false}
 use Rattle.std.specs.Prelude.{Result, Ok, Err, ⊤, ◌==◌}
-use Rattle.std.specs.Option.{option_map}
-use Rattle.art_attempt.specs.Asking.{Answers, change_in, steps_in, steps_of}
 use Rattle.art_attempt.specs.Inserting.{ended_left, entered_so, free_at, held_left, is_begun, is_last, last_left, left_at, making_left, tries_left}
-use Rattle.art_attempt.specs.declared.asked.Answer.{Answer}
-use Rattle.art_attempt.specs.declared.asked.Answer.TheVariants as told
-use Rattle.art_attempt.specs.declared.asked.Asked.{Asked}
-use Rattle.art_attempt.specs.declared.asked.Asked.TheVariants.{Cell, Supply, Change}
 use Rattle.art_attempt.specs.declared.inserting.Entered.TheVariants as entered
 use Rattle.art_attempt.specs.declared.inserting.Entered.TheVariants.{Anew}
 use Rattle.art_attempt.specs.declared.inserting.Stage.{Stage}
 use Rattle.art_attempt.specs.declared.inserting.Stage.TheVariants as stage
-use Rattle.art_find.specs.declared.asked.Asked.{Asked as CellAsked}
-use Rattle.art_gather.specs.declared.asked.Asked.{Asked as SupplyAsked}
-use Rattle.art_make.proofs.Told.{map_some}
 use Rattle.art_make.specs.Making.{asks, ended_at, fault_of, most_steps}
-use Rattle.art_make.specs.declared.asked.Answer.{Answer as ChangeAnswer}
-use Rattle.art_make.specs.declared.asked.Answer.TheVariants.{Upgraded, Done}
-use Rattle.art_make.specs.declared.asked.Asked.{Asked as ChangeAsked}
+use Rattle.art_machine.specs.Acting.{steps_in}
+use Rattle.art_machine.specs.declared.actions.Action.{Action}
+use Rattle.art_machine.specs.declared.actions.Answer.{Answer}
+use Rattle.art_machine.specs.declared.actions.Answer.TheVariants.{Begun, Word, Checked, Upgraded, Done}
 use Rattle.art_make.specs.declared.making.Making.{Making}
 use Rattle.art_make.specs.declared.making.Making.TheVariants.{Upgrading, Claiming, Filling, Writing, Committing, Releasing, ReleasingNode, GivingUp, Ended}
 use Rattle.art_plan.specs.declared.changes.Change.{Change as ChangeOf}
-use Rattle.art_step.specs.declared.deeds.Deed.{Deed}
 use Rattle.art_step.specs.declared.faults.Changed.{Changed}
 use Rattle.art_step.specs.declared.faults.UpgradeFault.{UpgradeFault}
 use Rattle.art_step.specs.declared.faults.UpgradeFault.TheVariants as fault
-use Rattle.art_step.specs.declared.views.Sizes.{Sizes}
-use Rattle.art_step.specs.declared.views.View.{View}
 
 -- ---- while nothing is held
 
@@ -65,33 +54,6 @@ free_less left n s m some one is =
     let then = tries_few (left - n) in
     omega arith
 
--- ---- what was made
-
-cell_once : (z : Sizes) (d : Deed) (c : ChangeOf) (a : CellAsked) (answer : Answer) (v w : View) → Answers z d c (Cell a) answer v w → steps_in answer ≡ 1
-cell_once z d c a (told.Cell r) v w row = refl
-cell_once z d c a (told.Word x) v w row = absurd row
-cell_once z d c a (told.Change r) v w row = absurd row
-
-supply_once : (z : Sizes) (d : Deed) (c : ChangeOf) (a : SupplyAsked) (answer : Answer) (v w : View) → Answers z d c (Supply a) answer v w → steps_in answer ≡ 1
-supply_once z d c a (told.Cell r) v w row = absurd row
-supply_once z d c a (told.Word x) v w row = refl
-supply_once z d c a (told.Change r) v w row = absurd row
-
-change_once : (z : Sizes) (d : Deed) (c : ChangeOf) (a : ChangeAsked) (answer : Answer) (v w : View) → Answers z d c (Change a) answer v w → steps_in answer ≡ steps_of (change_in answer)
-change_once z d c a (told.Cell r) v w row = absurd row
-change_once z d c a (told.Word x) v w row = absurd row
-change_once z d c a (told.Change r) v w row = refl
-
-module _ (z : Sizes) (d : Deed) (c : ChangeOf) (asked : Asked) (answer : Answer) (v w : View) (row : Answers z d c asked answer v w) where
-  pub once_cell : (o : Option CellAsked) → option_map Cell o ≡ Some asked → steps_in answer ≡ 1
-  once_cell o is = let k = map_some Cell o asked is in cell_once z d c k.0 answer v w (subst (λ (a : Asked). Answers z d c a answer v w) (sym k.2) row)
-
-  pub once_supply : (o : Option SupplyAsked) → option_map Supply o ≡ Some asked → steps_in answer ≡ 1
-  once_supply o is = let k = map_some Supply o asked is in supply_once z d c k.0 answer v w (subst (λ (a : Asked). Answers z d c a answer v w) (sym k.2) row)
-
-  pub once_change : (o : Option ChangeAsked) → option_map Change o ≡ Some asked → steps_in answer ≡ steps_of (change_in answer)
-  once_change o is = let k = map_some Change o asked is in change_once z d c k.0 answer v w (subst (λ (a : Asked). Answers z d c a answer v w) (sym k.2) row)
-
 -- ---- while a change is made
 
 pub not_begun : (m : Making) → 0 < most_steps m → is_begun m ≡ false
@@ -108,7 +70,7 @@ not_begun (ReleasingNode b) some = refl
 not_begun (GivingUp locked released e) some = refl
 not_begun (Ended r) some = refl
 
-pub still_made : (c : ChangeOf) (m : Making) (a : ChangeAsked) → asks c m ≡ Some a → ended_at m ≡ None
+pub still_made : (c : ChangeOf) (m : Making) (a : Action) → asks c m ≡ Some a → ended_at m ≡ None
 still_made c (Upgrading i) a is = refl
 still_made c (Claiming b) a is = refl
 still_made c (Filling b place) a is = refl
@@ -141,8 +103,11 @@ pub last_stays : (o p : Option UpgradeFault) → ((e : UpgradeFault) → o ≡ S
 last_stays None p stays is = cc
 last_stays (Some e) p stays is = ap is_last (stays e refl) ∙ is
 
-pub step_or_last : (answer : ChangeAnswer) (p : Option UpgradeFault) → ((e : UpgradeFault) → answer ≡ Upgraded (Err e) → p ≡ Some e) → is_last p ≡ false → 0 < steps_of answer
+pub step_or_last : (answer : Answer) (p : Option UpgradeFault) → ((e : UpgradeFault) → answer ≡ Upgraded (Err e) → p ≡ Some e) → is_last p ≡ false → 0 < steps_in answer
 step_or_last Done p refused is = omega arith
+step_or_last (Begun r) p refused is = omega arith
+step_or_last (Word x) p refused is = omega arith
+step_or_last (Checked r) p refused is = omega arith
 step_or_last (Upgraded (Ok done)) p refused is = omega arith
 step_or_last (Upgraded (Err (fault.Changed e))) p refused is = omega arith
 step_or_last (Upgraded (Err (fault.Exhausted e))) p refused is = let last = ap is_last (refused (fault.Exhausted e) refl) in absurd (cc)

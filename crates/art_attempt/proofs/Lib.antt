@@ -6,6 +6,7 @@ pub mod Counts
 pub mod Enters
 pub mod Finds
 pub mod Free
+pub mod Given
 mod Heard
 pub mod Left
 pub mod Looks

@@ -1,26 +1,22 @@
 -- Where no admitted key begins another, no attempt ends as an overlap: at the check of the place a tree would have two such keys.
 use Rattle.std.proofs.Common.{◌≡◌, ◌∙◌, ℕ, true, List, Option, Some, ⊎_elim, refl, sym, ap, subst}
 use Rattle.std.specs.Prelude.{⊤, Result, Ok, Err}
-use Rattle.std.specs.Option.{option_map}
 use Rattle.std.proofs.lemmas.Option.{same_Some}
 use Rattle.art_attempt.proofs.Finds.{stands_there}
-use Rattle.art_attempt.specs.Asking.{PassesAmong, cell_in}
 use Rattle.art_attempt.specs.Inserting.{Fits, IsFinding, IsOverlapBy, StageFits, asks, asks_at, asks_place, check_by, entered_by, entered_so, present_of}
-use Rattle.art_attempt.specs.declared.asked.Answer.{Answer}
-use Rattle.art_attempt.specs.declared.asked.Answer.TheVariants as told
-use Rattle.art_attempt.specs.declared.asked.Asked.{Asked}
-use Rattle.art_attempt.specs.declared.asked.Asked.TheVariants.{Cell}
 use Rattle.art_attempt.specs.declared.inserting.Entered.TheVariants.{Overlaps as overlaps}
 use Rattle.art_attempt.specs.declared.inserting.Inserting.{Inserting}
 use Rattle.art_attempt.specs.declared.inserting.Stage.{Stage}
 use Rattle.art_attempt.specs.declared.rooms.Room.{Room}
 use Rattle.art_find.specs.Descents as descents
 use Rattle.art_find.specs.Verdicts.{HasOverlap, Says}
-use Rattle.art_find.specs.declared.asked.Answer.TheVariants.{Begun, Word, Checked}
-use Rattle.art_find.specs.declared.asked.Asked.TheVariants.{Check}
 use Rattle.art_find.specs.declared.verdicts.Verdict.{Verdict}
 use Rattle.art_find.specs.declared.verdicts.Verdict.TheVariants.{Found, Empty, OtherLeaf, OtherPrefix, Free, Overlaps, Torn, Absent}
-use Rattle.art_gather.specs.Vouching.{passed}
+use Rattle.art_machine.specs.Acting.{PassesAmong, passed}
+use Rattle.art_machine.specs.declared.actions.Action.{Action}
+use Rattle.art_machine.specs.declared.actions.Action.TheVariants.{Check}
+use Rattle.art_machine.specs.declared.actions.Answer.{Answer}
+use Rattle.art_machine.specs.declared.actions.Answer.TheVariants.{Begun, Word, Checked, Upgraded, Done}
 use Rattle.art_find.specs.declared.findings.Stand.{Stand}
 use Rattle.art_step.specs.Histories.{AreApart}
 use Rattle.art_step.specs.Knowledge.{HoldsAmong}
@@ -51,13 +47,13 @@ made_apart (Err (fault.Exhausted c)) is = cc
 
 module _ (A : List ℕ → Type 0) (z : Sizes) (v : View) where
   -- what such a check tells
-  passed_among : (x : Stamp) (answer : Answer) → PassesAmong A z v (Cell (Check x)) answer → passed (cell_in answer) ≡ true → HoldsAmong A z v x
-  passed_among x (told.Cell (Checked (Ok done))) among is = among
-  passed_among x (told.Cell (Checked (Err e))) among is = cc
-  passed_among x (told.Cell (Begun r)) among is = cc
-  passed_among x (told.Cell (Word y)) among is = cc
-  passed_among x (told.Word y) among is = cc
-  passed_among x (told.Change r) among is = cc
+  passed_among : (x : Stamp) (answer : Answer) → PassesAmong A z v (Check x) answer → passed answer ≡ true → HoldsAmong A z v x
+  passed_among x (Checked (Ok done)) among is = among
+  passed_among x (Checked (Err e)) among is = cc
+  passed_among x (Begun r) among is = cc
+  passed_among x (Word y) among is = cc
+  passed_among x (Upgraded r) among is = cc
+  passed_among x Done among is = cc
 
   -- where keys are apart, none of them overlaps another
   none_overlaps : AreApart A → (x : Stamp) (k : List ℕ) → A k → HoldsAmong A z v x → Shows z v x (λ s. HasOverlap s k) → ⊥
@@ -70,17 +66,17 @@ module _ (A : List ℕ → Type 0) (z : Sizes) (v : View) where
       o.overlaps
 
   module _ (apart : AreApart A) (u : View) (m : Inserting) (r : Room) (fits : Fits z u m r v) (is : A r.row.key.items) where
-    pub never_overlaps : (asked : Asked) (answer : Answer) → asks m r ≡ Some asked → PassesAmong A z v asked answer → IsOverlapBy m (cell_in answer) → ⊥
+    pub never_overlaps : (asked : Action) (answer : Answer) → asks m r ≡ Some asked → PassesAmong A z v asked answer → IsOverlapBy m answer → ⊥
     never_overlaps asked answer at among o =
         let k = r.row.key.items in
         let t = o.stand in
         let f : IsFinding z u m r v = subst (λ (s : Stage). StageFits z u s m r v) o.finding fits.stage in
         let there = stands_there z k (present_of r.row) m.finding r.desk f.early v f.fits f.exact t o.there in
         let says : Says z k t.depth t.stamp Overlaps v = subst (λ (found : Verdict). Says z k t.depth t.stamp found v) o.overlaps there.standing.says in
-        let checks : asks m r ≡ Some (Cell (Check t.stamp)) =
+        let checks : asks m r ≡ Some (Check t.stamp) =
         ap (λ (s : Stage). asks_at s m r) o.finding
-        ∙ (ap (λ (p : Option Stand). option_map Cell (asks_place p (descents.asks m.finding.descent.stage))) o.there
-        ∙ ap (λ (found : Verdict). Some (Cell (check_by found t))) o.overlaps) in
-        let one : asked ≡ Cell (Check t.stamp) = same_Some {A = Asked} asked (Cell (Check t.stamp)) (sym at ∙ checks) in
-        let here : PassesAmong A z v (Cell (Check t.stamp)) answer = subst (λ (a : Asked). PassesAmong A z v a answer) one among in
+        ∙ (ap (λ (p : Option Stand). asks_place p (descents.asks m.finding.descent.stage)) o.there
+        ∙ ap (λ (found : Verdict). Some (check_by found t)) o.overlaps) in
+        let one : asked ≡ Check t.stamp = same_Some {A = Action} asked (Check t.stamp) (sym at ∙ checks) in
+        let here : PassesAmong A z v (Check t.stamp) answer = subst (λ (a : Action). PassesAmong A z v a answer) one among in
         none_overlaps apart t.stamp k is (passed_among t.stamp answer here o.succeeded) says

@@ -1,11 +1,9 @@
 -- What an attempt of an insert asks, and what it knows between two of its steps.
 use Rattle.std.specs.Prelude.{◌≡◌, ℕ, ◌+◌, ◌-◌, ◌<◌, ◌++◌, List, [], Option, Some, None, Bool, true, false, ◌==◌, if◌then◌else◌}
-use Rattle.std.specs.Option.{option_map, unwrap_or}
+use Rattle.std.specs.Option.{unwrap_or}
 use Rattle.std.specs.Prelude.{Result, Ok, Err, ⊤}
 use Rattle.art_attempt.specs.Rooms.{both_of, wants_of}
 use Rattle.art_attempt.specs.Trying.{HasChecked, HasSpent, IsKey, IsLater, StillTries}
-use Rattle.art_attempt.specs.declared.asked.Asked.{Asked}
-use Rattle.art_attempt.specs.declared.asked.Asked.TheVariants as asked
 use Rattle.art_attempt.specs.declared.inserting.Entered.{Entered}
 use Rattle.art_attempt.specs.declared.inserting.Entered.TheVariants.{New, Present, Full, Exhausted, Overlaps, Anew}
 use Rattle.art_attempt.specs.declared.inserting.Inserting.{Inserting}
@@ -15,25 +13,22 @@ use Rattle.art_attempt.specs.declared.rooms.Room.{Room}
 use Rattle.art_cell.specs.declared.cells.Cell.{Cell as CellOf}
 use Rattle.art_cell.specs.declared.layouts.Pool.{Pool}
 use Rattle.art_plan.specs.ChooseInsert.Plans.{Comes, IsLockedAt, LocksOnly}
-use Rattle.art_find.specs.Asking.{goes_on}
 use Rattle.art_find.specs.Descents as descents
 use Rattle.art_find.specs.Verdicts.{HasOverlap, value_of}
-use Rattle.art_find.specs.declared.asked.Answer.{Answer as CellAnswer}
-use Rattle.art_find.specs.declared.asked.Asked.{Asked as CellAsked}
-use Rattle.art_find.specs.declared.asked.Asked.TheVariants as cells
 use Rattle.art_find.specs.declared.verdicts.Verdict.{Verdict}
 use Rattle.art_find.specs.declared.verdicts.Verdict.TheVariants as verdict
 use Rattle.art_frame.specs.Stocks.{HasStock}
 use Rattle.art_gather.specs.Supplying as supplying
 use Rattle.art_gather.specs.Supplying.{HasAll, HasNone}
 use Rattle.art_gather.specs.Vouching as vouching
-use Rattle.art_gather.specs.Vouching.{passed}
-use Rattle.art_gather.specs.declared.asked.Asked.{Asked as SupplyAsked}
+use Rattle.art_machine.specs.Acting.{goes_on, passed}
+use Rattle.art_machine.specs.declared.actions.Action.{Action}
+use Rattle.art_machine.specs.declared.actions.Action.TheVariants.{Check, Settle}
+use Rattle.art_machine.specs.declared.actions.Answer.{Answer}
 use Rattle.art_plan.specs.Insert.Puts.{inserted}
 use Rattle.art_plan.specs.declared.insert.leaves.NewLeaf.{NewLeaf}
 use Rattle.art_make.specs.Making as making
 use Rattle.art_make.specs.Making.{HasFailed, fault_of, most_steps}
-use Rattle.art_make.specs.declared.asked.Asked.{Asked as ChangeAsked}
 use Rattle.art_make.specs.declared.making.Making.{Making}
 use Rattle.art_make.specs.declared.making.Making.TheVariants.{Upgrading}
 use Rattle.art_model.specs.declared.commands.Answer.TheVariants as reply
@@ -59,39 +54,39 @@ use Rattle.art_step.specs.declared.views.View.{View}
 -- ---- what it asks
 
 -- a leaf with the key is there: a check tells its value; of any other place a check tells nothing
-abbrev pub check_by : Verdict → Stand → CellAsked
-check_by (verdict.Found l value) t = cells.Settle t.stamp
-check_by found t = cells.Check t.stamp
+abbrev pub check_by : Verdict → Stand → Action
+check_by (verdict.Found l value) t = Settle t.stamp
+check_by found t = Check t.stamp
 
-abbrev pub check_of : Stand → CellAsked
+abbrev pub check_of : Stand → Action
 check_of t = check_by t.verdict t
 
 -- the check of the place, once there is one; until then what the descent asks
-abbrev pub asks_place : Option Stand → Option CellAsked → Option CellAsked
+abbrev pub asks_place : Option Stand → Option Action → Option Action
 asks_place (Some t) o = Some (check_of t)
 asks_place None o = o
 
-abbrev pub finding_asks : Finding → Option CellAsked
+abbrev pub finding_asks : Finding → Option Action
 finding_asks m = asks_place (stand_at m) (descents.asks m.descent.stage)
 
-abbrev pub supply_asks : Inserting → Room → Option SupplyAsked
+abbrev pub supply_asks : Inserting → Room → Option Action
 supply_asks m r = supplying.asks r.row.key.items r.row.value r.stock m.supplying
 
-abbrev pub vouching_asks : Inserting → Option CellAsked
+abbrev pub vouching_asks : Inserting → Option Action
 vouching_asks m = vouching.asks m.stand m.vouching
 
-abbrev pub making_asks : Inserting → Room → Option ChangeAsked
+abbrev pub making_asks : Inserting → Room → Option Action
 making_asks m r = making.asks r.change m.making
 
-abbrev pub asks_at : Stage → Inserting → Room → Option Asked
-asks_at stage.Finding m r = option_map asked.Cell (finding_asks m.finding)
-asks_at stage.Supplying m r = option_map asked.Supply (supply_asks m r)
-asks_at stage.Vouching m r = option_map asked.Cell (vouching_asks m)
-asks_at stage.Making m r = option_map asked.Change (making_asks m r)
+abbrev pub asks_at : Stage → Inserting → Room → Option Action
+asks_at stage.Finding m r = finding_asks m.finding
+asks_at stage.Supplying m r = supply_asks m r
+asks_at stage.Vouching m r = vouching_asks m
+asks_at stage.Making m r = making_asks m r
 asks_at (stage.Ended e) m r = None
 
 -- the next step
-abbrev pub asks : Inserting → Room → Option Asked
+abbrev pub asks : Inserting → Room → Option Action
 asks m r = asks_at m.stage m r
 
 abbrev pub entered_at : Stage → Option Entered
@@ -190,8 +185,8 @@ pub record HasMade (z : Sizes) (u : View) (m : Inserting) (r : Room) (v : View) 
   pub locks : HasLocks z u m.stand r early
   pub has : HasStock z r.row.key.items r.row.value early r.stock
   pub plain : r.change.copy ≡ None
-  pub leaf : r.change.leaf ≡ r.stock.leaf
-  pub deed : r.change.deed ≡ inserted r.row
+  pub leaf : r.change.effects.leaf ≡ r.stock.leaf
+  pub deed : r.change.effects.deed ≡ inserted r.row
   pub fits : making.Fits z r.change m.making early v
 
 -- no cell was locked yet
@@ -287,7 +282,7 @@ pub record IsExhausted (z : Sizes) (u : View) (t : Stand) (r : Room) (c : CellOf
   pub early : View
   pub base : StillTries u early
   pub later : IsLater early v
-  pub deed : r.change.deed ≡ inserted r.row
+  pub deed : r.change.effects.deed ≡ inserted r.row
   pub failed : HasFailed early r.change (fault.Exhausted c) v
   pub locked : IsLockedAt t failed.target.stamp
   pub checked : IsChecked z u t r failed.target.stamp early
@@ -308,14 +303,14 @@ EndFits z u t r Anew v = EndsSo z u r v × (u.failures < v.failures)
 -- ---- why it is tried anew
 
 -- a version word was locked, obsolete or changed: the last answer said so, or of the cells of the change one was changed
-abbrev pub IsAnewBy : Stage → Making → CellAnswer → Type 0
+abbrev pub IsAnewBy : Stage → Making → Answer → Type 0
 IsAnewBy stage.Making m answer = (e : Changed) × (fault_of m ≡ Some (fault.Changed e))
 IsAnewBy s m answer = goes_on answer ≡ false
 
 -- ---- why it ends as an overlap
 
 -- the place of the key was known, one where a key begins the other, and its check succeeded
-pub record IsOverlapBy (m : Inserting) (answer : CellAnswer) : Type 0 where
+pub record IsOverlapBy (m : Inserting) (answer : Answer) : Type 0 where
   pub finding : m.stage ≡ stage.Finding
   pub stand : Stand
   pub there : stand_at m.finding ≡ Some stand

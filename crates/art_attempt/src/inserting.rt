@@ -1,39 +1,34 @@
 //! One attempt of an insert, step by step.
 ghost use Rattle.std.specs.Prelude.{◌≡◌, ◌≢◌, ℕ, ◌+◌, ◌-◌, ◌<◌, ◌≤◌, List, length, Some, None, true, false};
-ghost use Rattle.art_attempt.specs.Asking.{Answers, cell_in, steps_in, steps_of};
+ghost use Rattle.art_attempt.specs.Asking.{Answers};
 ghost use Rattle.art_attempt.specs.Inserting.{Fits, HasMade, HasPlace, HasSupplies, HasVouched, IsFinding, IsRoom};
 ghost use Rattle.art_attempt.specs.Inserting.{IsAnewBy, IsOverlapBy, asks, check_of, deed_at, ended_at, entered_by, entered_so, finding_asks, found_at, free_at, given_up, is_begun, is_free};
 ghost use Rattle.art_attempt.specs.Inserting.{making_asks, making_left, steps_left, supply_asks, vouching_asks};
 ghost use Rattle.art_attempt.specs.Rooms.{SameRow, wants_of};
 ghost use Rattle.art_attempt.specs.Trying.{HasSpent, StillTries};
-ghost use Rattle.art_attempt.specs.declared.asked.Asked.{Asked as AskedStep};
 ghost use Rattle.art_attempt.specs.declared.inserting.Entered.TheVariants.{Anew as anew, Overlaps as overlaps};
 ghost use Rattle.art_attempt.specs.declared.inserting.Stage.TheVariants as stages;
-ghost use Rattle.art_find.specs.Asking.{Answers as CellAnswers, goes_on};
-ghost use Rattle.art_find.specs.declared.asked.Asked.{Asked as CellAskedStep};
 ghost use Rattle.art_find.specs.declared.verdicts.Verdict.TheVariants as verdicts;
 ghost use Rattle.art_frame.specs.Stocks.{HasStock};
-ghost use Rattle.art_gather.specs.Asking.{Answers as SupplyAnswers};
 ghost use Rattle.art_gather.specs.Supplying.{HasAll};
-ghost use Rattle.art_gather.specs.Vouching.{passed, ended_at as vouched_at};
-ghost use Rattle.art_gather.specs.declared.asked.Asked.{Asked as SupplyAsked};
+ghost use Rattle.art_gather.specs.Vouching.{ended_at as vouched_at};
 ghost use Rattle.art_gather.specs.declared.vouching.Vouched.TheVariants.{Unchanged as unchanged};
-ghost use Rattle.art_make.specs.Asking.{Answers as ChangeAnswers};
-ghost use Rattle.art_make.specs.Making.{ended_at as made_at, fault_of};
-ghost use Rattle.art_make.specs.declared.asked.Asked.{Asked as ChangeAsked};
+ghost use Rattle.art_machine.specs.Acting.{Answers as ActionAnswers, goes_on, passed, steps_in, telling};
+ghost use Rattle.art_machine.specs.declared.actions.Action.{Action as ActionOf};
+ghost use Rattle.art_make.specs.Making.{brings, ended_at as made_at, fault_of};
 ghost use Rattle.art_find.specs.Findings.{stand_at};
 ghost use Rattle.art_step.specs.declared.faults.Changed.{Changed};
 ghost use Rattle.art_step.specs.declared.faults.UpgradeFault.TheVariants.{Changed as changed};
 ghost use Rattle.art_step.specs.declared.views.Sizes.{Sizes};
 ghost use Rattle.art_step.specs.declared.views.View.{View};
 
-use crate::asked::{cell_in, change_in, steps_of, word_in};
+use crate::Room;
 use crate::rooms::wants_of;
-use crate::{Answer, Asked, Room};
 use art_cell::{Cell, Pool};
-use art_find::{Answer as CellAnswer, Asked as CellAsked, Finding, Stand, Verdict, look};
-use art_gather::{Supplied, Supplying, Vouched, Vouching, make as make_supply, read_cells};
-use art_make::{Answer as ChangeAnswer, Making, make as make_change};
+use art_find::{Finding, Stand, Verdict, look};
+use art_gather::{Supplied, Supplying, Vouched, Vouching, read_cells};
+use art_machine::{Action, Answer, perform};
+use art_make::Making;
 use art_plan::{needed, plan_insert};
 use art_step::{EpochSteps, Stamp, UpgradeFault};
 
@@ -106,13 +101,13 @@ impl Inserting {
     }
 
     /// The next step, or none where it has ended.
-    pub fn next(&self, room: &Room) -> Option<Asked>
+    pub fn next(&self, room: &Room) -> Option<Action>
         requires short { length room.now.row.key.items ≤ 64 }
         ensures asks { result ≡ asks self.now room.now }
         ensures allowed { (z : Sizes) (u v : View) → Fits z u self.now room.now v →
             IfSome result (IsAllowed z (deed_at self.now room.now) room.now.change v) }
         ensures going { (z : Sizes) (u v : View) → Fits z u self.now room.now v → ended_at self.now ≡ None →
-            (a : AskedStep) × (result ≡ Some a) }
+            (a : ActionOf) × (result ≡ Some a) }
     {
         match self.stage {
             Stage::Finding => self.find_next(),
@@ -125,22 +120,22 @@ impl Inserting {
 
     /// The step that it asked for was made, with this answer.
     pub fn told(&mut self, room: &mut Room, answer: Answer)
-        requires { (z : Sizes) × (u : View) × (v : View) × (w : View) × (asked : AskedStep) × Fits z u self.old room.old v ×
+        requires { (z : Sizes) × (u : View) × (v : View) × (w : View) × (asked : ActionOf) × Fits z u self.old room.old v ×
             (asks self.old room.old ≡ Some asked) × Answers z (deed_at self.old room.old) room.old.change asked answer v w }
         ensures row { SameRow room.old room.new }
-        ensures fits { (z : Sizes) (u v w : View) (asked : AskedStep) → Fits z u self.old room.old v →
+        ensures fits { (z : Sizes) (u v w : View) (asked : ActionOf) → Fits z u self.old room.old v →
             asks self.old room.old ≡ Some asked → Answers z (deed_at self.old room.old) room.old.change asked answer v w →
             Fits z u self.new room.new w }
         ensures left { (left : ℕ) → (is_free self.old ≡ true → 0 < left) →
             steps_left (left - steps_in answer) self.new < steps_left left self.old }
-        ensures anew { ended_at self.new ≡ Some anew → IsAnewBy self.old.stage self.new.making (cell_in answer) }
-        ensures overlaps { ended_at self.new ≡ Some overlaps → IsOverlapBy self.old (cell_in answer) }
+        ensures anew { ended_at self.new ≡ Some anew → IsAnewBy self.old.stage self.new.making answer }
+        ensures overlaps { ended_at self.new ≡ Some overlaps → IsOverlapBy self.old answer }
     {
         match self.stage {
-            Stage::Finding => self.find_told(room, cell_in(answer)),
-            Stage::Supplying => self.supply_told(room, word_in(answer)),
-            Stage::Vouching => self.vouch_told(room, cell_in(answer)),
-            Stage::Making => self.make_told(room, change_in(answer)),
+            Stage::Finding => self.find_told(room, answer),
+            Stage::Supplying => self.supply_told(room, answer),
+            Stage::Vouching => self.vouch_told(room, answer),
+            Stage::Making => self.make_told(room, answer),
             Stage::Ended(_) => {}
         }
     }
@@ -176,66 +171,65 @@ impl Inserting {
 
     /// What comes next on the way to the place of the key, and its check.
     #[inline(always)]
-    fn find_next(&self) -> Option<Asked>
+    fn find_next(&self) -> Option<Action>
         ensures asks { (r : RoomOf) → result ≡ asks_at stages.Finding self.now r }
         ensures allowed { (z : Sizes) (u v : View) (r : RoomOf) → IsFinding z u self.now r v →
             IfSome result (IsAllowed z (deed_at self.now r) r.change v) }
-        ensures going { (z : Sizes) (u v : View) (r : RoomOf) → IsFinding z u self.now r v → (a : AskedStep) × (result ≡ Some a) }
+        ensures going { (z : Sizes) (u v : View) (r : RoomOf) → IsFinding z u self.now r v → (a : ActionOf) × (result ≡ Some a) }
     {
-        Some(Asked::Cell(finding_asked(&self.finding)?))
+        finding_asked(&self.finding)
     }
 
     /// What comes next where numbers are brought into the hand.
     #[inline(always)]
-    fn supply_next(&self, room: &Room) -> Option<Asked>
+    fn supply_next(&self, room: &Room) -> Option<Action>
         requires short { length room.now.row.key.items ≤ 64 }
         ensures asks { result ≡ asks_at stages.Supplying self.now room.now }
         ensures allowed { (z : Sizes) (u v : View) (d : Deed) → HasSupplies z u self.now room.now v →
             IfSome result (IsAllowed z d room.now.change v) }
         ensures going { (z : Sizes) (u v : View) → HasSupplies z u self.now room.now v → supplied_at self.now.supplying ≡ None →
-            (a : AskedStep) × (result ≡ Some a) }
+            (a : ActionOf) × (result ≡ Some a) }
     {
         let key = room.row.key.as_slice();
-        let asked = self.supplying.next(key, room.row.value, &room.stock)?;
-        Some(Asked::Supply(asked))
+        self.supplying.next(key, room.row.value, &room.stock)
     }
 
     /// What comes next where the cells are vouched for.
     #[inline(always)]
-    fn vouch_next(&self) -> Option<Asked>
+    fn vouch_next(&self) -> Option<Action>
         ensures asks { (r : RoomOf) → result ≡ asks_at stages.Vouching self.now r }
         ensures allowed { (z : Sizes) (u v : View) (r : RoomOf) (d : Deed) → HasVouched z u self.now r v →
             IfSome result (IsAllowed z d r.change v) }
         ensures going { (z : Sizes) (u v : View) (r : RoomOf) → HasVouched z u self.now r v → vouched_at self.now.vouching ≡ None →
-            (a : AskedStep) × (result ≡ Some a) }
+            (a : ActionOf) × (result ≡ Some a) }
     {
-        Some(Asked::Cell(self.vouching.next(&self.stand)?))
+        self.vouching.next(&self.stand)
     }
 
     /// What comes next where the change is made.
     #[inline(always)]
-    fn make_next(&self, room: &Room) -> Option<Asked>
+    fn make_next(&self, room: &Room) -> Option<Action>
         ensures asks { result ≡ asks_at stages.Making self.now room.now }
         ensures allowed { (z : Sizes) (u v : View) (d : Deed) → HasMade z u self.now room.now v →
             IfSome result (IsAllowed z d room.now.change v) }
         ensures going { (z : Sizes) (u v : View) → HasMade z u self.now room.now v → made_at self.now.making ≡ None →
-            (a : AskedStep) × (result ≡ Some a) }
+            (a : ActionOf) × (result ≡ Some a) }
     {
-        Some(Asked::Change(self.making.next(&room.change)?))
+        self.making.next(&room.change)
     }
 
     /// A cell was looked at on the way to the place of the key.
-    fn find_told(&mut self, room: &mut Room, answer: CellAnswer)
+    fn find_told(&mut self, room: &mut Room, answer: Answer)
         requires stage { self.old.stage ≡ stages.Finding }
-        requires told { (z : Sizes) × (u : View) × (v : View) × (w : View) × (asked : CellAskedStep) × IsRoom z room.old ×
+        requires told { (z : Sizes) × (u : View) × (v : View) × (w : View) × (asked : ActionOf) × IsRoom z room.old ×
             IsFinding z u self.old room.old v × (finding_asks self.old.finding ≡ Some asked) ×
-            CellAnswers z (deed_at self.old room.old) asked answer v w }
+            ActionAnswers z (telling (deed_at self.old room.old)) asked answer v w }
         ensures row { SameRow room.old room.new }
         ensures anew { ended_at self.new ≡ Some anew → goes_on answer ≡ false }
         ensures overlaps { ended_at self.new ≡ Some overlaps → IsOverlapBy self.old answer }
         ensures free { is_free self.new ≡ true }
-        ensures fits { (z : Sizes) (u v w : View) (asked : CellAskedStep) → IsRoom z room.old → IsFinding z u self.old room.old v →
-            finding_asks self.old.finding ≡ Some asked → CellAnswers z (deed_at self.old room.old) asked answer v w →
+        ensures fits { (z : Sizes) (u v w : View) (asked : ActionOf) → IsRoom z room.old → IsFinding z u self.old room.old v →
+            finding_asks self.old.finding ≡ Some asked → ActionAnswers z (telling (deed_at self.old room.old)) asked answer v w →
             Fits z u self.new room.new w }
     {
         match self.finding.stand() {
@@ -246,18 +240,18 @@ impl Inserting {
 
     /// The descent goes on, or its way was changed.
     #[inline(always)]
-    fn read_on(&mut self, room: &mut Room, answer: CellAnswer)
+    fn read_on(&mut self, room: &mut Room, answer: Answer)
         requires stage { self.old.stage ≡ stages.Finding }
         requires nowhere { stand_at self.old.finding ≡ None }
-        requires told { (z : Sizes) × (u : View) × (v : View) × (w : View) × (asked : CellAskedStep) × IsRoom z room.old ×
+        requires told { (z : Sizes) × (u : View) × (v : View) × (w : View) × (asked : ActionOf) × IsRoom z room.old ×
             IsFinding z u self.old room.old v × (finding_asks self.old.finding ≡ Some asked) ×
-            CellAnswers z (deed_at self.old room.old) asked answer v w }
+            ActionAnswers z (telling (deed_at self.old room.old)) asked answer v w }
         ensures row { SameRow room.old room.new }
         ensures anew { ended_at self.new ≡ Some anew → goes_on answer ≡ false }
         ensures not_overlaps { ended_at self.new ≢ Some overlaps }
         ensures free { is_free self.new ≡ true }
-        ensures fits { (z : Sizes) (u v w : View) (asked : CellAskedStep) → IsRoom z room.old → IsFinding z u self.old room.old v →
-            finding_asks self.old.finding ≡ Some asked → CellAnswers z (deed_at self.old room.old) asked answer v w →
+        ensures fits { (z : Sizes) (u v w : View) (asked : ActionOf) → IsRoom z room.old → IsFinding z u self.old room.old v →
+            finding_asks self.old.finding ≡ Some asked → ActionAnswers z (telling (deed_at self.old room.old)) asked answer v w →
             Fits z u self.new room.new w }
     {
         let on = self
@@ -372,9 +366,9 @@ impl Inserting {
             let Some(asked) = self.supplying.next(key, room.row.value, &room.stock) else {
                 return;
             };
-            let word = make_supply(steps, asked);
+            let answer = perform(steps, asked, None);
             *left -= 1;
-            self.supply_told(room, word);
+            self.supply_told(room, answer);
         }
     }
 
@@ -466,8 +460,8 @@ impl Inserting {
             if is_begun(&self.making) && *left <= 1 {
                 return;
             }
-            let answer = make_change(steps, asked, &room.change);
-            *left = left.saturating_sub(steps_of(answer));
+            let answer = perform(steps, asked, Some(&room.change.effects));
+            *left = left.saturating_sub(answer.steps());
             self.make_told(room, answer);
         }
     }
@@ -508,18 +502,18 @@ impl Inserting {
     }
 
     /// The place of the key was checked.
-    fn settled(&mut self, room: &mut Room, stand: Stand, answer: CellAnswer)
+    fn settled(&mut self, room: &mut Room, stand: Stand, answer: Answer)
         requires { (z : Sizes) × (u : View) × (v : View) × (w : View) × IsRoom z room.old × IsFinding z u self.old room.old v ×
-            (stand_at self.old.finding ≡ Some stand) × CellAnswers z (deed_at self.old room.old) (check_of stand) answer v w }
+            (stand_at self.old.finding ≡ Some stand) × ActionAnswers z (telling (deed_at self.old room.old)) (check_of stand) answer v w }
         ensures row { SameRow room.old room.new }
         ensures anew { ended_at self.new ≡ Some anew → goes_on answer ≡ false }
         ensures overlaps { ended_at self.new ≡ Some overlaps → (stand.verdict ≡ verdicts.Overlaps) × (passed answer ≡ true) }
         ensures free { is_free self.new ≡ true }
         ensures fits { (z : Sizes) (u v w : View) → IsRoom z room.old → IsFinding z u self.old room.old v →
-            stand_at self.old.finding ≡ Some stand → CellAnswers z (deed_at self.old room.old) (check_of stand) answer v w →
+            stand_at self.old.finding ≡ Some stand → ActionAnswers z (telling (deed_at self.old room.old)) (check_of stand) answer v w →
             Fits z u self.new room.new w }
     {
-        if !passed(answer) {
+        if !answer.passed() {
             self.stage = Stage::Ended(Entered::Anew);
             return;
         }
@@ -548,18 +542,18 @@ impl Inserting {
 
     /// A number was sought, or a word of the leaf written.
     #[inline(always)]
-    fn supply_told(&mut self, room: &mut Room, word: u64)
-        requires { (z : Sizes) × (u : View) × (v : View) × (w : View) × (asked : SupplyAsked) × IsRoom z room.old ×
-            HasSupplies z u self.old room.old v × (supply_asks self.old room.old ≡ Some asked) × SupplyAnswers z asked word v w }
+    fn supply_told(&mut self, room: &mut Room, answer: Answer)
+        requires { (z : Sizes) × (u : View) × (v : View) × (w : View) × (asked : ActionOf) × IsRoom z room.old ×
+            HasSupplies z u self.old room.old v × (supply_asks self.old room.old ≡ Some asked) × ActionAnswers z None asked answer v w }
         ensures row { SameRow room.old room.new }
         ensures not_anew { ended_at self.new ≢ Some anew }
         ensures not_overlaps { ended_at self.new ≢ Some overlaps }
         ensures free { is_free self.new ≡ true }
-        ensures fits { (z : Sizes) (u v w : View) (asked : SupplyAsked) → IsRoom z room.old → HasSupplies z u self.old room.old v →
-            supply_asks self.old room.old ≡ Some asked → SupplyAnswers z asked word v w → Fits z u self.new room.new w }
+        ensures fits { (z : Sizes) (u v w : View) (asked : ActionOf) → IsRoom z room.old → HasSupplies z u self.old room.old v →
+            supply_asks self.old room.old ≡ Some asked → ActionAnswers z None asked answer v w → Fits z u self.new room.new w }
     {
         let wants = wants_of(room.sizes, &self.stand.verdict);
-        self.supplying.told(&wants, &mut room.stock, word);
+        self.supplying.told(&wants, &mut room.stock, answer);
         self.supply_on(room);
     }
 
@@ -592,17 +586,17 @@ impl Inserting {
     }
 
     /// A word was read, or a cell was checked.
-    fn vouch_told(&mut self, room: &mut Room, answer: CellAnswer)
+    fn vouch_told(&mut self, room: &mut Room, answer: Answer)
         requires stage { self.old.stage ≡ stages.Vouching }
-        requires told { (z : Sizes) × (u : View) × (v : View) × (w : View) × (asked : CellAskedStep) × IsRoom z room.old ×
+        requires told { (z : Sizes) × (u : View) × (v : View) × (w : View) × (asked : ActionOf) × IsRoom z room.old ×
             HasVouched z u self.old room.old v × (vouching_asks self.old ≡ Some asked) ×
-            CellAnswers z (deed_at self.old room.old) asked answer v w }
+            ActionAnswers z (telling (deed_at self.old room.old)) asked answer v w }
         ensures row { SameRow room.old room.new }
         ensures anew { ended_at self.new ≡ Some anew → goes_on answer ≡ false }
         ensures not_overlaps { ended_at self.new ≢ Some overlaps }
         ensures free { is_free self.new ≡ true }
-        ensures fits { (z : Sizes) (u v w : View) (asked : CellAskedStep) → IsRoom z room.old → HasVouched z u self.old room.old v →
-            vouching_asks self.old ≡ Some asked → CellAnswers z (deed_at self.old room.old) asked answer v w →
+        ensures fits { (z : Sizes) (u v w : View) (asked : ActionOf) → IsRoom z room.old → HasVouched z u self.old room.old v →
+            vouching_asks self.old ≡ Some asked → ActionAnswers z (telling (deed_at self.old room.old)) asked answer v w →
             Fits z u self.new room.new w }
     {
         let both = needed(&self.stand.verdict).above;
@@ -645,17 +639,17 @@ impl Inserting {
 
     /// A step of the change was made.
     #[inline(always)]
-    fn make_told(&mut self, room: &mut Room, answer: ChangeAnswer)
+    fn make_told(&mut self, room: &mut Room, answer: Answer)
         requires stage { self.old.stage ≡ stages.Making }
-        requires told { (z : Sizes) × (u : View) × (v : View) × (w : View) × (asked : ChangeAsked) × IsRoom z room.old ×
+        requires told { (z : Sizes) × (u : View) × (v : View) × (w : View) × (asked : ActionOf) × IsRoom z room.old ×
             HasMade z u self.old room.old v × (making_asks self.old room.old ≡ Some asked) ×
-            ChangeAnswers room.old.change asked answer v w }
+            ActionAnswers z (brings room.old.change) asked answer v w }
         ensures row { SameRow room.old room.new }
-        ensures fits { (z : Sizes) (u v w : View) (asked : ChangeAsked) → IsRoom z room.old → HasMade z u self.old room.old v →
-            making_asks self.old room.old ≡ Some asked → ChangeAnswers room.old.change asked answer v w →
+        ensures fits { (z : Sizes) (u v w : View) (asked : ActionOf) → IsRoom z room.old → HasMade z u self.old room.old v →
+            making_asks self.old room.old ≡ Some asked → ActionAnswers z (brings room.old.change) asked answer v w →
             Fits z u self.new room.new w }
         ensures left { (left : ℕ) → (is_begun self.old.making ≡ true → 0 < left) →
-            steps_left (left - steps_of answer) self.new < making_left left self.old.making }
+            steps_left (left - steps_in answer) self.new < making_left left self.old.making }
         ensures anew { ended_at self.new ≡ Some anew → (e : Changed) × (fault_of self.new.making ≡ Some (changed e)) }
         ensures not_overlaps { ended_at self.new ≢ Some overlaps }
         ensures over { is_free self.new ≡ true → ended_at self.new ≢ None }
@@ -701,7 +695,7 @@ pub fn nowhere() -> Stand {
 }
 
 /// The check of the place, once there is one; until then what the descent asks.
-fn finding_asked(finding: &Finding) -> Option<CellAsked>
+fn finding_asked(finding: &Finding) -> Option<Action>
     ensures { result ≡ finding_asks finding.now }
 {
     match finding.stand() {
@@ -711,12 +705,12 @@ fn finding_asked(finding: &Finding) -> Option<CellAsked>
 }
 
 /// A leaf with the key is there: a check tells its value; of any other place a check tells nothing.
-fn check_of(stand: &Stand) -> CellAsked
+fn check_of(stand: &Stand) -> Action
     ensures { result ≡ check_of stand.now }
 {
     match stand.verdict {
-        Verdict::Found(_, _) => CellAsked::Settle(stand.stamp),
-        _ => CellAsked::Check(stand.stamp),
+        Verdict::Found(_, _) => Action::Settle { stamp: stand.stamp },
+        _ => Action::Check { stamp: stand.stamp },
     }
 }
 
@@ -758,15 +752,5 @@ fn given_up(fault: UpgradeFault) -> Entered
     match fault {
         UpgradeFault::Changed(_) => Entered::Anew,
         UpgradeFault::Exhausted(cell) => Entered::Exhausted(cell),
-    }
-}
-
-/// Whether it says that a version word is unchanged.
-pub fn passed(answer: CellAnswer) -> bool
-    ensures { result ≡ passed answer }
-{
-    match answer {
-        CellAnswer::Checked(Ok(_)) => true,
-        _ => false,
     }
 }

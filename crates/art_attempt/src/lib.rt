@@ -34,7 +34,6 @@
 //! began (`EndFits`), with the grounds of each refusal.
 #![tactic(auto)]
 
-mod asked;
 mod driver;
 mod inserting;
 mod rooms;
@@ -42,7 +41,6 @@ mod rooms;
 pub use art_frame;
 pub use art_gather;
 pub use art_plan;
-pub use asked::{Answer, Asked, cell_in, change_in, steps_in, steps_of, word_in};
 pub use driver::make;
-pub use inserting::{Entered, Inserting, Stage, is_begun, nowhere, passed};
+pub use inserting::{Entered, Inserting, Stage, is_begun, nowhere};
 pub use rooms::Room;

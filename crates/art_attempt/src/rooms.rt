@@ -12,6 +12,7 @@ use art_find::{Desk, Verdict};
 use art_frame::Stock;
 use art_gather::Wants;
 use art_key::{Bound, Key};
+use art_machine::Effects;
 use art_plan::{Bodies, Change, NewLeaf, OldLeaf, needed};
 use art_step::{Deed, Sizes};
 
@@ -84,7 +85,7 @@ impl Room {
     pub fn spend(&mut self)
         ensures { self.new ≡ record self.old { stock = spent_by self.old.change self.old.stock } }
     {
-        match self.change.leaf {
+        match self.change.effects.leaf {
             Some(_) => self.stock.spend_leaf(),
             None => {}
         }
@@ -143,9 +144,7 @@ fn no_change() -> Change {
         node: None,
         body: no_body(),
         copy: None,
-        leaf: None,
-        unlinked: ArrayVec::new(),
-        deed: Deed::Look(Key::new(), Bound::End, None),
+        effects: Effects::telling(Deed::Look(Key::new(), Bound::End, None)),
     }
 }
 

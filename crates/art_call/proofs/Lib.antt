@@ -13,5 +13,6 @@ mod AtOnce
 mod Events
 pub mod GivenUp
 mod Sought
+mod SoughtSteps
 mod StepKinds
 mod Written

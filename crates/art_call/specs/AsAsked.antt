@@ -4,20 +4,18 @@ use Rattle.art_change.specs.ArtAttempt.declared.rooms.Room.{Room}
 use Rattle.art_call.specs.declared.callers.Call.{Call}
 use Rattle.art_call.specs.declared.callers.Call.TheVariants as call
 use Rattle.art_call.specs.declared.callers.Caller.{Caller}
-use Rattle.art_change.specs.Asking.{Answers as WriteAnswers, IsAllowed}
+use Rattle.art_change.specs.ArtAttempt.Asking.{Answers as WriteAnswers, IsAllowed}
 use Rattle.art_change.specs.Writes as writes
-use Rattle.art_change.specs.declared.asked.Answer.{Answer as WriteAnswer}
-use Rattle.art_change.specs.declared.asked.Asked.{Asked as WriteAsked}
 use Rattle.art_change.specs.declared.writes.Write.{Write}
 use Rattle.art_epoch.specs.Limbo.{places_of}
 use Rattle.art_epoch.specs.declared.limbo.Place.{Place}
 use Rattle.art_key.specs.declared.bounds.Bound.{Bound}
+use Rattle.art_machine.specs.Acting.{Answers, telling}
+use Rattle.art_machine.specs.declared.actions.Action.{Action}
+use Rattle.art_machine.specs.declared.actions.Answer.{Answer}
 use Rattle.art_seek.specs.ArtLook.declared.trails.Trail.{Trail}
-use Rattle.art_seek.specs.Asking.{Answers as SeekAnswers}
 use Rattle.art_seek.specs.Seeks as seeks
 use Rattle.art_seek.specs.Walks.{deed_at}
-use Rattle.art_seek.specs.declared.asked.Answer.{Answer as SeekAnswer}
-use Rattle.art_seek.specs.declared.asked.Asked.{Asked as SeekAsked}
 use Rattle.art_seek.specs.declared.seeks.Seek.{Seek}
 use Rattle.art_step.specs.declared.views.Sizes.{Sizes}
 use Rattle.art_step.specs.declared.views.View.{View}
@@ -28,8 +26,8 @@ use Rattle.art_step.specs.declared.views.View.{View}
 -- where qs wait; and less is left
 pub record WriteMakes (z : Sizes) (v : View) (m : Write) (r : Room) (ps : List Place) (w : View) (n : Write) (s : Room)
     (qs : List Place) : Type 0 where
-  pub asked : WriteAsked
-  pub answer : WriteAnswer
+  pub asked : Action
+  pub answer : Answer
   pub asks : writes.asks m r ps ≡ Some asked
   pub allowed : IsAllowed z (writes.deed_at m r) r.change v asked
   pub row : WriteAnswers z (writes.deed_at m r) r.change asked answer v w
@@ -57,10 +55,10 @@ pub record WriteGoes (z : Sizes) (v : View) (m : Write) (r : Room) (ps : List Pl
 -- what the seek m asked for at the view v, with the trail t, was made, and it is n then, at the view w, with the trail s
 pub record SeekMakes (z : Sizes) (k : List ℕ) (hi : Bound) (v : View) (m : Seek) (t : Trail) (w : View) (n : Seek) (s : Trail)
     : Type 0 where
-  pub asked : SeekAsked
-  pub answer : SeekAnswer
+  pub asked : Action
+  pub answer : Answer
   pub asks : seeks.asks m ≡ Some asked
-  pub row : SeekAnswers z (deed_at m.walk k hi t) asked answer v w
+  pub row : Answers z (telling (deed_at m.walk k hi t)) asked answer v w
   pub fits : (u : View) → seeks.Fits z k hi u m t v → seeks.Fits z k hi u n s w
 
 -- ---- of a call

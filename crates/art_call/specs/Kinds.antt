@@ -6,9 +6,8 @@ use Rattle.art_cell.specs.declared.cells.Cell.{Cell}
 use Rattle.art_cell.specs.declared.cells.Link.{Link}
 use Rattle.art_cell.specs.declared.cells.Node.{Node}
 use Rattle.art_cell.specs.declared.layouts.Pool.{Pool}
-use Rattle.art_frame.specs.ArtMake.Asking.{Upgrades}
-use Rattle.art_change.specs.ArtPlan.Changes.{leaf_linked, unlinked}
-use Rattle.art_change.specs.ArtPlan.declared.changes.Change.{Change}
+use Rattle.art_machine.specs.Acting.{Upgrades, leaf_linked, unlinked}
+use Rattle.art_machine.specs.declared.actions.Effects.{Effects}
 use Rattle.art_step.specs.Steps.Advance as advance
 use Rattle.art_step.specs.Steps.Anchor as anchor
 use Rattle.art_step.specs.Steps.Begin as begin
@@ -52,11 +51,11 @@ Gives v w = ((d : Link) × (y : InHand) × IsInHand v d y × give.Outcome v w d)
 abbrev pub Releases : View → View → Type 0
 Releases v w = (c : Cell) × (h : Holding) × IsHolding v c h × release.Outcome v w h
 
--- a change was committed by the release of a cell that is held, and each number waits in limbo once
-pub record CommitsBy (v w : View) (change : Change) (c : Cell) : Type 0 where
+-- effects came about by the release of a cell that is held, and each number waits in limbo once
+pub record CommitsBy (v w : View) (effects : Effects) (c : Cell) : Type 0 where
   pub holding : Holding
   pub held : IsHolding v c holding
-  pub outcome : commit.Outcome v w change.deed (unlinked change) (commit.coming v (leaf_linked change)) holding
+  pub outcome : commit.Outcome v w effects.deed (unlinked effects) (commit.coming v (leaf_linked effects)) holding
   pub once : IsOnce (links_in_limbo w.limbo)
 
 -- from the view v to w the pass made one step of this kind; an upgrade whose counter is at its end makes none
@@ -66,7 +65,7 @@ IsStep kind.Read z v w = Reads z v w
 IsStep kind.Check z v w = (x : Stamp) × (o : Option Deed) × (r : Result ⊤ Changed) × check.Outcome z v w x o r
 IsStep kind.Upgrade z v w = (x : Stamp) × (r : Result ⊤ UpgradeFault) × Upgrades v w x r
 IsStep kind.Write z v w = Writes v w
-IsStep kind.Commit z v w = (change : Change) × (c : Cell) × CommitsBy v w change c
+IsStep kind.Commit z v w = (effects : Effects) × (c : Cell) × CommitsBy v w effects c
 IsStep kind.Release z v w = Releases v w
 IsStep kind.Claim z v w = (n : Node) × claim.Outcome v w n
 IsStep kind.Take z v w = (pool : Pool) × (i : ℕ) × (bit : Option ℕ) × (word : ℕ) × take_free.Outcome z v w pool i bit word

@@ -1,14 +1,13 @@
 -- A step that a call made.
 use Rattle.std.specs.Prelude.{◌≡◌, ◌+◌, Bool, true, false, Ok, None}
-use Rattle.art_change.specs.ArtAttempt.declared.asked.Answer.{Answer as AttemptAnswer}
-use Rattle.art_change.specs.ArtAttempt.declared.asked.Answer.TheVariants as told
-use Rattle.art_change.specs.ArtAttempt.declared.asked.Asked.{Asked as AttemptAsked}
-use Rattle.art_change.specs.ArtAttempt.declared.asked.Asked.TheVariants.{Cell, Change}
 use Rattle.art_call.specs.Kinds.{IsStep}
 use Rattle.art_call.specs.declared.driver.Made.{Made}
-use Rattle.art_change.specs.ArtFind.declared.asked.Answer.TheVariants.{Checked}
-use Rattle.art_change.specs.ArtFind.declared.asked.Asked.TheVariants.{Settle}
-use Rattle.art_frame.specs.ArtMake.declared.asked.Asked.TheVariants.{Commit}
+use Rattle.art_machine.specs.declared.actions.Action.{Action}
+use Rattle.art_machine.specs.declared.actions.Action.TheVariants.{Settle, Commit}
+use Rattle.art_machine.specs.declared.actions.Answer.{Answer}
+use Rattle.art_machine.specs.declared.actions.Answer.TheVariants.{Checked}
+use Rattle.art_seek.specs.declared.driver.Stepped.{Stepped}
+use Rattle.art_seek.specs.declared.driver.Stepped.TheVariants as stepped
 use Rattle.art_step.specs.Events.{MakesEvent, SeesEvent}
 use Rattle.art_step.specs.declared.deeds.Deed.{Deed}
 use Rattle.art_step.specs.declared.views.Sizes.{Sizes}
@@ -25,8 +24,13 @@ pub record MakesStep (z : Sizes) (v w : View) (made : Made) : Type 0 where
   pub event : MakesAny made.event v w
   pub one : w.steps ≡ v.steps + 1
 
--- a step of an attempt makes the event where a check settles the answer, and where it commits a change
-abbrev pub tells : AttemptAsked → AttemptAnswer → Bool
-tells (Cell (Settle x)) (told.Cell (Checked (Ok done))) = true
-tells (Change (Commit c obsolete)) answer = true
-tells asked answer = false
+-- a step makes the event where a check settles the answer, and where it commits a change
+abbrev pub tells : Action → Answer → Bool
+tells (Settle x) (Checked (Ok done)) = true
+tells (Commit c obsolete) answer = true
+tells action answer = false
+
+-- and one of a seek where the seek says so
+abbrev pub is_told : Stepped → Bool
+is_told stepped.Told = true
+is_told s = false

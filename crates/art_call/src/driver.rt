@@ -2,21 +2,22 @@
 ghost use Rattle.std.specs.Prelude.{◌≡◌, ◌≢◌, ℕ, ◌+◌, ◌≤◌, IfSome, IfNone, List, Some, true};
 ghost use Rattle.art_call.specs.AsAsked.{GoesAsAsked, WriteGoes};
 ghost use Rattle.art_call.specs.Calls.{HasCalled, IsAdmitted, IsCalling, Refuses, StaysApart, Wish, is_refusal, outcome_at, restarts_in, steps_left};
-ghost use Rattle.art_call.specs.Made.{MakesStep, tells};
+ghost use Rattle.art_call.specs.Made.{MakesStep, is_told, tells};
 ghost use Rattle.art_call.specs.declared.outcomes.Outcome.{Outcome as OutcomeOf};
 ghost use Rattle.art_call.specs.declared.outcomes.Outcome.TheVariants.{Overlaps as overlaps};
-ghost use Rattle.art_change.specs.Asking.{Answers as WriteAnswers, IsAllowed};
+ghost use Rattle.art_change.specs.ArtAttempt.Asking.{Answers as WriteAnswers, IsAllowed};
 ghost use Rattle.art_change.specs.Tries.{SameKey, key_of};
 ghost use Rattle.art_change.specs.Writes as writes;
 ghost use Rattle.art_change.specs.Writes.{IsApart};
 ghost use Rattle.art_change.specs.declared.writes.Outcome.{Outcome as WriteOutcome};
 ghost use Rattle.art_epoch.specs.Limbo.{places_of};
 ghost use Rattle.art_epoch.specs.declared.limbo.Place.{Place};
-ghost use Rattle.art_seek.specs.ArtLook.declared.trails.Trail.{Trail as Trailed};
 ghost use Rattle.art_change.specs.ArtPlan.declared.changes.Change.{Change};
-ghost use Rattle.art_seek.specs.Asking.{Answers as SeekAnswers, IsAllowed as MaySeek, stepped_by};
+ghost use Rattle.art_machine.specs.Acting.{Answers, telling};
+ghost use Rattle.art_machine.specs.declared.actions.Answer.{Answer as AnswerOf};
+ghost use Rattle.art_seek.specs.ArtLook.declared.trails.Trail.{Trail as Trailed};
+ghost use Rattle.art_seek.specs.Asking.{MaySeek, stepped_by};
 ghost use Rattle.art_seek.specs.Walks.{Settles};
-ghost use Rattle.art_seek.specs.declared.asked.Answer.{Answer as SeekAnswer};
 ghost use Rattle.art_seek.specs.declared.walks.Walk.{Walk as WalkOf};
 ghost use Rattle.art_step.specs.Histories.{AreApart};
 ghost use Rattle.art_step.specs.declared.deeds.Deed.{Deed};
@@ -24,13 +25,11 @@ ghost use Rattle.art_step.specs.declared.views.Sizes.{Sizes};
 ghost use Rattle.art_step.specs.declared.views.View.{View};
 
 use crate::callers::Call;
-use crate::kinds::{kind_of_attempt, kind_of_frame, kind_of_look};
 use crate::{Caller, Outcome};
-use art_change::art_attempt::{Answer as AttemptAnswer, Asked as AttemptAsked, Room, steps_in};
-use art_change::art_find::{Answer as CellAnswer, Asked as CellAsked};
-use art_change::{Answer, Asked, Write, finish as finish_write, step as step_write};
+use art_change::art_attempt::Room;
+use art_change::{Write, finish as finish_write, step as step_write};
 use art_epoch::Limbo;
-use art_frame::art_make::Asked as ChangeAsked;
+use art_machine::{Action, Answer};
 use art_seek::{Stepped as Sought, finish as finish_seek, step as step_seek};
 use art_step::{EpochSteps, StepKind};
 
@@ -41,57 +40,48 @@ pub struct Made {
     pub event: bool,
 }
 
-/// Whether such a step of an attempt made the event.
-fn tells(asked: AttemptAsked, told: AttemptAnswer) -> bool
-    ensures { result ≡ tells asked told }
+/// Whether such a step made the event.
+fn tells(action: Action, answer: Answer) -> bool
+    ensures { result ≡ tells action answer }
 {
     matches!(
-        (asked, told),
-        (
-            AttemptAsked::Cell(CellAsked::Settle(_)),
-            AttemptAnswer::Cell(CellAnswer::Checked(Ok(())))
-        ) | (AttemptAsked::Change(ChangeAsked::Commit(_, _)), _)
+        (action, answer),
+        (Action::Settle { .. }, Answer::Checked { result: Ok(()) }) | (Action::Commit { .. }, _)
     )
 }
 
 /// The step that a write made, if it made one.
 fn made_by_write(stepped: art_change::Stepped) -> Option<Made>
-    ensures some { IfSome result (λ made. (z : Sizes) (d : Deed) (c : Change) (v w : View) → IsAllowed z d c v stepped.asked →
-        WriteAnswers z d c stepped.asked stepped.answer v w → MakesStep z v w made) }
+    ensures some { IfSome result (λ made. (z : Sizes) (d : Deed) (c : Change) (v w : View) → IsAllowed z d c v stepped.action →
+        WriteAnswers z d c stepped.action stepped.answer v w → MakesStep z v w made) }
     ensures none { IfNone result ((z : Sizes) (d : Deed) (c : Change) (v w : View) →
-        WriteAnswers z d c stepped.asked stepped.answer v w → w ≡ v) }
+        WriteAnswers z d c stepped.action stepped.answer v w → w ≡ v) }
 {
-    match (stepped.asked, stepped.answer) {
-        (Asked::Frame(asked), _) => Some(Made {
-            kind: kind_of_frame(asked),
-            event: false,
-        }),
-        (Asked::Attempt(asked), Answer::Attempt(told)) => {
-            if steps_in(told) == 0 {
-                return None;
-            }
-            Some(Made {
-                kind: kind_of_attempt(asked),
-                event: tells(asked, told),
-            })
-        }
-        (Asked::Attempt(_), Answer::Word(_)) => None,
+    if stepped.answer.steps() == 0 {
+        return None;
     }
+    Some(Made {
+        kind: stepped.action.kind(),
+        event: tells(stepped.action, stepped.answer),
+    })
+}
+
+/// Whether such a step of a seek made the event.
+fn is_told(stepped: Sought) -> bool
+    ensures { result ≡ is_told stepped }
+{
+    matches!(stepped, Sought::Told)
 }
 
 /// The step that a seek made.
 fn made_by_seek(made: art_seek::Made) -> Made
-    ensures { (z : Sizes) (d : Deed) (walk : WalkOf) (k : List ℕ) (t : Trailed) (answer : SeekAnswer) (v w : View) →
-        made.stepped ≡ stepped_by made.asked answer → MaySeek z (Settles walk k t) v made.asked →
-        SeekAnswers z d made.asked answer v w → MakesStep z v w result }
+    ensures { (z : Sizes) (d : Deed) (walk : WalkOf) (k : List ℕ) (t : Trailed) (answer : AnswerOf) (v w : View) →
+        made.stepped ≡ stepped_by made.action answer → MaySeek z (Settles walk k t) v made.action →
+        Answers z (telling d) made.action answer v w → w.steps ≡ v.steps + 1 → MakesStep z v w result }
 {
-    let kind = match made.asked {
-        art_seek::Asked::Frame(asked) => kind_of_frame(asked),
-        art_seek::Asked::Cell(asked) => kind_of_look(asked),
-    };
     Made {
-        kind,
-        event: made.stepped == Sought::Told,
+        kind: made.action.kind(),
+        event: is_told(made.stepped),
     }
 }
 

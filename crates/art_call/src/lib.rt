@@ -40,7 +40,6 @@
 mod callers;
 mod calls;
 mod driver;
-mod kinds;
 mod outcomes;
 
 pub use art_change::Outcome as WriteOutcome;

@@ -1,22 +1,20 @@
 -- How an attempt of either kind has ended, and its steps.
-use Rattle.std.proofs.Common.{◌≡◌, ℕ, ◌+◌, ◌<◌, ◌≤◌, List, [], Option, Some, None, refl, sym, ap, ◌∙◌, subst}
+use Rattle.std.proofs.Common.{Bool, ◌≡◌, ℕ, ◌+◌, ◌<◌, List, [], Option, Some, None, refl, sym, ap, ◌∙◌, subst}
 use Rattle.std.specs.Prelude.{⊤}
 use Rattle.std.specs.Option.{option_map}
 use Rattle.std.proofs.lemmas.Option.{same_Some}
 use Rattle.art_erase.proofs.ArtAttempt.Counts as inserting
 use Rattle.art_erase.proofs.ArtAttempt.Tries.{event_since, later_then}
-use Rattle.art_erase.specs.ArtAttempt.Asking.{Answers as AttemptAnswers, steps_in}
+use Rattle.art_erase.specs.ArtAttempt.Asking.{Answers}
 use Rattle.art_erase.specs.ArtAttempt.Inserting as inserts
 use Rattle.art_erase.specs.ArtAttempt.Trying.{IsLater, StillTries}
-use Rattle.art_erase.specs.ArtAttempt.declared.asked.Answer.{Answer as AttemptAnswer}
-use Rattle.art_erase.specs.ArtAttempt.declared.asked.Asked.{Asked as AttemptAsked}
-use Rattle.art_erase.specs.ArtAttempt.declared.asked.Asked.TheVariants.{Change}
 use Rattle.art_erase.specs.ArtAttempt.declared.inserting.Entered.{Entered}
 use Rattle.art_erase.specs.ArtAttempt.declared.inserting.Entered.TheVariants as entered
 use Rattle.art_erase.specs.ArtAttempt.declared.inserting.Inserting.{Inserting as Insertion}
 use Rattle.art_erase.specs.ArtAttempt.declared.inserting.Stage.{Stage as InsertStage}
 use Rattle.art_erase.specs.ArtAttempt.declared.inserting.Stage.TheVariants as insert
 use Rattle.art_erase.specs.ArtAttempt.declared.rooms.Room.{Room}
+use Rattle.art_cell.specs.declared.cells.Cell.{Cell as CellOf}
 use Rattle.art_change.specs.Made.{IsMadeBy, key_by}
 use Rattle.art_change.specs.Tries.{EndFits, EndsSo, EraseEnds, Fits, HasHand, InsertEnds, IsRoom, asks, deed_at, ended_at, key_of, of_entered, of_erased, steps_left, value_of}
 use Rattle.art_change.specs.Writes.{HasOutcome, ended_left, gone_by, told_by}
@@ -39,7 +37,10 @@ use Rattle.art_erase.specs.declared.erasing.Erasing.{Erasing as Erasure}
 use Rattle.art_erase.specs.declared.erasing.Stage.{Stage as EraseStage}
 use Rattle.art_erase.specs.declared.erasing.Stage.TheVariants as erase
 use Rattle.art_erase.proofs.ArtMake.Told.{map_some}
-use Rattle.art_erase.specs.ArtMake.declared.asked.Asked.{Asked as ChangeAsked}
+use Rattle.art_machine.specs.Acting.{steps_in}
+use Rattle.art_machine.specs.declared.actions.Action.{Action}
+use Rattle.art_machine.specs.declared.actions.Action.TheVariants.{Commit}
+use Rattle.art_machine.specs.declared.actions.Answer.{Answer}
 use Rattle.art_plan.specs.Changes.{unlinked}
 use Rattle.art_step.specs.Events.{SeesEvent}
 use Rattle.art_step.specs.Shows.{Rest}
@@ -314,24 +315,18 @@ try_key z u r v Remove (Erasing m) fits = refl
 try_key z u r v Insert (Erasing m) fits = absurd fits
 try_key z u r v Remove (Inserting m) fits = absurd fits
 
-module _ (z : Sizes) (u : View) (r : Room) (v w : View) (asked : AttemptAsked) (answer : AttemptAnswer) where
-  pub try_few : (j : Job) (t : Trying) → AttemptAnswers z (deed_at t r) r.change asked answer v w → Fits z u j t r v → asks t r ≡ Some asked → w.steps ≤ v.steps + 1
-  try_few Insert (Inserting m) row fits is = inserting.attempt_few z u m r v w asked answer row fits is
-  try_few Remove (Erasing m) row fits is = erasing.attempt_few z u m r v w asked answer row fits is
-  try_few Insert (Erasing m) row fits is = absurd fits
-  try_few Remove (Inserting m) row fits is = absurd fits
+module _ (z : Sizes) (u : View) (r : Room) (v w : View) (a : Action) (answer : Answer) where
+  pub try_steps : (j : Job) (t : Trying) → Answers z (deed_at t r) r.change a answer v w → Fits z u j t r v → asks t r ≡ Some a → w.steps ≡ v.steps + steps_in answer
+  try_steps Insert (Inserting m) row fits is = inserting.attempt_steps z u m r v w a answer row fits is
+  try_steps Remove (Erasing m) row fits is = erasing.attempt_steps z u m r v w a answer row fits is
+  try_steps Insert (Erasing m) row fits is = absurd fits
+  try_steps Remove (Inserting m) row fits is = absurd fits
 
-  pub try_counts : (j : Job) (t : Trying) → AttemptAnswers z (deed_at t r) r.change asked answer v w → Fits z u j t r v → asks t r ≡ Some asked → v.steps + steps_in answer ≤ w.steps
-  try_counts Insert (Inserting m) row fits is = inserting.attempt_counts z u m r v w asked answer row fits is
-  try_counts Remove (Erasing m) row fits is = erasing.attempt_counts z u m r v w asked answer row fits is
-  try_counts Insert (Erasing m) row fits is = absurd fits
-  try_counts Remove (Inserting m) row fits is = absurd fits
-
-pub try_makes : (z : Sizes) (u : View) (r : Room) (v : View) (a : ChangeAsked) (j : Job) (t : Trying) → Fits z u j t r v → asks t r ≡ Some (Change a) → IsMadeBy t r
-try_makes z u r v a Insert (Inserting m) fits is = inserting.makes_insert z u m r v a fits is
-try_makes z u r v a Remove (Erasing m) fits is = erasing.makes_removal z u m r v a fits is
-try_makes z u r v a Insert (Erasing m) fits is = absurd fits
-try_makes z u r v a Remove (Inserting m) fits is = absurd fits
+pub try_makes : (z : Sizes) (u : View) (r : Room) (v : View) (c : CellOf) (b : Bool) (j : Job) (t : Trying) → Fits z u j t r v → asks t r ≡ Some (Commit c b) → IsMadeBy t r
+try_makes z u r v c b Insert (Inserting m) fits is = inserting.makes_insert z u m r v c b fits is
+try_makes z u r v c b Remove (Erasing m) fits is = erasing.makes_removal z u m r v c b fits is
+try_makes z u r v c b Insert (Erasing m) fits is = absurd fits
+try_makes z u r v c b Remove (Inserting m) fits is = absurd fits
 
 -- ---- the machine of the job goes on
 
@@ -343,6 +338,10 @@ module _ (z : Sizes) (u : View) (r : Room) (v : View) (then : Room) (w : View) w
   pub erases_on : (m next : Erasure) (j : Job) → Fits z u j (Erasing m) r v → (erases.Fits z u m r v → erases.Fits z u next then w) → Fits z u j (Erasing next) then w
   erases_on m next Remove fits on = on fits
   erases_on m next Insert fits on = absurd fits
+
+pub inserts_fits : (z : Sizes) (u : View) (r : Room) (v : View) (m : Insertion) (j : Job) → Fits z u j (Inserting m) r v → inserts.Fits z u m r v
+inserts_fits z u r v m Insert fits = fits
+inserts_fits z u r v m Remove fits = absurd fits
 
 pub erases_fits : (z : Sizes) (u : View) (r : Room) (v : View) (m : Erasure) (j : Job) → Fits z u j (Erasing m) r v → erases.Fits z u m r v
 erases_fits z u r v m Remove fits = fits

@@ -7,11 +7,11 @@ pub use Rattle.art_erase.proofs.ArtGather
 pub mod Answered
 pub mod Counted
 pub mod EitherKind
+pub mod FrameSteps
 mod Frames
 pub mod GivenUp
 pub mod Newcomers
 pub mod Overlaps
-mod Parts
 pub mod Ready
 mod SameWrite
 mod Steps

@@ -3,25 +3,14 @@ use Rattle.std.proofs.Common.{◌≡◌, ◌≢◌, ◌∙◌, ◌==◌, ℕ, Li
 use Rattle.std.proofs.lemmas.Bool.{cond_both}
 use Rattle.std.proofs.lemmas.Option.{same_Some}
 use Rattle.art_erase.proofs.ArtAttempt.Overlaps as attempts
-use Rattle.art_erase.specs.ArtAttempt.Asking as attempt_asking
-use Rattle.art_erase.specs.ArtAttempt.Asking.{cell_in}
 use Rattle.art_erase.specs.ArtAttempt.Inserting as inserts
-use Rattle.art_erase.specs.ArtAttempt.declared.asked.Answer.{Answer as AttemptAnswer}
-use Rattle.art_erase.specs.ArtAttempt.declared.asked.Answer.TheVariants as attempt_told
-use Rattle.art_erase.specs.ArtAttempt.declared.asked.Asked.{Asked as AttemptAsked}
-use Rattle.art_erase.specs.ArtAttempt.declared.asked.Asked.TheVariants.{Cell, Supply, Change}
 use Rattle.art_erase.specs.ArtAttempt.declared.inserting.Entered.{Entered}
 use Rattle.art_erase.specs.ArtAttempt.declared.inserting.Entered.TheVariants as entered
 use Rattle.art_erase.specs.ArtAttempt.declared.inserting.Inserting.{Inserting as Insertion}
 use Rattle.art_erase.specs.ArtAttempt.declared.rooms.Room.{Room}
-use Rattle.art_change.specs.Asking.{PassesAmong, attempt_in}
 use Rattle.art_change.specs.Tries as tries
 use Rattle.art_change.specs.Tries.{IsOverlapBy, ended_at, key_of, of_entered, of_erased}
 use Rattle.art_change.specs.Writes.{Fits, StageFits, asks, asks_at, or_busy, outcome_of}
-use Rattle.art_change.specs.declared.asked.Answer.{Answer}
-use Rattle.art_change.specs.declared.asked.Answer.TheVariants as told
-use Rattle.art_change.specs.declared.asked.Asked.{Asked}
-use Rattle.art_change.specs.declared.asked.Asked.TheVariants.{Attempt}
 use Rattle.art_change.specs.declared.tries.Job.{Job}
 use Rattle.art_change.specs.declared.tries.Job.TheVariants.{Insert, Remove}
 use Rattle.art_change.specs.declared.tries.Tried.{Tried}
@@ -39,6 +28,9 @@ use Rattle.art_erase.specs.declared.erasing.Erased.{Erased}
 use Rattle.art_erase.specs.declared.erasing.Erased.TheVariants as erased
 use Rattle.art_erase.specs.declared.erasing.Erasing.{Erasing as Erasure}
 use Rattle.art_erase.proofs.ArtMake.Told.{map_some}
+use Rattle.art_machine.specs.Acting.{PassesAmong}
+use Rattle.art_machine.specs.declared.actions.Action.{Action}
+use Rattle.art_machine.specs.declared.actions.Answer.{Answer}
 use Rattle.art_step.specs.Histories.{AreApart}
 use Rattle.art_step.specs.declared.views.Sizes.{Sizes}
 use Rattle.art_step.specs.declared.views.View.{View}
@@ -87,25 +79,14 @@ pub still_apart : (A B : List ℕ → Type 0) → ((k : List ℕ) → B k → A 
 still_apart A B back apart = λ k j a b begins. apart k j (back k a) (back j b) begins
 
 module _ (A : List ℕ → Type 0) (apart : AreApart A) (z : Sizes) (v : View) where
-  try_apart : (u : View) (job : Job) (t : Trying) (r : Room) (asked : AttemptAsked) (answer : AttemptAnswer) → tries.Fits z u job t r v → A (key_of job r).items → tries.asks t r ≡ Some asked
-      → attempt_asking.PassesAmong A z v asked answer → IsOverlapBy t (cell_in answer) → ⊥
-  try_apart u Insert (Inserting m) r asked answer fits is at among o = attempts.never_overlaps A z v apart u m r fits is asked answer at among o
-  try_apart u Remove (Inserting m) r asked answer fits is at among o = fits
-  try_apart u job (Erasing m) r asked answer fits is at among o = o
+  try_apart : (u : View) (job : Job) (t : Trying) (r : Room) (a : Action) (answer : Answer) → tries.Fits z u job t r v → A (key_of job r).items → tries.asks t r ≡ Some a
+      → PassesAmong A z v a answer → IsOverlapBy t answer → ⊥
+  try_apart u Insert (Inserting m) r a answer fits is at among o = attempts.never_overlaps A z v apart u m r fits is a answer at among o
+  try_apart u Remove (Inserting m) r a answer fits is at among o = fits
+  try_apart u job (Erasing m) r a answer fits is at among o = o
 
-  word_among : (a : AttemptAsked) (x : ℕ) → attempt_asking.PassesAmong A z v a (attempt_told.Word x)
-  word_among (Cell c) x = tt
-  word_among (Supply s) x = tt
-  word_among (Change c) x = tt
-
-  among_in : (a : AttemptAsked) (answer : Answer) → PassesAmong A z v (Attempt a) answer → attempt_asking.PassesAmong A z v a (attempt_in answer)
-  among_in a (told.Attempt r) among = among
-  among_in a (told.Word x) among = word_among a 0
-
-  pub never_overlaps : (u : View) (ps : List Place) (m : Write) (r : Room) (qs : List Place) (asked : Asked) (answer : Answer) → Fits z u ps m r qs v → A (key_of m.job r).items → asks m r qs ≡ Some asked
-      → PassesAmong A z v asked answer → (m.stage ≡ stage.Trying) × IsOverlapBy m.trying (cell_in (attempt_in answer)) → ⊥
-  never_overlaps u ps m r qs asked answer fits is at among o =
+  pub never_overlaps : (u : View) (ps : List Place) (m : Write) (r : Room) (qs : List Place) (a : Action) (answer : Answer) → Fits z u ps m r qs v → A (key_of m.job r).items → asks m r qs ≡ Some a
+      → PassesAmong A z v a answer → (m.stage ≡ stage.Trying) × IsOverlapBy m.trying answer → ⊥
+  never_overlaps u ps m r qs a answer fits is at among o =
       let t = subst (λ (s : Stage). StageFits z u ps s m r qs v) o.0 fits.stage in
-      let k = map_some Attempt (tries.asks m.trying r) asked (sym (ap (λ (s : Stage). asks_at s m r qs) o.0) ∙ at) in
-      let here = subst (λ (a : Asked). PassesAmong A z v a answer) (sym k.2) among in
-      try_apart t.0.began m.job m.trying r k.0 (attempt_in answer) t.0.fits is k.1 (among_in k.0 answer here) o.1
+      try_apart t.0.began m.job m.trying r a answer t.0.fits is (sym (ap (λ (s : Stage). asks_at s m r qs) o.0) ∙ at) among o.1

@@ -1,73 +1,71 @@
--- Each step of a write is one at most, and what it makes is what its attempt is of.
-use Rattle.std.proofs.Common.{◌≡◌, ◌∙◌, ◌+◌, ◌≤◌, List, Option, Some, ap, arith}
-use Rattle.std.specs.Option.{option_map}
-use Rattle.art_change.proofs.EitherKind.{try_few, try_key, try_makes}
+-- Each step of a write is as many as its answer says; what it commits is what its attempt is of.
+use Rattle.std.proofs.Common.{◌≡◌, ◌≢◌, ◌⊎◌, ◌+◌, ◌≤◌, List, ℕ, Bool, Some, inl, inr, refl, sym, subst, arith}
+use Rattle.art_cell.specs.declared.cells.Cell.{Cell}
+use Rattle.art_change.proofs.EitherKind.{try_key, try_makes, try_steps}
+use Rattle.art_change.proofs.FrameSteps.{IsFrame, closing_frame, frame_one, frame_plain, opening_frame}
 use Rattle.art_change.specs.Made.{IsMadeBy, key_by}
 use Rattle.art_change.specs.Tries.{key_of}
-use Rattle.art_change.specs.Tries as tries
-use Rattle.art_erase.specs.ArtAttempt.declared.asked.Asked.{Asked as AttemptAsked}
-use Rattle.art_erase.specs.ArtAttempt.declared.asked.Asked.TheVariants.{Change}
-use Rattle.art_erase.specs.ArtAttempt.declared.rooms.Room.{Room}
-use Rattle.art_change.proofs.Parts.{attempt_told, frame_told}
-use Rattle.art_change.specs.Asking.{Answers, attempt_in, word_in}
 use Rattle.art_change.specs.Writes.{Fits, StageFits, asks, asks_at, deed_at}
-use Rattle.art_change.specs.declared.asked.Answer.{Answer}
-use Rattle.art_change.specs.declared.asked.Asked.{Asked}
-use Rattle.art_change.specs.declared.asked.Asked.TheVariants.{Frame, Attempt}
-use Rattle.art_change.specs.declared.writes.Write.{Write}
 use Rattle.art_change.specs.declared.writes.Stage.{Stage}
 use Rattle.art_change.specs.declared.writes.Stage.TheVariants as stage
-use Rattle.art_epoch.proofs.Counting.{answers_count}
-use Rattle.art_epoch.specs.declared.asked.Asked.{Asked as FrameAsked}
+use Rattle.art_change.specs.declared.writes.Write.{Write}
 use Rattle.art_epoch.specs.declared.limbo.Place.{Place}
-use Rattle.art_erase.specs.ArtFrame.Closings as closings
-use Rattle.art_erase.specs.ArtFrame.Openings as openings
-use Rattle.art_erase.proofs.ArtMake.Told.{map_some}
-use Rattle.art_erase.specs.ArtMake.declared.asked.Asked.{Asked as ChangeAsked}
+use Rattle.art_erase.proofs.ArtAttempt.Given.{plain_row}
+use Rattle.art_erase.specs.ArtAttempt.Asking.{Answers}
+use Rattle.art_erase.specs.ArtAttempt.declared.rooms.Room.{Room}
+use Rattle.art_machine.proofs.Counting.{steps_few}
+use Rattle.art_machine.specs.Acting.{IsPlain}
+use Rattle.art_machine.specs.declared.actions.Action.{Action}
+use Rattle.art_machine.specs.declared.actions.Action.TheVariants.{Commit}
+use Rattle.art_machine.specs.declared.actions.Answer.{Answer}
 use Rattle.art_step.specs.declared.views.Sizes.{Sizes}
 use Rattle.art_step.specs.declared.views.View.{View}
 
-same_attempt : (a b : AttemptAsked) → Attempt a ≡ Attempt b → a ≡ b
-same_attempt a b is = cc
+-- before and after its attempts it asks for steps of its frame
+module _ (m : Write) (r : Room) (qs : List Place) (a : Action) where
+  framed_at : (s : Stage) → s ≢ stage.Trying → asks_at s m r qs ≡ Some a → IsFrame a
+  framed_at stage.Opening not is = opening_frame m.opening qs a is
+  framed_at stage.Trying not is = absurd (not refl)
+  framed_at stage.Closing not is = closing_frame m.closing r.stock a is
+  framed_at stage.Ended not is = absurd (cc)
+
+  pub framed : m.stage ≢ stage.Trying → asks m r qs ≡ Some a → IsFrame a
+  framed not is = framed_at m.stage not is
 
 module _ (z : Sizes) (u : View) (ps : List Place) (m : Write) (r : Room) (qs : List Place) (v : View) where
-  module _ (w : View) (asked : Asked) (answer : Answer) (row : Answers z (deed_at m r) r.change asked answer v w) where
-    frame_few : (o : Option FrameAsked) → option_map Frame o ≡ Some asked → w.steps ≤ v.steps + 1
-    frame_few o is =
-        let k = frame_told z (deed_at m r) r.change v w o asked answer is row in
-        let one = answers_count z k.0 (word_in answer) v w k.2 in
-        omega (arith, one)
+  module _ (w : View) (a : Action) (answer : Answer) (row : Answers z (deed_at m r) r.change a answer v w) where
+    frame_few : IsFrame a → w.steps ≤ v.steps + 1
+    frame_few is = let one = frame_one z a answer v w is (plain_row z (deed_at m r) r.change a answer v w (frame_plain a is) row) in omega (arith, one)
 
-    few_at : (s : Stage) → StageFits z u ps s m r qs v → asks_at s m r qs ≡ Some asked → w.steps ≤ v.steps + 1
-    few_at stage.Opening fits is = frame_few (openings.asks m.opening qs) is
+    few_at : (s : Stage) → StageFits z u ps s m r qs v → asks_at s m r qs ≡ Some a → w.steps ≤ v.steps + 1
+    few_at stage.Opening fits is = frame_few (opening_frame m.opening qs a is)
     few_at stage.Trying fits is =
-        let k = attempt_told z (deed_at m r) r.change v w (tries.asks m.trying r) asked answer is row in
-        try_few z fits.0.began r v w k.0 (attempt_in answer) m.job m.trying k.2 fits.0.fits k.1
-    few_at stage.Closing fits is = frame_few (closings.asks m.closing r.stock) is
-    few_at stage.Ended fits is = cc
+        let made = try_steps z fits.0.began r v w a answer m.job m.trying row fits.0.fits is in
+        let few = steps_few answer in
+        omega (arith, made, few)
+    few_at stage.Closing fits is = frame_few (closing_frame m.closing r.stock a is)
+    few_at stage.Ended fits is = absurd (cc)
 
-    pub write_few : Fits z u ps m r qs v → asks m r qs ≡ Some asked → w.steps ≤ v.steps + 1
+    pub write_few : Fits z u ps m r qs v → asks m r qs ≡ Some a → w.steps ≤ v.steps + 1
     write_few fits is = few_at m.stage fits.stage is
 
-  module _ (a : ChangeAsked) where
-    makes_at : (s : Stage) → StageFits z u ps s m r qs v → asks_at s m r qs ≡ Some (Attempt (Change a)) → IsMadeBy m.trying r
-    makes_at stage.Opening fits is = let k = map_some Frame (openings.asks m.opening qs) (Attempt (Change a)) is in let no = k.2 in absurd (cc)
-    makes_at stage.Trying fits is =
-        let k = map_some Attempt (tries.asks m.trying r) (Attempt (Change a)) is in
-        try_makes z fits.0.began r v a m.job m.trying fits.0.fits (k.1 ∙ ap Some (same_attempt k.0 (Change a) k.2))
-    makes_at stage.Closing fits is = let k = map_some Frame (closings.asks m.closing r.stock) (Attempt (Change a)) is in let no = k.2 in absurd (cc)
-    makes_at stage.Ended fits is = cc
+  module _ (c : Cell) (b : Bool) where
+    makes_at : (s : Stage) → StageFits z u ps s m r qs v → asks_at s m r qs ≡ Some (Commit c b) → IsMadeBy m.trying r
+    makes_at stage.Opening fits is = absurd (opening_frame m.opening qs (Commit c b) is)
+    makes_at stage.Trying fits is = try_makes z fits.0.began r v c b m.job m.trying fits.0.fits is
+    makes_at stage.Closing fits is = absurd (closing_frame m.closing r.stock (Commit c b) is)
+    makes_at stage.Ended fits is = absurd (cc)
 
-    pub write_made : Fits z u ps m r qs v → asks m r qs ≡ Some (Attempt (Change a)) → IsMadeBy m.trying r
+    pub write_made : Fits z u ps m r qs v → asks m r qs ≡ Some (Commit c b) → IsMadeBy m.trying r
     write_made fits is = makes_at m.stage fits.stage is
 
-  module _ (a : AttemptAsked) where
-    key_at : (s : Stage) → StageFits z u ps s m r qs v → asks_at s m r qs ≡ Some (Attempt a) → key_by m.trying r ≡ (key_of m.job r).items
-    key_at stage.Opening fits is = let k = map_some Frame (openings.asks m.opening qs) (Attempt a) is in let no = k.2 in absurd (cc)
-    key_at stage.Trying fits is = try_key z fits.0.began r v m.job m.trying fits.0.fits
-    key_at stage.Closing fits is = let k = map_some Frame (closings.asks m.closing r.stock) (Attempt a) is in let no = k.2 in absurd (cc)
-    key_at stage.Ended fits is = cc
+  module _ (A : List ℕ → Type 0) (a : Action) (may : A (key_of m.job r).items) where
+    key_at : (s : Stage) → StageFits z u ps s m r qs v → asks_at s m r qs ≡ Some a → IsPlain a ⊎ A (key_by m.trying r)
+    key_at stage.Opening fits is = inl (frame_plain a (opening_frame m.opening qs a is))
+    key_at stage.Trying fits is = inr (subst A (sym (try_key z fits.0.began r v m.job m.trying fits.0.fits)) may)
+    key_at stage.Closing fits is = inl (frame_plain a (closing_frame m.closing r.stock a is))
+    key_at stage.Ended fits is = absurd (cc)
 
-    -- an attempt is made of the key of the job
-    pub write_key : Fits z u ps m r qs v → asks m r qs ≡ Some (Attempt a) → key_by m.trying r ≡ (key_of m.job r).items
+    -- what is brought about is of the key of the job
+    pub write_key : Fits z u ps m r qs v → asks m r qs ≡ Some a → IsPlain a ⊎ A (key_by m.trying r)
     write_key fits is = key_at m.stage fits.stage is

@@ -4,7 +4,6 @@ pub use Rattle.art_erase.specs.ArtPlan
 pub use Rattle.art_erase.specs as ArtErase
 pub use Rattle.art_find.specs as ArtFind
 pub use Rattle.art_erase.specs.ArtGather
-pub mod Asking
 pub mod Made
 pub mod Tries
 pub mod Writes

@@ -13,5 +13,5 @@ key_by (Erasing m) r = r.gone.key.items
 
 -- the change is the insert of the row, or the removal of the leaf
 abbrev pub IsMadeBy : Trying → Room → Type 0
-IsMadeBy (Inserting m) r = r.change.deed ≡ inserted r.row
-IsMadeBy (Erasing m) r = r.change.deed ≡ removed r.gone
+IsMadeBy (Inserting m) r = r.change.effects.deed ≡ inserted r.row
+IsMadeBy (Erasing m) r = r.change.effects.deed ≡ removed r.gone

@@ -5,7 +5,6 @@ use Rattle.arrayvec.specs.ArrayVec.{ArrayVec}
 use Rattle.art_erase.specs.ArtAttempt.Inserting as inserts
 use Rattle.art_erase.specs.ArtAttempt.Inserting.{HasEntered, IsExhausted, IsFull, IsOverlap, IsPresent, tries_left}
 use Rattle.art_erase.specs.ArtAttempt.Trying.{HasSpent, IsKey, StillTries}
-use Rattle.art_erase.specs.ArtAttempt.declared.asked.Asked.{Asked}
 use Rattle.art_erase.specs.ArtAttempt.declared.inserting.Entered.{Entered}
 use Rattle.art_erase.specs.ArtAttempt.declared.inserting.Entered.TheVariants as entered
 use Rattle.art_erase.specs.ArtAttempt.declared.inserting.Inserting.{Inserting as Insertion}
@@ -21,7 +20,8 @@ use Rattle.art_erase.specs.Erasing.{HasErased, IsAbsent}
 use Rattle.art_erase.specs.declared.erasing.Erased.{Erased}
 use Rattle.art_erase.specs.declared.erasing.Erased.TheVariants as erased
 use Rattle.art_erase.specs.declared.erasing.Erasing.{Erasing as Erasure}
-use Rattle.art_find.specs.declared.asked.Answer.{Answer as CellAnswer}
+use Rattle.art_machine.specs.declared.actions.Action.{Action}
+use Rattle.art_machine.specs.declared.actions.Answer.{Answer}
 use Rattle.art_erase.specs.ArtFrame.Stocks.{HasStock}
 use Rattle.art_step.specs.declared.deeds.Deed.{Deed}
 use Rattle.art_step.specs.declared.views.Sizes.{Sizes}
@@ -30,7 +30,7 @@ use Rattle.art_step.specs.declared.views.View.{View}
 -- ---- what it asks and tells
 
 -- the next step
-abbrev pub asks : Trying → Room → Option Asked
+abbrev pub asks : Trying → Room → Option Action
 asks (Inserting m) r = inserts.asks m r
 asks (Erasing m) r = erases.asks m r
 
@@ -145,7 +145,7 @@ EndFits z u job t r e v = ⊥
 -- ---- why it is tried anew
 
 -- a version word was locked, obsolete or changed
-abbrev pub IsAnewBy : Trying → Trying → CellAnswer → Type 0
+abbrev pub IsAnewBy : Trying → Trying → Answer → Type 0
 IsAnewBy (Inserting m) (Inserting next) answer = inserts.IsAnewBy m.stage next.making answer
 IsAnewBy (Erasing m) (Erasing next) answer = erases.IsAnewBy m.stage next.making answer
 IsAnewBy t next answer = ⊥
@@ -153,6 +153,6 @@ IsAnewBy t next answer = ⊥
 -- ---- why it ends as an overlap
 
 -- of an insert; a removal never does
-abbrev pub IsOverlapBy : Trying → CellAnswer → Type 0
+abbrev pub IsOverlapBy : Trying → Answer → Type 0
 IsOverlapBy (Inserting m) answer = inserts.IsOverlapBy m answer
 IsOverlapBy (Erasing m) answer = ⊥

@@ -1,17 +1,12 @@
 -- What a write asks, and what it knows between two of its steps: its opening, its attempts, its close.
 use Rattle.std.specs.Prelude.{◌≡◌, ◌≢◌, ◌⊎◌, ℕ, ◌+◌, ◌-◌, ◌*◌, ◌<◌, ◌≤◌, ◌==◌, Bool, true, false, List, [], length, Option, Some, None, if◌then◌else◌}
 use Rattle.arrayvec.specs.ArrayVec.{ArrayVec}
-use Rattle.std.specs.Option.{option_map}
 use Rattle.art_erase.specs.ArtAttempt.Inserting.{present, tries_left}
-use Rattle.art_erase.specs.ArtAttempt.Asking.{cell_in}
 use Rattle.art_erase.specs.ArtAttempt.Trying.{IsLimited, StillTries}
-use Rattle.art_erase.specs.ArtAttempt.declared.asked.Answer.{Answer as AttemptAnswer}
 use Rattle.art_erase.specs.ArtAttempt.declared.rooms.Room.{Room}
 use Rattle.art_cell.specs.declared.cells.Link.{Link}
 use Rattle.art_change.specs.Tries as tries
 use Rattle.art_change.specs.Tries.{EndFits, EndsSo, HasHand, IsRoom, key_of, value_of}
-use Rattle.art_change.specs.declared.asked.Asked.{Asked}
-use Rattle.art_change.specs.declared.asked.Asked.TheVariants as asked
 use Rattle.art_change.specs.declared.tries.Job.{Job}
 use Rattle.art_change.specs.declared.tries.Job.TheVariants as job
 use Rattle.art_change.specs.declared.tries.Tried.{Tried}
@@ -24,8 +19,6 @@ use Rattle.art_change.specs.declared.writes.Stage.TheVariants as stage
 use Rattle.art_change.specs.declared.writes.Write.{Write}
 use Rattle.art_epoch.specs.Limbo.{IsLimbo}
 use Rattle.art_epoch.specs.Pins.{MayPin}
-use Rattle.art_epoch.specs.declared.asked.Asked.{Asked as FrameAsked}
-use Rattle.art_epoch.specs.declared.asked.Asked.TheVariants.{Free}
 use Rattle.art_epoch.specs.declared.limbo.Place.{Place}
 use Rattle.art_erase.specs.Erasing.{absent}
 use Rattle.art_erase.specs.ArtFrame.Closings as closings
@@ -36,6 +29,9 @@ use Rattle.art_erase.specs.ArtFrame.Stocks.{first_in, hinted_at}
 use Rattle.art_erase.specs.ArtFrame.declared.stocks.Stock.{Stock}
 use Rattle.art_erase.specs.ArtPlan.Insert.Puts.{inserted}
 use Rattle.art_erase.specs.ArtPlan.declared.insert.leaves.NewLeaf.{NewLeaf}
+use Rattle.art_machine.specs.declared.actions.Action.{Action}
+use Rattle.art_machine.specs.declared.actions.Action.TheVariants.{Free}
+use Rattle.art_machine.specs.declared.actions.Answer.{Answer}
 use Rattle.art_plan.specs.declared.changes.Change.{Change}
 use Rattle.art_erase.specs.ArtPlan.Remove.Removals.{removed}
 use Rattle.art_erase.specs.ArtPlan.declared.remove.leaves.OldLeaf.{OldLeaf}
@@ -47,10 +43,10 @@ use Rattle.art_step.specs.declared.views.View.{View}
 
 -- ---- what it asks
 
-abbrev pub asks_at : Stage → Write → Room → List Place → Option Asked
-asks_at stage.Opening m r ps = option_map asked.Frame (openings.asks m.opening ps)
-asks_at stage.Trying m r ps = option_map asked.Attempt (tries.asks m.trying r)
-asks_at stage.Closing m r ps = option_map asked.Frame (closings.asks m.closing r.stock)
+abbrev pub asks_at : Stage → Write → Room → List Place → Option Action
+asks_at stage.Opening m r ps = openings.asks m.opening ps
+asks_at stage.Trying m r ps = tries.asks m.trying r
+asks_at stage.Closing m r ps = closings.asks m.closing r.stock
 asks_at stage.Ended m r ps = None
 
 -- what the check of a place may tell
@@ -58,7 +54,7 @@ abbrev pub deed_at : Write → Room → Deed
 deed_at m r = tries.deed_at m.trying r
 
 -- the next step, where ps wait in limbo
-abbrev pub asks : Write → Room → List Place → Option Asked
+abbrev pub asks : Write → Room → List Place → Option Action
 asks m r ps = asks_at m.stage m r ps
 
 abbrev pub outcome_at : Stage → Outcome → Option Outcome
@@ -72,7 +68,7 @@ ended_at m = outcome_at m.stage m.outcome
 -- ---- where searches begin
 
 -- the number that goes back to its pool by a step of the opening
-abbrev pub freed_by : Option FrameAsked → Option Link
+abbrev pub freed_by : Option Action → Option Link
 freed_by (Some (Free d)) = Some d
 freed_by a = None
 
@@ -107,8 +103,8 @@ ended_left left e = 0
 
 -- what waits after the change with a label: the words of what it unlinked, where it was made
 abbrev pub gone_by : Outcome → Change → List ℕ
-gone_by New c = c.unlinked.items
-gone_by (Gone value) c = c.unlinked.items
+gone_by New c = c.effects.unlinked.items
+gone_by (Gone value) c = c.effects.unlinked.items
 gone_by o c = []
 
 -- a refusal at the last turn is none: the turns were used
@@ -296,8 +292,8 @@ pub record HasCounted (z : Sizes) (u : View) (turns restarts : ℕ) (o : Outcome
   pub busy : o ≡ Busy → UsedTurns z u turns v
 
 -- it did not try anew, or this answer to its attempt was why
-abbrev pub RestartsBy : Write → Write → AttemptAnswer → Type 0
-RestartsBy m next answer = (next.restarts ≡ m.restarts) ⊎ ((t : Trying) × tries.IsAnewBy m.trying t (cell_in answer))
+abbrev pub RestartsBy : Write → Write → Answer → Type 0
+RestartsBy m next answer = (next.restarts ≡ m.restarts) ⊎ ((t : Trying) × tries.IsAnewBy m.trying t answer)
 
 -- ---- an overlap
 
@@ -315,9 +311,9 @@ pub record IsSameWrite (m : Write) (r : Room) (n : Write) (s : Room) : Type 0 wh
   pub apart : IsApart m → IsApart n
 
 -- that became the outcome only where this answer to its attempt was why
-abbrev pub OverlapsBy : Write → Write → AttemptAnswer → Type 0
+abbrev pub OverlapsBy : Write → Write → Answer → Type 0
 OverlapsBy m next answer = next.outcome ≡ Overlaps → (m.outcome ≡ Overlaps) ⊎
-    ((m.stage ≡ stage.Trying) × tries.IsOverlapBy m.trying (cell_in answer))
+    ((m.stage ≡ stage.Trying) × tries.IsOverlapBy m.trying answer)
 
 -- ---- what is answered
 

@@ -1,59 +1,49 @@
 //! Makes the steps of a write.
-ghost use Rattle.std.specs.Prelude.{◌≡◌, ◌+◌, ◌<◌, ◌≤◌, List, None, Some};
-ghost use Rattle.art_erase.specs.ArtAttempt.declared.asked.Asked.{Asked as AttemptAsked};
-ghost use Rattle.art_erase.specs.ArtAttempt.declared.asked.Asked.TheVariants.{Change as change_asked};
-ghost use Rattle.art_change.specs.Asking.{Answers, IsAllowed, PassesAmong};
+ghost use Rattle.std.specs.Prelude.{◌≡◌, ◌⊎◌, ◌+◌, ◌<◌, ◌≤◌, Bool, List, None, Some};
+ghost use Rattle.art_cell.specs.declared.cells.Cell.{Cell as CellOf};
 ghost use Rattle.art_change.specs.Tries.{SameKey, deed_at, key_of};
 ghost use Rattle.art_change.specs.Made.{IsMadeBy, key_by};
-ghost use Rattle.art_change.specs.Asking.{attempt_in};
 ghost use Rattle.art_change.specs.Writes.{Fits, IsApart, RestartsBy, WillRefuse, asks, deed_at as deed_of};
 ghost use Rattle.art_change.specs.Writes.{ended_at, steps_left};
-ghost use Rattle.art_change.specs.declared.asked.Asked.TheVariants.{Attempt as attempt_asked};
 ghost use Rattle.art_change.specs.declared.writes.Outcome.{Outcome as OutcomeOf};
 ghost use Rattle.art_epoch.specs.Limbo.{places_of};
 ghost use Rattle.art_epoch.specs.declared.limbo.Place.{Place};
-ghost use Rattle.art_erase.specs.ArtMake.declared.asked.Asked.{Asked as ChangeAsked};
+ghost use Rattle.art_erase.specs.ArtAttempt.Asking.{Answers, IsAllowed};
+ghost use Rattle.art_machine.specs.Acting.{IsPlain, PassesAmong};
+ghost use Rattle.art_machine.specs.declared.actions.Action.TheVariants.{Commit as commit};
 ghost use Rattle.art_step.specs.Histories.{AreApart};
 ghost use Rattle.art_step.specs.declared.views.View.{View};
 
-use crate::{Answer, Asked, Trying, Write};
-use art_epoch::{Limbo, make as make_frame};
+use crate::{Trying, Write};
+use art_epoch::Limbo;
 use art_erase::art_attempt::{Room, make as make_insert};
 use art_erase::make as make_removal;
+use art_machine::{Action, Answer};
 use art_step::EpochSteps;
 
 /// What was asked, and what was answered. It was one step, or none where the counter of a cell that was to be locked is at its end.
 #[derive(Clone, Copy)]
 pub struct Stepped {
-    pub asked: Asked,
+    pub action: Action,
     pub answer: Answer,
 }
 
 /// Makes the step that a write asks for, whose attempt this is.
-fn make<S: EpochSteps>(steps: &mut S, asked: Asked, trying: &Trying, room: &Room) -> Answer
-    requires admitted { (a : AttemptAsked) → asked ≡ attempt_asked a → S.admits steps.old (key_by trying.now room.now) }
-    requires deed { (a : ChangeAsked) → asked ≡ attempt_asked (change_asked a) → IsMadeBy trying.now room.now }
-    requires allowed { IsAllowed (S.sizes steps.old) (deed_at trying.now room.now) room.now.change (S.view steps.old) asked }
+fn make<S: EpochSteps>(steps: &mut S, action: Action, trying: &Trying, room: &Room) -> Answer
+    requires admitted { IsPlain action ⊎ S.admits steps.old (key_by trying.now room.now) }
+    requires deed { (c : CellOf) (b : Bool) → action ≡ commit c b → IsMadeBy trying.now room.now }
+    requires allowed { IsAllowed (S.sizes steps.old) (deed_at trying.now room.now) room.now.change (S.view steps.old) action }
     ensures only { S.only steps.old steps.new }
-    ensures row { Answers (S.sizes steps.old) (deed_at trying.now room.now) room.now.change asked result
+    ensures row { Answers (S.sizes steps.old) (deed_at trying.now room.now) room.now.change action result
         (S.view steps.old) (S.view steps.new) }
-    ensures keys { PassesAmong (S.admits steps.old) (S.sizes steps.old) (S.view steps.old) asked result }
+    ensures keys { PassesAmong (S.admits steps.old) (S.sizes steps.old) (S.view steps.old) action result }
 {
-    match asked {
-        Asked::Frame(asked) => Answer::Word(make_frame(steps, asked)),
-        Asked::Attempt(asked) => match trying {
-            Trying::Inserting(inserting) => {
-                let stands = inserting.found();
-                let told = make_insert(steps, asked, &room.row, stands, &room.change);
-                Answer::Attempt(told)
-            }
-            Trying::Erasing(_) => Answer::Attempt(make_removal(
-                steps,
-                asked,
-                &room.gone,
-                &room.change,
-            )),
-        },
+    match trying {
+        Trying::Inserting(inserting) => {
+            let stands = inserting.found();
+            make_insert(steps, action, &room.row, stands, &room.change)
+        }
+        Trying::Erasing(_) => make_removal(steps, action, &room.gone, &room.change),
     }
 }
 
@@ -72,11 +62,11 @@ pub fn step<S: EpochSteps>(
     ensures job { write.new.job ≡ write.old.job }
     ensures turns { write.new.turns ≡ write.old.turns }
     ensures key { SameKey write.old.job room.old room.new }
-    ensures asked { asks write.old room.old (places_of limbo.old) ≡ Some result.asked }
-    ensures allowed { IsAllowed (S.sizes steps.old) (deed_of write.old room.old) room.old.change (S.view steps.old) result.asked }
-    ensures row { Answers (S.sizes steps.old) (deed_of write.old room.old) room.old.change result.asked result.answer
+    ensures asked { asks write.old room.old (places_of limbo.old) ≡ Some result.action }
+    ensures allowed { IsAllowed (S.sizes steps.old) (deed_of write.old room.old) room.old.change (S.view steps.old) result.action }
+    ensures row { Answers (S.sizes steps.old) (deed_of write.old room.old) room.old.change result.action result.answer
         (S.view steps.old) (S.view steps.new) }
-    ensures restarts { RestartsBy write.old write.new (attempt_in result.answer) }
+    ensures restarts { RestartsBy write.old write.new result.answer }
     ensures refuses { WillRefuse write.old → WillRefuse write.new }
     ensures apart { AreApart (S.admits steps.old) → IsApart write.old → IsApart write.new }
     ensures one { (S.view steps.new).steps ≤ (S.view steps.old).steps + 1 }
@@ -85,12 +75,12 @@ pub fn step<S: EpochSteps>(
         Fits (S.sizes steps.old) u ps write.old room.old (places_of limbo.old) (S.view steps.old) →
         Fits (S.sizes steps.old) u ps write.new room.new (places_of limbo.new) (S.view steps.new) }
 {
-    let Some(asked) = write.next(room, limbo) else {
+    let Some(action) = write.next(room, limbo) else {
         unreachable!()
     };
-    let answer = make(steps, asked, write.trying(), room);
+    let answer = make(steps, action, write.trying(), room);
     write.told(room, limbo, answer);
-    Stepped { asked, answer }
+    Stepped { action, answer }
 }
 
 /// Makes all steps that are left of a write.

@@ -36,14 +36,12 @@
 //! two keys, both admitted, of which one begins the other (`apart` of `step` and of `finish`).
 #![tactic(auto)]
 
-mod asked;
 mod driver;
 mod tries;
 mod writes;
 
 pub use art_erase::{art_attempt, art_gather};
 pub use art_find;
-pub use asked::{Answer, Asked};
 pub use driver::{Stepped, finish, step};
 pub use tries::{Job, Tried, Trying};
 pub use writes::{Outcome, Stage, Write};

@@ -1,18 +1,20 @@
 //! An attempt of an insert or of a removal.
 ghost use Rattle.std.specs.Prelude.{◌≡◌, ◌≢◌, ℕ, ◌+◌, ◌-◌, ◌<◌, ◌≤◌, None, Some, true};
 ghost use Rattle.art_change.specs.Made.{key_by};
-ghost use Rattle.art_erase.specs.ArtAttempt.Asking.{Answers, IsAllowed, cell_in, steps_in};
-ghost use Rattle.art_erase.specs.ArtAttempt.declared.asked.Asked.{Asked as AskedStep};
+ghost use Rattle.art_erase.specs.ArtAttempt.Asking.{Answers, IsAllowed};
 ghost use Rattle.art_erase.specs.ArtAttempt.declared.rooms.Room.{Room as RoomOf};
 ghost use Rattle.art_change.specs.Tries.{EndsSo, Fits, IsAnewBy, IsFirst, IsOverlapBy, SameKey, asks, deed_at, ended_at, is_free, of_entered, of_erased, steps_left};
 ghost use Rattle.art_change.specs.declared.tries.Job.{Job as JobOf};
 ghost use Rattle.art_change.specs.declared.tries.Tried.TheVariants.{Anew as anew, Overlaps as overlaps};
+ghost use Rattle.art_machine.specs.Acting.{steps_in};
+ghost use Rattle.art_machine.specs.declared.actions.Action.{Action as ActionOf};
 ghost use Rattle.art_step.specs.declared.views.Sizes.{Sizes};
 ghost use Rattle.art_step.specs.declared.views.View.{View};
 
 use art_cell::{Cell, Pool};
-use art_erase::art_attempt::{Answer, Asked, Entered, Inserting, Room};
+use art_erase::art_attempt::{Entered, Inserting, Room};
 use art_erase::{Erased, Erasing};
+use art_machine::{Action, Answer};
 use art_step::EpochSteps;
 
 /// What a write does.
@@ -67,13 +69,13 @@ impl Trying {
     }
 
     /// The next step, or none where it has ended.
-    pub fn next(&self, room: &Room) -> Option<Asked>
+    pub fn next(&self, room: &Room) -> Option<Action>
         requires { (z : Sizes) × (u : View) × (v : View) × (job : JobOf) × Fits z u job self.now room.now v }
         ensures asks { result ≡ asks self.now room.now }
         ensures allowed { (z : Sizes) (u v : View) (job : JobOf) → Fits z u job self.now room.now v →
             IfSome result (IsAllowed z (deed_at self.now room.now) room.now.change v) }
         ensures going { (z : Sizes) (u v : View) (job : JobOf) → Fits z u job self.now room.now v → ended_at self.now ≡ None →
-            (a : AskedStep) × (result ≡ Some a) }
+            (a : ActionOf) × (result ≡ Some a) }
     {
         match self {
             Trying::Inserting(inserting) => inserting.next(room),
@@ -83,17 +85,17 @@ impl Trying {
 
     /// The step that it asked for was made, with this answer.
     pub fn told(&mut self, room: &mut Room, answer: Answer)
-        requires { (z : Sizes) × (u : View) × (v : View) × (w : View) × (job : JobOf) × (asked : AskedStep) ×
+        requires { (z : Sizes) × (u : View) × (v : View) × (w : View) × (job : JobOf) × (asked : ActionOf) ×
             Fits z u job self.old room.old v × (asks self.old room.old ≡ Some asked) ×
             Answers z (deed_at self.old room.old) room.old.change asked answer v w }
         ensures key { (z : Sizes) (u v : View) (job : JobOf) → Fits z u job self.old room.old v → SameKey job room.old room.new }
-        ensures fits { (z : Sizes) (u v w : View) (job : JobOf) (asked : AskedStep) → Fits z u job self.old room.old v →
+        ensures fits { (z : Sizes) (u v w : View) (job : JobOf) (asked : ActionOf) → Fits z u job self.old room.old v →
             asks self.old room.old ≡ Some asked → Answers z (deed_at self.old room.old) room.old.change asked answer v w →
             Fits z u job self.new room.new w }
         ensures left { (left : ℕ) → (is_free self.old ≡ true → 0 < left) →
             steps_left (left - steps_in answer) self.new < steps_left left self.old }
-        ensures anew { ended_at self.new ≡ Some anew → IsAnewBy self.old self.new (cell_in answer) }
-        ensures overlaps { ended_at self.new ≡ Some overlaps → IsOverlapBy self.old (cell_in answer) }
+        ensures anew { ended_at self.new ≡ Some anew → IsAnewBy self.old self.new answer }
+        ensures overlaps { ended_at self.new ≡ Some overlaps → IsOverlapBy self.old answer }
     {
         match self {
             Trying::Inserting(inserting) => inserting.told(room, answer),

@@ -1,37 +1,33 @@
 //! A write, step by step: its opening, its attempts, its close.
 ghost use Rattle.std.specs.Prelude.{◌≡◌, ◌≢◌, ◌⊎◌, ℕ, ◌+◌, ◌-◌, ◌<◌, ◌≤◌, List, [], length, Some, None, true, false};
-ghost use Rattle.art_erase.specs.ArtAttempt.Asking.{Answers as AttemptAnswers, steps_in};
+ghost use Rattle.art_erase.specs.ArtAttempt.Asking.{Answers};
 ghost use Rattle.art_erase.specs.ArtAttempt.Inserting.{tries_left};
-ghost use Rattle.art_erase.specs.ArtAttempt.declared.asked.Asked.{Asked as AttemptAsked};
 ghost use Rattle.art_erase.specs.ArtAttempt.declared.rooms.Room.{Room as RoomOf};
-ghost use Rattle.art_change.specs.Asking.{Answers, attempt_in};
 ghost use Rattle.art_change.specs.Tries.{EndFits, HasHand, IsFirst, IsRoom, SameKey, asks as attempt_asks, is_free, key_of, value_of};
 ghost use Rattle.art_change.specs.Tries as tries;
 ghost use Rattle.art_change.specs.Writes.{Fits, HasAnswered, HasBegun, HasCounted, HasGround, HasOutcome, HasTurn, IsApart, IsClosing, IsOpening, IsReady, IsSameWrite, IsTrying, MayWrite, OverlapsBy, RestartsBy, WasOpened};
 ghost use Rattle.art_change.specs.Writes.{HoldsOrTold, WillRefuse, freed_by, given, is_refusal, turns_used};
 ghost use Rattle.art_change.specs.Writes.{asks, asks_at, deed_at, ended_at, ended_left, gone_by, left_at, most_steps, or_busy, outcome_of, steps_left};
-ghost use Rattle.art_change.specs.declared.asked.Asked.{Asked as AskedStep};
-ghost use Rattle.art_change.specs.declared.asked.Asked.TheVariants as steps_asked;
 ghost use Rattle.art_change.specs.declared.tries.Tried.TheVariants.{Anew as anew, Overlaps as tried_overlaps};
 ghost use Rattle.art_change.specs.declared.writes.Outcome.TheVariants.{Overlaps as overlaps};
 ghost use Rattle.art_change.specs.declared.writes.Stage.TheVariants as stages;
-ghost use Rattle.art_epoch.specs.Asking.{Answers as FrameAnswers, IsAllowed as IsFrameAllowed};
 ghost use Rattle.art_epoch.specs.Limbo.{places_of};
-ghost use Rattle.art_epoch.specs.declared.asked.Asked.{Asked as FrameAsked};
 ghost use Rattle.art_epoch.specs.declared.limbo.Place.{Place};
 ghost use Rattle.art_erase.specs.ArtFrame.Closings.{asks as closing_asks, is_ended};
 ghost use Rattle.art_erase.specs.ArtFrame.Openings.{asks as opening_asks};
 ghost use Rattle.art_erase.specs.ArtFrame.declared.stocks.Stock.{Stock as StockOf};
+ghost use Rattle.art_machine.specs.Acting.{Answers as ActionAnswers, IsAllowed as IsActionAllowed};
+ghost use Rattle.art_machine.specs.declared.actions.Action.{Action as ActionOf};
 ghost use Rattle.art_step.specs.declared.deeds.Deed.{Deed};
 ghost use Rattle.art_step.specs.declared.views.Sizes.{Sizes};
 ghost use Rattle.art_step.specs.declared.views.View.{View};
 
-use crate::asked::{attempt_in, word_in};
-use crate::{Answer, Asked, Job, Tried, Trying};
+use crate::{Job, Tried, Trying};
 use art_cell::{Cell, Pool};
-use art_epoch::{Asked as FrameStep, Limbo, make as make_frame};
-use art_erase::art_attempt::{Answer as AttemptAnswer, Room, steps_in};
+use art_epoch::Limbo;
+use art_erase::art_attempt::Room;
 use art_erase::art_frame::{Blocker, Closing, Opened, Opening};
+use art_machine::{Action, Answer, perform};
 use art_plan::Change;
 use art_step::EpochSteps;
 
@@ -91,7 +87,7 @@ pub struct Write {
 
 impl Write {
     ghost use Rattle.std.specs.Prelude.{IfSome};
-    ghost use Rattle.art_change.specs.Asking.{IsAllowed};
+    ghost use Rattle.art_erase.specs.ArtAttempt.Asking.{IsAllowed};
 
     /// By the pass `own`, in so many turns.
     pub fn new(job: Job, own: u32, turns: u32, room: &Room, limbo: &Limbo) -> Write
@@ -117,13 +113,13 @@ impl Write {
     }
 
     /// The next step, or none where it has ended.
-    pub fn next(&self, room: &Room, limbo: &Limbo) -> Option<Asked>
+    pub fn next(&self, room: &Room, limbo: &Limbo) -> Option<Action>
         requires { (z : Sizes) × (u : View) × (v : View) × (ps : List Place) × Fits z u ps self.now room.now (places_of limbo.now) v }
         ensures asks { result ≡ asks self.now room.now (places_of limbo.now) }
         ensures allowed { (z : Sizes) (u v : View) (ps : List Place) → Fits z u ps self.now room.now (places_of limbo.now) v →
             IfSome result (IsAllowed z (deed_at self.now room.now) room.now.change v) }
         ensures going { (z : Sizes) (u v : View) (ps : List Place) → Fits z u ps self.now room.now (places_of limbo.now) v →
-            ended_at self.now ≡ None → (a : AskedStep) × (result ≡ Some a) }
+            ended_at self.now ≡ None → (a : ActionOf) × (result ≡ Some a) }
     {
         match self.stage {
             Stage::Opening => self.open_next(limbo),
@@ -135,25 +131,25 @@ impl Write {
 
     /// The step that it asked for was made, with this answer.
     pub fn told(&mut self, room: &mut Room, limbo: &mut Limbo, answer: Answer)
-        requires { (z : Sizes) × (u : View) × (v : View) × (w : View) × (ps : List Place) × (asked : AskedStep) ×
+        requires { (z : Sizes) × (u : View) × (v : View) × (w : View) × (ps : List Place) × (asked : ActionOf) ×
             Fits z u ps self.old room.old (places_of limbo.old) v × (asks self.old room.old (places_of limbo.old) ≡ Some asked) ×
             Answers z (deed_at self.old room.old) room.old.change asked answer v w }
         ensures job { self.new.job ≡ self.old.job }
         ensures turns { self.new.turns ≡ self.old.turns }
-        ensures restarts { RestartsBy self.old self.new (attempt_in answer) }
+        ensures restarts { RestartsBy self.old self.new answer }
         ensures refuses { WillRefuse self.old → WillRefuse self.new }
-        ensures overlaps { OverlapsBy self.old self.new (attempt_in answer) }
+        ensures overlaps { OverlapsBy self.old self.new answer }
         ensures key { SameKey self.old.job room.old room.new }
-        ensures fits { (z : Sizes) (u v w : View) (ps : List Place) (asked : AskedStep) →
+        ensures fits { (z : Sizes) (u v w : View) (ps : List Place) (asked : ActionOf) →
             Fits z u ps self.old room.old (places_of limbo.old) v → asks self.old room.old (places_of limbo.old) ≡ Some asked →
             Answers z (deed_at self.old room.old) room.old.change asked answer v w →
             Fits z u ps self.new room.new (places_of limbo.new) w }
         ensures left { steps_left self.new room.new (places_of limbo.new) < steps_left self.old room.old (places_of limbo.old) }
     {
         match self.stage {
-            Stage::Opening => self.open_on(room, limbo, word_in(answer)),
-            Stage::Trying => self.try_told(room, attempt_in(answer)),
-            Stage::Closing => self.close_told(room, limbo, word_in(answer)),
+            Stage::Opening => self.open_on(room, limbo, answer),
+            Stage::Trying => self.try_told(room, answer),
+            Stage::Closing => self.close_told(room, limbo, answer),
             Stage::Ended => {}
         }
     }
@@ -241,44 +237,44 @@ impl Write {
     }
 
     /// What comes next of the opening.
-    fn open_next(&self, limbo: &Limbo) -> Option<Asked>
+    fn open_next(&self, limbo: &Limbo) -> Option<Action>
         ensures asks { (r : RoomOf) → result ≡ asks_at stages.Opening self.now r (places_of limbo.now) }
         ensures allowed { (z : Sizes) (u v : View) (ps : List Place) (r : RoomOf) (d : Deed) →
             IsOpening z u ps self.now r (places_of limbo.now) v → IfSome result (IsAllowed z d r.change v) }
         ensures going { (z : Sizes) (u v : View) (ps : List Place) (r : RoomOf) → IsOpening z u ps self.now r (places_of limbo.now) v →
-            (a : AskedStep) × (result ≡ Some a) }
+            (a : ActionOf) × (result ≡ Some a) }
     {
-        Some(Asked::Frame(self.opening.next(limbo)?))
+        self.opening.next(limbo)
     }
 
     /// What comes next of an attempt.
-    fn try_next(&self, room: &Room) -> Option<Asked>
+    fn try_next(&self, room: &Room) -> Option<Action>
         requires { (z : Sizes) × (u : View) × (v : View) × (ps : List Place) × (qs : List Place) × IsTrying z u ps self.now room.now qs v }
         ensures asks { (qs : List Place) → result ≡ asks_at stages.Trying self.now room.now qs }
         ensures allowed { (z : Sizes) (u v : View) (ps qs : List Place) → IsTrying z u ps self.now room.now qs v →
             IfSome result (IsAllowed z (deed_at self.now room.now) room.now.change v) }
         ensures going { (z : Sizes) (u v : View) (ps qs : List Place) → IsTrying z u ps self.now room.now qs v →
-            (a : AskedStep) × (result ≡ Some a) }
+            (a : ActionOf) × (result ≡ Some a) }
     {
-        Some(Asked::Attempt(self.trying.next(room)?))
+        self.trying.next(room)
     }
 
     /// What comes next of the close.
-    fn close_next(&self, room: &Room) -> Option<Asked>
+    fn close_next(&self, room: &Room) -> Option<Action>
         ensures asks { (qs : List Place) → result ≡ asks_at stages.Closing self.now room.now qs }
         ensures allowed { (z : Sizes) (u v : View) (ps qs : List Place) (d : Deed) → IsClosing z u ps self.now room.now qs v →
             IfSome result (IsAllowed z d room.now.change v) }
-        ensures going { is_ended self.now.closing ≡ false → (a : AskedStep) × (result ≡ Some a) }
+        ensures going { is_ended self.now.closing ≡ false → (a : ActionOf) × (result ≡ Some a) }
     {
-        Some(Asked::Frame(self.closing.next(&room.stock)?))
+        self.closing.next(&room.stock)
     }
 
     /// A step of the opening was made. Where a number went back by it, the next search of its pool begins there.
-    fn open_on(&mut self, room: &mut Room, limbo: &mut Limbo, word: u64)
+    fn open_on(&mut self, room: &mut Room, limbo: &mut Limbo, answer: Answer)
         requires stage { self.old.stage ≡ stages.Opening }
-        requires told { (z : Sizes) × (u : View) × (v : View) × (w : View) × (ps : List Place) × (asked : FrameAsked) ×
+        requires told { (z : Sizes) × (u : View) × (v : View) × (w : View) × (ps : List Place) × (asked : ActionOf) ×
             IsRoom z self.old.job room.old × IsOpening z u ps self.old room.old (places_of limbo.old) v ×
-            (opening_asks self.old.opening (places_of limbo.old) ≡ Some asked) × FrameAnswers z asked word v w }
+            (opening_asks self.old.opening (places_of limbo.old) ≡ Some asked) × ActionAnswers z None asked answer v w }
         ensures job { self.new.job ≡ self.old.job }
         ensures turns { self.new.turns ≡ self.old.turns }
         ensures restarts { self.new.restarts ≡ self.old.restarts }
@@ -286,42 +282,42 @@ impl Write {
         ensures overlaps { self.new.outcome ≡ overlaps → self.old.outcome ≡ overlaps }
         ensures hints { room.new ≡ given (freed_by (opening_asks self.old.opening (places_of limbo.old))) room.old }
         ensures left { steps_left self.new room.new (places_of limbo.new) < left_at stages.Opening self.old room.old (places_of limbo.old) }
-        ensures fits { (z : Sizes) (u v w : View) (ps : List Place) (asked : FrameAsked) → IsRoom z self.old.job room.old →
+        ensures fits { (z : Sizes) (u v w : View) (ps : List Place) (asked : ActionOf) → IsRoom z self.old.job room.old →
             IsOpening z u ps self.old room.old (places_of limbo.old) v →
-            opening_asks self.old.opening (places_of limbo.old) ≡ Some asked → FrameAnswers z asked word v w →
+            opening_asks self.old.opening (places_of limbo.old) ≡ Some asked → ActionAnswers z None asked answer v w →
             Fits z u ps self.new room.new (places_of limbo.new) w }
     {
         self.note_given(room, limbo);
-        self.open_told(room, limbo, word);
+        self.open_told(room, limbo, answer);
     }
 
     /// Where a number goes back by the next step of the opening, a search of its pool begins at its word.
     fn note_given(&self, room: &mut Room, limbo: &Limbo)
         ensures { room.new ≡ given (freed_by (opening_asks self.now.opening (places_of limbo.now))) room.old }
     {
-        if let Some(FrameStep::Free(link)) = self.opening.next(limbo) {
+        if let Some(Action::Free { link }) = self.opening.next(limbo) {
             room.stock.start_at(link);
         }
     }
 
     /// A step of the opening was made.
-    fn open_told(&mut self, room: &Room, limbo: &mut Limbo, word: u64)
+    fn open_told(&mut self, room: &Room, limbo: &mut Limbo, answer: Answer)
         requires stage { self.old.stage ≡ stages.Opening }
-        requires told { (z : Sizes) × (u : View) × (v : View) × (w : View) × (ps : List Place) × (asked : FrameAsked) ×
+        requires told { (z : Sizes) × (u : View) × (v : View) × (w : View) × (ps : List Place) × (asked : ActionOf) ×
             IsRoom z self.old.job room.now × IsOpening z u ps self.old room.now (places_of limbo.old) v ×
-            (opening_asks self.old.opening (places_of limbo.old) ≡ Some asked) × FrameAnswers z asked word v w }
+            (opening_asks self.old.opening (places_of limbo.old) ≡ Some asked) × ActionAnswers z None asked answer v w }
         ensures job { self.new.job ≡ self.old.job }
         ensures turns { self.new.turns ≡ self.old.turns }
         ensures restarts { self.new.restarts ≡ self.old.restarts }
         ensures refuses { self.old.left ≡ 0 → WillRefuse self.new }
         ensures overlaps { self.new.outcome ≡ overlaps → self.old.outcome ≡ overlaps }
         ensures left { steps_left self.new room.now (places_of limbo.new) < left_at stages.Opening self.old room.now (places_of limbo.old) }
-        ensures fits { (z : Sizes) (u v w : View) (ps : List Place) (asked : FrameAsked) → IsRoom z self.old.job room.now →
+        ensures fits { (z : Sizes) (u v w : View) (ps : List Place) (asked : ActionOf) → IsRoom z self.old.job room.now →
             IsOpening z u ps self.old room.now (places_of limbo.old) v →
-            opening_asks self.old.opening (places_of limbo.old) ≡ Some asked → FrameAnswers z asked word v w →
+            opening_asks self.old.opening (places_of limbo.old) ≡ Some asked → ActionAnswers z None asked answer v w →
             Fits z u ps self.new room.now (places_of limbo.new) w }
     {
-        self.opening.told(limbo, word);
+        self.opening.told(limbo, answer);
         match self.opening.ended() {
             None => {}
             Some(Opened::Pinned) => self.begin(room),
@@ -444,18 +440,18 @@ impl Write {
             Fits (S.sizes steps.old) u ps self.new room.new (places_of limbo.new) (S.view steps.new) }
     {
         while let Some(asked) = self.frame_asked(room, limbo) {
-            let word = make_frame(steps, asked);
-            self.told(room, limbo, Answer::Word(word));
+            let answer = perform(steps, asked, None);
+            self.told(room, limbo, answer);
         }
     }
 
     /// What comes next of its opening, or of its close.
     #[inline(always)]
-    fn frame_asked(&self, room: &Room, limbo: &Limbo) -> Option<FrameStep>
-        ensures asks { IfSome result (λ a. asks self.now room.now (places_of limbo.now) ≡ Some (steps_asked.Frame a)) }
+    fn frame_asked(&self, room: &Room, limbo: &Limbo) -> Option<Action>
+        ensures asks { IfSome result (λ a. asks self.now room.now (places_of limbo.now) ≡ Some a) }
         ensures framed { IfSome result (λ a. self.now.stage ≢ stages.Trying) }
         ensures allowed { (z : Sizes) (u v : View) (ps : List Place) → Fits z u ps self.now room.now (places_of limbo.now) v →
-            IfSome result (IsFrameAllowed z v) }
+            IfSome result (IsActionAllowed z None v) }
     {
         match self.stage {
             Stage::Opening => self.opening.next(limbo),
@@ -494,25 +490,25 @@ impl Write {
     }
 
     /// A step of an attempt was made.
-    fn try_told(&mut self, room: &mut Room, answer: AttemptAnswer)
+    fn try_told(&mut self, room: &mut Room, answer: Answer)
         requires stage { self.old.stage ≡ stages.Trying }
         requires turn { HasTurn self.old }
         requires told { (z : Sizes) × (u : View) × (v : View) × (w : View) × (ps : List Place) × (qs : List Place) ×
-            (asked : AttemptAsked) ×
+            (asked : ActionOf) ×
             IsRoom z self.old.job room.old × IsTrying z u ps self.old room.old qs v × (attempt_asks self.old.trying room.old ≡ Some asked) ×
-            AttemptAnswers z (deed_at self.old room.old) room.old.change asked answer v w }
+            Answers z (deed_at self.old room.old) room.old.change asked answer v w }
         ensures job { self.new.job ≡ self.old.job }
         ensures turns { self.new.turns ≡ self.old.turns }
         ensures restarts { RestartsBy self.old self.new answer }
         ensures overlaps { OverlapsBy self.old self.new answer }
         ensures key { SameKey self.old.job room.old room.new }
-        ensures fits { (z : Sizes) (u v w : View) (ps qs : List Place) (asked : AttemptAsked) → IsRoom z self.old.job room.old →
+        ensures fits { (z : Sizes) (u v w : View) (ps qs : List Place) (asked : ActionOf) → IsRoom z self.old.job room.old →
             IsTrying z u ps self.old room.old qs v → attempt_asks self.old.trying room.old ≡ Some asked →
-            AttemptAnswers z (deed_at self.old room.old) room.old.change asked answer v w → Fits z u ps self.new room.new qs w }
+            Answers z (deed_at self.old room.old) room.old.change asked answer v w → Fits z u ps self.new room.new qs w }
         ensures left { (qs : List Place) → steps_left self.new room.new qs < left_at stages.Trying self.old room.old qs }
     {
         self.trying.told(room, answer);
-        self.left = self.left.saturating_sub(steps_in(answer));
+        self.left = self.left.saturating_sub(answer.steps());
         match self.trying.ended() {
             None => self.turn(room),
             Some(tried) => self.tried(room, tried),
@@ -561,25 +557,25 @@ impl Write {
     }
 
     /// A step of the close was made.
-    fn close_told(&mut self, room: &mut Room, limbo: &mut Limbo, word: u64)
+    fn close_told(&mut self, room: &mut Room, limbo: &mut Limbo, answer: Answer)
         requires stage { self.old.stage ≡ stages.Closing }
-        requires told { (z : Sizes) × (u : View) × (v : View) × (w : View) × (ps : List Place) × (asked : FrameAsked) ×
+        requires told { (z : Sizes) × (u : View) × (v : View) × (w : View) × (ps : List Place) × (asked : ActionOf) ×
             IsRoom z self.old.job room.old × IsClosing z u ps self.old room.old (places_of limbo.old) v ×
-            (closing_asks self.old.closing room.old.stock ≡ Some asked) × FrameAnswers z asked word v w }
+            (closing_asks self.old.closing room.old.stock ≡ Some asked) × ActionAnswers z None asked answer v w }
         ensures job { self.new.job ≡ self.old.job }
         ensures turns { self.new.turns ≡ self.old.turns }
         ensures restarts { self.new.restarts ≡ self.old.restarts }
         ensures refuses { is_refusal self.old.outcome ≡ true → WillRefuse self.new }
         ensures outcome { self.new.outcome ≡ self.old.outcome }
         ensures key { SameKey self.old.job room.old room.new }
-        ensures fits { (z : Sizes) (u v w : View) (ps : List Place) (asked : FrameAsked) → IsRoom z self.old.job room.old →
+        ensures fits { (z : Sizes) (u v w : View) (ps : List Place) (asked : ActionOf) → IsRoom z self.old.job room.old →
             IsClosing z u ps self.old room.old (places_of limbo.old) v → closing_asks self.old.closing room.old.stock ≡ Some asked →
-            FrameAnswers z asked word v w → Fits z u ps self.new room.new (places_of limbo.new) w }
+            ActionAnswers z None asked answer v w → Fits z u ps self.new room.new (places_of limbo.new) w }
         ensures left { steps_left self.new room.new (places_of limbo.new) < left_at stages.Closing self.old room.old (places_of limbo.old) }
     {
         let Room { stock, change, .. } = room;
         self.closing
-            .told(limbo, stock, gone_by(self.outcome, change), word);
+            .told(limbo, stock, gone_by(self.outcome, change), answer);
         if self.closing.ended() {
             self.stage = Stage::Ended;
         }
@@ -592,7 +588,7 @@ fn gone_by(outcome: Outcome, change: &Change) -> &[u64]
     ensures few { length result.now ≤ 3 }
 {
     match outcome {
-        Outcome::New | Outcome::Gone(_) => change.unlinked.as_slice(),
+        Outcome::New | Outcome::Gone(_) => change.effects.unlinked.as_slice(),
         _ => &[],
     }
 }

@@ -1,4 +1,3 @@
-pub mod Counting
 pub mod Pinned
 pub mod Reclaimed
 pub mod Searching

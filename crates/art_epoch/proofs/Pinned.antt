@@ -1,7 +1,7 @@
 -- An epoch that was noted may be stored, and raised; a pass that is being pinned has locked and told nothing more.
 use Rattle.std.proofs.Common.{◌≡◌, ℕ, ◌+◌, ◌^◌, ◌<◌, Some, inr, sym, refl, ap, subst}
 use Rattle.art_epoch.specs.Pins.{Fits, IsNoting, asks}
-use Rattle.art_epoch.specs.declared.asked.Asked.{Asked}
+use Rattle.art_machine.specs.declared.actions.Action.{Action}
 use Rattle.art_epoch.specs.declared.pins.Pinning.{Pinning}
 use Rattle.art_epoch.specs.declared.pins.Pinning.TheVariants.{Noting, Storing, Ended}
 use Rattle.art_step.specs.declared.views.Sizes.{Sizes}
@@ -22,7 +22,7 @@ pub may_raise : (z : Sizes) (v w : View) (x : ℕ) → epoch.Outcome z v w x →
 may_raise z v w x row low = subst advance.May (sym row.is) record { note = record { epoch = x; step = v.steps + 1 }; noted = refl; early = low }
 
 -- it is not pinned yet, and holds and has told what it did
-pub pinning_same : (z : Sizes) (u v : View) (p : Pinning) → Fits z u p v → (a : Asked) × (asks p ≡ Some a) → (v.held ≡ u.held) × (v.own ≡ u.own)
+pub pinning_same : (z : Sizes) (u v : View) (p : Pinning) → Fits z u p v → (a : Action) × (asks p ≡ Some a) → (v.held ≡ u.held) × (v.own ≡ u.own)
 pinning_same z u v Noting fits on = (ap (λ (t : View). t.held) fits.1, ap (λ (t : View). t.own) fits.1)
 pinning_same z u v (Storing x) fits on = (ap (λ (t : View). t.held) fits.is, ap (λ (t : View). t.own) fits.is)
 pinning_same z u v Ended fits on = let is = on.1 in cc

@@ -5,12 +5,14 @@ use Rattle.std.proofs.lemmas.List.Edits.{length-remove}
 use Rattle.std.proofs.lemmas.Option.{same_Some}
 use Rattle.std.specs.List.{remove}
 use Rattle.std.specs.Prelude.{Option, Some, None}
-use Rattle.art_epoch.specs.Asking.{Answers}
+use Rattle.art_machine.proofs.Words.{done_row, is_word, word_row}
+use Rattle.art_machine.specs.Acting.{Answers, IsWord, word_in}
+use Rattle.art_machine.specs.declared.actions.Answer.{Answer}
 use Rattle.art_epoch.specs.Limbo.{IsLimbo, lets_go, no_place, open_index}
 use Rattle.art_epoch.specs.Pins.{view_advanced}
-use Rattle.art_epoch.specs.Reclaiming.{Fits, IsBelowAll, IsFreeing, IsLeast, IsRaising, IsStage, IsWatched, IsWatching, Look, MayGo, OnlyReclaims, Reclaims, StageFits, asks_at, freed_at, least_after, lower, others, places_after, skip, stage_after, steps_left, view_watched, watching}
-use Rattle.art_epoch.specs.declared.asked.Asked.{Asked}
-use Rattle.art_epoch.specs.declared.asked.Asked.TheVariants.{Free, Note, Raise, Watch}
+use Rattle.art_epoch.specs.Reclaiming.{HearsWord, Fits, IsBelowAll, IsFreeing, IsLeast, IsRaising, IsStage, IsWatched, IsWatching, Look, MayGo, OnlyReclaims, Reclaims, StageFits, asks_at, freed_at, least_after, lower, others, places_after, skip, stage_after, steps_left, view_watched, watching}
+use Rattle.art_machine.specs.declared.actions.Action.{Action}
+use Rattle.art_machine.specs.declared.actions.Action.TheVariants.{Free, ReadEpoch, RaiseEpoch, ReadPin}
 use Rattle.art_epoch.specs.declared.limbo.Place.{Place}
 use Rattle.art_epoch.specs.declared.reclaiming.ReclaimStage.{ReclaimStage}
 use Rattle.art_epoch.specs.declared.reclaiming.ReclaimStage.TheVariants.{Noting, Raising, Watching, Freeing}
@@ -360,7 +362,7 @@ module _ (z : Sizes) (v0 : View) (ps qs : List Place) (m : Reclaiming) (v : View
       }
 
 -- what is asked, by stage
-asked_freeing : (least : Option ℕ) (qs : List Place) (a : Asked) → asks_at (Freeing least 0) qs ≡ Some a → (open_index least qs < length qs) × (Free (get_or qs (open_index least qs) no_place).link ≡ a)
+asked_freeing : (least : Option ℕ) (qs : List Place) (a : Action) → asks_at (Freeing least 0) qs ≡ Some a → (open_index least qs < length qs) × (Free (get_or qs (open_index least qs) no_place).link ≡ a)
 asked_freeing least qs a is = by_test (nat_lt (open_index least qs) (length qs)) refl is
   where
     by_test : (b : Bool) → nat_lt (open_index least qs) (length qs) ≡ b → (if b then Some (Free (get_or qs (open_index least qs) no_place).link) else None) ≡ Some a → (open_index least qs < length qs) × (Free (get_or qs (open_index least qs) no_place).link ≡ a)
@@ -368,16 +370,38 @@ asked_freeing least qs a is = by_test (nat_lt (open_index least qs) (length qs))
     by_test false low e = absurd (cc)
 
 module _ (z : Sizes) (v0 : View) (ps qs : List Place) (m : Reclaiming) (v : View) (fits : Fits z v0 ps m qs v) where
-  pub reclaim_told : (w : View) (a : Asked) (x : ℕ) → asks_at m.stage qs ≡ Some a → Answers z a x v w → Fits z v0 ps (record m { stage = stage_after m.own m.passes x m.stage }) (places_after m.stage qs) w
-  reclaim_told w a x asked row = by_stage m.stage fits.stage asked
+  pub reclaim_told : (w : View) (a : Action) (answer : Answer) → asks_at m.stage qs ≡ Some a → Answers z None a answer v w
+      → Fits z v0 ps (record m { stage = stage_after m.own m.passes (word_in answer) m.stage }) (places_after m.stage qs) w
+  reclaim_told w a answer asked row = by_stage m.stage fits.stage asked
     where
-      by_stage : (s : ReclaimStage) → StageFits z v0 ps s qs v → asks_at s qs ≡ Some a → Fits z v0 ps (record m { stage = stage_after m.own m.passes x s }) (places_after s qs) w
-      by_stage Noting k e = told_noting z v0 ps qs m v fits w x k (subst (λ (b : Asked). Answers z b x v w) (sym (same_Some Note a e)) row)
-      by_stage Raising k e = told_raising z v0 ps qs m v fits w x k (subst (λ (b : Asked). Answers z b x v w) (sym (same_Some Raise a e)) row)
-      by_stage (Watching q least) k e = told_watching z v0 ps qs m v fits w x q least k (subst (λ (b : Asked). Answers z b x v w) (sym (same_Some (Watch q) a e)) row)
-      by_stage (Freeing least n) k e = let o = asked_freeing least qs a e in told_freeing z v0 ps qs m v fits w least n o.0 k (subst (λ (b : Asked). Answers z b x v w) (sym o.1) row)
+      x : ℕ
+      x = word_in answer
 
-  pub reclaim_stage : (a : Asked) → asks_at m.stage qs ≡ Some a → IsStage m.own m.passes m.stage
+      at : (b : Action) → b ≡ a → Answers z None b answer v w
+      at b same = subst (λ (c : Action). Answers z None c answer v w) (sym same) row
+
+      by_stage : (s : ReclaimStage) → StageFits z v0 ps s qs v → asks_at s qs ≡ Some a → Fits z v0 ps (record m { stage = stage_after m.own m.passes x s }) (places_after s qs) w
+      by_stage Noting k e = told_noting z v0 ps qs m v fits w x k (word_row z None ReadEpoch answer v w tt (at ReadEpoch (same_Some ReadEpoch a e)))
+      by_stage Raising k e = told_raising z v0 ps qs m v fits w x k (word_row z None RaiseEpoch answer v w tt (at RaiseEpoch (same_Some RaiseEpoch a e)))
+      by_stage (Watching q least) k e = told_watching z v0 ps qs m v fits w x q least k (word_row z None (ReadPin q) answer v w tt (at (ReadPin q) (same_Some (ReadPin q) a e)))
+      by_stage (Freeing least n) k e =
+          let o = asked_freeing least qs a e in
+          told_freeing z v0 ps qs m v fits w least n o.0 k (done_row z None (Free (get_or qs (open_index least qs) no_place).link) answer v w tt (at _ o.1))
+
+  -- where a word is found, the answer is one
+  pub reclaim_hears : (w : View) (a : Action) (answer : Answer) → asks_at m.stage qs ≡ Some a → Answers z None a answer v w → HearsWord m.stage → IsWord answer
+  reclaim_hears w a answer asked row = by_stage m.stage asked
+    where
+      at : (b : Action) → b ≡ a → Answers z None b answer v w
+      at b same = subst (λ (c : Action). Answers z None c answer v w) (sym same) row
+
+      by_stage : (s : ReclaimStage) → asks_at s qs ≡ Some a → HearsWord s → IsWord answer
+      by_stage Noting e hears = is_word z None ReadEpoch answer v w tt (at ReadEpoch (same_Some ReadEpoch a e))
+      by_stage Raising e hears = absurd hears
+      by_stage (Watching q least) e hears = is_word z None (ReadPin q) answer v w tt (at (ReadPin q) (same_Some (ReadPin q) a e))
+      by_stage (Freeing least n) e hears = absurd hears
+
+  pub reclaim_stage : (a : Action) → asks_at m.stage qs ≡ Some a → IsStage m.own m.passes m.stage
   reclaim_stage a asked = by_stage m.stage fits.stage asked
     where
       by_stage : (s : ReclaimStage) → StageFits z v0 ps s qs v → asks_at s qs ≡ Some a → IsStage m.own m.passes s
@@ -386,7 +410,7 @@ module _ (z : Sizes) (v0 : View) (ps qs : List Place) (m : Reclaiming) (v : View
       by_stage (Watching q least) k e = (fits.inside, let there = k.there in let same = fits.passes in omega arith)
       by_stage (Freeing least n) k e = let count = k.count in let few = fits.few in omega arith
 
-  pub may_go : (a : Asked) → asks_at m.stage qs ≡ Some a → MayGo m.stage qs
+  pub may_go : (a : Action) → asks_at m.stage qs ≡ Some a → MayGo m.stage qs
   may_go a asked = by_stage m.stage asked
     where
       by_stage : (s : ReclaimStage) → asks_at s qs ≡ Some a → MayGo s qs
@@ -396,7 +420,7 @@ module _ (z : Sizes) (v0 : View) (ps qs : List Place) (m : Reclaiming) (v : View
       by_stage (Freeing least n) e = (asked_freeing least qs a e).0
 
   -- each step leaves fewer
-  pub steps_fewer : (a : Asked) (x : ℕ) → asks_at m.stage qs ≡ Some a → steps_left m.passes (stage_after m.own m.passes x m.stage) (places_after m.stage qs) < steps_left m.passes m.stage qs
+  pub steps_fewer : (a : Action) (x : ℕ) → asks_at m.stage qs ≡ Some a → steps_left m.passes (stage_after m.own m.passes x m.stage) (places_after m.stage qs) < steps_left m.passes m.stage qs
   steps_fewer a x asked = by_stage m.stage fits.stage asked
     where
       watching_left : (q : ℕ) (least : Option ℕ) → q ≤ m.passes → steps_left m.passes (watching m.own m.passes q least) qs ≤ m.passes - q + length qs

@@ -6,10 +6,13 @@ use Rattle.std.proofs.lemmas.Option.{same_Some}
 use Rattle.std.specs.Int.{trailing_zeros}
 use Rattle.std.specs.Prelude.{Option, Some, None, IfSome}
 use Rattle.art_cell.specs.declared.layouts.Pool.{Pool}
-use Rattle.art_epoch.specs.Asking.{Answers}
+use Rattle.art_machine.proofs.Words.{is_word, word_row}
+use Rattle.art_machine.specs.Acting.{Answers, FindsWord as IsHeard, IsWord, word_in}
+use Rattle.art_machine.specs.declared.actions.Answer.{Answer}
+use Rattle.art_machine.specs.declared.actions.Answer.TheVariants.{Word}
 use Rattle.art_epoch.specs.Taking.{Fits, GaveNone, HasTaken, IsLowest, IsSearch, IsSeen, MadeFew, NoneAround, NoneBefore, OnlyTakes, SearchFits, TookFirst, TookLowest, TookNone, WasFound, WasLost, after_clear, after_look, around, asks, asks_at, looks_made, search_after, steps_left}
-use Rattle.art_epoch.specs.declared.asked.Asked.{Asked}
-use Rattle.art_epoch.specs.declared.asked.Asked.TheVariants.{Clear}
+use Rattle.art_machine.specs.declared.actions.Action.{Action}
+use Rattle.art_machine.specs.declared.actions.Action.TheVariants.{ClearBit}
 use Rattle.art_epoch.specs.declared.taking.Search.{Search}
 use Rattle.art_epoch.specs.declared.taking.Search.TheVariants.{Looking, Clearing, Took}
 use Rattle.art_epoch.specs.declared.taking.Taking.{Taking}
@@ -228,25 +231,44 @@ module _ (z : Sizes) (v0 : View) (m : Taking) (v w : View) (x : ℕ) (fits : Fit
           )
 
 -- what was asked at a stage
-asked_looking : (pool : Pool) (words first n : ℕ) (a : Asked) → asks_at pool words first (Looking n) ≡ Some a → (n < words) × (Clear pool (around words first n) None ≡ a)
+asked_looking : (pool : Pool) (words first n : ℕ) (a : Action) → asks_at pool words first (Looking n) ≡ Some a → (n < words) × (ClearBit pool (around words first n) None ≡ a)
 asked_looking pool words first n a is = by_test (nat_lt n words) refl is
   where
-    by_test : (b : Bool) → nat_lt n words ≡ b → (if b then Some (Clear pool (around words first n) None) else None) ≡ Some a → (n < words) × (Clear pool (around words first n) None ≡ a)
+    by_test : (b : Bool) → nat_lt n words ≡ b → (if b then Some (ClearBit pool (around words first n) None) else None) ≡ Some a → (n < words) × (ClearBit pool (around words first n) None ≡ a)
     by_test true low e = (ltb-true n words low, same_Some _ a e)
     by_test false low e = absurd (cc)
 
 -- the machine goes on as the step was answered
-pub told_fits : (z : Sizes) (v0 : View) (m : Taking) (v w : View) (a : Asked) (x : ℕ) → x < 2 ^ 64 → Fits z v0 m v → asks m ≡ Some a → Answers z a x v w → Fits z v0 (record m { search = search_after x m.search }) w
-told_fits z v0 m v w a x low fits asked row = by_search m.search refl asked
+pub told_fits : (z : Sizes) (v0 : View) (m : Taking) (v w : View) (a : Action) (answer : Answer) → word_in answer < 2 ^ 64 → Fits z v0 m v → asks m ≡ Some a → Answers z None a answer v w
+    → Fits z v0 (record m { search = search_after (word_in answer) m.search }) w
+told_fits z v0 m v w a answer low fits asked row = by_search m.search refl asked
   where
+    x : ℕ
+    x = word_in answer
+
+    at : (b : Action) → b ≡ a → IsHeard b → Answers z None b (Word x) v w
+    at b same finds = word_row z None b answer v w finds (subst (λ (c : Action). Answers z None c answer v w) (sym same) row)
+
     by_search : (s : Search) → m.search ≡ s → asks_at m.pool m.words m.first s ≡ Some a → Fits z v0 (record m { search = search_after x s }) w
-    by_search (Looking n) is e = let k = asked_looking m.pool m.words m.first n a e in looks z v0 m v w x fits n is k.0 low (subst (λ (b : Asked). Answers z b x v w) (sym k.1) row)
-    by_search (Clearing n k) is e = clears z v0 m v w x fits n k is (subst (λ (b : Asked). Answers z b x v w) (sym (same_Some (Clear m.pool (around m.words m.first n) (Some k)) a e)) row)
+    by_search (Looking n) is e = let k = asked_looking m.pool m.words m.first n a e in looks z v0 m v w x fits n is k.0 low (at _ k.1 tt)
+    by_search (Clearing n k) is e = clears z v0 m v w x fits n k is (at _ (same_Some (ClearBit m.pool (around m.words m.first n) (Some k)) a e) tt)
     by_search (Took n k) is e = absurd (cc)
+
+-- what it asks for finds a word
+pub hears_word : (z : Sizes) (m : Taking) (v w : View) (a : Action) (answer : Answer) → asks m ≡ Some a → Answers z None a answer v w → IsWord answer
+hears_word z m v w a answer asked row = by_search m.search asked
+  where
+    at : (b : Action) → b ≡ a → IsHeard b → IsWord answer
+    at b same finds = is_word z None b answer v w finds (subst (λ (c : Action). Answers z None c answer v w) (sym same) row)
+
+    by_search : (s : Search) → asks_at m.pool m.words m.first s ≡ Some a → IsWord answer
+    by_search (Looking n) e = at _ (asked_looking m.pool m.words m.first n a e).1 tt
+    by_search (Clearing n k) e = at _ (same_Some (ClearBit m.pool (around m.words m.first n) (Some k)) a e) tt
+    by_search (Took n k) e = absurd (cc)
 
 -- ---- the stage is one of 32 bits
 
-pub is_search : (z : Sizes) (v0 : View) (m : Taking) (v : View) (a : Asked) → Fits z v0 m v → asks m ≡ Some a → IsSearch m.search
+pub is_search : (z : Sizes) (v0 : View) (m : Taking) (v : View) (a : Action) → Fits z v0 m v → asks m ≡ Some a → IsSearch m.search
 is_search z v0 m v a fits asked = by_search m.search fits.search asked
   where
     by_search : (s : Search) → SearchFits z v0 v m.pool m.words m.first s → asks_at m.pool m.words m.first s ≡ Some a → IsSearch s
@@ -298,7 +320,7 @@ none_taken z v0 m v fits asked other = by_search m.search refl fits.search asked
     by_search : (s : Search) → m.search ≡ s → SearchFits z v0 v m.pool m.words m.first s → asks_at m.pool m.words m.first s ≡ None → TookNone z v0 v m.pool
     by_search (Looking n) is o e = by_test (nat_lt n m.words) refl e
       where
-        by_test : (b : Bool) → nat_lt n m.words ≡ b → (if b then Some (Clear m.pool (around m.words m.first n) None) else None) ≡ None → TookNone z v0 v m.pool
+        by_test : (b : Bool) → nat_lt n m.words ≡ b → (if b then Some (ClearBit m.pool (around m.words m.first n) None) else None) ≡ None → TookNone z v0 v m.pool
         by_test true low e = absurd (cc)
         by_test false high e =
             let past : m.words ≤ n = ltb-false n m.words high in

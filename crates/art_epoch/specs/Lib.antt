@@ -1,4 +1,3 @@
-pub mod Asking
 pub mod Limbo
 pub mod Pins
 pub mod Reclaiming

@@ -1,7 +1,7 @@
 -- Pinning a pass, and raising the epoch.
 use Rattle.std.specs.Prelude.{◌≡◌, ℕ, ◌+◌, ◌^◌, ◌<◌, [], nat_lt, if◌then◌else◌, Option, Some, None}
-use Rattle.art_epoch.specs.declared.asked.Asked.{Asked}
-use Rattle.art_epoch.specs.declared.asked.Asked.TheVariants.{Note, Store}
+use Rattle.art_machine.specs.declared.actions.Action.{Action}
+use Rattle.art_machine.specs.declared.actions.Action.TheVariants.{ReadEpoch, StorePin}
 use Rattle.art_epoch.specs.declared.pins.Pinning.{Pinning}
 use Rattle.art_epoch.specs.declared.pins.Pinning.TheVariants.{Noting, Storing, Ended}
 use Rattle.art_step.specs.declared.views.Sizes.{Sizes}
@@ -34,9 +34,9 @@ pub record Advances (z : Sizes) (v w : View) : Type 0 where
 
 -- ---- the machine that pins
 
-abbrev pub asks : Pinning → Option Asked
-asks Noting = Some Note
-asks (Storing x) = Some (Store x)
+abbrev pub asks : Pinning → Option Action
+asks Noting = Some ReadEpoch
+asks (Storing x) = Some (StorePin x)
 asks Ended = None
 
 -- how many steps it makes from here on

@@ -4,8 +4,8 @@ use Rattle.std.specs.Prelude.{◌≡◌, ◌≢◌, ◌↔◌, ℕ, zero, suc, �
 use Rattle.art_cell.specs.declared.cells.Link.{Link}
 use Rattle.art_epoch.specs.Limbo.{IsLimbo, lets_go, no_place, open_index, places_for}
 use Rattle.art_epoch.specs.Pins.{view_advanced}
-use Rattle.art_epoch.specs.declared.asked.Asked.{Asked}
-use Rattle.art_epoch.specs.declared.asked.Asked.TheVariants.{Free, Note, Raise, Watch}
+use Rattle.art_machine.specs.declared.actions.Action.{Action}
+use Rattle.art_machine.specs.declared.actions.Action.TheVariants.{Free, ReadEpoch, RaiseEpoch, ReadPin}
 use Rattle.art_epoch.specs.declared.limbo.Place.{Place}
 use Rattle.art_epoch.specs.declared.reclaiming.ReclaimStage.{ReclaimStage}
 use Rattle.art_epoch.specs.declared.reclaiming.ReclaimStage.TheVariants.{Noting, Raising, Watching, Freeing}
@@ -94,6 +94,13 @@ IsStage own passes Raising = own < passes
 IsStage own passes (Watching q least) = (own < passes) × (q < passes)
 IsStage own passes (Freeing least n) = n + 1 < 2 ^ 32
 
+-- a word is found there
+abbrev pub HearsWord : ReclaimStage → Type 0
+HearsWord Noting = ⊤
+HearsWord Raising = ⊥
+HearsWord (Watching q least) = ⊤
+HearsWord (Freeing least n) = ⊥
+
 -- once a word was found
 abbrev pub stage_after : ℕ → ℕ → ℕ → ReclaimStage → ReclaimStage
 stage_after own passes x Noting = if nat_lt x (2 ^ 62) then Raising else watching own passes 0 None
@@ -116,10 +123,10 @@ MayGo (Watching q least) qs = ⊤
 MayGo (Freeing least n) qs = open_index least qs < length qs
 
 -- the next step
-abbrev pub asks_at : ReclaimStage → List Place → Option Asked
-asks_at Noting qs = Some Note
-asks_at Raising qs = Some Raise
-asks_at (Watching q least) qs = Some (Watch q)
+abbrev pub asks_at : ReclaimStage → List Place → Option Action
+asks_at Noting qs = Some ReadEpoch
+asks_at Raising qs = Some RaiseEpoch
+asks_at (Watching q least) qs = Some (ReadPin q)
 asks_at (Freeing least n) qs =
     if nat_lt (open_index least qs) (length qs) then Some (Free (get_or qs (open_index least qs) no_place).link) else None
 

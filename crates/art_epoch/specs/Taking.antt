@@ -4,8 +4,8 @@ use Rattle.std.proofs.Common.{w64}
 use Rattle.std.specs.Int.{trailing_zeros}
 use Rattle.art_cell.specs.declared.cells.Link.{Link}
 use Rattle.art_cell.specs.declared.layouts.Pool.{Pool}
-use Rattle.art_epoch.specs.declared.asked.Asked.{Asked}
-use Rattle.art_epoch.specs.declared.asked.Asked.TheVariants.{Clear}
+use Rattle.art_machine.specs.declared.actions.Action.{Action}
+use Rattle.art_machine.specs.declared.actions.Action.TheVariants.{ClearBit}
 use Rattle.art_epoch.specs.declared.taking.Search.{Search}
 use Rattle.art_epoch.specs.declared.taking.Search.TheVariants.{Looking, Clearing, Took}
 use Rattle.art_epoch.specs.declared.taking.Taking.{Taking}
@@ -110,12 +110,12 @@ Takes z v w pool first None = TookNone z v w pool
 -- ---- what the machine knows between two steps
 
 -- the next step
-abbrev pub asks_at : Pool → ℕ → ℕ → Search → Option Asked
-asks_at pool words first (Looking n) = if nat_lt n words then Some (Clear pool (around words first n) None) else None
-asks_at pool words first (Clearing n k) = Some (Clear pool (around words first n) (Some k))
+abbrev pub asks_at : Pool → ℕ → ℕ → Search → Option Action
+asks_at pool words first (Looking n) = if nat_lt n words then Some (ClearBit pool (around words first n) None) else None
+asks_at pool words first (Clearing n k) = Some (ClearBit pool (around words first n) (Some k))
 asks_at pool words first (Took n k) = None
 
-abbrev pub asks : Taking → Option Asked
+abbrev pub asks : Taking → Option Action
 asks m = asks_at m.pool m.words m.first m.search
 
 -- a count of 32 bits after which there may be another, and a bit of 64

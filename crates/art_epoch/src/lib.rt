@@ -43,8 +43,8 @@
 //! # Machines
 //!
 //! Taking, pinning, retiring and reclaiming are machines: values that name no carrier. `next` is the step that a machine
-//! asks for (`Asked`), or none where it has ended; `make` makes it, on whatever carrier; `told` hands the machine the word
-//! that was found. So a pass may make one step at each of its turns, with those of others in between. What a machine knows
+//! asks for (an `Action` of `art_machine`), or none where it has ended; `perform` makes it, on whatever carrier; `told` hands the
+//! machine the answer. So a pass may make one step at each of its turns, with those of others in between. What a machine knows
 //! of the view between two steps is its `Fits`: `new` begins with it, and `told` keeps it, whoever made the step. Retiring
 //! is one step, and needs none.
 //!
@@ -58,8 +58,8 @@
 //! | | `unpin` | 0 is stored |
 //! | | `advance` | the epoch is noted, and raised |
 //!
-//! A call is the loop that runs its machine; the last three are their steps alone. `Asked` has those steps too, so that a machine
-//! of another crate may ask for them: a number in hand goes back by `Asked::Give`, and one that waits by `Asked::Free`.
+//! A call is the loop that runs its machine; the last three are their steps alone. A machine of another crate asks for them as actions:
+//! a number in hand goes back by `GiveBack`, and one that waits by `Free`.
 //!
 //! # In which order
 //!
@@ -78,13 +78,11 @@
 //! number where some are free: at each word another pass may come first.
 #![tactic(auto)]
 
-mod asked;
 mod limbo;
 mod pins;
 mod reclaiming;
 mod taking;
 
-pub use asked::{Asked, make};
 pub use limbo::{Limbo, Place, lets_go};
 pub use pins::{Pinning, advance, give, pin, unpin};
 pub use reclaiming::{ReclaimStage, Reclaiming, Retiring, reclaim, retire};

@@ -1,12 +1,12 @@
 //! Pins: the epoch that a pass stands under; and the calls that need no machine.
 ghost use Rattle.std.specs.Prelude.{◌≡◌, ◌-◌, [], None, IfSome};
-ghost use Rattle.art_epoch.specs.Asking.{Answers, IsAllowed};
+ghost use Rattle.art_machine.specs.Acting.{Answers, IsAllowed};
 ghost use Rattle.art_epoch.specs.Pins.{Advances, Fits, MayPin, Pins, asks, steps_left};
 ghost use Rattle.art_step.specs.Steps.Give as give;
 ghost use Rattle.art_step.specs.Steps.Pin as pin;
 ghost use Rattle.art_step.specs.Tokens.{link_of_number};
 
-use crate::{Asked, make};
+use art_machine::{Action, Answer, perform};
 use art_step::{EpochSteps, Number};
 
 /// Pins a pass that is idle to the epoch: it notes the epoch and stores it in its own word.
@@ -22,40 +22,42 @@ pub enum Pinning {
 
 impl Pinning {
     ghost use Rattle.std.specs.Prelude.{ℕ, Some};
-    ghost use Rattle.art_epoch.specs.declared.asked.Asked.{Asked as AskedStep};
-    ghost use Rattle.art_epoch.specs.declared.asked.Asked.TheVariants.{Note as note};
+    ghost use Rattle.art_machine.specs.declared.actions.Action.{Action as ActionOf};
+    ghost use Rattle.art_machine.specs.declared.actions.Action.TheVariants.{ReadEpoch as read_epoch};
     ghost use Rattle.art_step.specs.declared.views.Sizes.{Sizes};
     ghost use Rattle.art_step.specs.declared.views.View.{View};
 
     /// The machine at its beginning.
     pub fn new() -> Pinning
-        ensures asks { asks result ≡ Some note }
+        ensures asks { asks result ≡ Some read_epoch }
         ensures fits { (z : Sizes) (v : View) → MayPin v → Fits z v result v }
     {
         Pinning::Noting
     }
 
     /// The next step, or none where it has ended.
-    pub fn next(&self) -> Option<Asked>
+    pub fn next(&self) -> Option<Action>
         ensures asks { result ≡ asks self.now }
-        ensures allowed { (z : Sizes) (v0 v : View) → Fits z v0 self.now v → IfSome result (IsAllowed z v) }
+        ensures allowed { (z : Sizes) (v0 v : View) → Fits z v0 self.now v → IfSome result (IsAllowed z None v) }
         ensures ended { (z : Sizes) (v0 v : View) → Fits z v0 self.now v → result ≡ None → Pins z v0 v }
     {
         match self {
-            Pinning::Noting => Some(Asked::Note),
-            Pinning::Storing(epoch) => Some(Asked::Store(*epoch)),
+            Pinning::Noting => Some(Action::ReadEpoch),
+            Pinning::Storing(epoch) => Some(Action::StorePin { word: *epoch }),
             Pinning::Ended => None,
         }
     }
 
-    /// The step that it asked for was made, and found this word.
-    pub fn told(&mut self, word: u64)
+    /// The step that it asked for was made, and answered so.
+    pub fn told(&mut self, answer: Answer)
+        requires { (z : Sizes) × (v0 : View) × (v : View) × (w : View) × (action : ActionOf) × Fits z v0 self.old v ×
+            (asks self.old ≡ Some action) × Answers z None action answer v w }
         ensures left { steps_left self.new ≡ steps_left self.old - 1 }
-        ensures fits { (z : Sizes) (v0 v w : View) (asked : AskedStep) → Fits z v0 self.old v → asks self.old ≡ Some asked →
-            Answers z asked word v w → Fits z v0 self.new w }
+        ensures fits { (z : Sizes) (v0 v w : View) (action : ActionOf) → Fits z v0 self.old v → asks self.old ≡ Some action →
+            Answers z None action answer v w → Fits z v0 self.new w }
     {
         *self = match self {
-            Pinning::Noting => Pinning::Storing(word),
+            Pinning::Noting => Pinning::Storing(answer.word()),
             _ => Pinning::Ended,
         };
     }
@@ -68,9 +70,9 @@ pub fn pin<S: EpochSteps>(steps: &mut S)
     ensures pins { Pins (S.sizes steps.old) (S.view steps.old) (S.view steps.new) }
 {
     let mut pinning = Pinning::new();
-    while let Some(asked) = pinning.next() {
-        let word = make(steps, asked);
-        pinning.told(word);
+    while let Some(action) = pinning.next() {
+        let answer = perform(steps, action, None);
+        pinning.told(answer);
     }
 }
 

@@ -1,15 +1,15 @@
 //! Giving back what waits in limbo, and what comes into it.
 ghost use Rattle.std.specs.Prelude.{◌≡◌, ◌+◌, ◌<◌, ◌≤◌, [], None, IfSome, filter_map, length};
 ghost use Rattle.std.specs.Option.{option_map};
-ghost use Rattle.art_epoch.specs.Asking.{Answers, IsAllowed};
+ghost use Rattle.art_machine.specs.Acting.{Answers, IsAllowed, IsWord, word_in};
 ghost use Rattle.art_epoch.specs.Limbo.{IsLimbo, places_of};
-ghost use Rattle.art_epoch.specs.Reclaiming.{Fits, IsStage, MayGo, OnlyReclaims, Reclaims, Retires, asks_at, freed_at, least_after, least_at, places_after, stage_after, steps_left, watching};
+ghost use Rattle.art_epoch.specs.Reclaiming.{Fits, HearsWord, IsStage, MayGo, OnlyReclaims, Reclaims, Retires, asks_at, freed_at, least_after, least_at, places_after, stage_after, steps_left, watching};
 ghost use Rattle.art_epoch.specs.declared.reclaiming.ReclaimStage.TheVariants.{Noting as noting};
 ghost use Rattle.art_step.specs.Tokens.{link_of_number};
 
 use crate::limbo::Limbo;
 use crate::pins::TOP;
-use crate::{Asked, make};
+use art_machine::{Action, Answer, perform};
 use art_step::{EpochSteps, Unlinked};
 
 /// How far the giving back has come.
@@ -37,15 +37,15 @@ pub struct Reclaiming {
 
 impl Reclaiming {
     ghost use Rattle.std.specs.Prelude.{ℕ, List, Some};
-    ghost use Rattle.art_epoch.specs.declared.asked.Asked.{Asked as AskedStep};
-    ghost use Rattle.art_epoch.specs.declared.asked.Asked.TheVariants.{Note as note};
+    ghost use Rattle.art_machine.specs.declared.actions.Action.{Action as ActionOf};
+    ghost use Rattle.art_machine.specs.declared.actions.Action.TheVariants.{ReadEpoch as read_epoch};
     ghost use Rattle.art_epoch.specs.declared.limbo.Place.{Place};
     ghost use Rattle.art_step.specs.declared.views.Sizes.{Sizes};
     ghost use Rattle.art_step.specs.declared.views.View.{View};
 
     /// The machine of the pass `own`, of so many.
     pub fn new(own: u32, passes: u32) -> Reclaiming
-        ensures asks { (ps : List Place) → asks_at result.stage ps ≡ Some note }
+        ensures asks { (ps : List Place) → asks_at result.stage ps ≡ Some read_epoch }
         ensures fits { (z : Sizes) (v : View) (ps : List Place) → own ≡ v.pass → own < passes → passes ≡ z.passes → v.pin ≡ 0 →
             length ps ≤ 64 → IsLimbo ps [] v.limbo → Fits z v ps result ps v }
     {
@@ -57,38 +57,41 @@ impl Reclaiming {
     }
 
     /// The next step, or none where it has ended.
-    pub fn next(&self, limbo: &Limbo) -> Option<Asked>
+    pub fn next(&self, limbo: &Limbo) -> Option<Action>
         ensures asks { result ≡ asks_at self.now.stage (places_of limbo.now) }
         ensures allowed { (z : Sizes) (v0 v : View) (ps : List Place) → Fits z v0 ps self.now (places_of limbo.now) v →
-            IfSome result (IsAllowed z v) }
+            IfSome result (IsAllowed z None v) }
     {
         match self.stage {
-            ReclaimStage::Noting => Some(Asked::Note),
-            ReclaimStage::Raising => Some(Asked::Raise),
-            ReclaimStage::Watching(pass, _) => Some(Asked::Watch(pass)),
+            ReclaimStage::Noting => Some(Action::ReadEpoch),
+            ReclaimStage::Raising => Some(Action::RaiseEpoch),
+            ReclaimStage::Watching(pass, _) => Some(Action::ReadPin { pass }),
             ReclaimStage::Freeing(least, _) => {
                 let index = limbo.first_open(least)?;
-                Some(Asked::Free(limbo.places()[index].link))
+                Some(Action::Free {
+                    link: limbo.places()[index].link,
+                })
             }
         }
     }
 
-    /// The step that it asked for was made, and found this word.
-    pub fn told(&mut self, limbo: &mut Limbo, word: u64)
-        requires { (z : Sizes) × (v0 : View) × (v : View) × (ps : List Place) × (asked : AskedStep) ×
-            Fits z v0 ps self.old (places_of limbo.old) v × (asks_at self.old.stage (places_of limbo.old) ≡ Some asked) }
+    /// The step that it asked for was made, and answered so.
+    pub fn told(&mut self, limbo: &mut Limbo, answer: Answer)
+        requires { (z : Sizes) × (v0 : View) × (v : View) × (w : View) × (ps : List Place) × (action : ActionOf) ×
+            Fits z v0 ps self.old (places_of limbo.old) v × (asks_at self.old.stage (places_of limbo.old) ≡ Some action) ×
+            Answers z None action answer v w }
         ensures own { self.new.own ≡ self.old.own }
         ensures passes { self.new.passes ≡ self.old.passes }
-        ensures stage { self.new.stage ≡ stage_after self.old.own self.old.passes word self.old.stage }
+        ensures stage { self.new.stage ≡ stage_after self.old.own self.old.passes (word_in answer) self.old.stage }
         ensures places { places_of limbo.new ≡ places_after self.old.stage (places_of limbo.old) }
         ensures left { steps_left self.new.passes self.new.stage (places_of limbo.new) <
             steps_left self.old.passes self.old.stage (places_of limbo.old) }
-        ensures fits { (z : Sizes) (v0 v w : View) (ps : List Place) (asked : AskedStep) →
-            Fits z v0 ps self.old (places_of limbo.old) v → asks_at self.old.stage (places_of limbo.old) ≡ Some asked →
-            Answers z asked word v w → Fits z v0 ps self.new (places_of limbo.new) w }
+        ensures fits { (z : Sizes) (v0 v w : View) (ps : List Place) (action : ActionOf) →
+            Fits z v0 ps self.old (places_of limbo.old) v → asks_at self.old.stage (places_of limbo.old) ≡ Some action →
+            Answers z None action answer v w → Fits z v0 ps self.new (places_of limbo.new) w }
     {
         let_go(limbo, self.stage);
-        self.stage = after(self.own, self.passes, self.stage, word);
+        self.stage = after(self.own, self.passes, self.stage, answer);
     }
 
     /// The least of the words that it found of other passes so far and that are not 0, if there is one: what is labelled with that
@@ -126,16 +129,17 @@ fn let_go(limbo: &mut Limbo, stage: ReclaimStage)
     }
 }
 
-/// How far it has come once this word was found.
-fn after(own: u32, passes: u32, stage: ReclaimStage, word: u64) -> ReclaimStage
-    requires { IsStage own passes stage }
-    ensures { result ≡ stage_after own passes word stage }
+/// How far it has come once the step was answered so.
+fn after(own: u32, passes: u32, stage: ReclaimStage, answer: Answer) -> ReclaimStage
+    requires stage { IsStage own passes stage }
+    requires word { HearsWord stage → IsWord answer }
+    ensures { result ≡ stage_after own passes (word_in answer) stage }
 {
     match stage {
-        ReclaimStage::Noting => noted(own, passes, word),
+        ReclaimStage::Noting => noted(own, passes, answer.word()),
         ReclaimStage::Raising => watching(own, passes, 0, None),
         ReclaimStage::Watching(pass, least) => {
-            watching(own, passes, pass + 1, least_after(least, word))
+            watching(own, passes, pass + 1, least_after(least, answer.word()))
         }
         ReclaimStage::Freeing(least, count) => ReclaimStage::Freeing(least, count + 1),
     }
@@ -191,9 +195,9 @@ pub fn reclaim<S: EpochSteps>(steps: &mut S, limbo: &mut Limbo) -> u32
 {
     let _ = limbo.room();
     let mut reclaiming = Reclaiming::new(steps.own_pass(), steps.pool_sizes().passes);
-    while let Some(asked) = reclaiming.next(limbo) {
-        let word = make(steps, asked);
-        reclaiming.told(limbo, word);
+    while let Some(action) = reclaiming.next(limbo) {
+        let answer = perform(steps, action, None);
+        reclaiming.told(limbo, answer);
     }
     reclaiming.freed()
 }
@@ -204,22 +208,23 @@ pub struct Retiring;
 
 impl Retiring {
     ghost use Rattle.std.specs.Prelude.{List};
-    ghost use Rattle.art_epoch.specs.declared.asked.Asked.TheVariants.{Note as note};
+    ghost use Rattle.art_machine.specs.declared.actions.Answer.TheVariants.{Word as word_told};
+    ghost use Rattle.art_machine.specs.declared.actions.Action.TheVariants.{ReadEpoch as read_epoch};
     ghost use Rattle.art_step.specs.declared.views.Sizes.{Sizes};
     ghost use Rattle.art_step.specs.declared.views.View.{View};
 
     /// The step that it makes.
-    pub fn next(&self) -> Asked
-        ensures { result ≡ note }
+    pub fn next(&self) -> Action
+        ensures { result ≡ read_epoch }
     {
-        Asked::Note
+        Action::ReadEpoch
     }
 
     /// The step was made, and found this epoch.
     pub fn told(self, limbo: &mut Limbo, numbers: Unlinked, epoch: u64)
         requires { length (places_of limbo.old) + length (filter_map (option_map link_of_number) numbers) ≤ 64 }
         ensures { (z : Sizes) (v w : View) → IsLimbo (places_of limbo.old) (filter_map (option_map link_of_number) numbers) v.limbo →
-            Answers z note epoch v w →
+            Answers z None read_epoch (word_told epoch) v w →
             Retires z v w (places_of limbo.old) (places_of limbo.new) (filter_map (option_map link_of_number) numbers) }
     {
         limbo.add_all(numbers, epoch);
@@ -235,6 +240,6 @@ pub fn retire<S: EpochSteps>(steps: &mut S, limbo: &mut Limbo, numbers: Unlinked
         (filter_map (option_map link_of_number) numbers) }
 {
     let retiring = Retiring;
-    let epoch = make(steps, retiring.next());
-    retiring.told(limbo, numbers, epoch);
+    let answer = perform(steps, retiring.next(), None);
+    retiring.told(limbo, numbers, answer.word());
 }

@@ -1,11 +1,11 @@
 //! Taking a number.
 ghost use Rattle.std.specs.Prelude.{◌≡◌, ◌+◌, ◌*◌, ◌≤◌, ◌<◌, ◌^◌, IfSome, Some, None};
-ghost use Rattle.art_epoch.specs.Asking.{Answers, IsAllowed};
+ghost use Rattle.art_machine.specs.Acting.{Answers, IsAllowed};
 ghost use Rattle.art_epoch.specs.Taking.{Fits, IsSearch, MadeFew, OnlyTakes, Takes, after_clear, after_look, around, asks, search_after};
 ghost use Rattle.art_step.specs.WordPlaces.{free_words, pool_size};
 
-use crate::{Asked, make};
 use art_cell::Pool;
+use art_machine::{Action, Answer, perform};
 use art_step::{EpochSteps, Number, Sizes, free_words};
 
 /// How far a search for a number has come.
@@ -34,7 +34,7 @@ impl Taking {
     ghost use Rattle.std.specs.Prelude.{ℕ};
     ghost use Rattle.art_step.specs.declared.views.Sizes.{Sizes};
     ghost use Rattle.art_step.specs.declared.views.View.{View};
-    ghost use Rattle.art_epoch.specs.declared.asked.Asked.{Asked as AskedStep};
+    ghost use Rattle.art_machine.specs.declared.actions.Action.{Action as ActionOf};
 
     /// A number of this pool, from its first word on.
     pub fn new(pool: Pool, sizes: Sizes) -> Taking
@@ -61,36 +61,37 @@ impl Taking {
 
     /// The next step, or none where it has ended.
     #[inline(always)]
-    pub fn next(&self) -> Option<Asked>
+    pub fn next(&self) -> Option<Action>
         ensures asks { result ≡ asks self.now }
-        ensures allowed { (z : Sizes) (v0 v : View) → Fits z v0 self.now v → IfSome result (IsAllowed z v) }
+        ensures allowed { (z : Sizes) (v0 v : View) → Fits z v0 self.now v → IfSome result (IsAllowed z None v) }
     {
         match self.search {
-            Search::Looking(passed) if passed < self.words => Some(Asked::Clear(
-                self.pool,
-                around(self.words, self.first, passed),
-                None,
-            )),
-            Search::Clearing(passed, bit) => Some(Asked::Clear(
-                self.pool,
-                around(self.words, self.first, passed),
-                Some(bit),
-            )),
+            Search::Looking(passed) if passed < self.words => Some(Action::ClearBit {
+                pool: self.pool,
+                index: around(self.words, self.first, passed),
+                bit: None,
+            }),
+            Search::Clearing(passed, bit) => Some(Action::ClearBit {
+                pool: self.pool,
+                index: around(self.words, self.first, passed),
+                bit: Some(bit),
+            }),
             _ => None,
         }
     }
 
-    /// The step that it asked for was made, and found this word.
+    /// The step that it asked for was made, and answered so.
     #[inline(always)]
-    pub fn told(&mut self, word: u64)
-        requires { (z : Sizes) × (v0 : View) × (v : View) × (asked : AskedStep) × Fits z v0 self.old v × (asks self.old ≡ Some asked) }
+    pub fn told(&mut self, answer: Answer)
+        requires { (z : Sizes) × (v0 : View) × (v : View) × (w : View) × (action : ActionOf) × Fits z v0 self.old v ×
+            (asks self.old ≡ Some action) × Answers z None action answer v w }
         ensures pool { self.new.pool ≡ self.old.pool }
         ensures words { self.new.words ≡ self.old.words }
         ensures first { self.new.first ≡ self.old.first }
-        ensures fits { (z : Sizes) (v0 v w : View) (asked : AskedStep) → Fits z v0 self.old v → asks self.old ≡ Some asked →
-            Answers z asked word v w → Fits z v0 self.new w }
+        ensures fits { (z : Sizes) (v0 v w : View) (action : ActionOf) → Fits z v0 self.old v → asks self.old ≡ Some action →
+            Answers z None action answer v w → Fits z v0 self.new w }
     {
-        self.search = after(self.search, word);
+        self.search = after(self.search, answer.word());
     }
 
     /// The number that it took, or none.
@@ -171,9 +172,9 @@ pub fn take<S: EpochSteps>(steps: &mut S, pool: Pool) -> Option<Number>
     ensures takes { Takes (S.sizes steps.old) (S.view steps.old) (S.view steps.new) pool 0 result }
 {
     let mut taking = Taking::new(pool, steps.pool_sizes());
-    while let Some(asked) = taking.next() {
-        let word = make(steps, asked);
-        taking.told(word);
+    while let Some(action) = taking.next() {
+        let answer = perform(steps, action, None);
+        taking.told(answer);
     }
     taking.number()
 }

@@ -3,7 +3,7 @@ use Rattle.std.proofs.Common.{◌≡◌, ℕ, ◌+◌, ◌<◌, ◌≤◌, lengt
 use Rattle.std.specs.Prelude.{IfSome}
 use Rattle.std.proofs.lemmas.Option.{same_Some}
 use Rattle.art_attempt.proofs.Finds.{StandsThere, check_failed, check_off, check_passed, not_settling, settle_failed, settle_off, settle_passed}
-use Rattle.art_attempt.proofs.Finds.{stands_there, tells_nothing, undecided}
+use Rattle.art_attempt.proofs.Finds.{place_plain, stage_asks, stands_there, undecided}
 use Rattle.art_attempt.proofs.Steps.{cell_fails}
 use Rattle.art_attempt.proofs.Tries.{event_since, later_then, rest_told, still_later, still_reads, stock_reads}
 use Rattle.art_attempt.specs.Asking.{MayAsk}
@@ -14,19 +14,20 @@ use Rattle.art_attempt.specs.declared.rooms.Room.{Room}
 use Rattle.art_find.proofs.Allowed.{allowed}
 use Rattle.art_find.proofs.Counting.{few_steps}
 use Rattle.art_find.proofs.Stages.{reads_on, tells_free}
-use Rattle.art_find.specs.Asking.{Answers, IsAllowed, goes_on}
-use Rattle.art_find.specs.Descents.{answer_at, asks}
+use Rattle.art_find.specs.Asking.{MayLook}
+use Rattle.art_find.specs.Descents.{answer_at, asks, ended_at}
 use Rattle.art_find.specs.Verdicts.{value_of}
-use Rattle.art_find.specs.declared.asked.Answer.{Answer}
-use Rattle.art_find.specs.declared.asked.Asked.{Asked}
-use Rattle.art_find.specs.declared.asked.Asked.TheVariants.{Settle}
 use Rattle.art_find.specs.declared.verdicts.Verdict.{Verdict}
 use Rattle.art_find.specs.declared.verdicts.Verdict.TheVariants.{Found, Empty, OtherLeaf, OtherPrefix, Free, Overlaps, Torn, Absent}
 use Rattle.art_attempt.proofs.ArtFrame.Stocked.{stock_same}
-use Rattle.art_attempt.specs.ArtGather.Vouching.{passed}
+use Rattle.art_machine.specs.Acting.{Answers, IsLook, goes_on, passed, telling}
+use Rattle.art_machine.specs.declared.actions.Action.{Action}
+use Rattle.art_machine.specs.declared.actions.Action.TheVariants.{Settle}
+use Rattle.art_machine.specs.declared.actions.Answer.{Answer}
 use Rattle.art_find.proofs.FoundPlaces.{standing_grows}
 use Rattle.art_find.proofs.Keeping.{passed_grows}
 use Rattle.art_find.specs.Findings.{IsStanding, stand_at}
+use Rattle.art_find.specs.declared.descents.Stage.{Stage}
 use Rattle.art_find.specs.declared.findings.Finding.{Finding}
 use Rattle.art_find.specs.declared.findings.Stand.{Stand}
 use Rattle.art_step.proofs.Shows.{passed_rest, remove_settles, told_rest}
@@ -40,11 +41,22 @@ use Rattle.art_tree.specs.Heaps.{Cells}
 
 -- ---- what is asked
 
-pub no_place : (m : Finding) (o : Option Asked) (a : Asked) → stand_at m ≡ None → asks_place (stand_at m) o ≡ Some a → o ≡ Some a
+pub no_place : (m : Finding) (o : Option Action) (a : Action) → stand_at m ≡ None → asks_place (stand_at m) o ≡ Some a → o ≡ Some a
 no_place m o a nowhere is = sym (ap (λ (t : Option Stand). asks_place t o) nowhere) ∙ is
 
-pub at_place : (m : Finding) (o : Option Asked) (a : Asked) (t : Stand) → stand_at m ≡ Some t → asks_place (stand_at m) o ≡ Some a → check_of t ≡ a
-at_place m o a t at is = same_Some {A = Asked} (check_of t) a (sym (ap (λ (s : Option Stand). asks_place s o) at) ∙ is)
+pub at_place : (m : Finding) (o : Option Action) (a : Action) (t : Stand) → stand_at m ≡ Some t → asks_place (stand_at m) o ≡ Some a → check_of t ≡ a
+at_place m o a t at is = same_Some {A = Action} (check_of t) a (sym (ap (λ (s : Option Stand). asks_place s o) at) ∙ is)
+
+-- the check of a place is a look
+pub check_look : (found : Verdict) (t : Stand) → IsLook (check_by found t)
+check_look (Found l value) t = tt
+check_look Empty t = tt
+check_look (OtherLeaf l at byte) t = tt
+check_look (OtherPrefix n header at) t = tt
+check_look (Free n header) t = tt
+check_look Overlaps t = tt
+check_look Torn t = tt
+check_look Absent t = tt
 
 -- ---- few steps
 
@@ -75,7 +87,7 @@ told_other Overlaps d other = refl
 told_other Torn d other = refl
 told_other Absent d other = refl
 
-place_passed : (z : Sizes) (d : Deed) (found : Verdict) (t : Stand) (r : Answer) (v w : View) → Answers z d (check_by found t) r v w → passed r ≡ true
+place_passed : (z : Sizes) (d : Deed) (found : Verdict) (t : Stand) (r : Answer) (v w : View) → Answers z (telling d) (check_by found t) r v w → passed r ≡ true
     → check.Unchanged z v w t.stamp (told_by found d)
 place_passed z d (Found l value) t r v w row is = check_passed z d t.stamp r v w row is
 place_passed z d Empty t r v w row is = settle_passed z d t.stamp r v w row is
@@ -86,7 +98,7 @@ place_passed z d Overlaps t r v w row is = settle_passed z d t.stamp r v w row i
 place_passed z d Torn t r v w row is = settle_passed z d t.stamp r v w row is
 place_passed z d Absent t r v w row is = settle_passed z d t.stamp r v w row is
 
-place_failed : (z : Sizes) (d : Deed) (found : Verdict) (t : Stand) (r : Answer) (v w : View) → Answers z d (check_by found t) r v w → passed r ≡ false → OnlyReads v w
+place_failed : (z : Sizes) (d : Deed) (found : Verdict) (t : Stand) (r : Answer) (v w : View) → Answers z (telling d) (check_by found t) r v w → passed r ≡ false → OnlyReads v w
 place_failed z d (Found l value) t r v w row is = check_failed z d t.stamp r v w row is
 place_failed z d Empty t r v w row is = settle_failed z d t.stamp r v w row is
 place_failed z d (OtherLeaf l at byte) t r v w row is = settle_failed z d t.stamp r v w row is
@@ -97,7 +109,7 @@ place_failed z d Torn t r v w row is = settle_failed z d t.stamp r v w row is
 place_failed z d Absent t r v w row is = settle_failed z d t.stamp r v w row is
 
 -- so it does not go on
-place_off : (z : Sizes) (d : Deed) (found : Verdict) (t : Stand) (r : Answer) (v w : View) → Answers z d (check_by found t) r v w → passed r ≡ false → goes_on r ≡ false
+place_off : (z : Sizes) (d : Deed) (found : Verdict) (t : Stand) (r : Answer) (v w : View) → Answers z (telling d) (check_by found t) r v w → passed r ≡ false → goes_on r ≡ false
 place_off z d (Found l value) t r v w row is = check_off z d t.stamp r v w row is
 place_off z d Empty t r v w row is = settle_off z d t.stamp r v w row is
 place_off z d (OtherLeaf l at byte) t r v w row is = settle_off z d t.stamp r v w row is
@@ -132,7 +144,7 @@ module _ (z : Sizes) (u : View) (m : Erasing) (r : Room) (v w : View) (short : l
     has = stock_reads z r.gone.key.items 0 f.early w r.stock only f.has;
   }
 
-  module _ (t : Stand) (s : StandsThere z r.gone.key.items m.finding r.desk f.early v t) (a : Answer) (row : Answers z (absent r.gone) (check_of t) a v w) where
+  module _ (t : Stand) (s : StandsThere z r.gone.key.items m.finding r.desk f.early v t) (a : Answer) (row : Answers z (telling (absent r.gone)) (check_of t) a v w) where
     only_then : OnlyReads v w → OnlyReads f.early w
     only_then only = (reads_on f.early v w only s.reads).only
 
@@ -141,7 +153,7 @@ module _ (z : Sizes) (u : View) (m : Erasing) (r : Room) (v w : View) (short : l
 
     pub fails_there : passed a ≡ false → EndsSo z u r w × (u.failures < w.failures)
     fails_there off =
-        let more = cell_fails z (absent r.gone) (check_of t) a v w row (not_on off) in
+        let more = cell_fails z (absent r.gone) (check_of t) a v w (check_look t.verdict t) row (not_on off) in
         let before = (still_later u f.early f.base v f.later).failures in
         (within_so z u 1201 r w (omega arith) (ends_reading (only_then (place_failed z (absent r.gone) t.verdict t a v w row off))), omega (arith, more, before))
 
@@ -178,8 +190,8 @@ module _ (z : Sizes) (u : View) (m : Erasing) (r : Room) (v : View) (f : IsFindi
   abbrev so : Cells → Type 0
   so s = HasValue s k (answer_at m.finding.descent.stage)
 
-  descent_allowed : (a : Asked) → asks m.finding.descent.stage ≡ Some a → IsAllowed z so v a
-  descent_allowed a is = subst (λ (o : Option Asked). IfSome o (IsAllowed z so v)) is (allowed z k (absent_of r.gone) m.finding.descent.depth m.finding.descent.stage f.early v f.fits.descent)
+  descent_allowed : (a : Action) → asks m.finding.descent.stage ≡ Some a → MayLook z so v a
+  descent_allowed a is = subst (λ (o : Option Action). IfSome o (MayLook z so v)) is (allowed z k (absent_of r.gone) m.finding.descent.depth m.finding.descent.stage f.early v f.fits.descent)
 
   module _ (t : Stand) (s : StandsThere z k m.finding r.desk f.early v t) where
     plain : HasVersion z t.stamp.cell × check.May z v t.stamp None
@@ -202,12 +214,21 @@ module _ (z : Sizes) (u : View) (m : Erasing) (r : Room) (v : View) (f : IsFindi
     check_allowed Torn at = settles Torn at refl
     check_allowed Absent at = settles Absent at refl
 
-  place_allowed : (o : Option Stand) (a : Asked) → stand_at m.finding ≡ o → asks_place o (asks m.finding.descent.stage) ≡ Some a → MayAsk z (absent r.gone) v a
+  place_allowed : (o : Option Stand) (a : Action) → stand_at m.finding ≡ o → asks_place o (asks m.finding.descent.stage) ≡ Some a → MayAsk z (absent r.gone) v a
   place_allowed (Some t) a at is =
       let s = stands_there z k (absent_of r.gone) m.finding r.desk f.early v f.fits f.exact t at in
-      subst (MayAsk z (absent r.gone) v) (same_Some {A = Asked} (check_of t) a is) (check_allowed t s t.verdict refl)
+      subst (MayAsk z (absent r.gone) v) (same_Some {A = Action} (check_of t) a is) (check_allowed t s t.verdict refl)
   place_allowed None a at is =
-      not_settling z (absent r.gone) so v a (tells_nothing m.finding.descent.stage (undecided m.finding at) a is) (descent_allowed a is)
+      not_settling z (absent r.gone) so v a (place_plain m.finding.descent.stage (undecided m.finding at) a is) (descent_allowed a is)
 
-  pub finding_allowed : (a : Asked) → finding_asks m.finding ≡ Some a → MayAsk z (absent r.gone) v a
+  pub finding_allowed : (a : Action) → finding_asks m.finding ≡ Some a → MayAsk z (absent r.gone) v a
   finding_allowed a is = place_allowed (stand_at m.finding) a refl is
+
+-- ---- while it goes on a step is asked for
+
+place_asks : (o : Option Stand) (s : Stage) → ended_at s ≡ None → (a : Action) × (asks_place o (asks s) ≡ Some a)
+place_asks (Some t) s going = (check_of t, refl)
+place_asks None s going = stage_asks s going
+
+pub finding_going : (m : Finding) → ended_at m.descent.stage ≡ None → (a : Action) × (finding_asks m ≡ Some a)
+finding_going m going = place_asks (stand_at m) m.descent.stage going

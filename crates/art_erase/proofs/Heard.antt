@@ -1,5 +1,5 @@
 -- A step of a finding was made and heard, beside the machine.
-use Rattle.std.proofs.Common.{◌≡◌, true, false, None, sym, subst, arith}
+use Rattle.std.proofs.Common.{◌≡◌, false, sym, subst, arith}
 use Rattle.art_attempt.proofs.Finds.{zero_going}
 use Rattle.art_attempt.proofs.Steps.{cell_fails, cell_later, cell_step}
 use Rattle.art_attempt.proofs.Tries.{later_then, still_later}
@@ -10,10 +10,11 @@ use Rattle.art_erase.specs.declared.erasing.Erased.TheVariants.{Anew}
 use Rattle.art_erase.specs.declared.erasing.Erasing.{Erasing}
 use Rattle.art_erase.specs.declared.erasing.Stage.{Stage}
 use Rattle.art_erase.specs.declared.erasing.Stage.TheVariants.{Finding, Ended}
+use Rattle.art_find.proofs.Counting.{asks_look}
 use Rattle.art_find.proofs.Stages.{still_reading}
-use Rattle.art_find.specs.Asking.{Answers, goes_on}
-use Rattle.art_find.specs.declared.asked.Answer.{Answer}
-use Rattle.art_find.specs.declared.asked.Asked.{Asked}
+use Rattle.art_machine.specs.Acting.{Answers, IsLook, goes_on, telling}
+use Rattle.art_machine.specs.declared.actions.Action.{Action}
+use Rattle.art_machine.specs.declared.actions.Answer.{Answer}
 use Rattle.art_find.specs.Findings.{CameBack, HasHeard, WasLooked, WentOn}
 use Rattle.art_find.specs.declared.desks.Desk.{Desk}
 use Rattle.art_find.specs.declared.findings.Finding.{Finding as FindingOf}
@@ -21,7 +22,7 @@ use Rattle.art_step.specs.declared.views.Sizes.{Sizes}
 use Rattle.art_step.specs.declared.views.View.{View}
 
 module _ (z : Sizes) (u : View) (m : Erasing) (r : Room) (v w : View) (room : IsRoom z r) (f : IsFinding z u m r v)
-    (asked : Asked) (answer : Answer) (looked : WasLooked z m.finding asked answer v w)
+    (asked : Action) (answer : Answer) (looked : WasLooked z m.finding asked answer v w)
     (n : FindingOf) (desk : Desk) (heard : HasHeard z r.gone.key.items answer m.finding r.desk v n desk w) where
   abbrev then : Room
   then = record r { desk = desk }
@@ -29,7 +30,10 @@ module _ (z : Sizes) (u : View) (m : Erasing) (r : Room) (v w : View) (room : Is
   same_room : IsRoom z then
   same_room = record { sizes = room.sizes; key = room.key }
 
-  one_more : Answers z (absent r.gone) asked answer v w
+  one_look : IsLook asked
+  one_look = asks_look m.finding.descent.stage asked looked.asked_it
+
+  one_more : Answers z (telling (absent r.gone)) asked answer v w
   one_more = looked.row (absent r.gone)
 
   -- its way was changed: nothing was told
@@ -40,8 +44,8 @@ module _ (z : Sizes) (u : View) (m : Erasing) (r : Room) (v w : View) (room : Is
       let fits = heard.fits what f.early f.fits in
       let going = zero_going n.descent.depth n.descent.stage (heard.anew off) in
       let reads = still_reading z r.gone.key.items what n.descent.depth n.descent.stage f.early w going fits.descent in
-      let so = within_so z u 1201 r w (omega arith) (ends_reading z u m r v w room.key.short f (cell_later z d asked answer v w one_more) (cell_step z d asked answer v w one_more) reads.only) in
-      let more = cell_fails z d asked answer v w one_more off in
+      let so = within_so z u 1201 r w (omega arith) (ends_reading z u m r v w room.key.short f (cell_later z d asked answer v w one_look one_more) (cell_step z d asked answer v w one_look one_more) reads.only) in
+      let more = cell_fails z d asked answer v w one_look one_more off in
       let before = (still_later u f.early f.base v f.later).failures in
       record { room = same_room; stage = (record { still = so.still; spent = so.spent; has = so.has }, omega (arith, more, before)) }
 

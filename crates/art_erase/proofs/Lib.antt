@@ -6,7 +6,7 @@ pub use Rattle.art_gather.proofs as ArtGather
 pub use Rattle.art_make.proofs as ArtMake
 mod Chosen
 pub mod Counts
-mod Finds
+pub mod Finds
 pub mod Free
 mod Heard
 mod Joins

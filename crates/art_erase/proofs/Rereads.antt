@@ -2,9 +2,10 @@
 use Rattle.std.proofs.Common.{◌≡◌, ◌≢◌, ◌<◌, ◌≤◌, ℕ, nat_lt, true, false, Some, None, ⊎_elim, ◌∙◌, sym, subst, arith}
 use Rattle.std.proofs.lemmas.Bool.{cases_Bool, ltb-true, ltb-false}
 use Rattle.art_attempt.proofs.ArtGather.Vouches.{here_on, read_told}
+use Rattle.art_attempt.proofs.Given.{reads_look}
 use Rattle.art_attempt.proofs.Steps.{cell_later, cell_step}
 use Rattle.art_attempt.proofs.Tries.{later_then}
-use Rattle.art_attempt.specs.ArtGather.Vouching.{IsVouching, word_in}
+use Rattle.art_attempt.specs.ArtGather.Vouching.{IsVouching}
 use Rattle.art_attempt.specs.Trying.{HasSpent, IsLater}
 use Rattle.art_attempt.specs.declared.rooms.Room.{Room}
 use Rattle.art_cell.specs.Reads.{word_read}
@@ -14,16 +15,16 @@ use Rattle.art_erase.proofs.Vouched.{reading_so}
 use Rattle.art_erase.specs.Erasing.{EndsWithin, IsLost, IsReadingOn, absent, reading_asks, reading_most}
 use Rattle.art_erase.specs.declared.erasing.Erasing.{Erasing}
 use Rattle.art_find.proofs.Keeping.{cell_fits}
-use Rattle.art_find.specs.Asking.{Answers}
 use Rattle.art_find.specs.Desks.{above_of, node_of}
 use Rattle.art_find.specs.Kept.{StaysRead}
 use Rattle.art_find.specs.Rereadings.{RereadingFits}
-use Rattle.art_find.specs.declared.asked.Answer.{Answer}
-use Rattle.art_find.specs.declared.asked.Asked.{Asked}
 use Rattle.art_find.specs.declared.desks.Desk.{Desk}
 use Rattle.art_find.specs.declared.rereadings.Rereading.{Rereading}
 use Rattle.art_gather.specs.ArtPlan.ChooseRemove.Losses.{loss_at}
 use Rattle.art_gather.specs.ArtPlan.declared.choose_remove.losses.Loss.TheVariants as loss
+use Rattle.art_machine.specs.Acting.{Answers, telling, word_in}
+use Rattle.art_machine.specs.declared.actions.Action.{Action}
+use Rattle.art_machine.specs.declared.actions.Answer.{Answer}
 use Rattle.art_step.specs.Steps.Read.{Outcome}
 use Rattle.art_step.specs.Views.{size_of}
 use Rattle.art_step.specs.declared.views.Sizes.{Sizes}
@@ -37,8 +38,8 @@ pub record IsNotedBy (m : Erasing) (r : Room) (q : Rereading) (word : ℕ) (q' :
   pub fits : (z : Sizes) (v w : View) → RereadingFits z v m.stand.stamp q (node_of r.desk) → q.place < size_of m.stand.stamp.cell
       → Outcome z v w m.stand.stamp q.place word → RereadingFits z w m.stand.stamp q' (node_of desk)
 
-module _ (z : Sizes) (u : View) (m : Erasing) (q q' : Rereading) (r : Room) (v w : View) (desk : Desk) (word : ℕ) (asked : Asked) (answer : Answer) (h : IsReadingOn z u m q r v)
-    (more : q.place < size_of m.stand.stamp.cell) (is : reading_asks m q ≡ Some asked) (row : Answers z (absent r.gone) asked answer v w) (at : word ≡ word_in answer)
+module _ (z : Sizes) (u : View) (m : Erasing) (q q' : Rereading) (r : Room) (v w : View) (desk : Desk) (word : ℕ) (asked : Action) (answer : Answer) (h : IsReadingOn z u m q r v)
+    (more : q.place < size_of m.stand.stamp.cell) (is : reading_asks m q ≡ Some asked) (row : Answers z (telling (absent r.gone)) asked answer v w) (at : word ≡ word_in answer)
     (noted : IsNotedBy m r q word q' desk) where
   abbrev pub reread : Room
   reread = record r { desk = desk }
@@ -50,7 +51,7 @@ module _ (z : Sizes) (u : View) (m : Erasing) (q q' : Rereading) (r : Room) (v w
   now = noted.fits z v w h.fits more got
 
   later : IsLater v w
-  later = cell_later z (absent r.gone) asked answer v w row
+  later = cell_later z (absent r.gone) asked answer v w (reads_look m.stand.stamp q asked is) row
 
   past : IsLater h.early w
   past = later_then h.early v w h.later later
@@ -62,7 +63,7 @@ module _ (z : Sizes) (u : View) (m : Erasing) (q q' : Rereading) (r : Room) (v w
   spent limited =
       let spent = h.spent limited in
       let failed = later.failures in
-      let step = cell_step z (absent r.gone) asked answer v w row in
+      let step = cell_step z (absent r.gone) asked answer v w (reads_look m.stand.stamp q asked is) row in
       let further = noted.steps in
       let cell = cell_fits m.stand.stamp.cell in
       omega (arith, spent, step, further, more, cell, failed)
@@ -104,7 +105,7 @@ module _ (z : Sizes) (u : View) (m : Erasing) (q q' : Rereading) (r : Room) (v w
   reread_first other = so 1203 (λ limited.
       let spent = h.spent limited in
       let failed = later.failures in
-      let step = cell_step z (absent r.gone) asked answer v w row in
+      let step = cell_step z (absent r.gone) asked answer v w (reads_look m.stand.stamp q asked is) row in
       ⊎_elim
       (λ (low : nat_lt q.place 2 ≡ true). let first = ltb-true q.place 2 low in omega (arith, spent, step, failed, first))
       (λ (high : nat_lt q.place 2 ≡ false). absurd (other (header_known (ltb-false q.place 2 high))))

@@ -31,12 +31,13 @@ use Rattle.art_erase.proofs.Finds.{within_so}
 use Rattle.art_erase.specs.Erasing.{EndFits, EndsSo, EndsWithin, HasErased, HasLower, HasMade, HasNumbers, HasSupplies, HasVouched}
 use Rattle.art_erase.specs.Erasing.{IsChecked, IsLockedBy, IsLost, LeavesOther, given_up, goes, wants_of}
 use Rattle.art_erase.specs.declared.erasing.Erasing.{Erasing}
-use Rattle.art_find.proofs.Counting.{Counted, answers_count}
-use Rattle.art_find.specs.Asking.{Answers as CellAnswers, goes_on}
+use Rattle.art_attempt.proofs.Given.{lower_asks_look}
+use Rattle.art_machine.proofs.Counting.{Counted, look_counts}
 use Rattle.art_find.specs.Descents.{IsReading}
-use Rattle.art_find.specs.declared.asked.Answer.{Answer as CellAnswer}
-use Rattle.art_find.specs.declared.asked.Asked.{Asked}
-use Rattle.art_find.specs.declared.asked.Asked.TheVariants.{Read}
+use Rattle.art_machine.specs.Acting.{Answers, goes_on, telling}
+use Rattle.art_machine.specs.declared.actions.Action.{Action}
+use Rattle.art_machine.specs.declared.actions.Action.TheVariants.{Read}
+use Rattle.art_machine.specs.declared.actions.Answer.{Answer}
 use Rattle.art_attempt.proofs.ArtFrame.Stocked.{linked_are_in, stock_commits}
 use Rattle.art_attempt.specs.ArtFrame.Stocks.{IsIn, node_in}
 use Rattle.art_attempt.specs.ArtGather.Vouching as vouching
@@ -106,11 +107,11 @@ module _ (z : Sizes) (u early : View) (base : StillTries u early) (r : Room) (v 
   }
 
 -- a rereading that asks for a word asks for one of the cell
-more_by : (b : Bool) (p n : ℕ) (x : Stamp) (q : Rereading) (a : Asked) → nat_lt p n ≡ b → (if b then Some (Read x q.place) else None) ≡ Some a → p < n
+more_by : (b : Bool) (p n : ℕ) (x : Stamp) (q : Rereading) (a : Action) → nat_lt p n ≡ b → (if b then Some (Read x q.place) else None) ≡ Some a → p < n
 more_by true p n x q a lt is = ltb-true p n lt
 more_by false p n x q a lt is = cc
 
-pub reads_more : (x : Stamp) (q : Rereading) (a : Asked) → reads_next x q ≡ Some a → q.place < size_of x.cell
+pub reads_more : (x : Stamp) (q : Rereading) (a : Action) → reads_next x q ≡ Some a → q.place < size_of x.cell
 reads_more x q a is = more_by (nat_lt q.place (size_of x.cell)) q.place (size_of x.cell) x q a refl is
 
 -- ---- the cells
@@ -216,7 +217,7 @@ lower_changed z u m r v h is =
     (within_so z u 22300 r v (omega arith) (lower_so z u m r v h), omega (arith, more, before))
 
 -- a lowering that has not ended met no failure
-lower_failures : (t : Stand) (m : Lowering) (a : Asked) (n : ℕ) → lowering.asks t m ≡ Some a → lowering.failures_of m n ≡ n
+lower_failures : (t : Stand) (m : Lowering) (a : Action) (n : ℕ) → lowering.asks t m ≡ Some a → lowering.failures_of m n ≡ n
 lower_failures t (lowers.Beginning q) a n is = refl
 lower_failures t (lowers.Named x) a n is = refl
 lower_failures t (lowers.Above x q) a n is = refl
@@ -227,12 +228,12 @@ lower_failures t (lowers.CheckLower x) a n is = refl
 lower_failures t (lowers.Ended r) a n is = cc
 
 -- so where it ends as changed, it is the answer that does not go on
-pub lower_changed_by : (z : Sizes) (k : List ℕ) (t : Stand) (n : Node) (m m' : Lowering) (desk desk' : Desk) (lower lower' : List (Option ℕ)) (d : Deed) (a : Asked) (r : CellAnswer) (u v w : View)
-    → lowering.Fits z k t n m desk lower u v → lowering.Fits z k t n m' desk' lower' u w → lowering.asks t m ≡ Some a → CellAnswers z d a r v w
+pub lower_changed_by : (z : Sizes) (k : List ℕ) (t : Stand) (n : Node) (m m' : Lowering) (desk desk' : Desk) (lower lower' : List (Option ℕ)) (d : Deed) (a : Action) (r : Answer) (u v w : View)
+    → lowering.Fits z k t n m desk lower u v → lowering.Fits z k t n m' desk' lower' u w → lowering.asks t m ≡ Some a → Answers z (telling d) a r v w
     → lowering.ended_at m' ≡ Some lowered.Changed → goes_on r ≡ false
 lower_changed_by z k t n m m' desk desk' lower lower' d a r u v w before after is row ended = ⊎_elim
     (λ (on : goes_on r ≡ true).
-    let step : Counted v w true = subst (Counted v w) on (answers_count z d a r v w row) in
+    let step : Counted v w true = subst (Counted v w) on (look_counts z d a r v w (lower_asks_look t m a is) row) in
     let same = step.failures in
     let old = before.failures ∙ lower_failures t m a u.failures is in
     let new = after.failures ∙ ap (λ (s : Lowering). lowering.failures_of s u.failures) (lowered_as m' lowered.Changed ended) in
@@ -329,7 +330,7 @@ module _ (z : Sizes) (u : View) (m : Erasing) (r : Room) (v : View) (h : HasMade
     pub change_erased : made ≡ Ok tt → HasErased z u (record r { stock = spent_by r.change r.stock }) r.gone.value v
     change_erased ok =
         let done = over.done tt ok in
-        let leaves : (l : ℕ) → r.change.leaf ≡ Some l → r.stock.leaf ≡ Some l = λ l at. let none = h.leaf in absurd (cc) in
+        let leaves : (l : ℕ) → r.change.effects.leaf ≡ Some l → r.stock.leaf ≡ Some l = λ l at. let none = h.leaf in absurd (cc) in
         let nodes : (n : Node) → node_made r.change ≡ Some n → IsIn r.stock (node n) =
         λ n at. let hand = (h.fits.planned.new false n at).hand in subst (IsIn r.stock) hand.2 (h.has.only hand.0 hand.1) in
         record {

@@ -1,15 +1,12 @@
 -- What an attempt of a removal asks, and what it knows between two of its steps.
-use Rattle.std.specs.Prelude.{◌≡◌, ◌≢◌, ◌⊎◌, ℕ, ◌-◌, ◌<◌, ◌++◌, List, [], Option, Some, None, Bool, true, false, Result, Ok, Err, ⊤}
-use Rattle.std.specs.Option.{option_map}
+use Rattle.std.specs.Prelude.{◌≡◌, ◌⊎◌, ℕ, ◌-◌, ◌<◌, ◌++◌, List, [], Option, Some, None, Bool, true, false, Result, Ok, Err, ⊤}
 use Rattle.art_attempt.specs.Inserting.{is_begun, making_left, tries_left}
 use Rattle.art_attempt.specs.Trying.{HasChecked, HasSpent, IsKey, IsLater, StillTries}
-use Rattle.art_attempt.specs.declared.asked.Asked.{Asked}
-use Rattle.art_attempt.specs.declared.asked.Asked.TheVariants as asked
 use Rattle.art_attempt.specs.declared.rooms.Room.{Room}
-use Rattle.art_cell.specs.declared.cells.Cell.{Cell as CellOf}
-use Rattle.art_cell.specs.declared.cells.Link.{Link}
-use Rattle.art_cell.specs.declared.cells.Link.TheVariants.{Leaf as leaf, Node as node}
-use Rattle.art_cell.specs.declared.cells.Node.{Node as NodeOf}
+use Rattle.art_cell.specs.declared.Cell.{Cell as CellOf}
+use Rattle.art_cell.specs.declared.Link.{Link}
+use Rattle.art_cell.specs.declared.Link.TheVariants.{Leaf as leaf, Node as node}
+use Rattle.art_cell.specs.declared.Node.{Node as NodeOf}
 use Rattle.art_cell.specs.declared.layouts.Layout.{Layout}
 use Rattle.art_gather.specs.ArtPlan.ChooseRemove.Losses.{loss_at}
 use Rattle.art_gather.specs.ArtPlan.ChooseRemove.Plans.{HasFound, HasOther, IsEitherAt, IsNodeAt}
@@ -23,11 +20,7 @@ use Rattle.art_erase.specs.declared.erasing.Stage.{Stage}
 use Rattle.art_erase.specs.declared.erasing.Stage.TheVariants as stage
 use Rattle.art_erase.specs.declared.erasing.Way.{Way}
 use Rattle.art_erase.specs.declared.erasing.Way.TheVariants as way
-use Rattle.art_find.specs.Asking.{goes_on}
 use Rattle.art_find.specs.Descents as descents
-use Rattle.art_find.specs.declared.asked.Answer.{Answer as CellAnswer}
-use Rattle.art_find.specs.declared.asked.Asked.{Asked as CellAsked}
-use Rattle.art_find.specs.declared.asked.Asked.TheVariants as cells
 use Rattle.art_find.specs.declared.verdicts.Verdict.{Verdict}
 use Rattle.art_find.specs.declared.verdicts.Verdict.TheVariants as verdict
 use Rattle.art_attempt.specs.ArtFrame.Stocks.{HasStock, node_in}
@@ -35,15 +28,17 @@ use Rattle.art_attempt.specs.ArtFrame.declared.stocks.Stock.{Stock}
 use Rattle.art_attempt.specs.ArtGather.Supplying as supplying
 use Rattle.art_attempt.specs.ArtGather.Vouching as vouching
 use Rattle.art_attempt.specs.ArtGather.Vouching.{IsVouching, KnowsHere}
-use Rattle.art_attempt.specs.ArtGather.declared.asked.Asked.{Asked as SupplyAsked}
 use Rattle.art_attempt.specs.ArtGather.declared.supplying.Wants.{Wants}
 use Rattle.art_gather.specs.Lowering as lowering
 use Rattle.art_gather.specs.Lowering.{CheckedBelow}
 use Rattle.art_gather.specs.declared.lowering.Lowered.TheVariants.{Unchanged}
 use Rattle.art_gather.specs.declared.lowering.Lowering.{Lowering}
+use Rattle.art_machine.specs.Acting.{goes_on}
+use Rattle.art_machine.specs.declared.actions.Action.{Action}
+use Rattle.art_machine.specs.declared.actions.Action.TheVariants.{Check, Settle}
+use Rattle.art_machine.specs.declared.actions.Answer.{Answer}
 use Rattle.art_make.specs.Making as making
 use Rattle.art_make.specs.Making.{HasFailed, fault_of}
-use Rattle.art_make.specs.declared.asked.Asked.{Asked as ChangeAsked}
 use Rattle.art_make.specs.declared.making.Making.{Making}
 use Rattle.art_model.specs.declared.commands.Answer.TheVariants as reply
 use Rattle.art_find.specs.Desks.{node_of}
@@ -74,47 +69,47 @@ use Rattle.art_step.specs.declared.views.View.{View}
 -- ---- what it asks
 
 -- where no leaf has the key, a check tells that; of a leaf that has it a check tells nothing yet
-abbrev pub check_by : Verdict → Stand → CellAsked
-check_by (verdict.Found l value) t = cells.Check t.stamp
-check_by found t = cells.Settle t.stamp
+abbrev pub check_by : Verdict → Stand → Action
+check_by (verdict.Found l value) t = Check t.stamp
+check_by found t = Settle t.stamp
 
-abbrev pub check_of : Stand → CellAsked
+abbrev pub check_of : Stand → Action
 check_of t = check_by t.verdict t
 
 -- the check of the place, once there is one; until then what the descent asks
-abbrev pub asks_place : Option Stand → Option CellAsked → Option CellAsked
+abbrev pub asks_place : Option Stand → Option Action → Option Action
 asks_place (Some t) o = Some (check_of t)
 asks_place None o = o
 
-abbrev pub finding_asks : Finding → Option CellAsked
+abbrev pub finding_asks : Finding → Option Action
 finding_asks m = asks_place (stand_at m) (descents.asks m.descent.stage)
 
-abbrev pub supply_asks : Erasing → Room → Option SupplyAsked
+abbrev pub supply_asks : Erasing → Room → Option Action
 supply_asks m r = supplying.asks r.gone.key.items 0 r.stock m.supplying
 
-abbrev pub reading_asks : Erasing → Rereading → Option CellAsked
+abbrev pub reading_asks : Erasing → Rereading → Option Action
 reading_asks m q = reads_next m.stand.stamp q
 
-abbrev pub vouching_asks : Erasing → Option CellAsked
+abbrev pub vouching_asks : Erasing → Option Action
 vouching_asks m = vouching.asks m.stand m.vouching
 
-abbrev pub lower_asks : Erasing → Option CellAsked
+abbrev pub lower_asks : Erasing → Option Action
 lower_asks m = lowering.asks m.stand m.lowering
 
-abbrev pub made_asks : Erasing → Room → Option ChangeAsked
+abbrev pub made_asks : Erasing → Room → Option Action
 made_asks m r = making.asks r.change m.making
 
-abbrev pub asks_at : Stage → Erasing → Room → Option Asked
-asks_at stage.Finding m r = option_map asked.Cell (finding_asks m.finding)
-asks_at (stage.Supplying layout) m r = option_map asked.Supply (supply_asks m r)
-asks_at (stage.Reading q) m r = option_map asked.Cell (reading_asks m q)
-asks_at stage.Vouching m r = option_map asked.Cell (vouching_asks m)
-asks_at stage.Lowering m r = option_map asked.Cell (lower_asks m)
-asks_at stage.Making m r = option_map asked.Change (made_asks m r)
+abbrev pub asks_at : Stage → Erasing → Room → Option Action
+asks_at stage.Finding m r = finding_asks m.finding
+asks_at (stage.Supplying layout) m r = supply_asks m r
+asks_at (stage.Reading q) m r = reading_asks m q
+asks_at stage.Vouching m r = vouching_asks m
+asks_at stage.Lowering m r = lower_asks m
+asks_at stage.Making m r = made_asks m r
 asks_at (stage.Ended e) m r = None
 
 -- the next step
-abbrev pub asks : Erasing → Room → Option Asked
+abbrev pub asks : Erasing → Room → Option Action
 asks m r = asks_at m.stage m r
 
 abbrev pub erased_at : Stage → Option Erased
@@ -285,8 +280,8 @@ pub record HasLower (z : Sizes) (u : View) (m : Erasing) (r : Room) (v : View) :
 -- the change of the room may be made, and is the removal of the leaf
 pub record IsRemoval (z : Sizes) (r : Room) (v : View) : Type 0 where
   pub planned : IsPlanned z v r.change
-  pub leaf : r.change.leaf ≡ None
-  pub deed : r.change.deed ≡ removed r.gone
+  pub leaf : r.change.effects.leaf ≡ None
+  pub deed : r.change.effects.deed ≡ removed r.gone
 
 -- what the change locks by this way is known, and each cell that it locks was checked
 pub record HasLocks (z : Sizes) (u : View) (m : Erasing) (r : Room) (v : View) : Type 0 where
@@ -302,8 +297,8 @@ pub record HasMade (z : Sizes) (u : View) (m : Erasing) (r : Room) (v : View) : 
   pub locks : HasLocks z u m r early
   pub has : HasNumbers z early r
   pub plain : r.change.copy ≡ None
-  pub leaf : r.change.leaf ≡ None
-  pub deed : r.change.deed ≡ removed r.gone
+  pub leaf : r.change.effects.leaf ≡ None
+  pub deed : r.change.effects.deed ≡ removed r.gone
   pub fits : making.Fits z r.change m.making early v
 
 abbrev pub free_at : Stage → Making → Bool
@@ -362,7 +357,7 @@ pub record IsExhausted (z : Sizes) (u : View) (t : Stand) (w : Way) (l : Lowerin
   pub early : View
   pub base : StillTries u early
   pub later : IsLater early v
-  pub deed : r.change.deed ≡ removed r.gone
+  pub deed : r.change.effects.deed ≡ removed r.gone
   pub failed : HasFailed early r.change (fault.Exhausted c) v
   pub locked : IsLockedBy w t l failed.target.stamp
   pub checked : IsChecked z u t r failed.target.stamp early
@@ -376,7 +371,7 @@ EndFits z u t w l r Anew v = EndsSo z u r v × (u.failures < v.failures)
 -- ---- why it is tried anew
 
 -- a version word was locked, obsolete or changed: the last answer said so, or of the cells of the change one was changed
-abbrev pub IsAnewBy : Stage → Making → CellAnswer → Type 0
+abbrev pub IsAnewBy : Stage → Making → Answer → Type 0
 IsAnewBy stage.Making m answer = (e : Changed) × (fault_of m ≡ Some (fault.Changed e))
 IsAnewBy s m answer = goes_on answer ≡ false
 

@@ -1,8 +1,7 @@
 //! One attempt of a removal, step by step: its stages, up to where the cells are vouched for.
 ghost use Rattle.std.specs.Prelude.{◌≡◌, ◌≢◌, ℕ, ◌-◌, ◌<◌, ◌≤◌, length, Some, None, true, false};
-ghost use Rattle.art_attempt.specs.Asking.{Answers, cell_in, steps_in};
+ghost use Rattle.art_attempt.specs.Asking.{Answers};
 ghost use Rattle.art_attempt.specs.Trying.{StillTries};
-ghost use Rattle.art_attempt.specs.declared.asked.Asked.{Asked as AskedStep};
 ghost use Rattle.art_cell.specs.declared.cells.Link.TheVariants.{Node as node_link};
 ghost use Rattle.art_gather.specs.ArtPlan.ChooseRemove.Losses.{loss_at};
 ghost use Rattle.art_gather.specs.ArtPlan.ChooseRemove.Others.{NamesChild};
@@ -13,25 +12,22 @@ ghost use Rattle.art_erase.specs.Erasing.{absent, asks, check_of, ended_at, find
 ghost use Rattle.art_erase.specs.Erasing.{steps_left, supply_asks, wants_of};
 ghost use Rattle.art_erase.specs.declared.erasing.Erased.TheVariants.{Anew as anew};
 ghost use Rattle.art_erase.specs.declared.erasing.Stage.TheVariants as stages;
-ghost use Rattle.art_find.specs.Asking.{Answers as CellAnswers, goes_on};
-ghost use Rattle.art_find.specs.declared.asked.Asked.{Asked as CellAskedStep};
 ghost use Rattle.art_attempt.specs.ArtFrame.Stocks.{HasStock};
-ghost use Rattle.art_attempt.specs.ArtGather.Asking.{Answers as SupplyAnswers};
-ghost use Rattle.art_attempt.specs.ArtGather.Vouching.{KnowsHere, word_in as read_in};
-ghost use Rattle.art_attempt.specs.ArtGather.declared.asked.Asked.{Asked as SupplyAsked};
+ghost use Rattle.art_attempt.specs.ArtGather.Vouching.{KnowsHere};
+ghost use Rattle.art_machine.specs.Acting.{Answers as ActionAnswers, goes_on, steps_in, telling};
+ghost use Rattle.art_machine.specs.declared.actions.Action.{Action as ActionOf};
 ghost use Rattle.art_find.specs.Findings.{stand_at};
 ghost use Rattle.art_step.specs.Views.{size_of};
 ghost use Rattle.art_step.specs.declared.views.Sizes.{Sizes as SizesOf};
 ghost use Rattle.art_step.specs.declared.views.View.{View};
 
 use art_attempt::art_gather::{Supplied, Supplying, Vouched, Vouching, Wants};
-use art_attempt::{Answer, Asked, Room, cell_in, change_in, is_begun, nowhere, passed, word_in};
+use art_attempt::{Room, is_begun, nowhere};
 use art_cell::{Cell, Layout, Link, Node};
-use art_find::{
-    Answer as CellAnswer, Asked as CellAsked, Desk, Finding, Rereading, Stand, Verdict,
-};
+use art_find::{Desk, Finding, Rereading, Stand, Verdict};
 use art_gather::art_plan::{Loss, lost, other_child};
 use art_gather::{Lowered, Lowering};
+use art_machine::{Action, Answer};
 use art_make::Making;
 use art_step::{Sizes, UpgradeFault};
 
@@ -128,13 +124,13 @@ impl Erasing {
     }
 
     /// The next step, or none where it has ended.
-    pub fn next(&self, room: &Room) -> Option<Asked>
+    pub fn next(&self, room: &Room) -> Option<Action>
         requires short { length room.now.gone.key.items ≤ 64 }
         ensures asks { result ≡ asks self.now room.now }
         ensures allowed { (z : SizesOf) (u v : View) → Fits z u self.now room.now v →
             IfSome result (IsAllowed z (absent room.now.gone) room.now.change v) }
         ensures going { (z : SizesOf) (u v : View) → Fits z u self.now room.now v → ended_at self.now ≡ None →
-            (a : AskedStep) × (result ≡ Some a) }
+            (a : ActionOf) × (result ≡ Some a) }
     {
         match self.stage {
             Stage::Finding => self.find_next(),
@@ -149,23 +145,23 @@ impl Erasing {
 
     /// The step that it asked for was made, with this answer.
     pub fn told(&mut self, room: &mut Room, answer: Answer)
-        requires { (z : SizesOf) × (u : View) × (v : View) × (w : View) × (asked : AskedStep) × Fits z u self.old room.old v ×
+        requires { (z : SizesOf) × (u : View) × (v : View) × (w : View) × (asked : ActionOf) × Fits z u self.old room.old v ×
             (asks self.old room.old ≡ Some asked) × Answers z (absent room.old.gone) room.old.change asked answer v w }
         ensures kept { IsKept room.old room.new }
-        ensures fits { (z : SizesOf) (u v w : View) (asked : AskedStep) → Fits z u self.old room.old v →
+        ensures fits { (z : SizesOf) (u v w : View) (asked : ActionOf) → Fits z u self.old room.old v →
             asks self.old room.old ≡ Some asked → Answers z (absent room.old.gone) room.old.change asked answer v w →
             Fits z u self.new room.new w }
         ensures left { (left : ℕ) → (is_free self.old ≡ true → 0 < left) →
             steps_left (left - steps_in answer) self.new < steps_left left self.old }
-        ensures anew { ended_at self.new ≡ Some anew → IsAnewBy self.old.stage self.new.making (cell_in answer) }
+        ensures anew { ended_at self.new ≡ Some anew → IsAnewBy self.old.stage self.new.making answer }
     {
         match self.stage {
-            Stage::Finding => self.find_told(room, cell_in(answer)),
-            Stage::Supplying(layout) => self.supply_told(room, layout, word_in(answer)),
-            Stage::Reading(rereading) => self.read_told(room, rereading, cell_in(answer)),
-            Stage::Vouching => self.vouch_told(room, cell_in(answer)),
-            Stage::Lowering => self.lower_told(room, cell_in(answer)),
-            Stage::Making => self.make_told(room, change_in(answer)),
+            Stage::Finding => self.find_told(room, answer),
+            Stage::Supplying(layout) => self.supply_told(room, layout, answer),
+            Stage::Reading(rereading) => self.read_told(room, rereading, answer),
+            Stage::Vouching => self.vouch_told(room, answer),
+            Stage::Lowering => self.lower_told(room, answer),
+            Stage::Making => self.make_told(room, answer),
             Stage::Ended(_) => {}
         }
     }
@@ -190,85 +186,83 @@ impl Erasing {
     }
 
     /// What comes next on the way to the place of the key, and its check.
-    fn find_next(&self) -> Option<Asked>
+    fn find_next(&self) -> Option<Action>
         ensures asks { (r : RoomOf) → result ≡ asks_at stages.Finding self.now r }
         ensures allowed { (z : SizesOf) (u v : View) (r : RoomOf) → IsFinding z u self.now r v →
             IfSome result (IsAllowed z (absent r.gone) r.change v) }
-        ensures going { (z : SizesOf) (u v : View) (r : RoomOf) → IsFinding z u self.now r v → (a : AskedStep) × (result ≡ Some a) }
+        ensures going { (z : SizesOf) (u v : View) (r : RoomOf) → IsFinding z u self.now r v → (a : ActionOf) × (result ≡ Some a) }
     {
-        Some(Asked::Cell(finding_asked(&self.finding)?))
+        finding_asked(&self.finding)
     }
 
     /// What comes next where the number of a smaller node is sought.
-    fn supply_next(&self, room: &Room) -> Option<Asked>
+    fn supply_next(&self, room: &Room) -> Option<Action>
         requires short { length room.now.gone.key.items ≤ 64 }
         ensures asks { (k : LayoutOf) → result ≡ asks_at (stages.Supplying k) self.now room.now }
         ensures allowed { (z : SizesOf) (u v : View) (k : LayoutOf) (d : Deed) → HasSupplies z u k self.now room.now v →
             IfSome result (IsAllowed z d room.now.change v) }
         ensures going { (z : SizesOf) (u v : View) (k : LayoutOf) → HasSupplies z u k self.now room.now v →
-            supplied_at self.now.supplying ≡ None → (a : AskedStep) × (result ≡ Some a) }
+            supplied_at self.now.supplying ≡ None → (a : ActionOf) × (result ≡ Some a) }
     {
-        let asked = self
-            .supplying
-            .next(room.gone.key.as_slice(), 0, &room.stock)?;
-        Some(Asked::Supply(asked))
+        self.supplying
+            .next(room.gone.key.as_slice(), 0, &room.stock)
     }
 
     /// What comes next where the node is read on.
-    fn read_next(&self, rereading: Rereading) -> Option<Asked>
+    fn read_next(&self, rereading: Rereading) -> Option<Action>
         ensures asks { (r : RoomOf) → result ≡ asks_at (stages.Reading rereading) self.now r }
         ensures allowed { (z : SizesOf) (u v : View) (r : RoomOf) (d : Deed) → IsReadingOn z u self.now rereading r v →
             IfSome result (IsAllowed z d r.change v) }
         ensures going { (z : SizesOf) (u v : View) (r : RoomOf) → IsReadingOn z u self.now rereading r v →
-            rereading.place < size_of self.now.stand.stamp.cell → (a : AskedStep) × (result ≡ Some a) }
+            rereading.place < size_of self.now.stand.stamp.cell → (a : ActionOf) × (result ≡ Some a) }
     {
-        Some(Asked::Cell(rereading.next(self.stand.stamp)?))
+        rereading.next(self.stand.stamp)
     }
 
     /// What comes next where the cells are vouched for.
-    fn vouch_next(&self) -> Option<Asked>
+    fn vouch_next(&self) -> Option<Action>
         ensures asks { (r : RoomOf) → result ≡ asks_at stages.Vouching self.now r }
         ensures allowed { (z : SizesOf) (u v : View) (r : RoomOf) (d : Deed) → HasVouched z u self.now r v →
             IfSome result (IsAllowed z d r.change v) }
         ensures going { (z : SizesOf) (u v : View) (r : RoomOf) → HasVouched z u self.now r v → vouched_at self.now.vouching ≡ None →
-            (a : AskedStep) × (result ≡ Some a) }
+            (a : ActionOf) × (result ≡ Some a) }
     {
-        Some(Asked::Cell(self.vouching.next(&self.stand)?))
+        self.vouching.next(&self.stand)
     }
 
     /// The same, with the lower node.
-    fn lower_next(&self) -> Option<Asked>
+    fn lower_next(&self) -> Option<Action>
         ensures asks { (r : RoomOf) → result ≡ asks_at stages.Lowering self.now r }
         ensures allowed { (z : SizesOf) (u v : View) (r : RoomOf) (d : Deed) → HasLower z u self.now r v →
             IfSome result (IsAllowed z d r.change v) }
         ensures going { (z : SizesOf) (u v : View) (r : RoomOf) → HasLower z u self.now r v → lowered_at self.now.lowering ≡ None →
-            (a : AskedStep) × (result ≡ Some a) }
+            (a : ActionOf) × (result ≡ Some a) }
     {
-        Some(Asked::Cell(self.lowering.next(&self.stand)?))
+        self.lowering.next(&self.stand)
     }
 
     /// What comes next where the change is made.
-    fn make_next(&self, room: &Room) -> Option<Asked>
+    fn make_next(&self, room: &Room) -> Option<Action>
         ensures asks { result ≡ asks_at stages.Making self.now room.now }
         ensures allowed { (z : SizesOf) (u v : View) (d : Deed) → HasMade z u self.now room.now v →
             IfSome result (IsAllowed z d room.now.change v) }
         ensures going { (z : SizesOf) (u v : View) → HasMade z u self.now room.now v → made_at self.now.making ≡ None →
-            (a : AskedStep) × (result ≡ Some a) }
+            (a : ActionOf) × (result ≡ Some a) }
     {
-        Some(Asked::Change(self.making.next(&room.change)?))
+        self.making.next(&room.change)
     }
 
     /// A cell was looked at on the way to the place of the key.
-    fn find_told(&mut self, room: &mut Room, answer: CellAnswer)
+    fn find_told(&mut self, room: &mut Room, answer: Answer)
         requires stage { self.old.stage ≡ stages.Finding }
-        requires told { (z : SizesOf) × (u : View) × (v : View) × (w : View) × (asked : CellAskedStep) × IsRoom z room.old ×
+        requires told { (z : SizesOf) × (u : View) × (v : View) × (w : View) × (asked : ActionOf) × IsRoom z room.old ×
             IsFinding z u self.old room.old v × (finding_asks self.old.finding ≡ Some asked) ×
-            CellAnswers z (absent room.old.gone) asked answer v w }
+            ActionAnswers z (telling (absent room.old.gone)) asked answer v w }
         ensures kept { IsKept room.old room.new }
         ensures anew { ended_at self.new ≡ Some anew → goes_on answer ≡ false }
         ensures free { is_free self.new ≡ true }
-        ensures fits { (z : SizesOf) (u v w : View) (asked : CellAskedStep) → IsRoom z room.old → IsFinding z u self.old room.old v →
-            finding_asks self.old.finding ≡ Some asked → CellAnswers z (absent room.old.gone) asked answer v w →
+        ensures fits { (z : SizesOf) (u v w : View) (asked : ActionOf) → IsRoom z room.old → IsFinding z u self.old room.old v →
+            finding_asks self.old.finding ≡ Some asked → ActionAnswers z (telling (absent room.old.gone)) asked answer v w →
             Fits z u self.new room.new w }
     {
         match self.finding.stand() {
@@ -278,17 +272,17 @@ impl Erasing {
     }
 
     /// The descent goes on, or its way was changed.
-    pub(crate) fn find_on(&mut self, room: &mut Room, answer: CellAnswer)
+    pub(crate) fn find_on(&mut self, room: &mut Room, answer: Answer)
         requires stage { self.old.stage ≡ stages.Finding }
         requires nowhere { stand_at self.old.finding ≡ None }
-        requires told { (z : SizesOf) × (u : View) × (v : View) × (w : View) × (asked : CellAskedStep) × IsRoom z room.old ×
+        requires told { (z : SizesOf) × (u : View) × (v : View) × (w : View) × (asked : ActionOf) × IsRoom z room.old ×
             IsFinding z u self.old room.old v × (finding_asks self.old.finding ≡ Some asked) ×
-            CellAnswers z (absent room.old.gone) asked answer v w }
+            ActionAnswers z (telling (absent room.old.gone)) asked answer v w }
         ensures kept { IsKept room.old room.new }
         ensures anew { ended_at self.new ≡ Some anew → goes_on answer ≡ false }
         ensures free { is_free self.new ≡ true }
-        ensures fits { (z : SizesOf) (u v w : View) (asked : CellAskedStep) → IsRoom z room.old → IsFinding z u self.old room.old v →
-            finding_asks self.old.finding ≡ Some asked → CellAnswers z (absent room.old.gone) asked answer v w →
+        ensures fits { (z : SizesOf) (u v w : View) (asked : ActionOf) → IsRoom z room.old → IsFinding z u self.old room.old v →
+            finding_asks self.old.finding ≡ Some asked → ActionAnswers z (telling (absent room.old.gone)) asked answer v w →
             Fits z u self.new room.new w }
     {
         let on = self
@@ -300,17 +294,17 @@ impl Erasing {
     }
 
     /// The place of the key was checked.
-    pub(crate) fn settled(&mut self, room: &mut Room, stand: Stand, answer: CellAnswer)
+    pub(crate) fn settled(&mut self, room: &mut Room, stand: Stand, answer: Answer)
         requires { (z : SizesOf) × (u : View) × (v : View) × (w : View) × IsRoom z room.old × IsFinding z u self.old room.old v ×
-            (stand_at self.old.finding ≡ Some stand) × CellAnswers z (absent room.old.gone) (check_of stand) answer v w }
+            (stand_at self.old.finding ≡ Some stand) × ActionAnswers z (telling (absent room.old.gone)) (check_of stand) answer v w }
         ensures kept { IsKept room.old room.new }
         ensures anew { ended_at self.new ≡ Some anew → goes_on answer ≡ false }
         ensures free { is_free self.new ≡ true }
         ensures fits { (z : SizesOf) (u v w : View) → IsRoom z room.old → IsFinding z u self.old room.old v →
-            stand_at self.old.finding ≡ Some stand → CellAnswers z (absent room.old.gone) (check_of stand) answer v w →
+            stand_at self.old.finding ≡ Some stand → ActionAnswers z (telling (absent room.old.gone)) (check_of stand) answer v w →
             Fits z u self.new room.new w }
     {
-        if !passed(answer) {
+        if !answer.passed() {
             self.stage = Stage::Ended(Erased::Anew);
             return;
         }
@@ -365,17 +359,17 @@ impl Erasing {
     }
 
     /// A word of free numbers was looked at.
-    pub(crate) fn supply_told(&mut self, room: &mut Room, layout: Layout, word: u64)
-        requires { (z : SizesOf) × (u : View) × (v : View) × (w : View) × (asked : SupplyAsked) × IsRoom z room.old ×
-            HasSupplies z u layout self.old room.old v × (supply_asks self.old room.old ≡ Some asked) × SupplyAnswers z asked word v w }
+    pub(crate) fn supply_told(&mut self, room: &mut Room, layout: Layout, answer: Answer)
+        requires { (z : SizesOf) × (u : View) × (v : View) × (w : View) × (asked : ActionOf) × IsRoom z room.old ×
+            HasSupplies z u layout self.old room.old v × (supply_asks self.old room.old ≡ Some asked) × ActionAnswers z None asked answer v w }
         ensures kept { IsKept room.old room.new }
         ensures not_anew { ended_at self.new ≢ Some anew }
         ensures free { is_free self.new ≡ true }
-        ensures fits { (z : SizesOf) (u v w : View) (asked : SupplyAsked) → IsRoom z room.old → HasSupplies z u layout self.old room.old v →
-            supply_asks self.old room.old ≡ Some asked → SupplyAnswers z asked word v w → Fits z u self.new room.new w }
+        ensures fits { (z : SizesOf) (u v w : View) (asked : ActionOf) → IsRoom z room.old → HasSupplies z u layout self.old room.old v →
+            supply_asks self.old room.old ≡ Some asked → ActionAnswers z None asked answer v w → Fits z u self.new room.new w }
     {
         let wants = wants_of(room.sizes, layout);
-        self.supplying.told(&wants, &mut room.stock, word);
+        self.supplying.told(&wants, &mut room.stock, answer);
         self.supply_on(room, layout);
     }
 
@@ -394,20 +388,20 @@ impl Erasing {
     }
 
     /// A word of the node was read. Where its header was not known before, it is now, and may tell that the node stays, or shrinks.
-    pub(crate) fn read_told(&mut self, room: &mut Room, rereading: Rereading, answer: CellAnswer)
+    pub(crate) fn read_told(&mut self, room: &mut Room, rereading: Rereading, answer: Answer)
         requires more { rereading.place < size_of self.old.stand.stamp.cell }
-        requires told { (z : SizesOf) × (u : View) × (v : View) × (w : View) × (asked : CellAskedStep) × IsRoom z room.old ×
+        requires told { (z : SizesOf) × (u : View) × (v : View) × (w : View) × (asked : ActionOf) × IsRoom z room.old ×
             IsReadingOn z u self.old rereading room.old v × (reading_asks self.old rereading ≡ Some asked) ×
-            CellAnswers z (absent room.old.gone) asked answer v w }
+            ActionAnswers z (telling (absent room.old.gone)) asked answer v w }
         ensures kept { IsKept room.old room.new }
         ensures not_anew { ended_at self.new ≢ Some anew }
         ensures free { is_free self.new ≡ true }
-        ensures fits { (z : SizesOf) (u v w : View) (asked : CellAskedStep) → IsRoom z room.old →
+        ensures fits { (z : SizesOf) (u v w : View) (asked : ActionOf) → IsRoom z room.old →
             IsReadingOn z u self.old rereading room.old v → reading_asks self.old rereading ≡ Some asked →
-            CellAnswers z (absent room.old.gone) asked answer v w → Fits z u self.new room.new w }
+            ActionAnswers z (telling (absent room.old.gone)) asked answer v w → Fits z u self.new room.new w }
     {
         let mut rereading = rereading;
-        room.desk.reread_node(&mut rereading, read_in(answer));
+        room.desk.reread_node(&mut rereading, answer.found());
         match self.loss(&room.desk) {
             Loss::Leaf => self.vouch(room, Way::Stays),
             Loss::Shrinks(layout) => self.supply(room, layout),
@@ -477,7 +471,7 @@ impl Erasing {
 }
 
 /// The check of the place, once there is one; until then what the descent asks.
-fn finding_asked(finding: &Finding) -> Option<CellAsked>
+fn finding_asked(finding: &Finding) -> Option<Action>
     ensures { result ≡ finding_asks finding.now }
 {
     match finding.stand() {
@@ -487,12 +481,12 @@ fn finding_asked(finding: &Finding) -> Option<CellAsked>
 }
 
 /// Where no leaf has the key, a check tells that; of a leaf that has it a check tells nothing yet.
-pub(crate) fn check_of(stand: &Stand) -> CellAsked
+pub(crate) fn check_of(stand: &Stand) -> Action
     ensures { result ≡ check_of stand.now }
 {
     match stand.verdict {
-        Verdict::Found(_, _) => CellAsked::Check(stand.stamp),
-        _ => CellAsked::Settle(stand.stamp),
+        Verdict::Found(_, _) => Action::Check { stamp: stand.stamp },
+        _ => Action::Settle { stamp: stand.stamp },
     }
 }
 
@@ -534,15 +528,5 @@ pub(crate) fn given_up(fault: UpgradeFault) -> Erased
     match fault {
         UpgradeFault::Changed(_) => Erased::Anew,
         UpgradeFault::Exhausted(cell) => Erased::Exhausted(cell),
-    }
-}
-
-/// The word that was read.
-fn read_in(answer: CellAnswer) -> u64
-    ensures { result ≡ read_in answer }
-{
-    match answer {
-        CellAnswer::Word(word) => word,
-        _ => 0,
     }
 }

@@ -6,10 +6,10 @@ ghost use Rattle.art_erase.specs.declared.erasing.Stage.TheVariants as stages;
 ghost use Rattle.art_step.specs.declared.views.View.{View};
 
 use crate::erasing::{Erased, Erasing, Stage, check_of, goes};
-use art_attempt::art_gather::{make as make_supply, read_cells};
-use art_attempt::{Room, is_begun, steps_of};
+use art_attempt::art_gather::read_cells;
+use art_attempt::{Room, is_begun};
 use art_find::look;
-use art_make::make as make_change;
+use art_machine::perform;
 use art_step::EpochSteps;
 
 impl Erasing {
@@ -88,9 +88,9 @@ impl Erasing {
             let Some(asked) = self.supplying.next(key, 0, &room.stock) else {
                 return;
             };
-            let word = make_supply(steps, asked);
+            let answer = perform(steps, asked, None);
             *left -= 1;
-            self.supply_told(room, layout, word);
+            self.supply_told(room, layout, answer);
         }
     }
 
@@ -238,8 +238,8 @@ impl Erasing {
             if is_begun(&self.making) && *left <= 1 {
                 return;
             }
-            let answer = make_change(steps, asked, &room.change);
-            *left = left.saturating_sub(steps_of(answer));
+            let answer = perform(steps, asked, Some(&room.change.effects));
+            *left = left.saturating_sub(answer.steps());
             self.make_told(room, answer);
         }
     }

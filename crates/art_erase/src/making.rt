@@ -1,6 +1,5 @@
 //! How an attempt of a removal goes on once the cells were vouched for: the change is planned and made.
 ghost use Rattle.std.specs.Prelude.{◌≡◌, ◌≢◌, ℕ, ◌-◌, ◌<◌, None, Some, true, false};
-ghost use Rattle.art_attempt.specs.Asking.{steps_of};
 ghost use Rattle.art_attempt.specs.Inserting.{is_begun, making_left};
 ghost use Rattle.art_attempt.specs.ArtPlan.ChooseInsert.Plans.{LocksOnly};
 ghost use Rattle.art_erase.specs.Erasing.{EndsWithin, Fits, HasLower, HasMade, HasVouched, IsChecked, IsKept, IsLockedBy, IsRemoval, IsRoom};
@@ -8,15 +7,13 @@ ghost use Rattle.art_erase.specs.Erasing.{absent, ended_at, erased_so, is_free, 
 ghost use Rattle.art_erase.specs.declared.erasing.Erased.TheVariants.{Anew as anew};
 ghost use Rattle.art_erase.specs.declared.erasing.Stage.TheVariants as stages;
 ghost use Rattle.art_erase.specs.declared.erasing.Way.TheVariants as ways;
-ghost use Rattle.art_find.specs.Asking.{Answers as CellAnswers, goes_on};
-ghost use Rattle.art_find.specs.declared.asked.Asked.{Asked as CellAskedStep};
 ghost use Rattle.art_attempt.specs.ArtGather.Vouching.{ended_at as vouched_at};
 ghost use Rattle.art_attempt.specs.ArtGather.declared.vouching.Vouched.TheVariants.{Unchanged as unchanged};
 ghost use Rattle.art_gather.specs.Lowering.{ended_at as lowered_at};
 ghost use Rattle.art_gather.specs.declared.lowering.Lowered.TheVariants.{Unchanged as lowered};
-ghost use Rattle.art_make.specs.Asking.{Answers as ChangeAnswers};
-ghost use Rattle.art_make.specs.Making.{ended_at as made_at, fault_of};
-ghost use Rattle.art_make.specs.declared.asked.Asked.{Asked as ChangeAsked};
+ghost use Rattle.art_machine.specs.Acting.{Answers as ActionAnswers, goes_on, steps_in, telling};
+ghost use Rattle.art_machine.specs.declared.actions.Action.{Action as ActionOf};
+ghost use Rattle.art_make.specs.Making.{brings, ended_at as made_at, fault_of};
 ghost use Rattle.art_plan.specs.Changes.{targets};
 ghost use Rattle.art_step.specs.declared.faults.Changed.{Changed};
 ghost use Rattle.art_step.specs.declared.faults.UpgradeFault.TheVariants.{Changed as changed};
@@ -28,24 +25,24 @@ use crate::erasing::{Erased, Erasing, Stage, Way, given_up, goes};
 use art_attempt::Room;
 use art_attempt::art_gather::Vouched;
 use art_cell::Layout;
-use art_find::Answer as CellAnswer;
 use art_gather::Lowered;
 use art_gather::art_plan::{Lower, plan_drop, plan_merge_leaf, plan_merge_node, plan_shrink};
-use art_make::{Answer as ChangeAnswer, Making};
+use art_machine::Answer;
+use art_make::Making;
 use art_step::{Stamp, UpgradeFault};
 
 impl Erasing {
     /// A word was read, or a cell was checked.
-    pub(crate) fn vouch_told(&mut self, room: &mut Room, answer: CellAnswer)
+    pub(crate) fn vouch_told(&mut self, room: &mut Room, answer: Answer)
         requires stage { self.old.stage ≡ stages.Vouching }
-        requires told { (z : Sizes) × (u : View) × (v : View) × (w : View) × (asked : CellAskedStep) × IsRoom z room.old ×
+        requires told { (z : Sizes) × (u : View) × (v : View) × (w : View) × (asked : ActionOf) × IsRoom z room.old ×
             HasVouched z u self.old room.old v × (vouching_asks self.old ≡ Some asked) ×
-            CellAnswers z (absent room.old.gone) asked answer v w }
+            ActionAnswers z (telling (absent room.old.gone)) asked answer v w }
         ensures kept { IsKept room.old room.new }
         ensures anew { ended_at self.new ≡ Some anew → goes_on answer ≡ false }
         ensures free { is_free self.new ≡ true }
-        ensures fits { (z : Sizes) (u v w : View) (asked : CellAskedStep) → IsRoom z room.old → HasVouched z u self.old room.old v →
-            vouching_asks self.old ≡ Some asked → CellAnswers z (absent room.old.gone) asked answer v w →
+        ensures fits { (z : Sizes) (u v w : View) (asked : ActionOf) → IsRoom z room.old → HasVouched z u self.old room.old v →
+            vouching_asks self.old ≡ Some asked → ActionAnswers z (telling (absent room.old.gone)) asked answer v w →
             Fits z u self.new room.new w }
     {
         self.vouching
@@ -143,16 +140,16 @@ impl Erasing {
     }
 
     /// The lower node was stamped or read, or one of the three cells was.
-    pub(crate) fn lower_told(&mut self, room: &mut Room, answer: CellAnswer)
+    pub(crate) fn lower_told(&mut self, room: &mut Room, answer: Answer)
         requires stage { self.old.stage ≡ stages.Lowering }
-        requires told { (z : Sizes) × (u : View) × (v : View) × (w : View) × (asked : CellAskedStep) × IsRoom z room.old ×
+        requires told { (z : Sizes) × (u : View) × (v : View) × (w : View) × (asked : ActionOf) × IsRoom z room.old ×
             HasLower z u self.old room.old v × (lower_asks self.old ≡ Some asked) ×
-            CellAnswers z (absent room.old.gone) asked answer v w }
+            ActionAnswers z (telling (absent room.old.gone)) asked answer v w }
         ensures kept { IsKept room.old room.new }
         ensures anew { ended_at self.new ≡ Some anew → goes_on answer ≡ false }
         ensures free { is_free self.new ≡ true }
-        ensures fits { (z : Sizes) (u v w : View) (asked : CellAskedStep) → IsRoom z room.old → HasLower z u self.old room.old v →
-            lower_asks self.old ≡ Some asked → CellAnswers z (absent room.old.gone) asked answer v w →
+        ensures fits { (z : Sizes) (u v w : View) (asked : ActionOf) → IsRoom z room.old → HasLower z u self.old room.old v →
+            lower_asks self.old ≡ Some asked → ActionAnswers z (telling (absent room.old.gone)) asked answer v w →
             Fits z u self.new room.new w }
     {
         let Room { desk, lower, .. } = room;
@@ -210,17 +207,17 @@ impl Erasing {
     }
 
     /// A step of the change was made.
-    pub(crate) fn make_told(&mut self, room: &mut Room, answer: ChangeAnswer)
+    pub(crate) fn make_told(&mut self, room: &mut Room, answer: Answer)
         requires stage { self.old.stage ≡ stages.Making }
-        requires told { (z : Sizes) × (u : View) × (v : View) × (w : View) × (asked : ChangeAsked) × IsRoom z room.old ×
+        requires told { (z : Sizes) × (u : View) × (v : View) × (w : View) × (asked : ActionOf) × IsRoom z room.old ×
             HasMade z u self.old room.old v × (made_asks self.old room.old ≡ Some asked) ×
-            ChangeAnswers room.old.change asked answer v w }
+            ActionAnswers z (brings room.old.change) asked answer v w }
         ensures kept { IsKept room.old room.new }
-        ensures fits { (z : Sizes) (u v w : View) (asked : ChangeAsked) → IsRoom z room.old → HasMade z u self.old room.old v →
-            made_asks self.old room.old ≡ Some asked → ChangeAnswers room.old.change asked answer v w →
+        ensures fits { (z : Sizes) (u v w : View) (asked : ActionOf) → IsRoom z room.old → HasMade z u self.old room.old v →
+            made_asks self.old room.old ≡ Some asked → ActionAnswers z (brings room.old.change) asked answer v w →
             Fits z u self.new room.new w }
         ensures left { (left : ℕ) → (is_begun self.old.making ≡ true → 0 < left) →
-            steps_left (left - steps_of answer) self.new < making_left left self.old.making }
+            steps_left (left - steps_in answer) self.new < making_left left self.old.making }
         ensures anew { ended_at self.new ≡ Some anew → (e : Changed) × (fault_of self.new.making ≡ Some (changed e)) }
         ensures over { is_free self.new ≡ true → ended_at self.new ≢ None }
     {

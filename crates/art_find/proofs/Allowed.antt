@@ -7,7 +7,7 @@ use Rattle.art_cell.specs.declared.cells.Node.{Node}
 use Rattle.art_cell.specs.declared.layouts.Layout.{Layout}
 use Rattle.art_cell.specs.declared.layouts.Layout.TheVariants.{Node4, Node16, Node48, Node256}
 use Rattle.art_cell.specs.Words.{size}
-use Rattle.art_find.specs.Asking.{IsAllowed, WasChecked}
+use Rattle.art_find.specs.Asking.{MayLook, WasChecked}
 use Rattle.art_find.specs.Descents.{IsAbove, IsOn, StageFits, answer_at, asks}
 use Rattle.art_find.proofs.Stages.{noted_names}
 use Rattle.art_find.proofs.VerdictValues.{says_value}
@@ -54,7 +54,7 @@ front_inside Node16 i low = omega arith
 front_inside Node48 i low = omega arith
 front_inside Node256 i low = omega arith
 
-pub allowed : (z : Sizes) (k : List ℕ) (what : Option ℕ → Deed) (depth : ℕ) (stage : Stage) (u v : View) → StageFits z k what depth stage u v → IfSome (asks stage) (IsAllowed z (λ s. HasValue s k (answer_at stage)) v)
+pub allowed : (z : Sizes) (k : List ℕ) (what : Option ℕ → Deed) (depth : ℕ) (stage : Stage) (u v : View) → StageFits z k what depth stage u v → IfSome (asks stage) (MayLook z (λ s. HasValue s k (answer_at stage)) v)
 allowed z k what depth Start u v fits = (tt, record { pinned = fits.pinned; named = tt })
 allowed z k what depth (Anchor x) u v fits = (
   subst (IsInside z) (sym fits.2) tt,

@@ -1,67 +1,47 @@
--- Each step counts, one that fails counts as a failure, and a descent makes few steps.
-use Rattle.std.proofs.Common.{◌≡◌, ℕ, zero, suc, ◌+◌, ◌*◌, ◌%◌, ◌<◌, ◌≤◌, ◌==◌, Bool, true, false, if◌then◌else◌, List, length, Option, Some, None, refl, ap, ◌∙◌, arith}
-use Rattle.std.proofs.lemmas.Bool.{eq-eqb, ne_eqb}
-use Rattle.std.specs.Prelude.{Result, Ok, Err}
-use Rattle.art_cell.specs.declared.cells.Cell.{Cell}
+-- A descent makes few steps.
+use Rattle.std.proofs.Common.{◌≡◌, ℕ, zero, suc, ◌+◌, ◌*◌, ◌%◌, ◌<◌, ◌≤◌, ◌==◌, Bool, true, false, if◌then◌else◌, List, length, Option, Some, None, refl, subst, arith, ◌∙◌}
 use Rattle.art_cell.specs.declared.cells.Link.{Link}
 use Rattle.art_cell.specs.declared.cells.Link.TheVariants.{Leaf as leaf, Node as node}
-use Rattle.art_find.specs.Asking.{Answers, goes_on}
-use Rattle.art_find.specs.Descents.{StageFits, ended_at, later_key, most_steps, stage_below, staged}
+use Rattle.art_machine.proofs.Counting.{Counted, look_counts}
+use Rattle.art_machine.specs.Acting.{Answers, IsLook, goes_on, telling}
+use Rattle.art_machine.specs.declared.actions.Action.{Action}
+use Rattle.art_machine.specs.declared.actions.Action.TheVariants.{Begin, Read, ReadLeaf, Check, Settle}
+use Rattle.art_machine.specs.declared.actions.Answer.{Answer}
+use Rattle.art_cell.specs.declared.cells.Cell.TheVariants as cell
+use Rattle.std.proofs.lemmas.Option.{same_Some}
+use Rattle.art_find.specs.Descents.{StageFits, asks, ended_at, later_key, most_steps, stage_below, staged}
 use Rattle.art_find.specs.Driven.{Counts, restarts_after}
-use Rattle.art_find.specs.declared.asked.Answer.{Answer}
-use Rattle.art_find.specs.declared.asked.Answer.TheVariants.{Begun, Word, Checked}
-use Rattle.art_find.specs.declared.asked.Asked.{Asked}
-use Rattle.art_find.specs.declared.asked.Asked.TheVariants.{Begin, Read, ReadLeaf, Check, Settle}
 use Rattle.art_find.specs.declared.descents.Stage.{Stage}
 use Rattle.art_find.specs.declared.descents.Stage.TheVariants.{Start, Anchor, Child, Below, Both, Header, Prefix, Keys, Slot, Value, Length, Bytes, Decided, Ended}
 use Rattle.art_find.specs.declared.descents.NodeSeen.{NodeSeen}
 use Rattle.art_node.specs.Searches.{AsksLater}
 use Rattle.art_node.specs.declared.searches.Sought.{Sought}
 use Rattle.art_node.specs.declared.searches.Sought.TheVariants as sought
-use Rattle.art_step.specs.Steps.Begin as begin
-use Rattle.art_step.specs.Steps.Check as check
 use Rattle.art_step.specs.declared.deeds.Deed.{Deed}
-use Rattle.art_step.specs.declared.faults.Changed.{Changed}
 use Rattle.art_step.specs.declared.views.Sizes.{Sizes}
 use Rattle.art_step.specs.declared.views.Stamp.{Stamp}
 use Rattle.art_step.specs.declared.views.View.{View}
 
--- after a step, which failed or not
-pub record Counted (v w : View) (on : Bool) : Type 0 where
-  pub steps : w.steps ≡ v.steps + 1
-  pub failures : w.failures ≡ (if on then v.failures else v.failures + 1)
+-- a descent asks for looks alone
+pub asks_look : (stage : Stage) (a : Action) → asks stage ≡ Some a → IsLook a
+asks_look Start a e = subst IsLook (same_Some (Begin cell.Anchor) a e) tt
+asks_look (Anchor x) a e = subst IsLook (same_Some (Read x 1) a e) tt
+asks_look (Child x d) a e = subst IsLook (same_Some (Check x) a e) tt
+asks_look (Below x n) a e = subst IsLook (same_Some (Begin (cell.Node n)) a e) tt
+asks_look (Both x y n) a e = subst IsLook (same_Some (Check x) a e) tt
+asks_look (Header y n) a e = subst IsLook (same_Some (Read y 1) a e) tt
+asks_look (Prefix seen i r) a e = subst IsLook (same_Some (Read seen.stamp (2 + i)) a e) tt
+asks_look (Keys seen i) a e = subst IsLook (same_Some (Read seen.stamp (10 + i)) a e) tt
+asks_look (Slot seen place) a e = subst IsLook (same_Some (Read seen.stamp place) a e) tt
+asks_look (Value x l) a e = subst IsLook (same_Some (ReadLeaf x l 0) a e) tt
+asks_look (Length x l value) a e = subst IsLook (same_Some (ReadLeaf x l 1) a e) tt
+asks_look (Bytes seen i r) a e = subst IsLook (same_Some (ReadLeaf seen.stamp seen.leaf (2 + i)) a e) tt
+asks_look (Decided x found) a e = subst IsLook (same_Some (Settle x) a e) tt
+asks_look (Ended o) a e = absurd (cc)
 
-begun_counts : (z : Sizes) (v w : View) (c : Cell) (x : ℕ) (on : Bool) → (x % 4 == 0) ≡ on → w ≡ begin.view_after z v c x → Counted v w on
-begun_counts z v w c x true clear is = record {
-  steps = ap (λ (u : View). u.steps) is ∙ rw clear refl;
-  failures = ap (λ (u : View). u.failures) is ∙ rw clear refl;
-}
-begun_counts z v w c x false clear is = record {
-  steps = ap (λ (u : View). u.steps) is ∙ rw clear refl;
-  failures = ap (λ (u : View). u.failures) is ∙ rw clear refl;
-}
-
-checked_counts : (z : Sizes) (v w : View) (x : Stamp) (o : Option Deed) (r : Result (Unit {0}) Changed) → check.Outcome z v w x o r → Counted v w (goes_on (Checked r))
-checked_counts z v w x o (Ok done) row = record { steps = ap (λ (u : View). u.steps) row.is; failures = ap (λ (u : View). u.failures) row.is }
-checked_counts z v w x o (Err c) row = record { steps = ap (λ (u : View). u.steps) row.3.is; failures = ap (λ (u : View). u.failures) row.3.is }
-
-pub answers_count : (z : Sizes) (d : Deed) (a : Asked) (r : Answer) (v w : View) → Answers z d a r v w → Counted v w (goes_on r)
-answers_count z d (Begin c) (Begun (Ok x)) v w row = begun_counts z v w c x.version true (eq-eqb (x.version % 4) 0 row.1) row.2
-answers_count z d (Begin c) (Begun (Err l)) v w row = begun_counts z v w c l.found false (ne_eqb (l.found % 4) 0 row.1) row.2
-answers_count z d (Read x i) (Word a) v w row = record { steps = ap (λ (u : View). u.steps) row.is; failures = ap (λ (u : View). u.failures) row.is }
-answers_count z d (ReadLeaf x l i) (Word a) v w row = record { steps = ap (λ (u : View). u.steps) row; failures = ap (λ (u : View). u.failures) row }
-answers_count z d (Check x) (Checked r) v w row = checked_counts z v w x None r row
-answers_count z d (Settle x) (Checked r) v w row = checked_counts z v w x (Some d) r row
-answers_count z d (Begin c) (Word a) v w row = absurd row
-answers_count z d (Begin c) (Checked r) v w row = absurd row
-answers_count z d (Read x i) (Begun r) v w row = absurd row
-answers_count z d (Read x i) (Checked r) v w row = absurd row
-answers_count z d (ReadLeaf x l i) (Begun r) v w row = absurd row
-answers_count z d (ReadLeaf x l i) (Checked r) v w row = absurd row
-answers_count z d (Check x) (Begun r) v w row = absurd row
-answers_count z d (Check x) (Word a) v w row = absurd row
-answers_count z d (Settle x) (Begun r) v w row = absurd row
-answers_count z d (Settle x) (Word a) v w row = absurd row
+-- and each is one step
+pub answers_count : (z : Sizes) (d : Deed) (stage : Stage) (a : Action) (r : Answer) (v w : View) → asks stage ≡ Some a → Answers z (telling d) a r v w → Counted v w (goes_on r)
+answers_count z d stage a r v w is row = look_counts z d a r v w (asks_look stage a is) row
 
 -- of the words of keys one counts, at most
 pub few_keys : (i : ℕ) → later_key i ≤ 1

@@ -1,6 +1,7 @@
 -- Steps of a finding one after another.
 use Rattle.std.proofs.Common.{◌≡◌, ◌+◌, ℕ, Bool, true, List, None, refl, sym, subst, ◌∙◌, arith}
-use Rattle.art_find.proofs.Counting.{Counted, answers_count}
+use Rattle.art_machine.proofs.Counting.{Counted}
+use Rattle.art_find.proofs.Counting.{answers_count}
 use Rattle.art_find.specs.Driven.{get_done}
 use Rattle.art_find.specs.Findings.{LookedOn, WentOn}
 use Rattle.art_find.specs.declared.desks.Desk.{Desk}
@@ -37,7 +38,7 @@ on_then z k m desk u n kept v o last w one two =
 
 module _ (z : Sizes) (k : List ℕ) (on : Bool) (m : Finding) (desk : Desk) (v : View) (n : Finding) (kept : Desk) (w : View) (l : LookedOn z k on m desk v n kept w) where
   counted : Counted v w on
-  counted = subst (Counted v w) (sym l.4) (answers_count z (get_done k None) l.0 l.1 v w (l.2.row (get_done k None)))
+  counted = subst (Counted v w) (sym l.4) (answers_count z (get_done k None) m.descent.stage l.0 l.1 v w l.2.asked_it (l.2.row (get_done k None)))
 
   pub one_made : w.steps ≡ v.steps + 1
   one_made = counted.steps

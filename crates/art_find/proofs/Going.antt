@@ -1,23 +1,24 @@
 -- A get that goes straight on comes from stage to stage.
 use Rattle.std.proofs.Common.{◌≡◌, ℕ, ◌+◌, ◌<◌, Bool, true, false, List, Some, None, refl, sym, subst, arith}
-use Rattle.art_find.specs.Asking.{Answers, goes_on}
+use Rattle.art_machine.specs.Acting.{Answers, goes_on, telling}
 use Rattle.art_find.specs.Descents.{IsReading, StageFits, answer_at, asks, ended_at, most_steps}
 use Rattle.art_find.specs.Driven.{Counts, get_done}
 use Rattle.art_find.specs.Straight.{GetGoes, at_stage}
-use Rattle.art_find.specs.declared.asked.Answer.{Answer}
-use Rattle.art_find.specs.declared.asked.Asked.{Asked}
+use Rattle.art_machine.specs.declared.actions.Answer.{Answer}
+use Rattle.art_machine.specs.declared.actions.Action.{Action}
 use Rattle.art_find.specs.declared.descents.Descent.{Descent}
 use Rattle.art_find.specs.declared.descents.Stage.TheVariants.{Start}
 use Rattle.art_find.specs.declared.straight.Tally.{Tally}
-use Rattle.art_find.proofs.Counting.{Counted, answers_count, counts_on, few_steps}
+use Rattle.art_machine.proofs.Counting.{Counted}
+use Rattle.art_find.proofs.Counting.{answers_count, counts_on, few_steps}
 use Rattle.art_step.specs.declared.views.Sizes.{Sizes}
 use Rattle.art_step.specs.declared.views.View.{View}
 
 -- a step that was asked for was made, and it goes on to another stage, or begins anew
-module _ (z z' : Sizes) (same : z' ≡ z) (k : List ℕ) (turns : ℕ) (u v w : View) (m m' : Descent) (t t' : Tally) (asked : Asked) (answer : Answer)
-    (before : GetGoes z k turns u v m t) (is : asks m.stage ≡ Some asked) (row : Answers z (get_done k (answer_at m.stage)) asked answer v w) (left : t'.left + 1 ≡ t.left) where
+module _ (z z' : Sizes) (same : z' ≡ z) (k : List ℕ) (turns : ℕ) (u v w : View) (m m' : Descent) (t t' : Tally) (asked : Action) (answer : Answer)
+    (before : GetGoes z k turns u v m t) (is : asks m.stage ≡ Some asked) (row : Answers z (telling (get_done k (answer_at m.stage))) asked answer v w) (left : t'.left + 1 ≡ t.left) where
   counted : (on : Bool) → goes_on answer ≡ on → Counted v w on
-  counted on e = subst (Counted v w) e (answers_count z (get_done k (answer_at m.stage)) asked answer v w row)
+  counted on e = subst (Counted v w) e (answers_count z (get_done k (answer_at m.stage)) m.stage asked answer v w is row)
 
   few : most_steps m.depth m.stage < 30000
   few = omega (arith, few_steps z k (get_done k) m.depth m.stage u v before.short before.going before.get.fits)

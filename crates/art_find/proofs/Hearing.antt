@@ -5,13 +5,14 @@ use Rattle.art_cell.specs.declared.cells.Cell.{Cell}
 use Rattle.art_cell.specs.declared.cells.Link.{Link}
 use Rattle.art_cell.specs.declared.cells.Link.TheVariants.{Leaf as leaf, Node as node}
 use Rattle.art_find.proofs.Allowed.{allowed}
-use Rattle.art_find.specs.Asking.{Answers, IsAllowed, goes_on}
+use Rattle.art_find.specs.Asking.{MayLook}
+use Rattle.art_machine.specs.Acting.{Answers, goes_on, telling}
 use Rattle.art_find.proofs.Stages.{reads_on, still_reading}
 use Rattle.art_find.specs.Descents.{Fits, IsExact, IsReading, Stays, answer_at, asks, ended_at, most_steps, stage_begun, stage_below, stage_checked, stands_on}
-use Rattle.art_find.specs.declared.asked.Answer.{Answer}
-use Rattle.art_find.specs.declared.asked.Answer.TheVariants.{Word}
-use Rattle.art_find.specs.declared.asked.Asked.{Asked}
-use Rattle.art_find.specs.declared.asked.Asked.TheVariants.{Begin, ReadLeaf, Check}
+use Rattle.art_machine.specs.declared.actions.Answer.{Answer}
+use Rattle.art_machine.specs.declared.actions.Answer.TheVariants.{Word}
+use Rattle.art_machine.specs.declared.actions.Action.{Action}
+use Rattle.art_machine.specs.declared.actions.Action.TheVariants.{Begin, ReadLeaf, Check}
 use Rattle.art_find.specs.declared.descents.Descent.{Descent}
 use Rattle.art_find.specs.declared.descents.Stage.{Stage}
 use Rattle.art_find.specs.declared.descents.Stage.TheVariants.{Start, Anchor, Child, Below, Both, Header, Prefix, Keys, Slot, Value, Length, Bytes, Decided, Ended}
@@ -36,10 +37,10 @@ use Rattle.art_tree.specs.Heaps.{Cells}
 -- ---- what is asked for
 
 -- what its descent asks for may be made, where nothing is settled
-pub may_look : (z : Sizes) (k : List ℕ) (what : Option ℕ → Deed) (m : Finding) (desk : Desk) (u v : View) (a : Asked) → asks m.descent.stage ≡ Some a → FindingFits z k what m desk u v → IsAllowed z (λ s. ⊤) v a
+pub may_look : (z : Sizes) (k : List ℕ) (what : Option ℕ → Deed) (m : Finding) (desk : Desk) (u v : View) (a : Action) → asks m.descent.stage ≡ Some a → FindingFits z k what m desk u v → MayLook z (λ s. ⊤) v a
 may_look z k what m desk u v a is fits =
     let so : Cells → Type 0 = λ s. HasValue s k (answer_at m.descent.stage) in
-    looked z v so a (subst (λ (o : Option Asked). IfSome o (IsAllowed z so v)) is (allowed z k what m.descent.depth m.descent.stage u v fits.descent))
+    looked z v so a (subst (λ (o : Option Action). IfSome o (MayLook z so v)) is (allowed z k what m.descent.depth m.descent.stage u v fits.descent))
 
 -- ---- it has not ended after a version word was clear, or unchanged
 
@@ -82,7 +83,7 @@ checked_going (Ended o) x is = cc
 -- ---- a version word was locked, obsolete or changed
 
 -- what asks for a step has not ended
-asks_going : (stage : Stage) (a : Asked) → asks stage ≡ Some a → ended_at stage ≡ None
+asks_going : (stage : Stage) (a : Action) → asks stage ≡ Some a → ended_at stage ≡ None
 asks_going Start a is = refl
 asks_going (Anchor x) a is = refl
 asks_going (Child x d) a is = refl
@@ -108,7 +109,7 @@ module _ (z : Sizes) (k : List ℕ) (what : Option ℕ → Deed) (m : Descent) (
 -- ---- a step was made and heard
 
 -- what its descent came to by an answer, which it has now
-pub record CameTo (z : Sizes) (k : List ℕ) (asked : Asked) (answer : Answer) (m n : Descent) (v w : View) : Type 0 where
+pub record CameTo (z : Sizes) (k : List ℕ) (asked : Action) (answer : Answer) (m n : Descent) (v w : View) : Type 0 where
   pub further : goes_on answer ≡ true → most_steps m.depth m.stage < most_steps n.depth n.stage
   pub anew : goes_on answer ≡ false → most_steps n.depth n.stage ≡ 0
   pub stays : Stays answer m n
@@ -116,13 +117,13 @@ pub record CameTo (z : Sizes) (k : List ℕ) (asked : Asked) (answer : Answer) (
   pub exact : IsExact n.stage
   pub fits : (what : Option ℕ → Deed) (u : View) → Fits z k what m u v → Fits z k what n u w
 
-module _ (z : Sizes) (k : List ℕ) (on : Bool) (m m' : Finding) (desk desk' : Desk) (v w : View) (asked : Asked) (answer : Answer)
-    (is : asks m.descent.stage ≡ Some asked) (row : (d : Deed) → Answers z d asked answer v w) where
+module _ (z : Sizes) (k : List ℕ) (on : Bool) (m m' : Finding) (desk desk' : Desk) (v w : View) (asked : Action) (answer : Answer)
+    (is : asks m.descent.stage ≡ Some asked) (row : (d : Deed) → Answers z (telling d) asked answer v w) where
   placed : (n : Descent) → m'.descent ≡ n → CameTo z k asked answer m.descent n v w → Keeps answer (asks m.descent.stage) (asks n.stage) n.depth m.above desk m'.above desk'
       → (what : Option ℕ → Deed) (u : View) → FindingFits z k what m desk u v → PlaceFits z k m'.above desk' w (stands_on m'.descent.stage)
   placed n same came keeps what u before =
       let so : Cells → Type 0 = λ s. HasValue s k (answer_at m.descent.stage) in
-      let may : IsAllowed z so v asked = subst (λ (o : Option Asked). IfSome o (IsAllowed z so v)) is (allowed z k what m.descent.depth m.descent.stage u v before.descent) in
+      let may : MayLook z so v asked = subst (λ (o : Option Action). IfSome o (MayLook z so v)) is (allowed z k what m.descent.depth m.descent.stage u v before.descent) in
       subst (λ (d : Descent). PlaceFits z k m'.above desk' w (stands_on d.stage)) (sym same)
       (told_fits z k what u v w m.above m'.above desk desk' m.descent n so asked is answer (row (what (answer_at m.descent.stage))) may before.descent came.stays came.anew keeps before.place)
 
@@ -144,9 +145,9 @@ module _ (z : Sizes) (k : List ℕ) (on : Bool) (m m' : Finding) (desk desk' : D
   looked_on goes has = (asked, answer, record { asked_it = is; row = row }, has, goes)
 
 -- a word was heard
-pub word_came : (z : Sizes) (k : List ℕ) (v w : View) (m n : Descent) (asked : Asked) (word : ℕ) → asks m.stage ≡ Some asked → ((d : Deed) → Answers z d asked (Word word) v w)
+pub word_came : (z : Sizes) (k : List ℕ) (v w : View) (m n : Descent) (asked : Action) (word : ℕ) → asks m.stage ≡ Some asked → ((d : Deed) → Answers z (telling d) asked (Word word) v w)
     → most_steps m.depth m.stage < most_steps n.depth n.stage → stands_on n.stage ≡ stands_on m.stage → ended_at n.stage ≡ None → IsExact n.stage
-    → ((y : Sizes) (what : Option ℕ → Deed) (u before after : View) (a : Asked) → Fits y k what m u before → asks m.stage ≡ Some a → Answers y (what (answer_at m.stage)) a (Word word) before after → Fits y k what n u after)
+    → ((y : Sizes) (what : Option ℕ → Deed) (u before after : View) (a : Action) → Fits y k what m u before → asks m.stage ≡ Some a → Answers y (telling (what (answer_at m.stage))) a (Word word) before after → Fits y k what n u after)
     → CameTo z k asked (Word word) m n v w
 word_came z k v w m n asked word is row further stays going exact fits = record {
   further = λ on. further;
@@ -161,6 +162,6 @@ word_came z k v w m n asked word is row further stays going exact fits = record 
 pub leaf_heard : (z : Sizes) (k : List ℕ) (v w : View) (m : Finding) (n : Descent) (desk : Desk) (x : Stamp) (l i word : ℕ) → asks m.descent.stage ≡ Some (ReadLeaf x l i) → read.LeafOutcome v w x l i word
     → CameTo z k (ReadLeaf x l i) (Word word) m.descent n v w → LookedOn z k true m desk v (record m { descent = n }) desk w
 leaf_heard z k v w m n desk x l i word is row came =
-    let kept : IsHeard (asks m.descent.stage) word desk desk = subst (λ (o : Option Asked). IsHeard o word desk desk) (sym is) (record { node = refl; above = refl }) in
+    let kept : IsHeard (asks m.descent.stage) word desk desk = subst (λ (o : Option Action). IsHeard o word desk desk) (sym is) (record { node = refl; above = refl }) in
     looked_on z k true m (record m { descent = n }) desk desk v w (ReadLeaf x l i) (Word word) is (λ d. row) refl
     (heard z k true m (record m { descent = n }) desk desk v w (ReadLeaf x l i) (Word word) is (λ d. row) n refl came (refl, kept))

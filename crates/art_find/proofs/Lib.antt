@@ -9,7 +9,7 @@ mod Hearing
 mod Judged
 pub mod Keeping
 mod LeafKeys
-mod Looks
+pub mod Looks
 mod NodeWords
 mod Placing
 pub mod Runs

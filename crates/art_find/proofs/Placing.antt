@@ -7,12 +7,13 @@ use Rattle.art_cell.specs.declared.cells.Cell.TheVariants as cell
 use Rattle.art_cell.specs.declared.cells.Link.{Link}
 use Rattle.art_cell.specs.declared.cells.Link.TheVariants.{Leaf as leaf, Node as node}
 use Rattle.art_cell.specs.declared.cells.Node.{Node}
-use Rattle.art_find.specs.Asking.{Answers, IsAllowed, WantsCheck, WantsVersion, goes_on}
+use Rattle.art_find.specs.Asking.{MayLook, WantsCheck, WantsVersion}
+use Rattle.art_machine.specs.Acting.{Answers, goes_on, telling}
 use Rattle.art_find.specs.Descents.{IsChild, StageFits, Stays, answer_at, asks, most_steps, stage_begun, stage_below, stage_checked, stands_on}
-use Rattle.art_find.specs.declared.asked.Answer.{Answer}
-use Rattle.art_find.specs.declared.asked.Answer.TheVariants.{Begun, Word as word_told, Checked}
-use Rattle.art_find.specs.declared.asked.Asked.{Asked}
-use Rattle.art_find.specs.declared.asked.Asked.TheVariants.{Begin, Read, ReadLeaf, Check, Settle}
+use Rattle.art_machine.specs.declared.actions.Answer.{Answer}
+use Rattle.art_machine.specs.declared.actions.Answer.TheVariants.{Begun, Word as word_told, Checked, Upgraded, Done}
+use Rattle.art_machine.specs.declared.actions.Action.{Action}
+use Rattle.art_machine.specs.declared.actions.Action.TheVariants.{Begin, Read, ReadLeaf, Check, Settle, Upgrade, Claim, Write, WriteLeaf, Commit, Release, ClearBit, GiveBack, Free, ReadEpoch, StorePin, RaiseEpoch, ReadPin}
 use Rattle.art_find.specs.declared.descents.Descent.{Descent}
 use Rattle.art_find.specs.declared.descents.Stage.{Stage}
 use Rattle.art_find.specs.declared.descents.Stage.TheVariants.{Start, Anchor, Child, Below, Both, Header, Prefix, Keys, Slot, Value, Length, Bytes, Decided, Ended}
@@ -121,7 +122,7 @@ module _ (z : Sizes) (k : List ℕ) (v w : View) (above : Option Above) (desk de
         under = subst (λ (r : List (Option ℕ)). IsUnder z k above r w x.cell) (sym heard.above) (under_grows z k v w grows above (above_of desk) x.cell placed.under);
       }
 
-  heard_fits : (so : Cells → Type 0) (d : Deed) (stage : Stage) (a : Asked) → asks stage ≡ Some a → IsAllowed z so v a → Answers z d a (word_told word) v w
+  heard_fits : (so : Cells → Type 0) (d : Deed) (stage : Stage) (a : Action) → asks stage ≡ Some a → MayLook z so v a → Answers z (telling d) a (word_told word) v w
       → IsHeard (Some a) word desk desk' → PlaceFits z k above desk v (stands_on stage) → PlaceFits z k above desk' w (stands_on stage)
   heard_fits so d stage (Read x i) is may row heard fits =
       let there = reads_there stage x i is in
@@ -132,6 +133,19 @@ module _ (z : Sizes) (k : List ℕ) (v w : View) (above : Option Above) (desk de
   heard_fits so d stage (Begin c) is may row heard fits = absurd row
   heard_fits so d stage (Check x) is may row heard fits = absurd row
   heard_fits so d stage (Settle x) is may row heard fits = absurd row
+  heard_fits so d stage (Upgrade x) is may row heard fits = absurd may
+  heard_fits so d stage (Claim n) is may row heard fits = absurd may
+  heard_fits so d stage (Write c i y) is may row heard fits = absurd may
+  heard_fits so d stage (WriteLeaf l i y) is may row heard fits = absurd may
+  heard_fits so d stage (Commit c b) is may row heard fits = absurd may
+  heard_fits so d stage (Release c b) is may row heard fits = absurd may
+  heard_fits so d stage (ClearBit p i b) is may row heard fits = absurd may
+  heard_fits so d stage (GiveBack d') is may row heard fits = absurd may
+  heard_fits so d stage (Free d') is may row heard fits = absurd may
+  heard_fits so d stage ReadEpoch is may row heard fits = absurd may
+  heard_fits so d stage (StorePin y) is may row heard fits = absurd may
+  heard_fits so d stage RaiseEpoch is may row heard fits = absurd may
+  heard_fits so d stage (ReadPin q) is may row heard fits = absurd may
 
 -- ---- a version word was clear, or unchanged
 
@@ -176,7 +190,7 @@ module _ (z : Sizes) (k : List ℕ) (u v w : View) (above above' : Option Above)
         );
       }
 
-  begun_fits : (depth : ℕ) (d : Deed) (stage : Stage) (y : Stamp) → WantsVersion (asks stage) → ((a : Asked) → asks stage ≡ Some a → Answers z d a (Begun (Ok y)) v w)
+  begun_fits : (depth : ℕ) (d : Deed) (stage : Stage) (y : Stamp) → WantsVersion (asks stage) → ((a : Action) → asks stage ≡ Some a → Answers z (telling d) a (Begun (Ok y)) v w)
       → Enters (asks stage) (asks (stage_begun y stage)) depth above desk above' desk' → PlaceFits z k above desk v (stands_on stage) → PlaceFits z k above' desk' w (stands_on (stage_begun y stage))
   begun_fits depth d Start y wants rows enters fits =
       let row = rows (Begin cell.Anchor) refl in
@@ -201,7 +215,7 @@ module _ (z : Sizes) (k : List ℕ) (u v w : View) (above above' : Option Above)
   child_fits depth x (leaf l) grows enters fits = stays_there (Some x) grows enters fits
   child_fits depth x (node n) grows enters fits = stays_there (Some x) grows enters fits
 
-  checked_fits : (what : Option ℕ → Deed) (depth : ℕ) (d : Deed) (stage : Stage) (t : Unit {0}) → WantsCheck (asks stage) → ((a : Asked) → asks stage ≡ Some a → Answers z d a (Checked (Ok t)) v w)
+  checked_fits : (what : Option ℕ → Deed) (depth : ℕ) (d : Deed) (stage : Stage) (t : Unit {0}) → WantsCheck (asks stage) → ((a : Action) → asks stage ≡ Some a → Answers z (telling d) a (Checked (Ok t)) v w)
       → StageFits z k what depth stage u v → Enters (asks stage) (asks (stage_checked stage)) depth above desk above' desk' → PlaceFits z k above desk v (stands_on stage) → PlaceFits z k above' desk' w (stands_on (stage_checked stage))
   checked_fits what depth d (Child x e) t wants rows known enters fits = child_fits depth x e (passed_grows z v w x None (rows (Check x) refl)) enters fits
   checked_fits what depth d (Both x y n) t wants rows known enters fits = node_entered depth x y n (rows (Check x) refl) known.0.stamp known.0.cell known.1 enters.0 enters.1 fits
@@ -238,18 +252,18 @@ stands_nowhere depth (Ended o) none = refl
 
 -- ---- whatever was answered
 
-module _ (z : Sizes) (k : List ℕ) (what : Option ℕ → Deed) (u v w : View) (above above' : Option Above) (desk desk' : Desk) (m m' : Descent) (so : Cells → Type 0) (a : Asked) (is : asks m.stage ≡ Some a) where
+module _ (z : Sizes) (k : List ℕ) (what : Option ℕ → Deed) (u v w : View) (above above' : Option Above) (desk desk' : Desk) (m m' : Descent) (so : Cells → Type 0) (a : Action) (is : asks m.stage ≡ Some a) where
   -- what was asked for is known by the stage
-  rows_of : (answer : Answer) → Answers z (what (answer_at m.stage)) a answer v w → (b : Asked) → asks m.stage ≡ Some b → Answers z (what (answer_at m.stage)) b answer v w
-  rows_of answer row b at = subst (λ (c : Asked). Answers z (what (answer_at m.stage)) c answer v w) (same_Some {A = Asked} a b (sym is ∙ at)) row
+  rows_of : (answer : Answer) → Answers z (telling (what (answer_at m.stage))) a answer v w → (b : Action) → asks m.stage ≡ Some b → Answers z (telling (what (answer_at m.stage))) b answer v w
+  rows_of answer row b at = subst (λ (c : Action). Answers z (telling (what (answer_at m.stage))) c answer v w) (same_Some {A = Action} a b (sym is ∙ at)) row
 
-  pub told_fits : (answer : Answer) → Answers z (what (answer_at m.stage)) a answer v w → IsAllowed z so v a → StageFits z k what m.depth m.stage u v
+  pub told_fits : (answer : Answer) → Answers z (telling (what (answer_at m.stage))) a answer v w → MayLook z so v a → StageFits z k what m.depth m.stage u v
       → Stays answer m m' → (goes_on answer ≡ false → most_steps m'.depth m'.stage ≡ 0) → Keeps answer (asks m.stage) (asks m'.stage) m'.depth above desk above' desk'
       → PlaceFits z k above desk v (stands_on m.stage) → PlaceFits z k above' desk' w (stands_on m'.stage)
   told_fits (word_told word) row may known stays anew keeps fits =
       subst (λ (o : Option Stamp). PlaceFits z k above' desk' w o) (sym stays)
       (subst (λ (o : Option Above). PlaceFits z k o desk' w (stands_on m.stage)) (sym keeps.0)
-      (heard_fits z k v w above desk desk' word so (what (answer_at m.stage)) m.stage a is may row (subst (λ (o : Option Asked). IsHeard o word desk desk') is keeps.1) fits))
+      (heard_fits z k v w above desk desk' word so (what (answer_at m.stage)) m.stage a is may row (subst (λ (o : Option Action). IsHeard o word desk desk') is keeps.1) fits))
   told_fits (Begun (Ok y)) row may known stays anew keeps fits =
       let now : m'.stage ≡ stage_begun y m.stage = ap (λ (n : Descent). n.stage) stays in
       let still = subst (λ (i : ℕ). Enters (asks m.stage) (asks m'.stage) i above desk above' desk') (ap (λ (n : Descent). n.depth) stays) keeps in
@@ -264,3 +278,5 @@ module _ (z : Sizes) (k : List ℕ) (what : Option ℕ → Deed) (u v w : View) 
       (checked_fits z k u v w above above' desk desk' what m.depth (what (answer_at m.stage)) m.stage t (subst WantsCheck (sym is) (wants_check z (what (answer_at m.stage)) a (Ok t) v w row)) (rows_of (Checked (Ok t)) row) known
       (subst (λ (t : Stage). Enters (asks m.stage) (asks t) m.depth above desk above' desk') now still) fits)
   told_fits (Checked (Err e)) row may known stays anew keeps fits = subst (PlaceFits z k above' desk' w) (sym (stands_nowhere m'.depth m'.stage (anew refl))) tt
+  told_fits (Upgraded r) row may known stays anew keeps fits = absurd stays
+  told_fits Done row may known stays anew keeps fits = absurd stays

@@ -10,17 +10,19 @@ use Rattle.art_cell.specs.declared.cells.Link.TheVariants.{Leaf as leaf, Node as
 use Rattle.art_cell.specs.declared.cells.Node.{Node}
 use Rattle.art_cell.specs.Children.{link_of}
 use Rattle.art_cell.specs.Words.{Words, packed}
-use Rattle.art_find.specs.Asking.{Answers, WantsCheck, WantsVersion, WantsWord, WasChecked}
+use Rattle.art_machine.proofs.AnswerKinds.{finds_word, is_begin, is_check}
+use Rattle.art_find.specs.Asking.{WantsCheck, WantsVersion, WantsWord, WasChecked}
+use Rattle.art_machine.specs.Acting.{Answers, telling}
 use Rattle.art_find.specs.Compares.{ComparesWord, HasByte, IsBeside, IsWithin, TellsBeside, at_first}
 use Rattle.art_find.specs.declared.compares.Beside.{Beside}
 use Rattle.art_find.specs.Descents.{IsAbove, IsChild, IsOn, IsReading, StageFits, WasNamed, WasNoted, answer_at, asks, ended_at, stage_below, staged}
 use Rattle.art_step.specs.Events.{MakesEvent}
 use Rattle.art_find.specs.Verdicts.{Says, value_of}
 use Rattle.art_find.specs.Ways.{HasHeader, IsAtLeaf, IsAtSlot, IsInKey, IsInPrefix, IsPassed, IsPastPrefix, count_in}
-use Rattle.art_find.specs.declared.asked.Answer.{Answer}
-use Rattle.art_find.specs.declared.asked.Answer.TheVariants.{Begun, Word as word_told, Checked}
-use Rattle.art_find.specs.declared.asked.Asked.{Asked}
-use Rattle.art_find.specs.declared.asked.Asked.TheVariants.{Begin, Read, ReadLeaf, Check, Settle}
+use Rattle.art_machine.specs.declared.actions.Answer.{Answer}
+use Rattle.art_machine.specs.declared.actions.Answer.TheVariants.{Begun, Word as word_told, Checked}
+use Rattle.art_machine.specs.declared.actions.Action.{Action}
+use Rattle.art_machine.specs.declared.actions.Action.TheVariants.{Begin, Read, ReadLeaf, Check, Settle}
 use Rattle.art_find.specs.declared.descents.LeafSeen.{LeafSeen}
 use Rattle.art_find.specs.declared.descents.NodeSeen.{NodeSeen}
 use Rattle.art_find.specs.declared.descents.Stage.{Stage}
@@ -458,12 +460,12 @@ module _ (z : Sizes) (u v w : View) (y : Stamp) (place word : ℕ) where
 -- ---- where the stage is known by an equation
 
 -- what is asked there, and what it answered
-pub at_stage : (z : Sizes) (k : List ℕ) (what : Option ℕ → Deed) (depth : ℕ) (stage now : Stage) (a : Asked) (answer : Answer) (u v w : View) → stage ≡ now → asks stage ≡ Some a
-    → StageFits z k what depth stage u v → Answers z (what (answer_at stage)) a answer v w
-    → StageFits z k what depth now u v × ((b : Asked) → asks now ≡ Some b → Answers z (what (answer_at now)) b answer v w)
+pub at_stage : (z : Sizes) (k : List ℕ) (what : Option ℕ → Deed) (depth : ℕ) (stage now : Stage) (a : Action) (answer : Answer) (u v w : View) → stage ≡ now → asks stage ≡ Some a
+    → StageFits z k what depth stage u v → Answers z (telling (what (answer_at stage))) a answer v w
+    → StageFits z k what depth now u v × ((b : Action) → asks now ≡ Some b → Answers z (telling (what (answer_at now))) b answer v w)
 at_stage z k what depth stage now a answer u v w is asked fits row = (
   subst (λ (t : Stage). StageFits z k what depth t u v) is fits,
-  λ b e. subst (λ (c : Asked). Answers z (what (answer_at now)) c answer v w) (same_Some {A = Asked} a b (sym asked ∙ ap asks is ∙ e)) (subst (λ (t : Stage). Answers z (what (answer_at t)) a answer v w) is row),
+  λ b e. subst (λ (c : Action). Answers z (telling (what (answer_at now))) c answer v w) (same_Some {A = Action} a b (sym asked ∙ ap asks is ∙ e)) (subst (λ (t : Stage). Answers z (telling (what (answer_at t))) a answer v w) is row),
 )
 
 -- ---- a version word that is not clear, or was changed
@@ -501,26 +503,14 @@ checked_again z k what depth (Bytes seen i r) u v wants fits = absurd wants
 checked_again z k what depth (Ended o) u v wants fits = absurd wants
 
 -- what was asked for has the kind of its answer
-pub wants_version : (z : Sizes) (d : Deed) (a : Asked) (r : Result Stamp Locked) (v w : View) → Answers z d a (Begun r) v w → WantsVersion (Some a)
-wants_version z d (Begin c) r v w row = tt
-wants_version z d (Read x i) r v w row = absurd row
-wants_version z d (ReadLeaf x l i) r v w row = absurd row
-wants_version z d (Check x) r v w row = absurd row
-wants_version z d (Settle x) r v w row = absurd row
+pub wants_version : (z : Sizes) (d : Deed) (a : Action) (r : Result Stamp Locked) (v w : View) → Answers z (telling d) a (Begun r) v w → WantsVersion (Some a)
+wants_version z d a r v w row = is_begin z (telling d) a r v w row
 
-pub wants_word : (z : Sizes) (d : Deed) (a : Asked) (word : ℕ) (v w : View) → Answers z d a (word_told word) v w → WantsWord (Some a)
-wants_word z d (Begin c) word v w row = absurd row
-wants_word z d (Read x i) word v w row = tt
-wants_word z d (ReadLeaf x l i) word v w row = tt
-wants_word z d (Check x) word v w row = absurd row
-wants_word z d (Settle x) word v w row = absurd row
+pub wants_word : (z : Sizes) (d : Deed) (a : Action) (word : ℕ) (v w : View) → Answers z (telling d) a (word_told word) v w → WantsWord (Some a)
+wants_word z d a word v w row = finds_word z (telling d) a word v w row
 
-pub wants_check : (z : Sizes) (d : Deed) (a : Asked) (r : Result (Unit {0}) Changed) (v w : View) → Answers z d a (Checked r) v w → WantsCheck (Some a)
-wants_check z d (Begin c) r v w row = absurd row
-wants_check z d (Read x i) r v w row = absurd row
-wants_check z d (ReadLeaf x l i) r v w row = absurd row
-wants_check z d (Check x) r v w row = tt
-wants_check z d (Settle x) r v w row = tt
+pub wants_check : (z : Sizes) (d : Deed) (a : Action) (r : Result (Unit {0}) Changed) (v w : View) → Answers z (telling d) a (Checked r) v w → WantsCheck (Some a)
+wants_check z d a r v w row = is_check z (telling d) a r v w row
 
 -- ---- until it has ended, and then
 

@@ -9,12 +9,12 @@ use Rattle.art_find.specs.Asking.{WasChecked}
 use Rattle.art_find.specs.Compares.{IsWithin}
 use Rattle.art_find.specs.Verdicts.{Says, value_of}
 use Rattle.art_find.specs.Ways.{IsAtKeys, IsAtLeaf, IsAtSlot, IsInKey, IsInPrefix, IsOnNode, count_in}
-use Rattle.art_find.specs.declared.asked.Answer.{Answer}
+use Rattle.art_machine.specs.declared.actions.Answer.{Answer}
 use Rattle.art_find.specs.declared.compares.Beside.{Beside}
-use Rattle.art_find.specs.declared.asked.Answer.TheVariants.{Begun, Checked}
-use Rattle.art_find.specs.declared.asked.Answer.TheVariants as told
-use Rattle.art_find.specs.declared.asked.Asked.{Asked}
-use Rattle.art_find.specs.declared.asked.Asked.TheVariants.{Begin, Read, ReadLeaf, Check, Settle}
+use Rattle.art_machine.specs.declared.actions.Answer.TheVariants.{Begun, Checked}
+use Rattle.art_machine.specs.declared.actions.Answer.TheVariants as told
+use Rattle.art_machine.specs.declared.actions.Action.{Action}
+use Rattle.art_machine.specs.declared.actions.Action.TheVariants.{Begin, Read, ReadLeaf, Check, Settle}
 use Rattle.art_find.specs.declared.descents.Descent.{Descent}
 use Rattle.art_find.specs.declared.descents.LeafSeen.{LeafSeen}
 use Rattle.art_find.specs.declared.descents.NodeSeen.{NodeSeen}
@@ -39,7 +39,7 @@ use Rattle.art_step.specs.declared.views.View.{View}
 -- ---- what it asks and answers
 
 -- the next step
-abbrev pub asks : Stage → Option Asked
+abbrev pub asks : Stage → Option Action
 asks Start = Some (Begin cell.Anchor)
 asks (Anchor x) = Some (Read x 1)
 asks (Child x d) = Some (Check x)
@@ -238,3 +238,4 @@ Stays (Begun (Err e)) m m' = ⊤
 Stays (told.Word a) m m' = stands_on m'.stage ≡ stands_on m.stage
 Stays (Checked (Ok x)) m m' = m' ≡ record m { stage = stage_checked m.stage }
 Stays (Checked (Err e)) m m' = ⊤
+Stays answer m m' = ⊥

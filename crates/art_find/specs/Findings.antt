@@ -5,14 +5,14 @@ use Rattle.art_cell.specs.declared.cells.Cell.{Cell}
 use Rattle.art_cell.specs.declared.cells.Cell.TheVariants as cell
 use Rattle.art_cell.specs.declared.cells.Link.TheVariants.{Node as node}
 use Rattle.art_cell.specs.declared.cells.Node.{Node}
-use Rattle.art_find.specs.Asking.{Answers, goes_on}
+use Rattle.art_machine.specs.Acting.{Answers, goes_on, telling}
 use Rattle.art_find.specs.Descents.{Fits, IsExact, Stays, asks, decided_at, ended_at, most_steps, stands_on}
 use Rattle.art_find.specs.Verdicts.{Says}
-use Rattle.art_find.specs.declared.asked.Answer.{Answer}
-use Rattle.art_find.specs.declared.asked.Answer.TheVariants.{Begun, Checked}
-use Rattle.art_find.specs.declared.asked.Answer.TheVariants as told
-use Rattle.art_find.specs.declared.asked.Asked.{Asked}
-use Rattle.art_find.specs.declared.asked.Asked.TheVariants.{Read, ReadLeaf, Check, Settle}
+use Rattle.art_machine.specs.declared.actions.Answer.{Answer}
+use Rattle.art_machine.specs.declared.actions.Answer.TheVariants.{Begun, Checked}
+use Rattle.art_machine.specs.declared.actions.Answer.TheVariants as told
+use Rattle.art_machine.specs.declared.actions.Action.{Action}
+use Rattle.art_machine.specs.declared.actions.Action.TheVariants.{Read, ReadLeaf, Check, Settle}
 use Rattle.art_find.specs.declared.verdicts.Verdict.{Verdict}
 use Rattle.art_find.specs.Desks.{above_of, node_of}
 use Rattle.art_find.specs.Kept.{HasPath, IsKept}
@@ -79,26 +79,26 @@ pub record IsStanding (z : Sizes) (k : List ℕ) (t : Stand) (desk : Desk) (v : 
 -- ---- what it keeps
 
 -- the place that is asked for is one of a cell
-abbrev pub AsksPlace : Option Asked → Type 0
+abbrev pub AsksPlace : Option Action → Type 0
 AsksPlace (Some (Read x i)) = i < 266
 AsksPlace asked = ⊤
 
 -- a check is asked for that settles an answer
-abbrev pub IsToSettle : Asked → Type 0
+abbrev pub IsToSettle : Action → Type 0
 IsToSettle (Settle x) = ⊤
 IsToSettle asked = ⊥
 
 -- a word of a leaf is asked for
-abbrev pub AsksLeaf : Option Asked → Type 0
+abbrev pub AsksLeaf : Option Action → Type 0
 AsksLeaf (Some (ReadLeaf x l i)) = ⊤
 AsksLeaf asked = ⊥
 
 -- a word that was asked for is kept
-abbrev pub reads_heard : Option Asked → ℕ → List (Option ℕ) → List (Option ℕ)
+abbrev pub reads_heard : Option Action → ℕ → List (Option ℕ) → List (Option ℕ)
 reads_heard (Some (Read x i)) word reads = set reads i (Some word)
 reads_heard asked word reads = reads
 
-pub record IsHeard (asked : Option Asked) (word : ℕ) (old new : Desk) : Type 0 where
+pub record IsHeard (asked : Option Action) (word : ℕ) (old new : Desk) : Type 0 where
   pub node : node_of new ≡ reads_heard asked word (node_of old)
   pub above : above_of new ≡ above_of old
 
@@ -108,16 +108,17 @@ pub record IsCleared (reads : List (Option ℕ)) (new : Desk) : Type 0 where
   pub above : above_of new ≡ reads
 
 -- a version word was asked for, and this is asked next: a read of a cell where it was entered
-abbrev pub Enters : Option Asked → Option Asked → ℕ → Option Above → Desk → Option Above → Desk → Type 0
+abbrev pub Enters : Option Action → Option Action → ℕ → Option Above → Desk → Option Above → Desk → Type 0
 Enters (Some (Check x)) (Some (Read y i)) depth above desk above' desk' = (above' ≡ Some (record { stamp = x; depth = depth })) × IsCleared (node_of desk) desk'
 Enters asked (Some (Read y i)) depth above desk above' desk' = (above' ≡ None) × IsCleared (above_of desk) desk'
 Enters asked next depth above desk above' desk' = (above' ≡ above) × (desk' ≡ desk)
 
 -- by what was asked and answered, and what is asked next
-abbrev pub Keeps : Answer → Option Asked → Option Asked → ℕ → Option Above → Desk → Option Above → Desk → Type 0
+abbrev pub Keeps : Answer → Option Action → Option Action → ℕ → Option Above → Desk → Option Above → Desk → Type 0
 Keeps (told.Word word) asked next depth above desk above' desk' = (above' ≡ above) × IsHeard asked word desk desk'
 Keeps (Begun r) asked next depth above desk above' desk' = Enters asked next depth above desk above' desk'
 Keeps (Checked r) asked next depth above desk above' desk' = Enters asked next depth above desk above' desk'
+Keeps answer asked next depth above desk above' desk' = (above' ≡ above) × (desk' ≡ desk)
 
 -- ---- a step of a finding
 
@@ -126,9 +127,9 @@ abbrev pub IsThere : Finding → Type 0
 IsThere m = (stand_at m ≢ None) ⊎ (ended_at m.descent.stage ≢ None)
 
 -- the step that it asked for was made and answered so
-pub record WasLooked (z : Sizes) (m : Finding) (asked : Asked) (answer : Answer) (v w : View) : Type 0 where
+pub record WasLooked (z : Sizes) (m : Finding) (asked : Action) (answer : Answer) (v w : View) : Type 0 where
   pub asked_it : asks m.descent.stage ≡ Some asked
-  pub row : (d : Deed) → Answers z d asked answer v w
+  pub row : (d : Deed) → Answers z (telling d) asked answer v w
 
 -- and it heard that: it has come further, or begins anew
 pub record HasHeard (z : Sizes) (k : List ℕ) (answer : Answer) (m : Finding) (desk : Desk) (v : View) (m' : Finding) (desk' : Desk) (w : View) : Type 0 where
@@ -141,7 +142,7 @@ pub record HasHeard (z : Sizes) (k : List ℕ) (answer : Answer) (m : Finding) (
 
 -- a step was made and heard, after which it goes on or begins anew
 abbrev pub LookedOn : Sizes → List ℕ → Bool → Finding → Desk → View → Finding → Desk → View → Type 0
-LookedOn z k on m desk v m' desk' w = (asked : Asked) × (answer : Answer) × WasLooked z m asked answer v w × HasHeard z k answer m desk v m' desk' w × (on ≡ goes_on answer)
+LookedOn z k on m desk v m' desk' w = (asked : Action) × (answer : Answer) × WasLooked z m asked answer v w × HasHeard z k answer m desk v m' desk' w × (on ≡ goes_on answer)
 
 -- steps were made and heard one after another, and none failed: it has come further by as many as there were
 pub record WentOn (z : Sizes) (k : List ℕ) (m : Finding) (desk : Desk) (v : View) (m' : Finding) (desk' : Desk) (w : View) : Type 0 where

@@ -1,8 +1,8 @@
 -- What is known while all words of a cell are read.
 use Rattle.std.specs.Prelude.{◌≡◌, ◌≤◌, ◌<◌, ◌⊎◌, ℕ, nat_lt, List, Option, Some, None, if◌then◌else◌}
 use Rattle.art_cell.specs.Reads.{word_read}
-use Rattle.art_find.specs.declared.asked.Asked.{Asked}
-use Rattle.art_find.specs.declared.asked.Asked.TheVariants.{Read}
+use Rattle.art_machine.specs.declared.actions.Action.{Action}
+use Rattle.art_machine.specs.declared.actions.Action.TheVariants.{Read}
 use Rattle.art_find.specs.Kept.{IsKept}
 use Rattle.art_find.specs.declared.rereadings.Rereading.{Rereading}
 use Rattle.art_step.specs.Shows.{HasStamp}
@@ -16,7 +16,7 @@ abbrev pub AreKnown : List (Option ℕ) → ℕ → ℕ → Type 0
 AreKnown reads from end = (place : ℕ) → from ≤ place → place < end → (word : ℕ) × (word_read reads place ≡ Some word)
 
 -- the next read
-abbrev pub reads_next : Stamp → Rereading → Option Asked
+abbrev pub reads_next : Stamp → Rereading → Option Action
 reads_next x m = if nat_lt m.place (size_of x.cell) then Some (Read x m.place) else None
 
 -- the cell is stamped and not held, and what is kept of it has all words before the place, and not the one at the place

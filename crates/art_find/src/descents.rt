@@ -2,9 +2,10 @@
 ghost use Rattle.std.specs.Prelude.{◌≡◌, ℕ, List, Option, length, ◌≤◌, ◌<◌, ◌+◌, ◌*◌, None, Ok, take};
 ghost use Rattle.art_find.specs.Descents.{stage_below};
 
+use crate::Verdict;
 use crate::compares::{Beside, compare_word};
-use crate::{Answer, Asked, Verdict};
 use art_cell::{Cell, Link, Node};
+use art_machine::{Action, Answer};
 use art_node::{Sought, first_word, next_word, read_header};
 use art_path::Compared;
 use art_step::Stamp;
@@ -69,12 +70,13 @@ pub struct Descent {
 }
 
 impl Descent {
-    ghost use Rattle.art_find.specs.Asking.{Answers, IsAllowed, WantsCheck, WantsVersion, goes_on};
+    ghost use Rattle.art_find.specs.Asking.{MayLook, WantsCheck, WantsVersion};
+    ghost use Rattle.art_machine.specs.Acting.{Answers, goes_on, telling};
     ghost use Rattle.art_find.specs.Descents.{Fits, IsExact, IsReading, Stays};
     ghost use Rattle.art_find.specs.Descents.{answer_at, asks, decided_at, ended_at, most_steps, stage_begun, stage_checked};
-    ghost use Rattle.art_find.specs.declared.asked.Answer.{Answer as AnswerTold};
-    ghost use Rattle.art_find.specs.declared.asked.Answer.TheVariants as told;
-    ghost use Rattle.art_find.specs.declared.asked.Asked.{Asked as AskedStep};
+    ghost use Rattle.art_machine.specs.declared.actions.Answer.{Answer as AnswerTold};
+    ghost use Rattle.art_machine.specs.declared.actions.Answer.TheVariants as told;
+    ghost use Rattle.art_machine.specs.declared.actions.Action.{Action as ActionOf};
     ghost use Rattle.art_find.specs.declared.descents.Stage.TheVariants as stages;
     ghost use Rattle.art_step.specs.Shows.{HasValue};
     ghost use Rattle.art_step.specs.declared.deeds.Deed.{Deed};
@@ -97,30 +99,48 @@ impl Descent {
 
     /// The next step, or none where it has ended.
     #[inline(always)]
-    pub fn next(&self) -> Option<Asked>
+    pub fn next(&self) -> Option<Action>
         ensures asks { result ≡ asks self.now.stage }
         ensures allowed { (z : Sizes) (k : List ℕ) (what : Option ℕ → Deed) (u v : View) → Fits z k what self.now u v →
-            IfSome result (IsAllowed z (λ s. HasValue s k (answer_at self.now.stage)) v) }
+            IfSome result (MayLook z (λ s. HasValue s k (answer_at self.now.stage)) v) }
     {
         match self.stage {
-            Stage::Start => Some(Asked::Begin(Cell::Anchor)),
-            Stage::Anchor(stamp) => Some(Asked::Read(stamp, 1)),
-            Stage::Child(stamp, _) => Some(Asked::Check(stamp)),
-            Stage::Below(_, node) => Some(Asked::Begin(Cell::Node(node))),
-            Stage::Both(above, _, _) => Some(Asked::Check(above)),
-            Stage::Header(stamp, _) => Some(Asked::Read(stamp, 1)),
-            Stage::Prefix(seen, number, _) => Some(Asked::Read(
-                seen.stamp,
-                2 + usize::from(number),
-            )),
-            Stage::Keys(seen, number) => Some(Asked::Read(seen.stamp, 10 + usize::from(number))),
-            Stage::Slot(seen, place) => Some(Asked::Read(seen.stamp, place)),
-            Stage::Value(stamp, leaf) => Some(Asked::ReadLeaf(stamp, leaf, 0)),
-            Stage::Length(stamp, leaf, _) => Some(Asked::ReadLeaf(stamp, leaf, 1)),
-            Stage::Bytes(seen, number, _) => {
-                Some(Asked::ReadLeaf(seen.stamp, seen.leaf, 2 + usize::from(number)))
-            }
-            Stage::Decided(stamp, _) => Some(Asked::Settle(stamp)),
+            Stage::Start => Some(Action::Begin { cell: Cell::Anchor }),
+            Stage::Anchor(stamp) => Some(Action::Read { stamp, place: 1 }),
+            Stage::Child(stamp, _) => Some(Action::Check { stamp }),
+            Stage::Below(_, node) => Some(Action::Begin {
+                cell: Cell::Node(node),
+            }),
+            Stage::Both(above, _, _) => Some(Action::Check { stamp: above }),
+            Stage::Header(stamp, _) => Some(Action::Read { stamp, place: 1 }),
+            Stage::Prefix(seen, number, _) => Some(Action::Read {
+                stamp: seen.stamp,
+                place: 2 + usize::from(number),
+            }),
+            Stage::Keys(seen, number) => Some(Action::Read {
+                stamp: seen.stamp,
+                place: 10 + usize::from(number),
+            }),
+            Stage::Slot(seen, place) => Some(Action::Read {
+                stamp: seen.stamp,
+                place,
+            }),
+            Stage::Value(stamp, leaf) => Some(Action::ReadLeaf {
+                stamp,
+                leaf,
+                place: 0,
+            }),
+            Stage::Length(stamp, leaf, _) => Some(Action::ReadLeaf {
+                stamp,
+                leaf,
+                place: 1,
+            }),
+            Stage::Bytes(seen, number, _) => Some(Action::ReadLeaf {
+                stamp: seen.stamp,
+                leaf: seen.leaf,
+                place: 2 + usize::from(number),
+            }),
+            Stage::Decided(stamp, _) => Some(Action::Settle { stamp }),
             Stage::Ended(_) => None,
         }
     }
@@ -179,32 +199,33 @@ impl Descent {
     #[inline(always)]
     pub fn told(&mut self, key: &[u8], answer: Answer) -> bool
         requires few { length key.now ≤ 64 }
-        requires fits { (z : Sizes) × (what : Option ℕ → Deed) × (u : View) × (v : View) × (w : View) × (asked : AskedStep) ×
+        requires fits { (z : Sizes) × (what : Option ℕ → Deed) × (u : View) × (v : View) × (w : View) × (asked : ActionOf) ×
             Fits z key.now what self.old u v × (asks self.old.stage ≡ Some asked) ×
-            Answers z (what (answer_at self.old.stage)) asked answer v w }
+            Answers z (telling (what (answer_at self.old.stage))) asked answer v w }
         ensures on { result ≡ goes_on answer }
         ensures steps { result ≡ true → most_steps self.old.depth self.old.stage < most_steps self.new.depth self.new.stage }
         ensures anew { result ≡ false → most_steps self.new.depth self.new.stage ≡ 0 }
         ensures stays { Stays answer self.old self.new }
         ensures exact { IsExact self.new.stage }
-        ensures fits { (z : Sizes) (what : Option ℕ → Deed) (u v w : View) (asked : AskedStep) →
+        ensures fits { (z : Sizes) (what : Option ℕ → Deed) (u v w : View) (asked : ActionOf) →
             Fits z key.now what self.old u v → asks self.old.stage ≡ Some asked →
-            Answers z (what (answer_at self.old.stage)) asked answer v w → Fits z key.now what self.new u w }
+            Answers z (telling (what (answer_at self.old.stage))) asked answer v w → Fits z key.now what self.new u w }
     {
         match answer {
-            Answer::Begun(Ok(stamp)) => self.began(stamp),
-            Answer::Word(word) => self.read(key, word),
-            Answer::Checked(checked) => match checked {
+            Answer::Begun { result: Ok(stamp) } => self.began(stamp),
+            Answer::Word { found } => self.read(key, found),
+            Answer::Checked { result } => match result {
                 Ok(()) => self.checked(),
                 Err(_) => {
                     self.failed();
                     return false;
                 }
             },
-            Answer::Begun(Err(_)) => {
+            Answer::Begun { result: Err(_) } => {
                 self.failed();
                 return false;
             }
+            _ => unreachable!(),
         }
         true
     }
@@ -216,9 +237,9 @@ impl Descent {
         ensures steps { most_steps self.old.depth self.old.stage < most_steps self.new.depth self.new.stage }
         ensures stays { self.new ≡ record self.old { stage = stage_begun stamp self.old.stage } }
         ensures exact { IsExact self.new.stage }
-        ensures fits { (z : Sizes) (k : List ℕ) (what : Option ℕ → Deed) (u v w : View) (asked : AskedStep) →
+        ensures fits { (z : Sizes) (k : List ℕ) (what : Option ℕ → Deed) (u v w : View) (asked : ActionOf) →
             Fits z k what self.old u v → asks self.old.stage ≡ Some asked →
-            Answers z (what (answer_at self.old.stage)) asked (told.Begun (Ok stamp)) v w → Fits z k what self.new u w }
+            Answers z (telling (what (answer_at self.old.stage))) asked (told.Begun (Ok stamp)) v w → Fits z k what self.new u w }
     {
         self.began_at(self.stage, stamp);
     }
@@ -231,9 +252,9 @@ impl Descent {
         ensures steps { most_steps self.old.depth self.old.stage < most_steps self.new.depth self.new.stage }
         ensures stays { self.new ≡ record self.old { stage = stage_begun stamp self.old.stage } }
         ensures exact { IsExact self.new.stage }
-        ensures fits { (z : Sizes) (k : List ℕ) (what : Option ℕ → Deed) (u v w : View) (asked : AskedStep) →
+        ensures fits { (z : Sizes) (k : List ℕ) (what : Option ℕ → Deed) (u v w : View) (asked : ActionOf) →
             Fits z k what self.old u v → asks self.old.stage ≡ Some asked →
-            Answers z (what (answer_at self.old.stage)) asked (told.Begun (Ok stamp)) v w → Fits z k what self.new u w }
+            Answers z (telling (what (answer_at self.old.stage))) asked (told.Begun (Ok stamp)) v w → Fits z k what self.new u w }
     {
         self.stage = match stage {
             Stage::Start => Stage::Anchor(stamp),
@@ -249,9 +270,9 @@ impl Descent {
         ensures steps { most_steps self.old.depth self.old.stage < most_steps self.new.depth self.new.stage }
         ensures stays { self.new ≡ record self.old { stage = stage_checked self.old.stage } }
         ensures exact { IsExact self.new.stage }
-        ensures fits { (z : Sizes) (k : List ℕ) (what : Option ℕ → Deed) (u v w : View) (asked : AskedStep) →
+        ensures fits { (z : Sizes) (k : List ℕ) (what : Option ℕ → Deed) (u v w : View) (asked : ActionOf) →
             Fits z k what self.old u v → asks self.old.stage ≡ Some asked →
-            Answers z (what (answer_at self.old.stage)) asked (told.Checked (Ok tt)) v w → Fits z k what self.new u w }
+            Answers z (telling (what (answer_at self.old.stage))) asked (told.Checked (Ok tt)) v w → Fits z k what self.new u w }
     {
         self.checked_at(self.stage);
     }
@@ -264,9 +285,9 @@ impl Descent {
         ensures steps { most_steps self.old.depth self.old.stage < most_steps self.new.depth self.new.stage }
         ensures stays { self.new ≡ record self.old { stage = stage_checked self.old.stage } }
         ensures exact { IsExact self.new.stage }
-        ensures fits { (z : Sizes) (k : List ℕ) (what : Option ℕ → Deed) (u v w : View) (asked : AskedStep) →
+        ensures fits { (z : Sizes) (k : List ℕ) (what : Option ℕ → Deed) (u v w : View) (asked : ActionOf) →
             Fits z k what self.old u v → asks self.old.stage ≡ Some asked →
-            Answers z (what (answer_at self.old.stage)) asked (told.Checked (Ok tt)) v w → Fits z k what self.new u w }
+            Answers z (telling (what (answer_at self.old.stage))) asked (told.Checked (Ok tt)) v w → Fits z k what self.new u w }
     {
         self.stage = match stage {
             Stage::Child(stamp, link) => below(stamp, link),

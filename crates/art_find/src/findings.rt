@@ -47,8 +47,9 @@
 ghost use Rattle.std.specs.Prelude.{◌≡◌, ◌+◌, ◌≤◌, ◌<◌, ◌⊎◌, ℕ, List, Option, length, None};
 ghost use Rattle.art_find.specs.Findings.{AsksPlace, IsHeard};
 
-use crate::{Answer, Asked, Descent, Desk, Stage, Verdict};
+use crate::{Descent, Desk, Stage, Verdict};
 use art_cell::Cell;
+use art_machine::{Action, Answer};
 use art_step::{Changed, Locked, Stamp, Steps};
 
 /// The cell that has the node as its child where a finding stands.
@@ -81,11 +82,12 @@ pub struct Finding {
 }
 
 impl Finding {
-    ghost use Rattle.art_find.specs.Asking.{Answers, IsAllowed, WantsWord, goes_on};
+    ghost use Rattle.art_find.specs.Asking.{MayLook, WantsWord};
+    ghost use Rattle.art_machine.specs.Acting.{Answers, goes_on, telling};
     ghost use Rattle.art_find.specs.Descents.{IsExact, IsReading, Stays};
     ghost use Rattle.art_find.specs.Descents.{answer_at, asks, ended_at, most_steps};
-    ghost use Rattle.art_find.specs.declared.asked.Asked.{Asked as AskedStep};
-    ghost use Rattle.art_find.specs.declared.asked.Asked.TheVariants.{Begin as begin_asked, Check as check_asked, Read as read_asked};
+    ghost use Rattle.art_machine.specs.declared.actions.Action.{Action as ActionOf};
+    ghost use Rattle.art_machine.specs.declared.actions.Action.TheVariants.{Begin as begin_asked, Check as check_asked, Read as read_asked};
     ghost use Rattle.art_find.specs.Findings.{AsksLeaf, Descends, Enters, FindingFits, IsStanding, IsThere, Keeps, LookedOn, stand_at};
     ghost use Rattle.art_find.specs.declared.desks.Desk.{Desk as DeskOf};
     ghost use Rattle.art_step.specs.Shows.{HasValue};
@@ -113,11 +115,11 @@ impl Finding {
 
     /// The next step, or none where it has ended.
     #[inline(always)]
-    pub fn next(&self) -> Option<Asked>
+    pub fn next(&self) -> Option<Action>
         ensures asks { result ≡ asks self.now.descent.stage }
         ensures allowed { (z : Sizes) (k : List ℕ) (what : Option ℕ → Deed) (desk : DeskOf) (u v : View) →
             FindingFits z k what self.now desk u v →
-            IfSome result (IsAllowed z (λ s. HasValue s k (answer_at self.now.descent.stage)) v) }
+            IfSome result (MayLook z (λ s. HasValue s k (answer_at self.now.descent.stage)) v) }
     {
         self.descent.next()
     }
@@ -142,9 +144,9 @@ impl Finding {
     #[inline(always)]
     pub fn told(&mut self, desk: &mut Desk, key: &[u8], answer: Answer) -> bool
         requires few { length key.now ≤ 64 }
-        requires fits { (z : Sizes) × (what : Option ℕ → Deed) × (u : View) × (v : View) × (w : View) × (asked : AskedStep) ×
+        requires fits { (z : Sizes) × (what : Option ℕ → Deed) × (u : View) × (v : View) × (w : View) × (asked : ActionOf) ×
             FindingFits z key.now what self.old desk.old u v × (asks self.old.descent.stage ≡ Some asked) ×
-            Answers z (what (answer_at self.old.descent.stage)) asked answer v w }
+            Answers z (telling (what (answer_at self.old.descent.stage))) asked answer v w }
         ensures on { result ≡ goes_on answer }
         ensures steps { result ≡ true → most_steps self.old.descent.depth self.old.descent.stage <
             most_steps self.new.descent.depth self.new.descent.stage }
@@ -153,9 +155,9 @@ impl Finding {
         ensures keeps { Keeps answer (asks self.old.descent.stage) (asks self.new.descent.stage) self.new.descent.depth
             self.old.above desk.old self.new.above desk.new }
         ensures exact { IsExact self.new.descent.stage }
-        ensures fits { (z : Sizes) (what : Option ℕ → Deed) (u v w : View) (asked : AskedStep) →
+        ensures fits { (z : Sizes) (what : Option ℕ → Deed) (u v w : View) (asked : ActionOf) →
             FindingFits z key.now what self.old desk.old u v → asks self.old.descent.stage ≡ Some asked →
-            Answers z (what (answer_at self.old.descent.stage)) asked answer v w → FindingFits z key.now what self.new desk.new u w }
+            Answers z (telling (what (answer_at self.old.descent.stage))) asked answer v w → FindingFits z key.now what self.new desk.new u w }
     {
         let asked = self.descent.next();
         let on = self.descent.told(key, answer);
@@ -325,7 +327,7 @@ impl Finding {
         match begun {
             Ok(stamp) => {
                 self.descent.began_at(stage, stamp);
-                self.enter(desk, Some(Asked::Begin(cell)));
+                self.enter(desk, Some(Action::Begin { cell }));
                 true
             }
             Err(_) => {
@@ -377,7 +379,7 @@ impl Finding {
         match checked {
             Ok(()) => {
                 self.descent.checked_at(stage);
-                self.enter(desk, Some(Asked::Check(stamp)));
+                self.enter(desk, Some(Action::Check { stamp }));
                 true
             }
             Err(_) => {
@@ -389,29 +391,29 @@ impl Finding {
 
     /// Keeps what was read by the step that was asked for.
     #[inline(always)]
-    fn keep(&mut self, desk: &mut Desk, asked: Option<Asked>, answer: Answer)
+    fn keep(&mut self, desk: &mut Desk, asked: Option<Action>, answer: Answer)
         requires { AsksPlace asked }
         ensures descent { self.new.descent ≡ self.old.descent }
         ensures keeps { Keeps answer asked (asks self.old.descent.stage) self.old.descent.depth self.old.above desk.old
             self.new.above desk.new }
     {
         match answer {
-            Answer::Word(word) => hear(desk, asked, word),
-            Answer::Begun(_) => self.enter(desk, asked),
-            Answer::Checked(_) => self.enter(desk, asked),
+            Answer::Word { found } => hear(desk, asked, found),
+            Answer::Begun { .. } | Answer::Checked { .. } => self.enter(desk, asked),
+            Answer::Upgraded { .. } | Answer::Done => {}
         }
     }
 
     /// A version word was asked for. Where a read of a cell comes next, the finding stands on that cell from now on.
     #[inline(always)]
-    fn enter(&mut self, desk: &mut Desk, asked: Option<Asked>)
+    fn enter(&mut self, desk: &mut Desk, asked: Option<Action>)
         ensures descent { self.new.descent ≡ self.old.descent }
         ensures enters { Enters asked (asks self.old.descent.stage) self.old.descent.depth self.old.above desk.old
             self.new.above desk.new }
     {
         match self.descent.next() {
-            Some(Asked::Read(_, _)) => match asked {
-                Some(Asked::Check(stamp)) => {
+            Some(Action::Read { .. }) => match asked {
+                Some(Action::Check { stamp }) => {
                     let depth = self.descent.depth();
                     self.above = Some(Above { stamp, depth });
                     desk.go_down();
@@ -428,12 +430,12 @@ impl Finding {
 
 /// Keeps a word that was read.
 #[inline(always)]
-fn hear(desk: &mut Desk, asked: Option<Asked>, word: u64)
+fn hear(desk: &mut Desk, asked: Option<Action>, word: u64)
     requires { AsksPlace asked }
     ensures { IsHeard asked word desk.old desk.new }
 {
     match asked {
-        Some(Asked::Read(_, place)) => desk.note(place, word),
+        Some(Action::Read { place, .. }) => desk.note(place, word),
         _ => {}
     }
 }

@@ -10,7 +10,7 @@
 //! # A descent
 //!
 //! `Descent` is the look for one key, as a machine. It is a value that names no carrier and keeps no key: scalars alone, and
-//! the key stands beside it. `next` names the step that it asks for (`Asked`), or none where it has ended, and `told` hands it
+//! the key stands beside it. `next` names the step that it asks for (an `Action`), or none where it has ended, and `told` hands it
 //! the answer (`Answer`). So the same machine makes one step at each turn of an actor, with those of others in between, or runs
 //! to its end in a loop.
 //!
@@ -75,7 +75,6 @@
 //! costs at most 18. A failure begins the count anew. So a get that used all its turns met many failures, or had few turns.
 #![tactic(auto)]
 
-mod asked;
 mod compares;
 mod descents;
 mod desks;
@@ -86,7 +85,6 @@ mod rereadings;
 mod straight;
 mod verdicts;
 
-pub use asked::{Answer, Asked};
 pub use compares::Beside;
 pub use descents::{Descent, LeafSeen, NodeSeen, Stage};
 pub use desks::Desk;

@@ -11,13 +11,14 @@ use art_step::Stamp;
 
 impl Descent {
     ghost use Rattle.art_cell.specs.declared.cells.Cell.TheVariants as cells;
-    ghost use Rattle.art_find.specs.Asking.{Answers, WantsWord};
+    ghost use Rattle.art_find.specs.Asking.{WantsWord};
+    ghost use Rattle.art_machine.specs.Acting.{Answers, telling};
     ghost use Rattle.art_find.specs.Compares.{IsWithin};
     ghost use Rattle.art_find.specs.Descents.{Fits, IsAbove, IsExact, IsOn, IsReading, WasNoted};
     ghost use Rattle.art_find.specs.Descents.{answer_at, asks, ended_at, later_key, most_steps, stands_on};
     ghost use Rattle.art_find.specs.Ways.{HasHeader, IsAtKeys, IsAtLeaf, IsAtSlot, IsInKey, IsInPrefix, IsOnNode, IsPassed, count_in};
-    ghost use Rattle.art_find.specs.declared.asked.Answer.TheVariants as told;
-    ghost use Rattle.art_find.specs.declared.asked.Asked.{Asked as AskedStep};
+    ghost use Rattle.art_machine.specs.declared.actions.Answer.TheVariants as told;
+    ghost use Rattle.art_machine.specs.declared.actions.Action.{Action as ActionOf};
     ghost use Rattle.art_step.specs.Shows.{HasStamp, Shows};
     ghost use Rattle.art_step.specs.declared.deeds.Deed.{Deed};
     ghost use Rattle.art_step.specs.declared.views.Sizes.{Sizes};
@@ -34,9 +35,9 @@ impl Descent {
         ensures going { ended_at self.new.stage ≡ None }
         ensures stays { stands_on self.new.stage ≡ stands_on self.old.stage }
         ensures exact { IsExact self.new.stage }
-        ensures fits { (z : Sizes) (what : Option ℕ → Deed) (u v w : View) (asked : AskedStep) →
+        ensures fits { (z : Sizes) (what : Option ℕ → Deed) (u v w : View) (asked : ActionOf) →
             Fits z key.now what self.old u v → asks self.old.stage ≡ Some asked →
-            Answers z (what (answer_at self.old.stage)) asked (told.Word word) v w → Fits z key.now what self.new u w }
+            Answers z (telling (what (answer_at self.old.stage))) asked (told.Word word) v w → Fits z key.now what self.new u w }
     {
         self.read_at(self.stage, key, word);
     }
@@ -52,9 +53,9 @@ impl Descent {
         ensures going { ended_at self.new.stage ≡ None }
         ensures stays { stands_on self.new.stage ≡ stands_on self.old.stage }
         ensures exact { IsExact self.new.stage }
-        ensures fits { (z : Sizes) (what : Option ℕ → Deed) (u v w : View) (asked : AskedStep) →
+        ensures fits { (z : Sizes) (what : Option ℕ → Deed) (u v w : View) (asked : ActionOf) →
             Fits z key.now what self.old u v → asks self.old.stage ≡ Some asked →
-            Answers z (what (answer_at self.old.stage)) asked (told.Word word) v w → Fits z key.now what self.new u w }
+            Answers z (telling (what (answer_at self.old.stage))) asked (told.Word word) v w → Fits z key.now what self.new u w }
     {
         match stage {
             Stage::Anchor(stamp) => self.see_root(key, stamp, word),

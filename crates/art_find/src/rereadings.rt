@@ -5,8 +5,8 @@ ghost use Rattle.art_find.specs.Rereadings.{AreKnown};
 ghost use Rattle.art_find.specs.Runs.{HasReadOnly, MayReadRun, WereRead};
 ghost use Rattle.art_step.specs.Views.{size_of};
 
-use crate::Asked;
 use art_cell::{Cell, Reads};
+use art_machine::Action;
 use art_step::{Stamp, Steps};
 
 /// How many words a cell has at most.
@@ -20,7 +20,7 @@ pub struct Rereading {
 }
 
 impl Rereading {
-    ghost use Rattle.art_find.specs.Asking.{IsAllowed};
+    ghost use Rattle.art_find.specs.Asking.{MayLook};
     ghost use Rattle.art_find.specs.Kept.{IsKept, StaysRead};
     ghost use Rattle.art_find.specs.Rereadings.{IsWholeOrLast, RereadingFits, reads_next};
     ghost use Rattle.art_find.specs.Runs.{HasReadOn};
@@ -46,15 +46,18 @@ impl Rereading {
 
     /// The read of the first word that is not known, or none where all are.
     #[inline(always)]
-    pub fn next(&self, stamp: Stamp) -> Option<Asked>
+    pub fn next(&self, stamp: Stamp) -> Option<Action>
         ensures asks { result ≡ reads_next stamp self.now }
         ensures allowed { (z : Sizes) (v : View) (reads : List (Option ℕ)) →
-            RereadingFits z v stamp self.now reads → IfSome result (IsAllowed z (λ s. ⊤) v) }
+            RereadingFits z v stamp self.now reads → IfSome result (MayLook z (λ s. ⊤) v) }
         ensures all { result ≡ None → (z : Sizes) (v : View) (reads : List (Option ℕ)) →
             RereadingFits z v stamp self.now reads → AreKnown reads 1 (size_of stamp.cell) }
     {
         if self.place < words_of(stamp.cell) {
-            Some(Asked::Read(stamp, self.place))
+            Some(Action::Read {
+                stamp,
+                place: self.place,
+            })
         } else {
             None
         }

@@ -5,12 +5,14 @@ use Rattle.std.proofs.lemmas.Option.{same_Some}
 use Rattle.std.specs.List.{remove}
 use Rattle.std.specs.Option.{option_and_then}
 use Rattle.std.specs.Prelude.{Option, Some, None}
-use Rattle.art_epoch.specs.Asking.{Answers}
+use Rattle.art_machine.proofs.Words.{done_row, word_row}
+use Rattle.art_machine.specs.Acting.{Answers, word_in}
+use Rattle.art_machine.specs.declared.actions.Answer.{Answer}
 use Rattle.art_epoch.specs.Limbo.{lets_go, no_place, open_index}
 use Rattle.art_epoch.specs.Pins.{view_advanced}
 use Rattle.art_epoch.specs.Reclaiming.{Fits, IsLeast, IsWatched, IsWatching, Look, MayGo, Reclaims, StageFits, asks_at, least_after, least_at, lower, others, places_after, skip, stage_after, view_watched, watching}
-use Rattle.art_epoch.specs.declared.asked.Asked.{Asked}
-use Rattle.art_epoch.specs.declared.asked.Asked.TheVariants.{Free, Note, Raise, Watch}
+use Rattle.art_machine.specs.declared.actions.Action.{Action}
+use Rattle.art_machine.specs.declared.actions.Action.TheVariants.{Free, ReadEpoch, RaiseEpoch, ReadPin}
 use Rattle.art_epoch.specs.declared.limbo.Place.{Place}
 use Rattle.art_epoch.specs.declared.reclaiming.ReclaimStage.{ReclaimStage}
 use Rattle.art_epoch.specs.declared.reclaiming.ReclaimStage.TheVariants.{Noting, Raising, Watching, Freeing}
@@ -134,7 +136,7 @@ no_label [] label is = cc
 no_label (p ∷ ps) label is = no_label ps label is
 
 -- at the beginning none stays
-pub none_stays : (s : ReclaimStage) (ps : List Place) (label : ℕ) → asks_at s [] ≡ Some Note → first_label (least_at s) ps ≡ Some label → ⊥
+pub none_stays : (s : ReclaimStage) (ps : List Place) (label : ℕ) → asks_at s [] ≡ Some ReadEpoch → first_label (least_at s) ps ≡ Some label → ⊥
 none_stays Noting ps label first is = no_label ps label is
 none_stays Raising ps label first is = cc
 none_stays (Watching q o) ps label first is = cc
@@ -263,12 +265,18 @@ blocked_on z u v w ps qs q x o b k row was = record {
         (λ (before : first_label o qs ≡ Some label). blocker_stays was.looks q x label b earlier (was.blocker label before))
         (label_lowered o (least_after o x) qs label (lowers o x) is)
 
-module _ (z : Sizes) (u v w : View) (ps qs : List Place) (r : Reclaiming) (x : ℕ) (b : Blocker) (fits : Fits z u ps r qs v) where
+module _ (z : Sizes) (u v w : View) (ps qs : List Place) (r : Reclaiming) (answer : Answer) (b : Blocker) (fits : Fits z u ps r qs v) where
+  abbrev x : ℕ
+  x = word_in answer
+
   -- a step of the reclaim was made
-  pub blocked_after : (a : Asked) → asks_at r.stage qs ≡ Some a → Answers z a x v w → IsBlocked u v (least_at r.stage) qs b
-      → IsBlocked u w (least_at (reclaiming_after r x).stage) (places_after r.stage qs) (blocker_after r b x qs)
+  pub blocked_after : (a : Action) → asks_at r.stage qs ≡ Some a → Answers z None a answer v w → IsBlocked u v (least_at r.stage) qs b
+      → IsBlocked u w (least_at (reclaiming_after r (word_in answer)).stage) (places_after r.stage qs) (blocker_after r b (word_in answer) qs)
   blocked_after a asked row was = by_stage r.stage fits.stage asked was (may_go z u ps qs r v fits a asked)
     where
+      at : (c : Action) → c ≡ a → Answers z None c answer v w
+      at c same = subst (λ (d : Action). Answers z None d answer v w) (sym same) row
+
       none_least : (s : ReclaimStage) → least_at s ≡ None → (rs : List Place) → first_label (least_at s) rs ≡ first_label None rs
       none_least s is rs = ap (λ (o : Option ℕ). first_label o rs) is
 
@@ -283,17 +291,18 @@ module _ (z : Sizes) (u v w : View) (ps qs : List Place) (r : Reclaiming) (x : �
           → IsBlocked u w (least_at (stage_after r.own r.passes x s)) (places_after s qs)
           (blocked_by (option_and_then (watched x) (asks_at s qs)) (least_at s) (first_label (least_at (stage_after r.own r.passes x s)) (places_after s qs)) b)
       by_stage Noting k e was low =
-          let step = subst (λ (c : Asked). Answers z c x v w) (sym (same_Some Note a e)) row in
+          let step = word_row z None ReadEpoch answer v w tt (at ReadEpoch (same_Some ReadEpoch a e)) in
           blocked_same u v w None (least_at (stage_after r.own r.passes x Noting)) qs qs b (ap words_found step.is) (none_least (stage_after r.own r.passes x Noting) noting_least qs) was
       by_stage Raising k e was low =
-          let step = subst (λ (c : Asked). Answers z c x v w) (sym (same_Some Raise a e)) row in
+          let step = word_row z None RaiseEpoch answer v w tt (at RaiseEpoch (same_Some RaiseEpoch a e)) in
           blocked_same u v w None (least_at (watching r.own r.passes 0 None)) qs qs b (ap words_found step) (none_least (watching r.own r.passes 0 None) (least_watching r.own r.passes 0 None) qs) was
       by_stage (Watching q o) k e was low =
-          let step = subst (λ (c : Asked). Answers z c x v w) (sym (same_Some (Watch q) a e)) row in
+          let step = word_row z None (ReadPin q) answer v w tt (at (ReadPin q) (same_Some (ReadPin q) a e)) in
           let is = least_watching r.own r.passes (q + 1) (least_after o x) in
           subst (λ (p : Option ℕ). IsBlocked u w p qs (blocked_by (Some (record { pass = q; epoch = x })) o (first_label p qs) b)) (sym is) (blocked_on z u v w ps qs q x o b k step was)
       by_stage (Freeing o n) k e was low =
           let is : asks_at (Freeing o n) qs ≡ Some (Free (get_or qs (open_index o qs) no_place).link) = ap (λ (c : Bool). if c then Some (Free (get_or qs (open_index o qs) no_place).link) else None) (lt-ltb (open_index o qs) (length qs) low) in
-          let step = subst (λ (c : Asked). Answers z c x v w) (same_Some a (Free (get_or qs (open_index o qs) no_place).link) (sym e ∙ is)) row in
-          subst (λ (p : Option Asked). IsBlocked u w o (remove qs (open_index o qs)) (blocked_by (option_and_then (watched x) p) o (first_label o (remove qs (open_index o qs))) b)) (sym is)
+          let goes : Action = Free (get_or qs (open_index o qs) no_place).link in
+          let step = done_row z None goes answer v w tt (at goes (sym (same_Some a goes (sym e ∙ is)))) in
+          subst (λ (p : Option Action). IsBlocked u w o (remove qs (open_index o qs)) (blocked_by (option_and_then (watched x) p) o (first_label o (remove qs (open_index o qs))) b)) (sym is)
           (blocked_same u v w o o qs (remove qs (open_index o qs)) b (ap words_found step.is) (label_left o qs low) was)

@@ -2,10 +2,13 @@
 use Rattle.std.proofs.Common.{◌≡◌, ℕ, ◌+◌, ◌<◌, List, [], ◌∷◌, ◌++◌, inl, refl, sym, ap, ◌∙◌, subst, arith, append-nil}
 use Rattle.std.specs.Prelude.{Option, Some, None}
 use Rattle.art_cell.specs.declared.cells.Link.{Link}
-use Rattle.art_epoch.specs.Asking.{Answers, IsAllowed}
+use Rattle.art_machine.proofs.Words.{done_row}
+use Rattle.art_machine.specs.Acting.{Answers, IsAllowed}
+use Rattle.art_machine.specs.declared.actions.Answer.{Answer}
+use Rattle.art_machine.specs.declared.actions.Action.TheVariants.{GiveBack, StorePin}
 use Rattle.art_epoch.specs.Limbo.{IsLimbo, places_for}
 use Rattle.art_epoch.specs.Reclaiming.{Retires}
-use Rattle.art_epoch.specs.declared.asked.Asked.{Asked}
+use Rattle.art_machine.specs.declared.actions.Action.{Action}
 use Rattle.art_epoch.specs.declared.limbo.Place.{Place}
 use Rattle.art_frame.specs.Closings.{ClosingFits, IsClosed, IsGiving, MayClose, gives_link, stage_of, steps_left, without_link}
 use Rattle.art_frame.specs.Stocks.{count_in, first_in, without}
@@ -62,7 +65,7 @@ module _ (z : Sizes) (k : List ℕ) (value : ℕ) (u v : View) (ps qs : List Pla
   free_now : v.held ≡ []
   free_now = ap (λ (t : View). t.held) g.is ∙ g.free
 
-  pub may_give : (o : Option Link) → first_in s ≡ o → IsAllowed z v (gives_link o)
+  pub may_give : (o : Option Link) → first_in s ≡ o → IsAllowed z None v (gives_link o)
   may_give (Some d) is = record {
     hand = in_hand z k value v s d g.stock (first_is_in s d is);
     free = λ n e h i. absurd (subst (λ (hs : List Holding). Member h hs) free_now i);
@@ -112,9 +115,9 @@ module _ (z : Sizes) (k : List ℕ) (value : ℕ) (u v : View) (ps qs : List Pla
         steps = let one = ap (λ (t : View). t.steps) row in let few = g.steps in omega (arith, one, few);
       }
 
-  pub told_giving : (o : Option Link) (a : Asked) (x : ℕ) (w : View) → first_in s ≡ o → gives_link o ≡ a → Answers z a x v w → ClosingFits z k value u ps us (stage_of o) qs (without_link o s) w
-  told_giving (Some d) a x w is asked row = gave d w is (subst (λ (b : Asked). Answers z b x v w) (sym asked) row)
-  told_giving None a x w is asked row = (left w is (subst (λ (b : Asked). Answers z b x v w) (sym asked) row), is)
+  pub told_giving : (o : Option Link) (a : Action) (answer : Answer) (w : View) → first_in s ≡ o → gives_link o ≡ a → Answers z None a answer v w → ClosingFits z k value u ps us (stage_of o) qs (without_link o s) w
+  told_giving (Some d) a answer w is asked row = gave d w is (done_row z None (GiveBack d) answer v w tt (subst (λ (b : Action). Answers z None b answer v w) (sym asked) row))
+  told_giving None a answer w is asked row = (left w is (done_row z None (StorePin 0) answer v w tt (subst (λ (b : Action). Answers z None b answer v w) (sym asked) row)), is)
 
 -- each leaves fewer
 pub fewer_given : (s : Stock) (o : Option Link) → first_in s ≡ o → steps_left (stage_of o) (without_link o s) < 1 + count_in s

@@ -2,14 +2,15 @@
 use Rattle.std.proofs.Common.{◌≡◌, ℕ, get_or, ◌+◌, ◌<◌, ◌≤◌, Bool, true, false, if◌then◌else◌, nat_lt, List, [], ◌∷◌, length, inr, sym, refl, ap, ◌∙◌, subst, arith, ltb-true, ltb-false}
 use Rattle.std.proofs.lemmas.Bool.{lt-ltb, ne_eqb}
 use Rattle.std.specs.Prelude.{Option, Some, None}
-use Rattle.art_epoch.specs.Asking.{Answers}
+use Rattle.art_machine.specs.Acting.{Answers, word_in}
+use Rattle.art_machine.specs.declared.actions.Answer.{Answer}
 use Rattle.art_epoch.specs.Limbo.{IsLimbo, no_place, open_index}
 use Rattle.art_epoch.specs.Pins as pins
 use Rattle.art_epoch.specs.Pins.{MayPin, Pins}
 use Rattle.art_epoch.specs.Reclaiming as reclaims
 use Rattle.art_epoch.specs.Reclaiming.{OnlyReclaims, Reclaims, asks_at, least_at, places_after}
-use Rattle.art_epoch.specs.declared.asked.Asked.{Asked}
-use Rattle.art_epoch.specs.declared.asked.Asked.TheVariants.{Free, Note}
+use Rattle.art_machine.specs.declared.actions.Action.{Action}
+use Rattle.art_machine.specs.declared.actions.Action.TheVariants.{Free, ReadEpoch}
 use Rattle.art_epoch.specs.declared.limbo.Place.{Place}
 use Rattle.art_epoch.specs.declared.pins.Pinning.{Pinning}
 use Rattle.art_epoch.specs.declared.pins.Pinning.TheVariants.{Noting}
@@ -34,7 +35,7 @@ use Rattle.art_step.specs.declared.views.View.{View}
 -- ---- the beginning
 
 -- the first step is the note of the epoch
-pub noting_left : (passes : ℕ) (s : ReclaimStage) (qs : List Place) → asks_at s [] ≡ Some Note → reclaims.steps_left passes s qs ≤ 2 + passes + length qs
+pub noting_left : (passes : ℕ) (s : ReclaimStage) (qs : List Place) → asks_at s [] ≡ Some ReadEpoch → reclaims.steps_left passes s qs ≤ 2 + passes + length qs
 noting_left passes stage.Noting qs is = omega arith
 noting_left passes stage.Raising qs is = cc
 noting_left passes (stage.Watching q least) qs is = cc
@@ -99,7 +100,7 @@ module _ (z : Sizes) (u v : View) (ps qs : List Place) (r : Reclaiming) (b : Blo
   }
 
   -- more goes back, or nothing more may
-  goes_on : (o : Option Asked) → asks_at r.stage qs ≡ o → OpeningFits z u ps (going_on o r b qs) qs v
+  goes_on : (o : Option Action) → asks_at r.stage qs ≡ o → OpeningFits z u ps (going_on o r b qs) qs v
   goes_on (Some a) is = record { may = may; some = some; fits = fits; going = (a, is); blocked = blocked }
   goes_on None is = by_test (nat_lt 60 (length qs)) refl
     where
@@ -110,22 +111,23 @@ module _ (z : Sizes) (u v : View) (ps qs : List Place) (r : Reclaiming) (b : Blo
         reclaimed = has_reclaimed is;
         room = let few = ltb-false 60 (length qs) room in omega (arith, few);
         fits = (record { idle = idle_still is; free = ap (λ (t : View). t.held) (has_reclaimed is).only ∙ may.free }, refl);
-        going = (Note, refl);
+        going = (ReadEpoch, refl);
       }
 
 -- a step of the reclaim was made
-pub told_reclaiming : (z : Sizes) (u v w : View) (ps qs : List Place) (r : Reclaiming) (b : Blocker) (a : Asked) (x : ℕ) → IsReclaiming z u v ps qs r b → asks_at r.stage qs ≡ Some a → Answers z a x v w
-    → OpeningFits z u ps (reclaimed r b x qs) (places_after r.stage qs) w
-told_reclaiming z u v w ps qs r b a x k asked row =
-    goes_on z u w ps (places_after r.stage qs) (reclaiming_after r x) (blocker_after r b x qs) k.may k.some (reclaim_told z u ps qs r v k.fits w a x asked row)
-    (blocked_after z u v w ps qs r x b k.fits a asked row k.blocked) (asks_at (reclaiming_after r x).stage (places_after r.stage qs)) refl
+pub told_reclaiming : (z : Sizes) (u v w : View) (ps qs : List Place) (r : Reclaiming) (b : Blocker) (a : Action) (answer : Answer) → IsReclaiming z u v ps qs r b → asks_at r.stage qs ≡ Some a → Answers z None a answer v w
+    → OpeningFits z u ps (reclaimed r b (word_in answer) qs) (places_after r.stage qs) w
+told_reclaiming z u v w ps qs r b a answer k asked row =
+    let x = word_in answer in
+    goes_on z u w ps (places_after r.stage qs) (reclaiming_after r x) (blocker_after r b x qs) k.may k.some (reclaim_told z u ps qs r v k.fits w a answer asked row)
+    (blocked_after z u v w ps qs r answer b k.fits a asked row k.blocked) (asks_at (reclaiming_after r x).stage (places_after r.stage qs)) refl
 
 -- it leaves fewer steps
 pub fewer_reclaiming : (r : Reclaiming) (b : Blocker) (x : ℕ) (qs : List Place) → reclaims.steps_left r.passes (reclaiming_after r x).stage (places_after r.stage qs) < reclaims.steps_left r.passes r.stage qs
     → steps_left (reclaimed r b x qs) (places_after r.stage qs) < 2 + reclaims.steps_left r.passes r.stage qs
 fewer_reclaiming r b x qs fewer = by_asked (asks_at (reclaiming_after r x).stage (places_after r.stage qs))
   where
-    by_asked : (o : Option Asked) → steps_left (going_on o (reclaiming_after r x) (blocker_after r b x qs) (places_after r.stage qs)) (places_after r.stage qs) < 2 + reclaims.steps_left r.passes r.stage qs
+    by_asked : (o : Option Action) → steps_left (going_on o (reclaiming_after r x) (blocker_after r b x qs) (places_after r.stage qs)) (places_after r.stage qs) < 2 + reclaims.steps_left r.passes r.stage qs
     by_asked (Some a) = omega (arith, fewer)
     by_asked None = by_test (nat_lt 60 (length (places_after r.stage qs)))
       where

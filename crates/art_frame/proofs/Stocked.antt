@@ -288,10 +288,10 @@ stock_hands_over z k value v w ds s over are o = record {
     stays d none x i = over.stays x i.0 (λ m. none (subst (λ (e : Link). Member e ds) i.1 m))
 
 -- what comes with a change that makes no copy is among them, where its leaf and the node that it makes are
-pub linked_are_in : (c : Change) (s : Stock) → node_copied c ≡ None → ((l : ℕ) → c.leaf ≡ Some l → s.leaf ≡ Some l) → ((n : Node) → node_made c ≡ Some n → IsIn s (node n)) → AreIn s (linked c)
-linked_are_in c s alone leaves nodes = by_parts c.leaf (node_made c) (node_copied c) refl refl alone
+pub linked_are_in : (c : Change) (s : Stock) → node_copied c ≡ None → ((l : ℕ) → c.effects.leaf ≡ Some l → s.leaf ≡ Some l) → ((n : Node) → node_made c ≡ Some n → IsIn s (node n)) → AreIn s (linked c)
+linked_are_in c s alone leaves nodes = by_parts c.effects.leaf (node_made c) (node_copied c) refl refl alone
   where
-    by_parts : (o : Option ℕ) (p q : Option Node) → c.leaf ≡ o → node_made c ≡ p → q ≡ None → AreIn s (cons_option (option_map leaf o) (cons_option (option_map node p) (cons_option (option_map node q) [])))
+    by_parts : (o : Option ℕ) (p q : Option Node) → c.effects.leaf ≡ o → node_made c ≡ p → q ≡ None → AreIn s (cons_option (option_map leaf o) (cons_option (option_map node p) (cons_option (option_map node q) [])))
     by_parts o p (Some n) a b none = absurd (cc)
     by_parts None None None a b none = tt
     by_parts None (Some n) None a b none = (nodes n b, tt)

@@ -3,8 +3,8 @@
 use Rattle.std.specs.Prelude.{◌≡◌, ℕ, ◌+◌, ◌^◌, ◌<◌, ◌≤◌, List, [], ◌∷◌, ◌++◌, length, Bool, true, false, Option, Some, None}
 use Rattle.art_cell.specs.declared.cells.Link.{Link}
 use Rattle.art_epoch.specs.Limbo.{IsLimbo, places_for}
-use Rattle.art_epoch.specs.declared.asked.Asked.{Asked}
-use Rattle.art_epoch.specs.declared.asked.Asked.TheVariants.{Give, Note, Store}
+use Rattle.art_machine.specs.declared.actions.Action.{Action}
+use Rattle.art_machine.specs.declared.actions.Action.TheVariants.{GiveBack, ReadEpoch, StorePin}
 use Rattle.art_epoch.specs.declared.limbo.Place.{Place}
 use Rattle.art_frame.specs.Stocks.{HasStock, count_in, first_in, without}
 use Rattle.art_frame.specs.declared.closings.Closing.{Closing}
@@ -23,16 +23,16 @@ begins [] = Giving
 begins (word ∷ words) = Labelling
 
 -- a number goes back, or the pass goes idle where there is none
-abbrev pub gives_link : Option Link → Asked
-gives_link (Some d) = Give d
-gives_link None = Store 0
+abbrev pub gives_link : Option Link → Action
+gives_link (Some d) = GiveBack d
+gives_link None = StorePin 0
 
-abbrev pub gives : Stock → Asked
+abbrev pub gives : Stock → Action
 gives s = gives_link (first_in s)
 
 -- the next step
-abbrev pub asks : Closing → Stock → Option Asked
-asks Labelling s = Some Note
+abbrev pub asks : Closing → Stock → Option Action
+asks Labelling s = Some ReadEpoch
 asks Giving s = Some (gives s)
 asks Ended s = None
 

@@ -6,8 +6,8 @@ use Rattle.art_epoch.specs.Pins as pins
 use Rattle.art_epoch.specs.Pins.{MayPin, Pins}
 use Rattle.art_epoch.specs.Reclaiming as reclaims
 use Rattle.art_epoch.specs.Reclaiming.{Look, OnlyReclaims, Reclaims, least_at, places_after, stage_after}
-use Rattle.art_epoch.specs.declared.asked.Asked.{Asked}
-use Rattle.art_epoch.specs.declared.asked.Asked.TheVariants.{Watch}
+use Rattle.art_machine.specs.declared.actions.Action.{Action}
+use Rattle.art_machine.specs.declared.actions.Action.TheVariants.{ReadPin}
 use Rattle.art_epoch.specs.declared.limbo.Place.{Place}
 use Rattle.art_epoch.specs.declared.pins.Pinning.{Pinning}
 use Rattle.art_epoch.specs.declared.pins.Pinning.TheVariants.{Noting}
@@ -40,8 +40,8 @@ pub record IsBlocker (looks : List Look) (label : ℕ) (b : Blocker) : Type 0 wh
   pub first : (l : Look) → Member l looks → l.0 < b.pass → l.1 ≢ 0 → label < l.1
 
 -- the pass whose word a step found, and that word, if it was a pass's
-abbrev pub watched : ℕ → Asked → Option Blocker
-watched x (Watch q) = Some (record { pass = q; epoch = x })
+abbrev pub watched : ℕ → Action → Option Blocker
+watched x (ReadPin q) = Some (record { pass = q; epoch = x })
 watched x a = None
 
 -- it blocks the first place that stays, whose label is this, if that could have gone before
@@ -53,7 +53,7 @@ blocked_by (Some c) least (Some label) b = if lets_go least label then c else b
 -- ---- how it goes on
 
 -- more goes back; or nothing more may, and the pass is pinned, unless limbo is crowded
-abbrev pub going_on : Option Asked → Reclaiming → Blocker → List Place → Opening
+abbrev pub going_on : Option Action → Reclaiming → Blocker → List Place → Opening
 going_on (Some a) r b qs = at.Reclaiming r b
 going_on None r b qs = if nat_lt 60 (length qs) then at.Ended (Crowded b) else at.Pinning Noting
 
@@ -73,7 +73,7 @@ reclaimed r b x qs =
     (places_after r.stage qs)
 
 -- the next step
-abbrev pub asks : Opening → List Place → Option Asked
+abbrev pub asks : Opening → List Place → Option Action
 asks (at.Reclaiming r b) qs = reclaims.asks_at r.stage qs
 asks (at.Pinning p) qs = pins.asks p
 asks (at.Ended o) qs = None
@@ -160,7 +160,7 @@ pub record IsReclaiming (z : Sizes) (u v : View) (ps qs : List Place) (r : Recla
   pub may : MayPin u
   pub some : 0 < length ps
   pub fits : reclaims.Fits z u ps r qs v
-  pub going : (a : Asked) × (reclaims.asks_at r.stage qs ≡ Some a)
+  pub going : (a : Action) × (reclaims.asks_at r.stage qs ≡ Some a)
   pub blocked : IsBlocked u v (least_at r.stage) qs b
 
 -- the pass is being pinned
@@ -169,7 +169,7 @@ pub record IsPinning (z : Sizes) (u v : View) (ps qs : List Place) (p : Pinning)
   pub reclaimed : IsReclaimed z u early ps qs
   pub room : length qs + 4 ≤ 64
   pub fits : pins.Fits z early p v
-  pub going : (a : Asked) × (pins.asks p ≡ Some a)
+  pub going : (a : Action) × (pins.asks p ≡ Some a)
 
 -- of a pass whose view was u when it began, where ps waited, and is v, where qs wait
 abbrev pub OpeningFits : Sizes → View → List Place → Opening → List Place → View → Type 0
@@ -180,6 +180,6 @@ OpeningFits z u ps (at.Ended o) qs v = HasEnded z u v ps qs o
 -- once a step of the pinning was made, it goes on, or the pass is pinned
 abbrev pub IsPinnedOn : Sizes → View → View → Opening → Type 0
 IsPinnedOn z early v (at.Reclaiming r b) = ⊥
-IsPinnedOn z early v (at.Pinning p) = pins.Fits z early p v × ((a : Asked) × (pins.asks p ≡ Some a))
+IsPinnedOn z early v (at.Pinning p) = pins.Fits z early p v × ((a : Action) × (pins.asks p ≡ Some a))
 IsPinnedOn z early v (at.Ended Pinned) = Pins z early v
 IsPinnedOn z early v (at.Ended (Crowded b)) = ⊥

@@ -1,11 +1,12 @@
 //! The close of an attempt.
-ghost use Rattle.std.specs.Prelude.{◌≡◌, ◌+◌, ◌<◌, ◌≤◌, ℕ, List, IfSome, Some, length, true};
+ghost use Rattle.std.specs.Prelude.{◌≡◌, ◌+◌, ◌<◌, ◌≤◌, ℕ, List, IfSome, None, Some, length, true};
 ghost use Rattle.art_cell.specs.declared.cells.Link.{Link as LinkOf};
-ghost use Rattle.art_epoch.specs.Asking.{Answers, IsAllowed};
+ghost use Rattle.art_machine.specs.Acting.{Answers, IsAllowed};
 ghost use Rattle.art_epoch.specs.Limbo.{IsLimbo, places_of};
 ghost use Rattle.art_epoch.specs.Reclaiming.{Retires};
-ghost use Rattle.art_epoch.specs.declared.asked.Asked.{Asked as AskedStep};
-ghost use Rattle.art_epoch.specs.declared.asked.Asked.TheVariants.{Note as note};
+ghost use Rattle.art_machine.specs.declared.actions.Action.{Action as ActionOf};
+ghost use Rattle.art_machine.specs.declared.actions.Action.TheVariants.{ReadEpoch as read_epoch};
+ghost use Rattle.art_machine.specs.declared.actions.Answer.TheVariants.{Word as word_told};
 ghost use Rattle.art_epoch.specs.declared.limbo.Place.{Place};
 ghost use Rattle.art_frame.specs.Closings.{ClosingFits, IsClosed, MayClose, asks, begins, gives, is_ended, stage_given, steps_left, stock_given};
 ghost use Rattle.art_frame.specs.Stocks.{first_in};
@@ -16,7 +17,8 @@ ghost use Rattle.art_step.specs.declared.views.Sizes.{Sizes};
 ghost use Rattle.art_step.specs.declared.views.View.{View};
 
 use crate::Stock;
-use art_epoch::{Asked, Limbo, Retiring};
+use art_epoch::{Limbo, Retiring};
+use art_machine::{Action, Answer};
 use art_step::numbers_of;
 
 /// Closes an attempt: the epoch is noted, which labels what was unlinked; each number that is still in hand goes back; then the
@@ -45,32 +47,32 @@ impl Closing {
     }
 
     /// The next step, or none where it has ended.
-    pub fn next(&self, stock: &Stock) -> Option<Asked>
+    pub fn next(&self, stock: &Stock) -> Option<Action>
         ensures asks { result ≡ asks self.now stock.now }
         ensures allowed { (z : Sizes) (k : List ℕ) (value : ℕ) (u v : View) (ps qs : List Place) (us : List LinkOf) →
-            ClosingFits z k value u ps us self.now qs stock.now v → IfSome result (IsAllowed z v) }
+            ClosingFits z k value u ps us self.now qs stock.now v → IfSome result (IsAllowed z None v) }
     {
         match self {
-            Closing::Labelling => Some(Asked::Note),
+            Closing::Labelling => Some(Action::ReadEpoch),
             Closing::Giving => Some(gives(stock)),
             Closing::Ended => None,
         }
     }
 
-    /// The step that it asked for was made, and found this word.
-    pub fn told(&mut self, limbo: &mut Limbo, stock: &mut Stock, unlinked: &[u64], word: u64)
+    /// The step that it asked for was made, and answered so.
+    pub fn told(&mut self, limbo: &mut Limbo, stock: &mut Stock, unlinked: &[u64], answer: Answer)
         requires few { length unlinked.now ≤ 3 }
-        requires fits { (z : Sizes) × (k : List ℕ) × (value : ℕ) × (u : View) × (v : View) × (ps : List Place) × (asked : AskedStep) ×
+        requires fits { (z : Sizes) × (k : List ℕ) × (value : ℕ) × (u : View) × (v : View) × (w : View) × (ps : List Place) × (asked : ActionOf) ×
             ClosingFits z k value u ps (links_of unlinked.now) self.old (places_of limbo.old) stock.old v ×
-            (asks self.old stock.old ≡ Some asked) }
+            (asks self.old stock.old ≡ Some asked) × Answers z None asked answer v w }
         ensures left { steps_left self.new stock.new < steps_left self.old stock.old }
-        ensures fits { (z : Sizes) (k : List ℕ) (value : ℕ) (u v w : View) (ps : List Place) (asked : AskedStep) →
+        ensures fits { (z : Sizes) (k : List ℕ) (value : ℕ) (u v w : View) (ps : List Place) (asked : ActionOf) →
             ClosingFits z k value u ps (links_of unlinked.now) self.old (places_of limbo.old) stock.old v →
-            asks self.old stock.old ≡ Some asked → Answers z asked word v w →
+            asks self.old stock.old ≡ Some asked → Answers z None asked answer v w →
             ClosingFits z k value u ps (links_of unlinked.now) self.new (places_of limbo.new) stock.new w }
     {
         *self = match *self {
-            Closing::Labelling => labelled(limbo, unlinked, word),
+            Closing::Labelling => labelled(limbo, unlinked, answer.word()),
             Closing::Giving => given(stock),
             Closing::Ended => Closing::Ended,
         };
@@ -90,12 +92,12 @@ impl Closing {
 }
 
 /// The first number in hand goes back; where there is none, 0 is stored.
-fn gives(stock: &Stock) -> Asked
+fn gives(stock: &Stock) -> Action
     ensures { result ≡ gives stock.now }
 {
     match stock.first() {
-        Some(link) => Asked::Give(link),
-        None => Asked::Store(0),
+        Some(link) => Action::GiveBack { link },
+        None => Action::StorePin { word: 0 },
     }
 }
 
@@ -105,7 +107,7 @@ fn labelled(limbo: &mut Limbo, unlinked: &[u64], epoch: u64) -> Closing
     requires room { length (places_of limbo.old) + length (links_of unlinked.now) ≤ 64 }
     ensures next { result ≡ giving }
     ensures retires { (z : Sizes) (v w : View) → IsLimbo (places_of limbo.old) (links_of unlinked.now) v.limbo →
-        Answers z note epoch v w → Retires z v w (places_of limbo.old) (places_of limbo.new) (links_of unlinked.now) }
+        Answers z None read_epoch (word_told epoch) v w → Retires z v w (places_of limbo.old) (places_of limbo.new) (links_of unlinked.now) }
 {
     Retiring.told(limbo, numbers_of(unlinked), epoch);
     Closing::Giving

@@ -50,8 +50,8 @@
 //!
 //! # Machines
 //!
-//! Both are machines as those of `art_epoch`, and ask for its steps: `next` is the step that is asked for, `make` of `art_epoch`
-//! makes it, `told` takes the word that was found. The limbo and the stock stand beside them. What a machine knows between two
+//! Both are machines as those of `art_epoch`, and ask for its steps: `next` is the step that is asked for, `perform` of
+//! `art_machine` makes it, `told` takes the answer. The limbo and the stock stand beside them. What a machine knows between two
 //! steps is in `OpeningFits` and `ClosingFits`, of the view at its beginning and the view now.
 //!
 //! # What is proved

@@ -1,18 +1,19 @@
 //! The opening of an attempt.
 ghost use Rattle.std.specs.Prelude.{◌≡◌, ◌+◌, ◌-◌, ◌<◌, ◌≤◌, length, Some, None};
 ghost use Rattle.std.specs.Option.{option_and_then};
-ghost use Rattle.art_epoch.specs.Asking.{Answers, IsAllowed};
+ghost use Rattle.art_machine.specs.Acting.{Answers, FindsWord, IsAllowed, IsWord, word_in};
 ghost use Rattle.art_epoch.specs.Limbo.{places_of};
 ghost use Rattle.art_epoch.specs.Pins as pins;
 ghost use Rattle.art_epoch.specs.Reclaiming as reclaims;
 ghost use Rattle.art_frame.specs.Openings.{IsPinnedOn, MayOpen, OpeningFits, HasEnded, asks, blocked_by, ended_at, first_label, going_on, reclaimed, steps_left, watched};
-ghost use Rattle.art_epoch.specs.declared.asked.Asked.{Asked as AskedStep};
+ghost use Rattle.art_machine.specs.declared.actions.Action.{Action as ActionOf};
 ghost use Rattle.art_epoch.specs.declared.limbo.Place.{Place as PlaceOf};
 ghost use Rattle.art_step.specs.declared.views.Sizes.{Sizes};
 ghost use Rattle.art_step.specs.declared.views.View.{View};
 ghost use Rattle.std.specs.Prelude.{ℕ, List, IfSome};
 
-use art_epoch::{Asked, Limbo, Pinning, Place, Reclaiming, lets_go};
+use art_epoch::{Limbo, Pinning, Place, Reclaiming, lets_go};
+use art_machine::{Action, Answer};
 
 /// How many places a limbo has.
 const PLACES: u32 = 64;
@@ -48,11 +49,11 @@ pub enum Opening {
 }
 
 impl Opening {
-    ghost use Rattle.art_epoch.specs.declared.asked.Asked.TheVariants.{Note as note};
+    ghost use Rattle.art_machine.specs.declared.actions.Action.TheVariants.{ReadEpoch as read_epoch};
 
     /// Of the pass `own`, of so many.
     pub fn new(own: u32, passes: u32, limbo: &Limbo) -> Opening
-        ensures asks { asks result (places_of limbo.now) ≡ Some note }
+        ensures asks { asks result (places_of limbo.now) ≡ Some read_epoch }
         ensures left { (z : Sizes) (u : View) → MayOpen z u own passes (places_of limbo.now) →
             steps_left result (places_of limbo.now) ≤ 4 + passes + length (places_of limbo.now) }
         ensures fits { (z : Sizes) (u : View) → MayOpen z u own passes (places_of limbo.now) →
@@ -66,12 +67,12 @@ impl Opening {
     }
 
     /// The next step, or none where it has ended.
-    pub fn next(&self, limbo: &Limbo) -> Option<Asked>
+    pub fn next(&self, limbo: &Limbo) -> Option<Action>
         ensures asks { result ≡ asks self.now (places_of limbo.now) }
         ensures allowed { (z : Sizes) (u v : View) (ps : List PlaceOf) → OpeningFits z u ps self.now (places_of limbo.now) v →
-            IfSome result (IsAllowed z v) }
+            IfSome result (IsAllowed z None v) }
         ensures going { (z : Sizes) (u v : View) (ps : List PlaceOf) → OpeningFits z u ps self.now (places_of limbo.now) v →
-            ended_at self.now ≡ None → (asked : AskedStep) × (result ≡ Some asked) }
+            ended_at self.now ≡ None → (asked : ActionOf) × (result ≡ Some asked) }
     {
         match self {
             Opening::Reclaiming(reclaiming, _) => reclaiming.next(limbo),
@@ -80,20 +81,21 @@ impl Opening {
         }
     }
 
-    /// The step that it asked for was made, and found this word.
-    pub fn told(&mut self, limbo: &mut Limbo, word: u64)
-        requires { (z : Sizes) × (u : View) × (v : View) × (ps : List PlaceOf) × (asked : AskedStep) ×
-            OpeningFits z u ps self.old (places_of limbo.old) v × (asks self.old (places_of limbo.old) ≡ Some asked) }
+    /// The step that it asked for was made, and answered so.
+    pub fn told(&mut self, limbo: &mut Limbo, answer: Answer)
+        requires { (z : Sizes) × (u : View) × (v : View) × (w : View) × (ps : List PlaceOf) × (asked : ActionOf) ×
+            OpeningFits z u ps self.old (places_of limbo.old) v × (asks self.old (places_of limbo.old) ≡ Some asked) ×
+            Answers z None asked answer v w }
         ensures left { steps_left self.new (places_of limbo.new) < steps_left self.old (places_of limbo.old) }
-        ensures fits { (z : Sizes) (u v w : View) (ps : List PlaceOf) (asked : AskedStep) →
+        ensures fits { (z : Sizes) (u v w : View) (ps : List PlaceOf) (asked : ActionOf) →
             OpeningFits z u ps self.old (places_of limbo.old) v → asks self.old (places_of limbo.old) ≡ Some asked →
-            Answers z asked word v w → OpeningFits z u ps self.new (places_of limbo.new) w }
+            Answers z None asked answer v w → OpeningFits z u ps self.new (places_of limbo.new) w }
     {
         *self = match *self {
             Opening::Reclaiming(reclaiming, blocker) => {
-                reclaimed(limbo, reclaiming, blocker, word)
+                reclaimed(limbo, reclaiming, blocker, answer)
             }
-            Opening::Pinning(pinning) => pinned(pinning, word),
+            Opening::Pinning(pinning) => pinned(pinning, answer),
             Opening::Ended(opened) => Opening::Ended(opened),
         };
     }
@@ -111,28 +113,33 @@ impl Opening {
     }
 }
 
-/// A step by which what waits goes back was made, and found this word.
-fn reclaimed(limbo: &mut Limbo, reclaiming: Reclaiming, blocker: Blocker, word: u64) -> Opening
-    requires { (z : Sizes) × (v0 : View) × (v : View) × (ps : List PlaceOf) × (asked : AskedStep) ×
-        reclaims.Fits z v0 ps reclaiming (places_of limbo.old) v × (reclaims.asks_at reclaiming.stage (places_of limbo.old) ≡ Some asked) }
+/// A step by which what waits goes back was made, and answered so.
+fn reclaimed(limbo: &mut Limbo, reclaiming: Reclaiming, blocker: Blocker, answer: Answer) -> Opening
+    requires { (z : Sizes) × (v0 : View) × (v : View) × (w : View) × (ps : List PlaceOf) × (asked : ActionOf) ×
+        reclaims.Fits z v0 ps reclaiming (places_of limbo.old) v × (reclaims.asks_at reclaiming.stage (places_of limbo.old) ≡ Some asked) ×
+        Answers z None asked answer v w }
     ensures places { places_of limbo.new ≡ reclaims.places_after reclaiming.stage (places_of limbo.old) }
-    ensures next { result ≡ reclaimed reclaiming blocker word (places_of limbo.old) }
+    ensures next { result ≡ reclaimed reclaiming blocker (word_in answer) (places_of limbo.old) }
 {
     let mut reclaiming = reclaiming;
-    let found = watched(reclaiming.next(limbo), word);
+    let found = watched(reclaiming.next(limbo), answer);
     let least = reclaiming.least();
-    reclaiming.told(limbo, word);
+    reclaiming.told(limbo, answer);
     let label = first_label(limbo.places(), reclaiming.least());
     let blocker = blocked_by(found, least, label, blocker);
     going_on(limbo, reclaiming, blocker)
 }
 
 /// The pass whose word was found by the step, and that word, if it was a pass's.
-fn watched(asked: Option<Asked>, word: u64) -> Option<Blocker>
-    ensures { result ≡ option_and_then (watched word) asked }
+fn watched(action: Option<Action>, answer: Answer) -> Option<Blocker>
+    requires { (a : ActionOf) → action ≡ Some a → FindsWord a → IsWord answer }
+    ensures { result ≡ option_and_then (watched (word_in answer)) action }
 {
-    match asked? {
-        Asked::Watch(pass) => Some(Blocker { pass, epoch: word }),
+    match action? {
+        Action::ReadPin { pass } => Some(Blocker {
+            pass,
+            epoch: answer.word(),
+        }),
         _ => None,
     }
 }
@@ -184,14 +191,16 @@ fn going_on(limbo: &Limbo, reclaiming: Reclaiming, blocker: Blocker) -> Opening
     Opening::Pinning(Pinning::new())
 }
 
-/// A step of the pinning was made, and found this word.
-fn pinned(pinning: Pinning, word: u64) -> Opening
+/// A step of the pinning was made, and answered so.
+fn pinned(pinning: Pinning, answer: Answer) -> Opening
+    requires { (z : Sizes) × (v0 : View) × (v : View) × (w : View) × (asked : ActionOf) × pins.Fits z v0 pinning v ×
+        (pins.asks pinning ≡ Some asked) × Answers z None asked answer v w }
     ensures left { (places : List PlaceOf) → steps_left result places ≡ pins.steps_left pinning - 1 }
-    ensures fits { (z : Sizes) (v0 v w : View) (asked : AskedStep) → pins.Fits z v0 pinning v → pins.asks pinning ≡ Some asked →
-        Answers z asked word v w → IsPinnedOn z v0 w result }
+    ensures fits { (z : Sizes) (v0 v w : View) (asked : ActionOf) → pins.Fits z v0 pinning v → pins.asks pinning ≡ Some asked →
+        Answers z None asked answer v w → IsPinnedOn z v0 w result }
 {
     let mut pinning = pinning;
-    pinning.told(word);
+    pinning.told(answer);
     match pinning.next() {
         Some(_) => Opening::Pinning(pinning),
         None => Opening::Ended(Opened::Pinned),

@@ -13,13 +13,14 @@ use Rattle.art_plan.proofs.WholeCells.{above_is}
 use Rattle.art_plan.specs.ChooseInsert.Bodies.{HasWords}
 use Rattle.art_find.proofs.Allowed.{none_held}
 use Rattle.art_find.proofs.Stages.{reads_on}
-use Rattle.art_find.specs.Asking.{Answers, IsAllowed}
-use Rattle.art_find.specs.declared.asked.Answer.{Answer}
-use Rattle.art_find.specs.declared.asked.Answer.TheVariants.{Begun, Word, Checked}
-use Rattle.art_find.specs.declared.asked.Asked.{Asked}
-use Rattle.art_find.specs.declared.asked.Asked.TheVariants.{Begin, Check}
+use Rattle.art_find.specs.Asking.{MayLook}
+use Rattle.art_machine.specs.Acting.{Answers, telling, passed}
+use Rattle.art_machine.specs.declared.actions.Answer.{Answer}
+use Rattle.art_machine.specs.declared.actions.Answer.TheVariants.{Begun, Word, Checked, Upgraded, Done}
+use Rattle.art_machine.specs.declared.actions.Action.{Action}
+use Rattle.art_machine.specs.declared.actions.Action.TheVariants.{Begin, Check}
 use Rattle.art_gather.proofs.Vouches.{above_on, above_on_still, checked_now, passed_later, passed_left, vouched_still}
-use Rattle.art_gather.specs.Vouching.{CheckedSince, HasLeft, IsReadingAbove, IsVouched, KnowsAbove, VouchesAbove, above_checks, above_reads, passed}
+use Rattle.art_gather.specs.Vouching.{CheckedSince, HasLeft, IsReadingAbove, IsVouched, KnowsAbove, VouchesAbove, above_checks, above_reads}
 use Rattle.art_gather.proofs.LowerNames.{has_over, is_other, is_third, led_to, may_begin, parent, path_to}
 use Rattle.art_gather.specs.Lowering.{Fits, IsBelow, IsLed, IsLower, IsLowering, IsParent, IsThird, KnowsLower, StageFits, WouldLead, after_check, asks}
 use Rattle.art_gather.specs.declared.lowering.Lowered.TheVariants.{Unchanged}
@@ -55,34 +56,34 @@ cell_inside z (cell.Leaf l) inside = absurd inside
 cell_inside z (cell.Node n) inside = inside
 
 read_allowed : (z : Sizes) (v : View) (x : Stamp) (r : Rereading) (reads : List (Option ℕ)) → RereadingFits z v x r reads → r.place < size_of x.cell
-    → IfSome (reads_next x r) (IsAllowed z (λ s. ⊤) v)
+    → IfSome (reads_next x r) (MayLook z (λ s. ⊤) v)
 read_allowed z v x r reads fits more =
     rw (lt-ltb r.place (size_of x.cell) more)
     (cell_inside z x.cell fits.stamp.inside, record { stamp = fits.stamp.stamp; free = fits.free; place = (fits.after, more) })
 
-check_allowed : (z : Sizes) (v : View) (x : Stamp) → HasStamp z v x → IsAllowed z (λ s. ⊤) v (Check x)
+check_allowed : (z : Sizes) (v : View) (x : Stamp) → HasStamp z v x → MayLook z (λ s. ⊤) v (Check x)
 check_allowed z v x has = (has.inside, record { stamp = has.stamp; tells = tt })
 
 -- at each stage
 module _ (z : Sizes) (k : List ℕ) (t : Stand) (n : Node) (desk : Desk) (lower : List (Option ℕ)) (u v : View) where
-  begin_allowed : (m : Node) → IsLowering z k t n desk u v → m ≡ n → IsAllowed z (λ s. ⊤) v (Begin (cell.Node m))
+  begin_allowed : (m : Node) → IsLowering z k t n desk u v → m ≡ n → MayLook z (λ s. ⊤) v (Begin (cell.Node m))
   begin_allowed m lowering same =
       let may = may_begin z k t n desk u v lowering in
-      subst (λ (o : Node). IsAllowed z (λ s. ⊤) v (Begin (cell.Node o))) (sym same)
+      subst (λ (o : Node). MayLook z (λ s. ⊤) v (Begin (cell.Node o))) (sym same)
       (may.1, record { pinned = lowering.vouching.reads.pinned; named = may.0 })
 
-  above_allowed : (r : Rereading) → IsReadingAbove z true t desk v r → IfSome (option_and_then (above_reads r) t.above) (IsAllowed z (λ s. ⊤) v)
+  above_allowed : (r : Rereading) → IsReadingAbove z true t desk v r → IfSome (option_and_then (above_reads r) t.above) (MayLook z (λ s. ⊤) v)
   above_allowed r reading =
-      subst (λ (o : Option CellAbove). IfSome (option_and_then (above_reads r) o) (IsAllowed z (λ s. ⊤) v)) (sym reading.is)
+      subst (λ (o : Option CellAbove). IfSome (option_and_then (above_reads r) o) (MayLook z (λ s. ⊤) v)) (sym reading.is)
       (read_allowed z v reading.above.stamp r (above_of desk) reading.fits reading.more)
 
-  over_allowed : IsLowering z k t n desk u v → IfSome (option_map above_checks t.above) (IsAllowed z (λ s. ⊤) v)
+  over_allowed : IsLowering z k t n desk u v → IfSome (option_map above_checks t.above) (MayLook z (λ s. ⊤) v)
   over_allowed lowering =
       let over = has_over z k t n desk u v lowering in
-      subst (λ (o : Option CellAbove). IfSome (option_map above_checks o) (IsAllowed z (λ s. ⊤) v)) (sym over.1)
+      subst (λ (o : Option CellAbove). IfSome (option_map above_checks o) (MayLook z (λ s. ⊤) v)) (sym over.1)
       (check_allowed z v over.0.stamp (above_is z k t desk v lowering.vouching.standing lowering.here lowering.is over.0 over.1).on)
 
-  pub allowed : (m : Lowering) → StageFits z k t n m desk lower u v → IfSome (asks t m) (IsAllowed z (λ s. ⊤) v)
+  pub allowed : (m : Lowering) → StageFits z k t n m desk lower u v → IfSome (asks t m) (MayLook z (λ s. ⊤) v)
   allowed (Beginning m) fits = begin_allowed m fits.0 fits.1
   allowed (Named x) fits = check_allowed z v t.stamp fits.0.vouching.standing.stamp
   allowed (Above x r) fits = above_allowed r fits.3
@@ -156,12 +157,12 @@ begun_on z k t n desk u v w x lowering row = (
   },
 )
 
-pub begun_told : (z : Sizes) (k : List ℕ) (t : Stand) (m n : Node) (desk : Desk) (lower : List (Option ℕ)) (d : Deed) (asked : Asked) (answer : Answer) (x : Stamp) (u v w : View)
-    → Fits z k t n (Beginning m) desk lower u v → asks t (Beginning m) ≡ Some asked → answer ≡ Begun (Ok x) → Answers z d asked answer v w → Fits z k t n (Named x) desk (replicate 266 None) u w
+pub begun_told : (z : Sizes) (k : List ℕ) (t : Stand) (m n : Node) (desk : Desk) (lower : List (Option ℕ)) (d : Deed) (asked : Action) (answer : Answer) (x : Stamp) (u v w : View)
+    → Fits z k t n (Beginning m) desk lower u v → asks t (Beginning m) ≡ Some asked → answer ≡ Begun (Ok x) → Answers z (telling d) asked answer v w → Fits z k t n (Named x) desk (replicate 266 None) u w
 begun_told z k t m n desk lower d asked answer x u v w fits is told row =
-    let at : Begin (cell.Node m) ≡ asked = same_Some {A = Asked} (Begin (cell.Node m)) asked is in
+    let at : Begin (cell.Node m) ≡ asked = same_Some {A = Action} (Begin (cell.Node m)) asked is in
     let begun : begin.Outcome z v w (cell.Node m) (Ok x) =
-    subst (λ (r : Answer). Answers z d (Begin (cell.Node m)) r v w) told (subst (λ (a : Asked). Answers z d a answer v w) (sym at) row) in
+    subst (λ (r : Answer). Answers z (telling d) (Begin (cell.Node m)) r v w) told (subst (λ (a : Action). Answers z (telling d) a answer v w) (sym at) row) in
     let now : begin.Outcome z v w (cell.Node n) (Ok x) = subst (λ (o : Node). begin.Outcome z v w (cell.Node o) (Ok x)) fits.stage.1 begun in
     record {
       stage = begun_on z k t n desk u v w x fits.stage.0 now;
@@ -171,9 +172,11 @@ begun_told z k t m n desk lower d asked answer x u v w fits is told row =
 
 -- ---- the node where the key stands was checked
 
-pub passed_unchanged : (z : Sizes) (d : Deed) (y : Stamp) (answer : Answer) (v w : View) → passed answer ≡ true → Answers z d (Check y) answer v w → check.Unchanged z v w y None
+pub passed_unchanged : (z : Sizes) (d : Deed) (y : Stamp) (answer : Answer) (v w : View) → passed answer ≡ true → Answers z (telling d) (Check y) answer v w → check.Unchanged z v w y None
 passed_unchanged z d y (Begun r) v w is row = absurd row
 passed_unchanged z d y (Word word) v w is row = absurd row
+passed_unchanged z d y (Upgraded r) v w is row = absurd row
+passed_unchanged z d y Done v w is row = absurd row
 passed_unchanged z d y (Checked (Ok done)) v w is row = row
 passed_unchanged z d y (Checked (Err e)) v w is row = cc
 
@@ -247,10 +250,12 @@ lower_begins z k t n desk u v x lower r lowering below begins =
 -- ---- a check was made
 
 module _ (z : Sizes) (k : List ℕ) (t : Stand) (n : Node) (desk : Desk) (lower : List (Option ℕ)) (u v w : View) (lowering : IsLowering z k t n desk u v) (left : ℕ) (some : 0 < left) (has : HasLeft u v left 535) where
-  check_told : (d : Deed) (y : Stamp) (answer : Answer) (next : Lowering) → (check.Unchanged z v w y None → Fits z k t n next desk lower u w) → Answers z d (Check y) answer v w
+  check_told : (d : Deed) (y : Stamp) (answer : Answer) (next : Lowering) → (check.Unchanged z v w y None → Fits z k t n next desk lower u w) → Answers z (telling d) (Check y) answer v w
       → Fits z k t n (after_check answer next) desk lower u w
   check_told d y (Begun r) next on row = absurd row
   check_told d y (Word word) next on row = absurd row
+  check_told d y (Upgraded r) next on row = absurd row
+  check_told d y Done next on row = absurd row
   check_told d y (Checked (Ok done)) next on row = on row
   check_told d y (Checked (Err e)) next on row = record {
     stage = reads_on u v w (failed_rest v w y e.found row.3) lowering.vouching.reads;
@@ -274,8 +279,8 @@ module _ (z : Sizes) (k : List ℕ) (t : Stand) (n : Node) (desk : Desk) (lower 
     vouched : CheckedSince z k t desk u y w
     vouched = checked_now z k true t desk u v w lowering.vouching y passed
 
-  module _ (d : Deed) (x : Stamp) (asked : Asked) (answer : Answer) (below : IsBelow z k t desk n x lower v) (whole : KnowsLower x lower) where
-    pub above_checked : (a : CellAbove) → 2 < left → t.above ≡ Some a → WouldLead k t desk n v → KnowsAbove true t desk → Check a.stamp ≡ asked → Answers z d asked answer v w
+  module _ (d : Deed) (x : Stamp) (asked : Action) (answer : Answer) (below : IsBelow z k t desk n x lower v) (whole : KnowsLower x lower) where
+    pub above_checked : (a : CellAbove) → 2 < left → t.above ≡ Some a → WouldLead k t desk n v → KnowsAbove true t desk → Check a.stamp ≡ asked → Answers z (telling d) asked answer v w
         → Fits z k t n (after_check answer (CheckHere x)) desk lower u w
     above_checked a fewer is leads above at row =
         check_told d a.stamp answer (CheckHere x)
@@ -291,10 +296,10 @@ module _ (z : Sizes) (k : List ℕ) (t : Stand) (n : Node) (desk : Desk) (lower 
           failures = (still_left a.stamp passed 2 fewer).failures;
           steps = (still_left a.stamp passed 2 fewer).steps;
         })
-        (subst (λ (q : Asked). Answers z d q answer v w) (sym at) row)
+        (subst (λ (q : Action). Answers z (telling d) q answer v w) (sym at) row)
 
     module _ (third : IsThird t n) where
-      pub here_checked : 1 < left → KnowsAbove true t desk → VouchesAbove z k true t desk u v → Check t.stamp ≡ asked → Answers z d asked answer v w
+      pub here_checked : 1 < left → KnowsAbove true t desk → VouchesAbove z k true t desk u v → Check t.stamp ≡ asked → Answers z (telling d) asked answer v w
           → Fits z k t n (after_check answer (CheckLower x)) desk lower u w
       here_checked fewer above vouches at row =
           check_told d t.stamp answer (CheckLower x)
@@ -314,9 +319,9 @@ module _ (z : Sizes) (k : List ℕ) (t : Stand) (n : Node) (desk : Desk) (lower 
             failures = (still_left t.stamp passed 1 fewer).failures;
             steps = (still_left t.stamp passed 1 fewer).steps;
           })
-          (subst (λ (q : Asked). Answers z d q answer v w) (sym at) row)
+          (subst (λ (q : Action). Answers z (telling d) q answer v w) (sym at) row)
 
-      pub lower_checked : IsVouched z k true t desk u v → Check x ≡ asked → Answers z d asked answer v w → Fits z k t n (after_check answer (Ended (Unchanged x))) desk lower u w
+      pub lower_checked : IsVouched z k true t desk u v → Check x ≡ asked → Answers z (telling d) asked answer v w → Fits z k t n (after_check answer (Ended (Unchanged x))) desk lower u w
       lower_checked both at row =
           check_told d x answer (Ended (Unchanged x))
           (λ passed. record {
@@ -333,4 +338,4 @@ module _ (z : Sizes) (k : List ℕ) (t : Stand) (n : Node) (desk : Desk) (lower 
             failures = (still_left x passed 0 some).failures;
             steps = (still_left x passed 0 some).steps;
           })
-          (subst (λ (q : Asked). Answers z d q answer v w) (sym at) row)
+          (subst (λ (q : Action). Answers z (telling d) q answer v w) (sym at) row)

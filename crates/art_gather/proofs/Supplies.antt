@@ -15,27 +15,25 @@ use Rattle.art_cell.specs.declared.layouts.Pool.{Pool}
 use Rattle.art_cell.specs.declared.layouts.Pool.TheVariants.{Leaves}
 use Rattle.art_plan.specs.ArtCommit.CommitLaws.{HasNode}
 use Rattle.art_epoch.proofs.Searching.{around_inside, few_looks}
-use Rattle.art_epoch.specs.Asking.{Answers as NumberAnswers}
 use Rattle.art_epoch.specs.Taking.{NoneBefore, OnlyTakes, SearchFits, Takes, TookLowest, TookNone}
 use Rattle.art_epoch.specs.Taking as taking
-use Rattle.art_epoch.specs.declared.asked.Asked.{Asked as NumberAsked}
-use Rattle.art_epoch.specs.declared.asked.Asked.TheVariants.{Clear}
+use Rattle.art_machine.specs.declared.actions.Action.{Action}
+use Rattle.art_machine.specs.declared.actions.Answer.{Answer}
+use Rattle.art_machine.specs.declared.actions.Action.TheVariants.{ClearBit, WriteLeaf}
 use Rattle.art_epoch.specs.declared.taking.Search.{Search}
 use Rattle.art_epoch.specs.declared.taking.Search.TheVariants.{Looking, Clearing, Took}
 use Rattle.art_epoch.specs.declared.taking.Taking.{Taking}
 use Rattle.art_frame.proofs.Stocked.{stock_same, stock_took_leaf, stock_took_node, taken_node}
 use Rattle.art_frame.specs.Stocks.{HasStock, IsIn, node_in, with_leaf, with_node, words_written}
 use Rattle.art_frame.specs.declared.stocks.Stock.{Stock}
-use Rattle.art_gather.specs.Asking.{Answers, IsAllowed}
-use Rattle.art_gather.specs.Supplying.{Fits, HasLeafWords, HasNone, IsPacking, IsSoon, IsSought, IsWanted, OnlySupplies, StageFits, asks, few_steps, leaf_asked, leaf_looks, leaf_steps, leaf_write, looks_before, most_steps, node_looks, node_steps, search_looks, search_steps, steps_before}
-use Rattle.art_gather.specs.declared.asked.Asked.{Asked}
-use Rattle.art_gather.specs.declared.asked.Asked.TheVariants.{Number as number_asked, Leaf as leaf_written}
+use Rattle.art_machine.proofs.Words.{done_row}
+use Rattle.art_machine.specs.Acting.{Answers, IsAllowed}
+use Rattle.art_gather.specs.Supplying.{Fits, HasLeafWords, HasNone, IsPacking, IsSoon, IsSought, IsWanted, OnlySupplies, StageFits, asks, few_steps, leaf_asked, leaf_looks, leaf_steps, looks_before, most_steps, node_looks, node_steps, search_looks, search_steps, steps_before}
 use Rattle.art_gather.specs.declared.supplying.Supplying.{Supplying}
 use Rattle.art_gather.specs.declared.supplying.Supplying.TheVariants as stage
 use Rattle.art_gather.specs.declared.supplying.Wants.{Wants}
 use Rattle.art_frame.proofs.ArtMake.PackedLeaves.{word_form}
 use Rattle.art_frame.specs.ArtMake.Packing.{IsPacked, OnlyPacks, PackingFits, word_asked}
-use Rattle.art_frame.specs.ArtMake.declared.packing.LeafWrite.{LeafWrite}
 use Rattle.art_frame.specs.ArtMake.declared.packing.Packing.{Packing}
 use Rattle.art_step.specs.Steps.Write as write
 use Rattle.art_step.specs.Tokens.{link_of_number}
@@ -49,7 +47,7 @@ use Rattle.art_step.specs.declared.views.View.{View}
 -- ---- a search
 
 -- as long as it goes on, nothing came into the hand
-searching_hand : (z : Sizes) (v0 v : View) (pool : Pool) (words first : ℕ) (s : Search) (a : NumberAsked) → SearchFits z v0 v pool words first s → taking.asks_at pool words first s ≡ Some a → v.hand ≡ v0.hand
+searching_hand : (z : Sizes) (v0 v : View) (pool : Pool) (words first : ℕ) (s : Search) (a : Action) → SearchFits z v0 v pool words first s → taking.asks_at pool words first s ≡ Some a → v.hand ≡ v0.hand
 searching_hand z v0 v pool words first (Looking i) a fits is = fits.2
 searching_hand z v0 v pool words first (Clearing i k) a fits is = fits.hand
 searching_hand z v0 v pool words first (Took i k) a fits is = cc
@@ -127,7 +125,7 @@ module _ (z : Sizes) (k : List ℕ) (value : ℕ) (s : Stock) (u : View) (t : Ta
       let looks : node_looks z wants.node ≡ search_looks z (pool_of_layout layout) = ap (node_looks z) want in
       record { steps = omega (arith, most, before, steps); counted = omega (arith, few, looked, looks) }
 
-  pub sought_on : (a : NumberAsked) → taking.asks t ≡ Some a → OnlySupplies z k value s u v
+  pub sought_on : (a : Action) → taking.asks t ≡ Some a → OnlySupplies z k value s u v
   sought_on a is = record {
     only = only_sought;
     later = later_sought;
@@ -181,12 +179,6 @@ module _ (z : Sizes) (k : List ℕ) (value : ℕ) (s : Stock) (u : View) (t t' :
   pub told_sought : t'.pool ≡ t.pool → taking.Fits z p.early t' w → IsSought z k value s u t' pool w
   told_sought same fits = record { early = p.early; base = p.base; soon = p.soon; seeks = fits; pool_is = same ∙ p.pool_is }
 
--- what was asked of numbers
-pub number_answers : (z : Sizes) (o : Option NumberAsked) (asked : Asked) (word : ℕ) (v w : View) → option_map number_asked o ≡ Some asked → Answers z asked word v w
-    → (a : NumberAsked) × (o ≡ Some a) × NumberAnswers z a word v w
-number_answers z (Some a) asked word v w is row = (a, refl, subst (λ (q : Asked). Answers z q word v w) (sym (same_Some {A = Asked} (number_asked a) asked is)) row)
-number_answers z None asked word v w is row = cc
-
 -- ---- the leaf gets its words
 
 node_written : (s : Stock) (b : Bool) (layout : Layout) → node_in (record s { written = b }) layout ≡ node_in s layout
@@ -225,30 +217,30 @@ packed_none : (z : Sizes) (w : View) (l : ℕ) (k : List ℕ) (value place : ℕ
 packed_none z w l k value place p = record { is = p.is; words = λ i low. absurd (omega arith) }
 
 -- its next word is asked for
-pub asks_word : (k : List ℕ) (value : ℕ) (s : Stock) (p : Packing) (l : ℕ) (x : LeafWrite) → s.leaf ≡ Some l → word_asked k value p.place ≡ Some x
-    → option_and_then (leaf_asked k value p) s.leaf ≡ Some (leaf_written l x)
-asks_word k value s p l x at is = ap (option_and_then (leaf_asked k value p)) at ∙ ap (option_map (leaf_write l)) is
+pub asks_word : (k : List ℕ) (value : ℕ) (s : Stock) (p : Packing) (l : ℕ) (a : Action) → s.leaf ≡ Some l → word_asked l k value p.place ≡ Some a
+    → option_and_then (leaf_asked k value p) s.leaf ≡ Some a
+asks_word k value s p l a at is = ap (option_and_then (leaf_asked k value p)) at ∙ is
 
 -- a word of it was written
 module _ (z : Sizes) (wants : Wants) (k : List ℕ) (value : ℕ) (s : Stock) (u : View) (p : Packing) (v w : View) (f : Fits z wants k value (stage.Packing p) s u v) where
   abbrev packing : IsPacking z k value s u p v
   packing = f.stage.1
 
-  abbrev next_word : LeafWrite
-  next_word = record { place = p.place; word = leaf_word k value p.place }
+  abbrev next_word : Action
+  next_word = WriteLeaf packing.leaf p.place (leaf_word k value p.place)
 
-  pub asks_next : word_asked k value p.place ≡ Some next_word
+  pub asks_next : word_asked packing.leaf k value p.place ≡ Some next_word
   asks_next = rw (lt-ltb p.place 10 packing.more) refl
 
-  pub next_place : (x : LeafWrite) → word_asked k value p.place ≡ Some x → p.place ≡ x.place
-  next_place x is = ap (λ (y : LeafWrite). y.place) (same_Some {A = LeafWrite} next_word x (sym asks_next ∙ is))
+  asked_word : (asked : Action) → option_and_then (leaf_asked k value p) s.leaf ≡ Some asked → next_word ≡ asked
+  asked_word asked is = same_Some {A = Action} next_word asked (sym (asks_word k value s p packing.leaf next_word packing.is asks_next) ∙ is)
 
-  asked_word : (asked : Asked) → option_and_then (leaf_asked k value p) s.leaf ≡ Some asked → leaf_written packing.leaf next_word ≡ asked
-  asked_word asked is = same_Some {A = Asked} (leaf_written packing.leaf next_word) asked (sym (asks_word k value s p packing.leaf next_word packing.is asks_next) ∙ is)
+  module _ (asked : Action) (answer : Answer) (is : option_and_then (leaf_asked k value p) s.leaf ≡ Some asked) (row : Answers z None asked answer v w) where
+    pub next_row : Answers z None next_word answer v w
+    next_row = subst (λ (q : Action). Answers z None q answer v w) (sym (asked_word asked is)) row
 
-  module _ (asked : Asked) (word : ℕ) (is : option_and_then (leaf_asked k value p) s.leaf ≡ Some asked) (row : Answers z asked word v w) where
-    pub wrote_word : (y : InHand) → IsInHand v (leaf packing.leaf) y → write.LeafOutcome v w y p.place (leaf_word k value p.place)
-    wrote_word = subst (λ (q : Asked). Answers z q word v w) (sym (asked_word asked is)) row
+    wrote_word : (y : InHand) → IsInHand v (leaf packing.leaf) y → write.LeafOutcome v w y p.place (leaf_word k value p.place)
+    wrote_word = done_row z None next_word answer v w tt next_row
 
     wrote : write.LeafOutcome v w packing.packs.packed.is.hand p.place (leaf_word k value p.place)
     wrote = wrote_word packing.packs.packed.is.hand packing.packs.packed.is.has
@@ -331,20 +323,20 @@ leaf_words s l is = record { leaf = l; is = is; written = refl }
 -- ---- what it asks for may be done
 
 search_allowed : (z : Sizes) (v0 v : View) (pool : Pool) (words first : ℕ) (s : Search) → words ≡ free_words (pool_size z pool) → SearchFits z v0 v pool words first s
-    → IfSome (option_map number_asked (taking.asks_at pool words first s)) (IsAllowed z v)
+    → IfSome (taking.asks_at pool words first s) (IsAllowed z None v)
 search_allowed z v0 v pool words first (Looking i) is fits = by_test (nat_lt i words) refl
   where
-    by_test : (b : Bool) → nat_lt i words ≡ b → IfSome (option_map number_asked (if b then Some (Clear pool (taking.around words first i) None) else None)) (IsAllowed z v)
+    by_test : (b : Bool) → nat_lt i words ≡ b → IfSome (if b then Some (ClearBit pool (taking.around words first i) None) else None) (IsAllowed z None v)
     by_test true low = record { word = subst (λ (n : ℕ). taking.around words first i < n) is (around_inside words first i (ltb-true i words low)); low = tt }
     by_test false low = tt
 search_allowed z v0 v pool words first (Clearing i k) is fits = record { word = subst (λ (n : ℕ). taking.around words first i < n) is (around_inside words first i fits.inside); low = fits.lowest.low }
 search_allowed z v0 v pool words first (Took i k) is fits = tt
 
-taking_allowed : (z : Sizes) (v0 v : View) (t : Taking) → taking.Fits z v0 t v → IfSome (option_map number_asked (taking.asks t)) (IsAllowed z v)
+taking_allowed : (z : Sizes) (v0 v : View) (t : Taking) → taking.Fits z v0 t v → IfSome (taking.asks t) (IsAllowed z None v)
 taking_allowed z v0 v t fits = search_allowed z v0 v t.pool t.words t.first t.search fits.words fits.search
 
 pub allowed : (z : Sizes) (wants : Wants) (k : List ℕ) (value : ℕ) (m : Supplying) (s : Stock) (u v : View) → length k ≤ 64 → StageFits z wants k value m s u v
-    → IfSome (asks k value s m) (IsAllowed z v)
+    → IfSome (asks k value s m) (IsAllowed z None v)
 allowed z wants k value (stage.Leaf t) s u v few fits = taking_allowed z fits.2.sought.early v t fits.2.sought.seeks
 allowed z wants k value (stage.Packing p) s u v few fits =
     let q = fits.1 in

@@ -10,12 +10,13 @@ use Rattle.art_cell.specs.declared.cells.Node.{Node}
 use Rattle.art_plan.specs.ChooseInsert.Seen.{WasVouched}
 use Rattle.art_find.proofs.Allowed.{none_held}
 use Rattle.art_find.proofs.Stages.{reads_on}
-use Rattle.art_find.specs.Asking.{Answers}
-use Rattle.art_find.specs.declared.asked.Answer.{Answer}
-use Rattle.art_find.specs.declared.asked.Answer.TheVariants.{Begun, Word, Checked}
-use Rattle.art_find.specs.declared.asked.Asked.{Asked}
-use Rattle.art_find.specs.declared.asked.Asked.TheVariants.{Read, Check}
-use Rattle.art_gather.specs.Vouching.{CheckedSince, Fits, HasLeft, IsReadingHere, IsVouched, IsVouching, KnowsAbove, KnowsHere, VouchesAbove, after_check, word_in, written_above}
+use Rattle.art_machine.proofs.Words.{word_row}
+use Rattle.art_machine.specs.Acting.{Answers, telling, word_in}
+use Rattle.art_machine.specs.declared.actions.Answer.{Answer}
+use Rattle.art_machine.specs.declared.actions.Answer.TheVariants.{Begun, Word, Checked, Upgraded, Done}
+use Rattle.art_machine.specs.declared.actions.Action.{Action}
+use Rattle.art_machine.specs.declared.actions.Action.TheVariants.{Read, Check}
+use Rattle.art_gather.specs.Vouching.{CheckedSince, Fits, HasLeft, IsReadingHere, IsVouched, IsVouching, KnowsAbove, KnowsHere, VouchesAbove, after_check, written_above}
 use Rattle.art_gather.specs.declared.vouching.Vouched.TheVariants.{Unchanged}
 use Rattle.art_gather.specs.declared.vouching.Vouching.{Vouching}
 use Rattle.art_gather.specs.declared.vouching.Vouching.TheVariants.{CheckHere, Ended}
@@ -151,20 +152,18 @@ not_all_known z t desk v r here known =
     let one = known r.place (omega (arith, here.fits.after)) here.more in
     let no : None ≡ Some one.0 = sym unknown ∙ one.1 in cc
 
-word_told : (z : Sizes) (d : Deed) (x : Stamp) (i : ℕ) (answer : Answer) (v w : View) → Answers z d (Read x i) answer v w → read.Outcome z v w x i (word_in answer)
-word_told z d x i (Begun r) v w row = absurd row
-word_told z d x i (Word word) v w row = row
-word_told z d x i (Checked r) v w row = absurd row
+word_told : (z : Sizes) (d : Deed) (x : Stamp) (i : ℕ) (answer : Answer) (v w : View) → Answers z (telling d) (Read x i) answer v w → read.Outcome z v w x i (word_in answer)
+word_told z d x i answer v w row = word_row z (telling d) (Read x i) answer v w tt row
 
-asks_word : (x : Stamp) (r : Rereading) (asked : Asked) → r.place < size_of x.cell → reads_next x r ≡ Some asked → Read x r.place ≡ asked
+asks_word : (x : Stamp) (r : Rereading) (asked : Action) → r.place < size_of x.cell → reads_next x r ≡ Some asked → Read x r.place ≡ asked
 asks_word x r asked more is =
     let next : reads_next x r ≡ Some (Read x r.place) = rw (lt-ltb r.place (size_of x.cell) more) refl in
-    same_Some {A = Asked} (Read x r.place) asked (sym next ∙ is)
+    same_Some {A = Action} (Read x r.place) asked (sym next ∙ is)
 
-pub read_told : (z : Sizes) (d : Deed) (x : Stamp) (r : Rereading) (asked : Asked) (answer : Answer) (v w : View) → r.place < size_of x.cell → reads_next x r ≡ Some asked
-    → Answers z d asked answer v w → read.Outcome z v w x r.place (word_in answer)
+pub read_told : (z : Sizes) (d : Deed) (x : Stamp) (r : Rereading) (asked : Action) (answer : Answer) (v w : View) → r.place < size_of x.cell → reads_next x r ≡ Some asked
+    → Answers z (telling d) asked answer v w → read.Outcome z v w x r.place (word_in answer)
 read_told z d x r asked answer v w more is row =
-    word_told z d x r.place answer v w (subst (λ (a : Asked). Answers z d a answer v w) (sym (asks_word x r asked more is)) row)
+    word_told z d x r.place answer v w (subst (λ (a : Action). Answers z (telling d) a answer v w) (sym (asks_word x r asked more is)) row)
 
 module _ (z : Sizes) (k : List ℕ) (t : Stand) (desk desk' : Desk) (u v w : View) (n : ℕ) (only : HasReadOnly v w n) (p : IsVouching z k t desk u v) where
   later_reads : u.steps ≤ w.steps
@@ -211,10 +210,12 @@ module _ (z : Sizes) (k : List ℕ) (both : Bool) (t : Stand) (desk : Desk) (u v
     checked_now = record { before = v; vouching = p; after = w; passed = passed; done = omega arith }
 
   module _ (left : ℕ) (some : 0 < left) (has : HasLeft u v left 532) where
-    check_told : (d : Deed) (x : Stamp) (answer : Answer) (next : Vouching) → (check.Unchanged z v w x None → Fits z k both t next desk u w) → Answers z d (Check x) answer v w
+    check_told : (d : Deed) (x : Stamp) (answer : Answer) (next : Vouching) → (check.Unchanged z v w x None → Fits z k both t next desk u w) → Answers z (telling d) (Check x) answer v w
         → Fits z k both t (after_check answer next) desk u w
     check_told d x (Begun r) next on row = absurd row
     check_told d x (Word word) next on row = absurd row
+    check_told d x (Upgraded r) next on row = absurd row
+    check_told d x Done next on row = absurd row
     check_told d x (Checked (Ok done)) next on row = on row
     check_told d x (Checked (Err e)) next on row = record {
       stage = reads_on u v w (failed_rest v w x e.found row.3) p.reads;
@@ -222,8 +223,8 @@ module _ (z : Sizes) (k : List ℕ) (both : Bool) (t : Stand) (desk : Desk) (u v
       steps = let step = ap (λ (y : View). y.steps) row.3.is in let few = has.steps in omega (arith, step, few, some);
     }
 
-    pub above_checked : (d : Deed) (a : Above) (asked : Asked) (answer : Answer) → 1 < left → written_above both t ≡ Some a → KnowsAbove both t desk → KnowsHere t desk
-        → Check a.stamp ≡ asked → Answers z d asked answer v w → Fits z k both t (after_check answer CheckHere) desk u w
+    pub above_checked : (d : Deed) (a : Above) (asked : Action) (answer : Answer) → 1 < left → written_above both t ≡ Some a → KnowsAbove both t desk → KnowsHere t desk
+        → Check a.stamp ≡ asked → Answers z (telling d) asked answer v w → Fits z k both t (after_check answer CheckHere) desk u w
     above_checked d a asked answer more is above here at row =
         check_told d a.stamp answer CheckHere
         (λ passed. let still = passed_left z u v w a.stamp left 1 532 passed more has in
@@ -237,10 +238,10 @@ module _ (z : Sizes) (k : List ℕ) (both : Bool) (t : Stand) (desk : Desk) (u v
           failures = still.failures;
           steps = still.steps;
         })
-        (subst (λ (q : Asked). Answers z d q answer v w) (sym at) row)
+        (subst (λ (q : Action). Answers z (telling d) q answer v w) (sym at) row)
 
-    pub here_checked : (d : Deed) (asked : Asked) (answer : Answer) → KnowsAbove both t desk → KnowsHere t desk → VouchesAbove z k both t desk u v → Check t.stamp ≡ asked
-        → Answers z d asked answer v w → Fits z k both t (after_check answer (Ended Unchanged)) desk u w
+    pub here_checked : (d : Deed) (asked : Action) (answer : Answer) → KnowsAbove both t desk → KnowsHere t desk → VouchesAbove z k both t desk u v → Check t.stamp ≡ asked
+        → Answers z (telling d) asked answer v w → Fits z k both t (after_check answer (Ended Unchanged)) desk u w
     here_checked d asked answer above here vouches at row =
         check_told d t.stamp answer (Ended Unchanged)
         (λ passed. let still = passed_left z u v w t.stamp left 0 532 passed some has in
@@ -257,4 +258,4 @@ module _ (z : Sizes) (k : List ℕ) (both : Bool) (t : Stand) (desk : Desk) (u v
           failures = still.failures;
           steps = still.steps;
         })
-        (subst (λ (q : Asked). Answers z d q answer v w) (sym at) row)
+        (subst (λ (q : Action). Answers z (telling d) q answer v w) (sym at) row)

@@ -1,6 +1,5 @@
 -- the crates below, for those above to name
 pub use Rattle.art_plan.specs as ArtPlan
-pub mod Asking
 pub mod Lowering
 pub mod Supplying
 pub mod Vouching

@@ -12,10 +12,11 @@ use Rattle.art_cell.specs.declared.cells.Node.{Node}
 use Rattle.art_plan.specs.ChooseRemove.Others.{NamesChild}
 use Rattle.art_plan.specs.ChooseInsert.Bodies.{HasWords}
 use Rattle.art_find.specs.Descents.{IsReading}
-use Rattle.art_find.specs.declared.asked.Answer.{Answer}
-use Rattle.art_find.specs.declared.asked.Asked.{Asked}
-use Rattle.art_find.specs.declared.asked.Asked.TheVariants.{Begin, Check}
-use Rattle.art_gather.specs.Vouching.{IsReadingAbove, IsVouched, IsVouching, KnowsAbove, KnowsHere, VouchesAbove, above_checks, above_reads, passed}
+use Rattle.art_machine.specs.declared.actions.Answer.{Answer}
+use Rattle.art_machine.specs.declared.actions.Action.{Action}
+use Rattle.art_machine.specs.declared.actions.Action.TheVariants.{Begin, Check}
+use Rattle.art_gather.specs.Vouching.{IsReadingAbove, IsVouched, IsVouching, KnowsAbove, KnowsHere, VouchesAbove, above_checks, above_reads}
+use Rattle.art_machine.specs.Acting.{passed}
 use Rattle.art_gather.specs.declared.lowering.Lowered.{Lowered}
 use Rattle.art_gather.specs.declared.lowering.Lowered.TheVariants.{Unchanged, Changed}
 use Rattle.art_gather.specs.declared.lowering.Lowering.{Lowering}
@@ -39,7 +40,7 @@ use Rattle.art_step.specs.declared.views.View.{View}
 -- ---- what it asks
 
 -- the next step
-abbrev pub asks : Stand → Lowering → Option Asked
+abbrev pub asks : Stand → Lowering → Option Action
 asks t (Beginning n) = Some (Begin (cell.Node n))
 asks t (Named x) = Some (Check t.stamp)
 asks t (Above x r) = option_and_then (above_reads r) t.above

@@ -1,24 +1,21 @@
 -- What a supplying knows between two of its steps.
 use Rattle.std.specs.Prelude.{◌≡◌, ◌⊎◌, ℕ, ◌+◌, ◌*◌, ◌<◌, ◌≤◌, List, true, false, Option, Some, None}
-use Rattle.std.specs.Option.{option_map, option_and_then}
+use Rattle.std.specs.Option.{option_and_then}
 use Rattle.art_cell.specs.declared.layouts.Layout.{Layout}
 use Rattle.art_cell.specs.declared.layouts.Pool.{Pool}
 use Rattle.art_cell.specs.declared.layouts.Pool.TheVariants.{Leaves}
 use Rattle.art_epoch.specs.Taking.{MadeFew, NoneBefore, OnlyTakes}
 use Rattle.art_epoch.specs.Taking as taking
-use Rattle.art_epoch.specs.declared.asked.Asked.{Asked as NumberAsked}
+use Rattle.art_machine.specs.declared.actions.Action.{Action}
 use Rattle.art_epoch.specs.declared.taking.Taking.{Taking}
 use Rattle.art_frame.specs.Stocks.{HasStock, node_in}
 use Rattle.art_frame.specs.declared.stocks.Stock.{Stock}
-use Rattle.art_gather.specs.declared.asked.Asked.{Asked}
-use Rattle.art_gather.specs.declared.asked.Asked.TheVariants as asked
 use Rattle.art_gather.specs.declared.supplying.Supplied.{Supplied}
 use Rattle.art_gather.specs.declared.supplying.Supplied.TheVariants.{Ready, Full}
 use Rattle.art_gather.specs.declared.supplying.Supplying.{Supplying}
 use Rattle.art_gather.specs.declared.supplying.Supplying.TheVariants.{Leaf, Packing, Node, Ended}
 use Rattle.art_gather.specs.declared.supplying.Wants.{Wants}
 use Rattle.art_frame.specs.ArtMake.Packing.{PackingFits, word_asked}
-use Rattle.art_frame.specs.ArtMake.declared.packing.LeafWrite.{LeafWrite}
 use Rattle.art_frame.specs.ArtMake.declared.packing.Packing.{Packing as PackingOf}
 use Rattle.art_step.specs.Views.{pool_of_layout}
 use Rattle.art_step.specs.WordPlaces.{free_words, pool_size}
@@ -28,17 +25,14 @@ use Rattle.art_step.specs.declared.views.View.{View}
 -- ---- what it asks
 
 -- the next word of the leaf
-abbrev pub leaf_write : ℕ → LeafWrite → Asked
-leaf_write l x = asked.Leaf l x
-
-abbrev pub leaf_asked : List ℕ → ℕ → PackingOf → ℕ → Option Asked
-leaf_asked k value p l = option_map (leaf_write l) (word_asked k value p.place)
+abbrev pub leaf_asked : List ℕ → ℕ → PackingOf → ℕ → Option Action
+leaf_asked k value p l = word_asked l k value p.place
 
 -- the next step, of a row with this key and value
-abbrev pub asks : List ℕ → ℕ → Stock → Supplying → Option Asked
-asks k value stock (Leaf t) = option_map asked.Number (taking.asks t)
+abbrev pub asks : List ℕ → ℕ → Stock → Supplying → Option Action
+asks k value stock (Leaf t) = taking.asks t
 asks k value stock (Packing p) = option_and_then (leaf_asked k value p) stock.leaf
-asks k value stock (Node t) = option_map asked.Number (taking.asks t)
+asks k value stock (Node t) = taking.asks t
 asks k value stock (Ended r) = None
 
 -- how it ended, if it has
@@ -142,7 +136,7 @@ pub record IsSought (z : Sizes) (k : List ℕ) (value : ℕ) (stock : Stock) (u 
 -- and the search goes on
 pub record IsSeeking (z : Sizes) (k : List ℕ) (value : ℕ) (stock : Stock) (u : View) (t : Taking) (pool : Pool) (v : View) : Type 0 where
   pub sought : IsSought z k value stock u t pool v
-  pub going : (a : NumberAsked) × (taking.asks t ≡ Some a)
+  pub going : (a : Action) × (taking.asks t ≡ Some a)
 
 -- of a layout that is wanted none is in hand, and one is sought
 pub record IsSeekingNode (z : Sizes) (wants : Wants) (k : List ℕ) (value : ℕ) (stock : Stock) (u : View) (t : Taking) (v : View)

@@ -2,10 +2,11 @@
 use Rattle.std.specs.Prelude.{◌≡◌, ℕ, ◌+◌, ◌-◌, ◌<◌, ◌≤◌, List, Bool, true, false, Option, Some, None, Ok, ⊤, if◌then◌else◌}
 use Rattle.std.specs.Option.{option_map, option_and_then}
 use Rattle.art_find.specs.Descents.{IsReading}
-use Rattle.art_find.specs.declared.asked.Answer.{Answer}
-use Rattle.art_find.specs.declared.asked.Answer.TheVariants as told
-use Rattle.art_find.specs.declared.asked.Asked.{Asked}
-use Rattle.art_find.specs.declared.asked.Asked.TheVariants.{Check}
+use Rattle.art_machine.specs.declared.actions.Answer.{Answer}
+use Rattle.art_machine.specs.declared.actions.Answer.TheVariants as told
+use Rattle.art_machine.specs.Acting.{passed}
+use Rattle.art_machine.specs.declared.actions.Action.{Action}
+use Rattle.art_machine.specs.declared.actions.Action.TheVariants.{Check}
 use Rattle.art_gather.specs.declared.vouching.Vouched.{Vouched}
 use Rattle.art_gather.specs.declared.vouching.Vouched.TheVariants.{Unchanged, Changed}
 use Rattle.art_gather.specs.declared.vouching.Vouching.{Vouching}
@@ -25,14 +26,14 @@ use Rattle.art_step.specs.declared.views.View.{View}
 
 -- ---- what it asks
 
-abbrev pub above_reads : Rereading → CellAbove → Option Asked
+abbrev pub above_reads : Rereading → CellAbove → Option Action
 above_reads r a = reads_next a.stamp r
 
-abbrev pub above_checks : CellAbove → Asked
+abbrev pub above_checks : CellAbove → Action
 above_checks a = Check a.stamp
 
 -- the next step
-abbrev pub asks : Stand → Vouching → Option Asked
+abbrev pub asks : Stand → Vouching → Option Action
 asks t (Above r) = option_and_then (above_reads r) t.above
 asks t (Here r) = reads_next t.stamp r
 asks t CheckAbove = option_map above_checks t.above
@@ -77,16 +78,6 @@ failures_of m n = n
 pub record HasLeft (u v : View) (left most : ℕ) : Type 0 where
   pub failures : v.failures ≡ u.failures
   pub steps : v.steps + left ≤ u.steps + most
-
--- the word that was read
-abbrev pub word_in : Answer → ℕ
-word_in (told.Word word) = word
-word_in answer = 0
-
--- whether it says that a version word is unchanged
-abbrev pub passed : Answer → Bool
-passed (told.Checked (Ok x)) = true
-passed answer = false
 
 -- a check that succeeded leads to this stage
 abbrev pub after_check : Answer → Vouching → Vouching

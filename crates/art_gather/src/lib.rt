@@ -42,7 +42,7 @@
 //! # Machines
 //!
 //! Both are values of scalars with `next` and `told`, as those of `art_epoch` and `art_find`; the stock, the place and the
-//! words that were read stand beside them. `make` makes a step of a supplying; a vouching asks what a descent asks.
+//! words that were read stand beside them. Both ask for actions of `art_machine`.
 //!
 //! # What is proved
 //!
@@ -53,13 +53,11 @@
 //! makes at most two steps for each free word of the two pools, and ten; a vouching makes at most 532.
 #![tactic(auto)]
 
-mod asked;
 mod lowering;
 mod supplying;
 mod vouching;
 
 pub use art_plan;
-pub use asked::{Asked, make};
 pub use lowering::{Lowered, Lowering};
 pub use supplying::{Supplied, Supplying, Wants};
 pub use vouching::{Vouched, Vouching, read_cells};

@@ -57,9 +57,9 @@ ghost use Rattle.art_cell.specs.declared.cells.Node.{Node as NodeOf};
 ghost use Rattle.art_plan.specs.ChooseRemove.Plans.{HasOther};
 ghost use Rattle.art_plan.specs.ChooseRemove.Seen.{AreSeen, IsLowerSeen, StillKnown};
 ghost use Rattle.art_plan.specs.declared.choose_remove.lowers.Lower.{Lower as LowerOf};
-ghost use Rattle.art_find.specs.Asking.{Answers};
-ghost use Rattle.art_find.specs.declared.asked.Asked.{Asked as AskedStep};
-ghost use Rattle.art_gather.specs.Vouching.{HasLeft, KnowsAbove, passed, word_in};
+ghost use Rattle.art_machine.specs.Acting.{Answers, telling};
+ghost use Rattle.art_machine.specs.declared.actions.Action.{Action as ActionOf};
+ghost use Rattle.art_gather.specs.Vouching.{HasLeft, KnowsAbove};
 ghost use Rattle.art_gather.specs.Lowering.{Fits, IsBelow, IsLowering, IsReadBelow, WouldLead, after_check, asks, ended_at, steps_left};
 ghost use Rattle.art_gather.specs.declared.lowering.Lowered.TheVariants.{Unchanged as unchanged};
 ghost use Rattle.art_gather.specs.declared.lowering.Lowering.TheVariants.{Beginning as beginning, Named as named, Above as above_read, Lower as lower_read};
@@ -76,7 +76,8 @@ ghost use Rattle.art_step.specs.declared.views.Stamp.{Stamp as StampOf};
 ghost use Rattle.art_step.specs.declared.views.View.{View};
 
 use art_cell::{Cell, Node, Reads};
-use art_find::{Above, Answer, Asked, Desk, Rereading, Stand};
+use art_find::{Above, Desk, Rereading, Stand};
+use art_machine::{Action, Answer};
 use art_step::Stamp;
 
 /// How a lowering ended.
@@ -110,7 +111,7 @@ pub enum Lowering {
 
 impl Lowering {
     ghost use Rattle.std.specs.Prelude.{IfSome, ⊤};
-    ghost use Rattle.art_find.specs.Asking.{IsAllowed};
+    ghost use Rattle.art_find.specs.Asking.{MayLook};
 
     /// At its beginning: to the node that a word names which was read of the node where the key stands, checked or not.
     pub fn new(node: Node) -> Lowering
@@ -123,12 +124,12 @@ impl Lowering {
     }
 
     /// The next step, or none where it has ended.
-    pub fn next(&self, stand: &Stand) -> Option<Asked>
+    pub fn next(&self, stand: &Stand) -> Option<Action>
         ensures asks { result ≡ asks stand.now self.now }
         ensures allowed { (z : Sizes) (k : List ℕ) (n : NodeOf) (desk : DeskOf) (lower : List (Option ℕ)) (u v : View) →
-            Fits z k stand.now n self.now desk lower u v → IfSome result (IsAllowed z (λ s. ⊤) v) }
+            Fits z k stand.now n self.now desk lower u v → IfSome result (MayLook z (λ s. ⊤) v) }
         ensures going { (z : Sizes) (k : List ℕ) (n : NodeOf) (desk : DeskOf) (lower : List (Option ℕ)) (u v : View) →
-            Fits z k stand.now n self.now desk lower u v → ended_at self.now ≡ None → (a : AskedStep) × (result ≡ Some a) }
+            Fits z k stand.now n self.now desk lower u v → ended_at self.now ≡ None → (a : ActionOf) × (result ≡ Some a) }
     {
         self.asked(stand)
     }
@@ -139,9 +140,9 @@ impl Lowering {
             Fits z k stand.now n self.old desk.old lower.old u v }
         ensures left { ended_at self.old ≡ None → steps_left self.new < steps_left self.old }
         ensures node { node_of desk.new ≡ node_of desk.old }
-        ensures fits { (z : Sizes) (k : List ℕ) (n : NodeOf) (deed : Deed) (u v w : View) (asked : AskedStep) →
+        ensures fits { (z : Sizes) (k : List ℕ) (n : NodeOf) (deed : Deed) (u v w : View) (asked : ActionOf) →
             Fits z k stand.now n self.old desk.old lower.old u v → asks stand.now self.old ≡ Some asked →
-            Answers z deed asked answer v w → Fits z k stand.now n self.new desk.new lower.new u w }
+            Answers z (telling deed) asked answer v w → Fits z k stand.now n self.new desk.new lower.new u w }
     {
         *self = match *self {
             Lowering::Beginning(_) => lower_begun(lower, answer),
@@ -179,17 +180,21 @@ impl Lowering {
     }
 
     /// The next step, by the stage alone.
-    fn asked(&self, stand: &Stand) -> Option<Asked>
+    fn asked(&self, stand: &Stand) -> Option<Action>
         ensures { result ≡ asks stand.now self.now }
     {
         match *self {
-            Lowering::Beginning(node) => Some(Asked::Begin(Cell::Node(node))),
-            Lowering::Named(_) => Some(Asked::Check(stand.stamp)),
+            Lowering::Beginning(node) => Some(Action::Begin {
+                cell: Cell::Node(node),
+            }),
+            Lowering::Named(_) => Some(Action::Check { stamp: stand.stamp }),
             Lowering::Above(_, rereading) => rereading.next(stand.above?.stamp),
             Lowering::Lower(stamp, rereading) => rereading.next(stamp),
-            Lowering::CheckAbove(_) => Some(Asked::Check(stand.above?.stamp)),
-            Lowering::CheckHere(_) => Some(Asked::Check(stand.stamp)),
-            Lowering::CheckLower(stamp) => Some(Asked::Check(stamp)),
+            Lowering::CheckAbove(_) => Some(Action::Check {
+                stamp: stand.above?.stamp,
+            }),
+            Lowering::CheckHere(_) => Some(Action::Check { stamp: stand.stamp }),
+            Lowering::CheckLower(stamp) => Some(Action::Check { stamp }),
             Lowering::Ended(_) => None,
         }
     }
@@ -199,13 +204,13 @@ impl Lowering {
 fn lower_begun(lower: &mut Reads, answer: Answer) -> Lowering
     ensures few { steps_left result ≤ 534 }
     ensures fits { (z : Sizes) (k : List ℕ) (t : StandOf) (m n : NodeOf) (desk : DeskOf) (deed : Deed) (u v w : View)
-        (asked : AskedStep) → Fits z k t n (beginning m) desk lower.old u v → asks t (beginning m) ≡ Some asked →
-        Answers z deed asked answer v w → Fits z k t n result desk lower.new u w }
+        (asked : ActionOf) → Fits z k t n (beginning m) desk lower.old u v → asks t (beginning m) ≡ Some asked →
+        Answers z (telling deed) asked answer v w → Fits z k t n result desk lower.new u w }
 {
-    let Answer::Begun(found) = answer else {
+    let Answer::Begun { result } = answer else {
         return Lowering::Ended(Lowered::Changed);
     };
-    match found {
+    match result {
         Ok(stamp) => {
             lower.clear();
             Lowering::Named(stamp)
@@ -219,11 +224,11 @@ fn name_checked(stand: &Stand, desk: &Desk, lower: &Reads, stamp: Stamp, answer:
     requires { (z : Sizes) × (k : List ℕ) × (n : NodeOf) × (u : View) × (v : View) ×
         Fits z k stand.now n (named stamp) desk.now lower.now u v }
     ensures few { steps_left result ≤ 533 }
-    ensures fits { (z : Sizes) (k : List ℕ) (n : NodeOf) (deed : Deed) (u v w : View) (asked : AskedStep) →
+    ensures fits { (z : Sizes) (k : List ℕ) (n : NodeOf) (deed : Deed) (u v w : View) (asked : ActionOf) →
         Fits z k stand.now n (named stamp) desk.now lower.now u v → asks stand.now (named stamp) ≡ Some asked →
-        Answers z deed asked answer v w → Fits z k stand.now n result desk.now lower.now u w }
+        Answers z (telling deed) asked answer v w → Fits z k stand.now n result desk.now lower.now u w }
 {
-    if !passed(answer) {
+    if !answer.passed() {
         return Lowering::Ended(Lowered::Changed);
     }
     above_read_on(above_in(stand), lower, stamp, Rereading::new(desk.above()))
@@ -242,13 +247,13 @@ fn above_told(
         Fits z k stand.now n (above_read stamp rereading) desk.old lower.now u v }
     ensures left { steps_left result < steps_left (above_read stamp rereading) }
     ensures node { node_of desk.new ≡ node_of desk.old }
-    ensures fits { (z : Sizes) (k : List ℕ) (n : NodeOf) (deed : Deed) (u v w : View) (asked : AskedStep) →
+    ensures fits { (z : Sizes) (k : List ℕ) (n : NodeOf) (deed : Deed) (u v w : View) (asked : ActionOf) →
         Fits z k stand.now n (above_read stamp rereading) desk.old lower.now u v →
-        asks stand.now (above_read stamp rereading) ≡ Some asked → Answers z deed asked answer v w →
+        asks stand.now (above_read stamp rereading) ≡ Some asked → Answers z (telling deed) asked answer v w →
         Fits z k stand.now n result desk.new lower.now u w }
 {
     let mut rereading = rereading;
-    desk.reread_above(&mut rereading, word_in(answer));
+    desk.reread_above(&mut rereading, answer.found());
     above_read_on(above_in(stand), lower, stamp, rereading)
 }
 
@@ -272,12 +277,12 @@ fn lower_told(lower: &mut Reads, stamp: Stamp, rereading: Rereading, answer: Ans
         Fits z k t n (lower_read stamp rereading) desk lower.old u v }
     ensures left { steps_left result < steps_left (lower_read stamp rereading) }
     ensures fits { (z : Sizes) (k : List ℕ) (t : StandOf) (n : NodeOf) (desk : DeskOf) (deed : Deed) (u v w : View)
-        (asked : AskedStep) → Fits z k t n (lower_read stamp rereading) desk lower.old u v →
-        asks t (lower_read stamp rereading) ≡ Some asked → Answers z deed asked answer v w →
+        (asked : ActionOf) → Fits z k t n (lower_read stamp rereading) desk lower.old u v →
+        asks t (lower_read stamp rereading) ≡ Some asked → Answers z (telling deed) asked answer v w →
         Fits z k t n result desk lower.new u w }
 {
     let mut rereading = rereading;
-    rereading.told(lower, word_in(answer));
+    rereading.told(lower, answer.found());
     lower_read_on(stamp, rereading)
 }
 
@@ -310,29 +315,9 @@ fn above_in(stand: &Stand) -> Above
 fn checked(answer: Answer, next: Lowering) -> Lowering
     ensures { result ≡ after_check answer next }
 {
-    if passed(answer) {
+    if answer.passed() {
         next
     } else {
         Lowering::Ended(Lowered::Changed)
-    }
-}
-
-/// Whether it says that a version word is unchanged.
-fn passed(answer: Answer) -> bool
-    ensures { result ≡ passed answer }
-{
-    match answer {
-        Answer::Checked(Ok(_)) => true,
-        _ => false,
-    }
-}
-
-/// The word that was read.
-fn word_in(answer: Answer) -> u64
-    ensures { result ≡ word_in answer }
-{
-    match answer {
-        Answer::Word(word) => word,
-        _ => 0,
     }
 }

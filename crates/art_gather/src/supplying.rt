@@ -4,25 +4,23 @@ ghost use Rattle.art_cell.specs.Children.{number_of};
 ghost use Rattle.art_cell.specs.declared.layouts.Pool.TheVariants.{Leaves as leaves};
 ghost use Rattle.art_epoch.specs.Taking.{Fits as TakingFits};
 ghost use Rattle.art_frame.specs.Stocks.{HasStock, node_in};
-ghost use Rattle.art_gather.specs.Asking.{Answers};
-ghost use Rattle.art_gather.specs.Supplying.{Fits, HasLeafWords, IsSoon, IsSought, OnlySupplies, asks, leaf_asked, leaf_looks};
+ghost use Rattle.art_machine.specs.Acting.{Answers, IsAllowed};
+ghost use Rattle.art_gather.specs.Supplying.{Fits, HasLeafWords, IsSoon, IsSought, OnlySupplies, asks, leaf_looks};
 ghost use Rattle.art_gather.specs.Supplying.{leaf_steps};
-ghost use Rattle.art_gather.specs.declared.asked.Asked.{Asked as AskedStep};
+ghost use Rattle.art_machine.specs.declared.actions.Action.{Action as ActionOf};
+ghost use Rattle.art_machine.specs.declared.actions.Answer.{Answer as AnswerOf};
 ghost use Rattle.art_gather.specs.declared.supplying.Supplying.TheVariants.{Leaf as leaf_sought, Packing as packed, Node as node_sought};
 ghost use Rattle.art_gather.specs.declared.supplying.Wants.{Wants as WantsOf};
 ghost use Rattle.art_step.specs.Views.{pool_of_layout};
 ghost use Rattle.art_step.specs.declared.views.Sizes.{Sizes as SizesOf};
 ghost use Rattle.art_step.specs.declared.views.View.{View};
 
-use crate::Asked;
 use art_cell::{Layout, Link, Node, Pool};
 use art_epoch::Taking;
 use art_frame::Stock;
-use art_frame::art_make::{Packing, write_leaf};
+use art_frame::art_make::Packing;
+use art_machine::{Action, Answer, perform};
 use art_step::{EpochSteps, Sizes, pool_of_layout, spent};
-
-/// The place of the last word of a leaf.
-const LAST_WORD: usize = 9;
 
 /// What a change wants to have in hand.
 #[derive(Clone, Copy)]
@@ -57,7 +55,6 @@ pub enum Supplying {
 
 impl Supplying {
     ghost use Rattle.std.specs.Prelude.{IfSome};
-    ghost use Rattle.art_gather.specs.Asking.{IsAllowed};
     ghost use Rattle.art_gather.specs.Supplying.{ended_at};
 
     /// At its beginning.
@@ -86,32 +83,32 @@ impl Supplying {
 
     /// The next step, or none where it has ended.
     #[inline(always)]
-    pub fn next(&self, key: &[u8], value: u64, stock: &Stock) -> Option<Asked>
+    pub fn next(&self, key: &[u8], value: u64, stock: &Stock) -> Option<Action>
         requires few { length key.now ≤ 64 }
         ensures asks { result ≡ asks key.now value stock.now self.now }
         ensures allowed { (z : SizesOf) (u v : View) → (wants : WantsOf) → Fits z wants key.now value self.now stock.now u v →
-            IfSome result (IsAllowed z v) }
+            IfSome result (IsAllowed z None v) }
         ensures going { (z : SizesOf) (u v : View) → (wants : WantsOf) → Fits z wants key.now value self.now stock.now u v →
-            ended_at self.now ≡ None → (a : AskedStep) × (result ≡ Some a) }
+            ended_at self.now ≡ None → (a : ActionOf) × (result ≡ Some a) }
     {
         self.asked(key, value, stock)
     }
 
-    /// The step that it asked for was made, and found this word.
+    /// The step that it asked for was made, and answered so.
     #[inline(always)]
-    pub fn told(&mut self, wants: &Wants, stock: &mut Stock, word: u64)
-        requires { (z : SizesOf) × (k : List ℕ) × (value : ℕ) × (u : View) × (v : View) × (w : View) × (asked : AskedStep) ×
+    pub fn told(&mut self, wants: &Wants, stock: &mut Stock, answer: Answer)
+        requires { (z : SizesOf) × (k : List ℕ) × (value : ℕ) × (u : View) × (v : View) × (w : View) × (asked : ActionOf) ×
             Fits z wants.now k value self.old stock.old u v × (asks k value stock.old self.old ≡ Some asked) ×
-            Answers z asked word v w }
+            Answers z None asked answer v w }
         ensures keeps { HasLeafWords stock.old → HasLeafWords stock.new }
-        ensures fits { (z : SizesOf) (k : List ℕ) (value : ℕ) (u v w : View) (asked : AskedStep) →
+        ensures fits { (z : SizesOf) (k : List ℕ) (value : ℕ) (u v w : View) (asked : ActionOf) →
             Fits z wants.now k value self.old stock.old u v → asks k value stock.old self.old ≡ Some asked →
-            Answers z asked word v w → Fits z wants.now k value self.new stock.new u w }
+            Answers z None asked answer v w → Fits z wants.now k value self.new stock.new u w }
     {
         *self = match *self {
-            Supplying::Leaf(taking) => leaf_told(stock, taking, word),
+            Supplying::Leaf(taking) => leaf_told(stock, taking, answer),
             Supplying::Packing(packing) => leaf_packed(wants, stock, packing),
-            Supplying::Node(taking) => node_told(wants, stock, taking, word),
+            Supplying::Node(taking) => node_told(wants, stock, taking, answer),
             Supplying::Ended(supplied) => Supplying::Ended(supplied),
         };
     }
@@ -146,11 +143,14 @@ impl Supplying {
             unreachable!();
         };
         while *left > 1 {
-            match packing.next(key, value) {
-                // what follows the last word is left to the machine
-                Some(put) if put.place < LAST_WORD => write_leaf(steps, leaf, put),
-                _ => break,
+            // what follows the last word is left to the machine
+            if packing.is_at_last() {
+                break;
             }
+            let Some(action) = packing.next(leaf, key, value) else {
+                break;
+            };
+            perform(steps, action, None);
             packing.told();
             *left -= 1;
         }
@@ -169,40 +169,31 @@ impl Supplying {
 
     /// The next step, by the stage alone.
     #[inline(always)]
-    fn asked(&self, key: &[u8], value: u64, stock: &Stock) -> Option<Asked>
+    fn asked(&self, key: &[u8], value: u64, stock: &Stock) -> Option<Action>
         requires few { length key.now ≤ 64 }
         ensures { result ≡ asks key.now value stock.now self.now }
     {
         match *self {
-            Supplying::Leaf(taking) => Some(Asked::Number(taking.next()?)),
-            Supplying::Packing(packing) => write_asked(key, value, packing, stock.leaf()?),
-            Supplying::Node(taking) => Some(Asked::Number(taking.next()?)),
+            Supplying::Leaf(taking) => taking.next(),
+            Supplying::Packing(packing) => packing.next(stock.leaf()?, key, value),
+            Supplying::Node(taking) => taking.next(),
             Supplying::Ended(_) => None,
         }
     }
 }
 
-/// The write of the next word of the leaf.
+/// The search for the number of a leaf was answered so.
 #[inline(always)]
-fn write_asked(key: &[u8], value: u64, packing: Packing, leaf: u32) -> Option<Asked>
-    requires few { length key.now ≤ 64 }
-    ensures { result ≡ leaf_asked key.now value packing leaf }
-{
-    Some(Asked::Leaf(leaf, packing.next(key, value)?))
-}
-
-/// The search for the number of a leaf found this word.
-#[inline(always)]
-fn leaf_told(stock: &mut Stock, taking: Taking, word: u64) -> Supplying
+fn leaf_told(stock: &mut Stock, taking: Taking, answer: Answer) -> Supplying
     requires { (z : SizesOf) × (wants : WantsOf) × (k : List ℕ) × (value : ℕ) × (u : View) × (v : View) × (w : View) ×
-        (asked : AskedStep) × Fits z wants k value (leaf_sought taking) stock.old u v ×
-        (asks k value stock.old (leaf_sought taking) ≡ Some asked) × Answers z asked word v w }
-    ensures { (z : SizesOf) (wants : WantsOf) (k : List ℕ) (value : ℕ) (u v w : View) (asked : AskedStep) →
+        (asked : ActionOf) × Fits z wants k value (leaf_sought taking) stock.old u v ×
+        (asks k value stock.old (leaf_sought taking) ≡ Some asked) × Answers z None asked answer v w }
+    ensures { (z : SizesOf) (wants : WantsOf) (k : List ℕ) (value : ℕ) (u v w : View) (asked : ActionOf) →
         Fits z wants k value (leaf_sought taking) stock.old u v → asks k value stock.old (leaf_sought taking) ≡ Some asked →
-        Answers z asked word v w → Fits z wants k value result stock.new u w }
+        Answers z None asked answer v w → Fits z wants k value result stock.new u w }
 {
     let mut taking = taking;
-    taking.told(word);
+    taking.told(answer);
     leaf_sought(stock, taking)
 }
 
@@ -228,13 +219,13 @@ fn leaf_sought(stock: &mut Stock, taking: Taking) -> Supplying
 /// A word of the leaf was written.
 #[inline(always)]
 fn leaf_packed(wants: &Wants, stock: &mut Stock, packing: Packing) -> Supplying
-    requires { (z : SizesOf) × (k : List ℕ) × (value : ℕ) × (u : View) × (v : View) × (w : View) × (asked : AskedStep) × (word : ℕ) ×
+    requires { (z : SizesOf) × (k : List ℕ) × (value : ℕ) × (u : View) × (v : View) × (w : View) × (asked : ActionOf) × (answer : AnswerOf) ×
         Fits z wants.now k value (packed packing) stock.old u v × (asks k value stock.old (packed packing) ≡ Some asked) ×
-        Answers z asked word v w }
+        Answers z None asked answer v w }
     ensures keeps { HasLeafWords stock.old → HasLeafWords stock.new }
-    ensures fits { (z : SizesOf) (k : List ℕ) (value : ℕ) (u v w : View) (asked : AskedStep) (word : ℕ) →
+    ensures fits { (z : SizesOf) (k : List ℕ) (value : ℕ) (u v w : View) (asked : ActionOf) (answer : AnswerOf) →
         Fits z wants.now k value (packed packing) stock.old u v → asks k value stock.old (packed packing) ≡ Some asked →
-        Answers z asked word v w → Fits z wants.now k value result stock.new u w }
+        Answers z None asked answer v w → Fits z wants.now k value result stock.new u w }
 {
     let mut packing = packing;
     packing.told();
@@ -267,19 +258,19 @@ fn node_wanted(wants: &Wants, stock: &mut Stock) -> Supplying
     }
 }
 
-/// The search for the number of a node found this word.
+/// The search for the number of a node was answered so.
 #[inline(always)]
-fn node_told(wants: &Wants, stock: &mut Stock, taking: Taking, word: u64) -> Supplying
-    requires { (z : SizesOf) × (k : List ℕ) × (value : ℕ) × (u : View) × (v : View) × (w : View) × (asked : AskedStep) ×
+fn node_told(wants: &Wants, stock: &mut Stock, taking: Taking, answer: Answer) -> Supplying
+    requires { (z : SizesOf) × (k : List ℕ) × (value : ℕ) × (u : View) × (v : View) × (w : View) × (asked : ActionOf) ×
         Fits z wants.now k value (node_sought taking) stock.old u v ×
-        (asks k value stock.old (node_sought taking) ≡ Some asked) × Answers z asked word v w }
+        (asks k value stock.old (node_sought taking) ≡ Some asked) × Answers z None asked answer v w }
     ensures keeps { HasLeafWords stock.old → HasLeafWords stock.new }
-    ensures fits { (z : SizesOf) (k : List ℕ) (value : ℕ) (u v w : View) (asked : AskedStep) →
+    ensures fits { (z : SizesOf) (k : List ℕ) (value : ℕ) (u v w : View) (asked : ActionOf) →
         Fits z wants.now k value (node_sought taking) stock.old u v → asks k value stock.old (node_sought taking) ≡ Some asked →
-        Answers z asked word v w → Fits z wants.now k value result stock.new u w }
+        Answers z None asked answer v w → Fits z wants.now k value result stock.new u w }
 {
     let mut taking = taking;
-    taking.told(word);
+    taking.told(answer);
     let Some(layout) = wants.node else {
         unreachable!();
     };

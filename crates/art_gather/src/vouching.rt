@@ -1,8 +1,8 @@
 //! All words of the cells that are written are seen, and both are checked.
 ghost use Rattle.std.specs.Prelude.{◌≡◌, ◌⊎◌, ℕ, ◌+◌, ◌-◌, ◌<◌, ◌≤◌, List, Bool, Some, None};
-ghost use Rattle.art_find.specs.Asking.{Answers};
-ghost use Rattle.art_find.specs.declared.asked.Asked.{Asked as AskedStep};
-ghost use Rattle.art_gather.specs.Vouching.{Fits, HasLeft, IsPastAbove, IsPastReads, IsVouching, KnowsAbove, KnowsHere, after_check, asks, ended_at, passed, steps_left, word_in, written_above};
+ghost use Rattle.art_machine.specs.Acting.{Answers, telling};
+ghost use Rattle.art_machine.specs.declared.actions.Action.{Action as ActionOf};
+ghost use Rattle.art_gather.specs.Vouching.{Fits, HasLeft, IsPastAbove, IsPastReads, IsVouching, KnowsAbove, KnowsHere, after_check, asks, ended_at, steps_left, written_above};
 ghost use Rattle.art_gather.specs.declared.vouching.Vouching.TheVariants.{Above as above_read, Here as here_read};
 ghost use Rattle.art_find.specs.Desks.{above_of, node_of};
 ghost use Rattle.art_find.specs.Kept.{StaysRead};
@@ -13,7 +13,8 @@ ghost use Rattle.art_step.specs.declared.deeds.Deed.{Deed};
 ghost use Rattle.art_step.specs.declared.views.Sizes.{Sizes};
 ghost use Rattle.art_step.specs.declared.views.View.{View};
 
-use art_find::{Above, Answer, Asked, Desk, Rereading, Stand};
+use art_find::{Above, Desk, Rereading, Stand};
+use art_machine::{Action, Answer};
 use art_step::Steps;
 
 /// How a vouching ended.
@@ -41,7 +42,7 @@ pub enum Vouching {
 
 impl Vouching {
     ghost use Rattle.std.specs.Prelude.{IfSome, ⊤};
-    ghost use Rattle.art_find.specs.Asking.{IsAllowed};
+    ghost use Rattle.art_find.specs.Asking.{MayLook};
 
     /// At its beginning: of the cell where the key stands, and of the one above where both are vouched for.
     pub fn new(stand: &Stand, both: bool, desk: &Desk) -> Vouching
@@ -57,12 +58,12 @@ impl Vouching {
     }
 
     /// The next step, or none where it has ended.
-    pub fn next(&self, stand: &Stand) -> Option<Asked>
+    pub fn next(&self, stand: &Stand) -> Option<Action>
         ensures asks { result ≡ asks stand.now self.now }
         ensures allowed { (z : Sizes) (k : List ℕ) (both : Bool) (desk : DeskOf) (u v : View) →
-            Fits z k both stand.now self.now desk u v → IfSome result (IsAllowed z (λ s. ⊤) v) }
+            Fits z k both stand.now self.now desk u v → IfSome result (MayLook z (λ s. ⊤) v) }
         ensures going { (z : Sizes) (k : List ℕ) (both : Bool) (desk : DeskOf) (u v : View) →
-            Fits z k both stand.now self.now desk u v → ended_at self.now ≡ None → (a : AskedStep) × (result ≡ Some a) }
+            Fits z k both stand.now self.now desk u v → ended_at self.now ≡ None → (a : ActionOf) × (result ≡ Some a) }
     {
         self.asked(stand)
     }
@@ -73,8 +74,8 @@ impl Vouching {
         ensures left { ended_at self.old ≡ None → steps_left self.new < steps_left self.old }
         ensures stays { StaysRead (node_of desk.old) (node_of desk.new) }
         ensures node { KnowsHere stand.now desk.old → node_of desk.new ≡ node_of desk.old }
-        ensures fits { (z : Sizes) (k : List ℕ) (deed : Deed) (u v w : View) (asked : AskedStep) →
-            Fits z k both stand.now self.old desk.old u v → asks stand.now self.old ≡ Some asked → Answers z deed asked answer v w →
+        ensures fits { (z : Sizes) (k : List ℕ) (deed : Deed) (u v w : View) (asked : ActionOf) →
+            Fits z k both stand.now self.old desk.old u v → asks stand.now self.old ≡ Some asked → Answers z (telling deed) asked answer v w →
             Fits z k both stand.now self.new desk.new u w }
     {
         *self = match *self {
@@ -97,14 +98,16 @@ impl Vouching {
     }
 
     /// The next step, by the stage alone.
-    fn asked(&self, stand: &Stand) -> Option<Asked>
+    fn asked(&self, stand: &Stand) -> Option<Action>
         ensures { result ≡ asks stand.now self.now }
     {
         match *self {
             Vouching::Above(rereading) => rereading.next(stand.above?.stamp),
             Vouching::Here(rereading) => rereading.next(stand.stamp),
-            Vouching::CheckAbove => Some(Asked::Check(stand.above?.stamp)),
-            Vouching::CheckHere => Some(Asked::Check(stand.stamp)),
+            Vouching::CheckAbove => Some(Action::Check {
+                stamp: stand.above?.stamp,
+            }),
+            Vouching::CheckHere => Some(Action::Check { stamp: stand.stamp }),
             Vouching::Ended(_) => None,
         }
     }
@@ -128,12 +131,12 @@ fn above_told(
     requires { (z : Sizes) × (k : List ℕ) × (u : View) × (v : View) × Fits z k both stand.now (above_read rereading) desk.old u v }
     ensures left { steps_left result < steps_left (above_read rereading) }
     ensures node { node_of desk.new ≡ node_of desk.old }
-    ensures fits { (z : Sizes) (k : List ℕ) (deed : Deed) (u v w : View) (asked : AskedStep) →
+    ensures fits { (z : Sizes) (k : List ℕ) (deed : Deed) (u v w : View) (asked : ActionOf) →
         Fits z k both stand.now (above_read rereading) desk.old u v → asks stand.now (above_read rereading) ≡ Some asked →
-        Answers z deed asked answer v w → Fits z k both stand.now result desk.new u w }
+        Answers z (telling deed) asked answer v w → Fits z k both stand.now result desk.new u w }
 {
     let mut rereading = rereading;
-    desk.reread_above(&mut rereading, word_in(answer));
+    desk.reread_above(&mut rereading, answer.found());
     let Some(above) = stand.above else {
         unreachable!();
     };
@@ -184,12 +187,12 @@ fn here_told(
     ensures left { steps_left result < steps_left (here_read rereading) }
     ensures stays { StaysRead (node_of desk.old) (node_of desk.new) }
     ensures node { KnowsHere stand.now desk.old → node_of desk.new ≡ node_of desk.old }
-    ensures fits { (z : Sizes) (k : List ℕ) (deed : Deed) (u v w : View) (asked : AskedStep) →
+    ensures fits { (z : Sizes) (k : List ℕ) (deed : Deed) (u v w : View) (asked : ActionOf) →
         Fits z k both stand.now (here_read rereading) desk.old u v → asks stand.now (here_read rereading) ≡ Some asked →
-        Answers z deed asked answer v w → Fits z k both stand.now result desk.new u w }
+        Answers z (telling deed) asked answer v w → Fits z k both stand.now result desk.new u w }
 {
     let mut rereading = rereading;
-    desk.reread_node(&mut rereading, word_in(answer));
+    desk.reread_node(&mut rereading, answer.found());
     here_read_on(stand, both, rereading)
 }
 
@@ -216,31 +219,10 @@ fn here_read_on(stand: &Stand, both: bool, rereading: Rereading) -> Vouching
 fn checked(answer: Answer, next: Vouching) -> Vouching
     ensures { result ≡ after_check answer next }
 {
-    if passed(answer) {
+    if answer.passed() {
         next
     } else {
         Vouching::Ended(Vouched::Changed)
-    }
-}
-
-/// Whether it says that a version word is unchanged.
-fn passed(answer: Answer) -> bool
-    ensures { result ≡ passed answer }
-{
-    match answer {
-        Answer::Checked(Ok(_)) => true,
-        _ => false,
-    }
-}
-
-/// The word that was read.
-#[inline(always)]
-fn word_in(answer: Answer) -> u64
-    ensures { result ≡ word_in answer }
-{
-    match answer {
-        Answer::Word(word) => word,
-        _ => 0,
     }
 }
 

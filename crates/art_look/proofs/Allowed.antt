@@ -3,7 +3,7 @@ use Rattle.std.proofs.Common.{ℕ, ◌+◌, ◌<◌, List, sym, subst, arith}
 use Rattle.std.specs.Prelude.{IfSome}
 use Rattle.art_cell.specs.declared.cells.Cell.{Cell}
 use Rattle.art_cell.specs.declared.cells.Link.TheVariants.{Node as node}
-use Rattle.art_find.specs.Asking.{IsAllowed}
+use Rattle.art_find.specs.Asking.{MayLook}
 use Rattle.art_find.proofs.Allowed.{front_inside, none_held, reads_leaf, reads_node}
 use Rattle.art_find.proofs.Stages.{noted_names}
 use Rattle.art_key.specs.declared.bounds.Bound.{Bound as KeyBound}
@@ -16,7 +16,7 @@ use Rattle.art_step.specs.WordPlaces.{IsInside}
 use Rattle.art_step.specs.declared.views.Sizes.{Sizes}
 use Rattle.art_step.specs.declared.views.View.{View}
 
-pub allowed : (z : Sizes) (lo : List ℕ) (hi : KeyBound) (depth : ℕ) (t : Trail) (stage : LookStage) (u v : View) → StageFits z lo hi depth stage t u v → IfSome (asks stage) (IsAllowed z (Settles lo t stage) v)
+pub allowed : (z : Sizes) (lo : List ℕ) (hi : KeyBound) (depth : ℕ) (t : Trail) (stage : LookStage) (u v : View) → StageFits z lo hi depth stage t u v → IfSome (asks stage) (MayLook z (Settles lo t stage) v)
 allowed z lo hi depth t Start u v fits = (tt, record { pinned = fits.pinned; named = tt })
 allowed z lo hi depth t (Anchor x) u v fits = (
   subst (IsInside z) (sym fits.2) tt,

@@ -2,7 +2,7 @@ mod Allowed
 pub mod Counting
 pub mod Driven
 mod Ends
-mod Going
+pub mod Going
 mod Spelling
 pub mod Stages
 mod Table

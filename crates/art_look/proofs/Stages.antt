@@ -19,12 +19,13 @@ use Rattle.art_cell.specs.Children.{link_of}
 use Rattle.art_cell.specs.Lemmas.Entries.{nonzero_some}
 use Rattle.art_cell.specs.Reads.{NoneFrom}
 use Rattle.art_cell.specs.Words.{Words, byte_of, child_of, nonzero, packed, size}
-use Rattle.art_find.specs.Asking.{Answers, WantsCheck, WantsVersion}
+use Rattle.art_find.specs.Asking.{WantsCheck, WantsVersion}
+use Rattle.art_machine.specs.Acting.{Answers, telling}
 use Rattle.art_find.specs.Descents.{IsAbove, IsOn, IsReading, WasNoted}
 use Rattle.art_find.specs.Ways.{count_in}
-use Rattle.art_find.specs.declared.asked.Answer.{Answer}
-use Rattle.art_find.specs.declared.asked.Asked.{Asked}
-use Rattle.art_find.specs.declared.asked.Asked.TheVariants.{Settle}
+use Rattle.art_machine.specs.declared.actions.Answer.{Answer}
+use Rattle.art_machine.specs.declared.actions.Action.{Action}
+use Rattle.art_machine.specs.declared.actions.Action.TheVariants.{Settle}
 use Rattle.art_find.specs.declared.descents.LeafSeen.{LeafSeen}
 use Rattle.art_find.specs.declared.descents.NodeSeen.{NodeSeen}
 use Rattle.art_find.proofs.Stages.{begun_names, note_names, passed_names, reads_on, still_named}
@@ -658,12 +659,12 @@ module _ (z : Sizes) (lo : List ℕ) (hi : KeyBound) (depth : ℕ) (t : Trail) (
 -- ---- where the stage is known by an equation
 
 -- what is asked there, and what it answered
-pub at_stage : (z : Sizes) (lo : List ℕ) (hi : KeyBound) (depth : ℕ) (t : Trail) (stage now : LookStage) (a : Asked) (answer : Answer) (u v w : View) → stage ≡ now → asks stage ≡ Some a
-    → StageFits z lo hi depth stage t u v → Answers z (deed_at lo hi t stage) a answer v w
-    → StageFits z lo hi depth now t u v × ((b : Asked) → asks now ≡ Some b → Answers z (deed_at lo hi t now) b answer v w)
+pub at_stage : (z : Sizes) (lo : List ℕ) (hi : KeyBound) (depth : ℕ) (t : Trail) (stage now : LookStage) (a : Action) (answer : Answer) (u v w : View) → stage ≡ now → asks stage ≡ Some a
+    → StageFits z lo hi depth stage t u v → Answers z (telling (deed_at lo hi t stage)) a answer v w
+    → StageFits z lo hi depth now t u v × ((b : Action) → asks now ≡ Some b → Answers z (telling (deed_at lo hi t now)) b answer v w)
 at_stage z lo hi depth t stage now a answer u v w is asked fits row = (
   subst (λ (g : LookStage). StageFits z lo hi depth g t u v) is fits,
-  λ b e. subst (λ (c : Asked). Answers z (deed_at lo hi t now) c answer v w) (same_Some {A = Asked} a b (sym asked ∙ ap asks is ∙ e)) (subst (λ (g : LookStage). Answers z (deed_at lo hi t g) a answer v w) is row),
+  λ b e. subst (λ (c : Action). Answers z (telling (deed_at lo hi t now)) c answer v w) (same_Some {A = Action} a b (sym asked ∙ ap asks is ∙ e)) (subst (λ (g : LookStage). Answers z (telling (deed_at lo hi t g)) a answer v w) is row),
 )
 
 -- ---- a version word that is not clear, or was changed

@@ -9,8 +9,8 @@ use Rattle.art_cell.specs.declared.layouts.Layout.TheVariants.{Node4, Node16, No
 use Rattle.art_cell.specs.Words.{size}
 use Rattle.art_find.specs.Descents.{IsAbove, IsOn, IsReading, WasNamed}
 use Rattle.art_find.specs.Ways.{count_in}
-use Rattle.art_find.specs.declared.asked.Asked.{Asked}
-use Rattle.art_find.specs.declared.asked.Asked.TheVariants.{Begin, Read, ReadLeaf, Check, Settle}
+use Rattle.art_machine.specs.declared.actions.Action.{Action}
+use Rattle.art_machine.specs.declared.actions.Action.TheVariants.{Begin, Read, ReadLeaf, Check, Settle}
 use Rattle.art_find.specs.declared.descents.LeafSeen.{LeafSeen}
 use Rattle.art_find.specs.declared.descents.NodeSeen.{NodeSeen}
 use Rattle.art_key.specs.declared.bounds.Bound.{Bound as KeyBound}
@@ -43,7 +43,7 @@ use Rattle.art_tree.specs.Tree.{Begins, StandsAt}
 -- ---- what it asks, and what it has seen
 
 -- the next step
-abbrev pub asks : LookStage → Option Asked
+abbrev pub asks : LookStage → Option Action
 asks Start = Some (Begin cell.Anchor)
 asks (Anchor x) = Some (Read x 1)
 asks (Child x d) = Some (Check x)

@@ -1,7 +1,7 @@
 -- A look that goes straight on, step by step.
 use Rattle.std.specs.Prelude.{◌≡◌, ℕ, ◌+◌, ◌<◌, ◌≤◌, List, Option, Some, false, ⊤}
-use Rattle.art_find.specs.declared.asked.Asked.{Asked}
-use Rattle.art_find.specs.declared.asked.Asked.TheVariants.{Begin, Read, ReadLeaf, Check}
+use Rattle.art_machine.specs.declared.actions.Action.{Action}
+use Rattle.art_machine.specs.declared.actions.Action.TheVariants.{Begin, Read, ReadLeaf, Check}
 use Rattle.art_find.specs.declared.straight.Tally.{Tally}
 use Rattle.art_key.specs.declared.bounds.Bound.{Bound as KeyBound}
 use Rattle.art_look.specs.Driven.{LookFits}
@@ -14,17 +14,17 @@ use Rattle.art_step.specs.declared.views.Sizes.{Sizes}
 use Rattle.art_step.specs.declared.views.View.{View}
 
 -- a word of a cell is asked for
-abbrev pub AsksWord : Option Asked → Type 0
+abbrev pub AsksWord : Option Action → Type 0
 AsksWord (Some (Read x i)) = ⊤
 AsksWord asked = ⊥
 
 -- a word of a leaf
-abbrev pub AsksLeaf : Option Asked → Type 0
+abbrev pub AsksLeaf : Option Action → Type 0
 AsksLeaf (Some (ReadLeaf x l i)) = ⊤
 AsksLeaf asked = ⊥
 
 -- the version word of a cell, where nothing is settled
-abbrev pub AsksVersion : Option Asked → Type 0
+abbrev pub AsksVersion : Option Action → Type 0
 AsksVersion (Some (Begin c)) = ⊤
 AsksVersion (Some (Check x)) = ⊤
 AsksVersion asked = ⊥

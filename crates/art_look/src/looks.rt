@@ -13,8 +13,9 @@ use crate::Trail;
 use crate::fronts::Front;
 use crate::trails::copied;
 use art_cell::{Cell, Link, Node};
-use art_find::{Answer, Asked, LeafSeen, NodeSeen};
+use art_find::{LeafSeen, NodeSeen};
 use art_key::{Bound, Key};
+use art_machine::{Action, Answer};
 use art_path::after;
 use art_step::Stamp;
 
@@ -96,10 +97,11 @@ pub struct Look {
 }
 
 impl Look {
-    ghost use Rattle.art_find.specs.Asking.{Answers, IsAllowed, WantsCheck, WantsVersion, goes_on};
+    ghost use Rattle.art_find.specs.Asking.{MayLook, WantsCheck, WantsVersion};
+    ghost use Rattle.art_machine.specs.Acting.{Answers, goes_on, telling};
     ghost use Rattle.art_find.specs.Descents.{IsReading};
-    ghost use Rattle.art_find.specs.declared.asked.Answer.TheVariants as told;
-    ghost use Rattle.art_find.specs.declared.asked.Asked.{Asked as AskedStep};
+    ghost use Rattle.art_machine.specs.declared.actions.Answer.TheVariants as told;
+    ghost use Rattle.art_machine.specs.declared.actions.Action.{Action as ActionOf};
     ghost use Rattle.art_look.specs.Looks.{Fits, IsSettling, Settles, asks, deed_at, has_ended, least_steps, most_steps, reached_at};
     ghost use Rattle.art_look.specs.declared.trails.Trail.{Trail as Trailed};
     ghost use Rattle.art_step.specs.declared.views.Sizes.{Sizes};
@@ -120,33 +122,52 @@ impl Look {
 
     /// The next step, or none where it has ended.
     #[inline(always)]
-    pub fn next(&self) -> Option<Asked>
+    pub fn next(&self) -> Option<Action>
         ensures asks { result ≡ asks self.now.stage }
         ensures allowed { (z : Sizes) (lo : List ℕ) (hi : KeyBound) (t : Trailed) (u v : View) → Fits z lo hi self.now t u v →
-            IfSome result (IsAllowed z (Settles lo t self.now.stage) v) }
+            IfSome result (MayLook z (Settles lo t self.now.stage) v) }
     {
         match self.stage {
-            LookStage::Start => Some(Asked::Begin(Cell::Anchor)),
-            LookStage::Anchor(stamp) => Some(Asked::Read(stamp, 1)),
-            LookStage::Child(stamp, _) => Some(Asked::Check(stamp)),
-            LookStage::Below(_, node) => Some(Asked::Begin(Cell::Node(node))),
-            LookStage::Both(above, _, _) => Some(Asked::Check(above)),
-            LookStage::Header(stamp, _) => Some(Asked::Read(stamp, 1)),
+            LookStage::Start => Some(Action::Begin { cell: Cell::Anchor }),
+            LookStage::Anchor(stamp) => Some(Action::Read { stamp, place: 1 }),
+            LookStage::Child(stamp, _) => Some(Action::Check { stamp }),
+            LookStage::Below(_, node) => Some(Action::Begin {
+                cell: Cell::Node(node),
+            }),
+            LookStage::Both(above, _, _) => Some(Action::Check { stamp: above }),
+            LookStage::Header(stamp, _) => Some(Action::Read { stamp, place: 1 }),
             LookStage::Prefix(seen, number) => {
-                Some(Asked::Read(seen.stamp, 2 + usize::from(number)))
+                Some(Action::Read {
+                    stamp: seen.stamp,
+                    place: 2 + usize::from(number),
+                })
             }
             LookStage::Keys(seen, _, number) => {
-                Some(Asked::Read(seen.stamp, 10 + usize::from(number)))
+                Some(Action::Read {
+                    stamp: seen.stamp,
+                    place: 10 + usize::from(number),
+                })
             }
-            LookStage::Slot(sought) => Some(Asked::Read(sought.seen.stamp, sought.place)),
-            LookStage::Value(stamp, leaf) => Some(Asked::ReadLeaf(stamp, leaf, 0)),
-            LookStage::Length(stamp, leaf, _) => Some(Asked::ReadLeaf(stamp, leaf, 1)),
-            LookStage::Bytes(seen, number) => Some(Asked::ReadLeaf(
-                seen.stamp,
-                seen.leaf,
-                2 + usize::from(number),
-            )),
-            LookStage::Decided(stamp, _, _) => Some(Asked::Settle(stamp)),
+            LookStage::Slot(sought) => Some(Action::Read {
+                stamp: sought.seen.stamp,
+                place: sought.place,
+            }),
+            LookStage::Value(stamp, leaf) => Some(Action::ReadLeaf {
+                stamp,
+                leaf,
+                place: 0,
+            }),
+            LookStage::Length(stamp, leaf, _) => Some(Action::ReadLeaf {
+                stamp,
+                leaf,
+                place: 1,
+            }),
+            LookStage::Bytes(seen, number) => Some(Action::ReadLeaf {
+                stamp: seen.stamp,
+                leaf: seen.leaf,
+                place: 2 + usize::from(number),
+            }),
+            LookStage::Decided(stamp, _, _) => Some(Action::Settle { stamp }),
             LookStage::Ended(_, _) => None,
         }
     }
@@ -173,32 +194,33 @@ impl Look {
     /// The step that it asked for was made, with this answer. Whether it goes on: else it begins anew.
     #[inline(always)]
     pub fn told(&mut self, lo: &[u8], trail: &mut Trail, answer: Answer) -> bool
-        requires fits { (z : Sizes) × (hi : KeyBound) × (u : View) × (v : View) × (w : View) × (asked : AskedStep) ×
+        requires fits { (z : Sizes) × (hi : KeyBound) × (u : View) × (v : View) × (w : View) × (asked : ActionOf) ×
             Fits z lo.now hi self.old trail.old u v × (asks self.old.stage ≡ Some asked) ×
-            Answers z (deed_at lo.now hi trail.old self.old.stage) asked answer v w }
+            Answers z (telling (deed_at lo.now hi trail.old self.old.stage)) asked answer v w }
         ensures on { result ≡ goes_on answer }
         ensures going { has_ended self.new.stage ≡ true → IsSettling self.old.stage }
         ensures steps { result ≡ true → most_steps self.old.depth self.old.stage < most_steps self.new.depth self.new.stage }
         ensures anew { result ≡ false → most_steps self.new.depth self.new.stage ≡ 0 }
         ensures least { least_steps self.new.stage ≤ least_steps self.old.stage + 1 }
-        ensures fits { (z : Sizes) (hi : KeyBound) (u v w : View) (asked : AskedStep) →
+        ensures fits { (z : Sizes) (hi : KeyBound) (u v w : View) (asked : ActionOf) →
             Fits z lo.now hi self.old trail.old u v → asks self.old.stage ≡ Some asked →
-            Answers z (deed_at lo.now hi trail.old self.old.stage) asked answer v w → Fits z lo.now hi self.new trail.new u w }
+            Answers z (telling (deed_at lo.now hi trail.old self.old.stage)) asked answer v w → Fits z lo.now hi self.new trail.new u w }
     {
         match answer {
-            Answer::Begun(Ok(stamp)) => self.began(stamp),
-            Answer::Word(word) => self.read(lo, trail, word),
-            Answer::Checked(checked) => match checked {
+            Answer::Begun { result: Ok(stamp) } => self.began(stamp),
+            Answer::Word { found } => self.read(lo, trail, found),
+            Answer::Checked { result } => match result {
                 Ok(()) => self.checked(),
                 Err(_) => {
                     self.failed();
                     return false;
                 }
             },
-            Answer::Begun(Err(_)) => {
+            Answer::Begun { result: Err(_) } => {
                 self.failed();
                 return false;
             }
+            _ => unreachable!(),
         }
         true
     }
@@ -210,9 +232,9 @@ impl Look {
         ensures going { has_ended self.new.stage ≡ false }
         ensures steps { most_steps self.old.depth self.old.stage < most_steps self.new.depth self.new.stage }
         ensures least { least_steps self.new.stage ≤ least_steps self.old.stage + 1 }
-        ensures fits { (z : Sizes) (lo : List ℕ) (hi : KeyBound) (t : Trailed) (u v w : View) (asked : AskedStep) →
+        ensures fits { (z : Sizes) (lo : List ℕ) (hi : KeyBound) (t : Trailed) (u v w : View) (asked : ActionOf) →
             Fits z lo hi self.old t u v → asks self.old.stage ≡ Some asked →
-            Answers z (deed_at lo hi t self.old.stage) asked (told.Begun (Ok stamp)) v w → Fits z lo hi self.new t u w }
+            Answers z (telling (deed_at lo hi t self.old.stage)) asked (told.Begun (Ok stamp)) v w → Fits z lo hi self.new t u w }
     {
         self.began_at(self.stage, stamp);
     }
@@ -225,9 +247,9 @@ impl Look {
         ensures going { has_ended self.new.stage ≡ false }
         ensures steps { most_steps self.old.depth self.old.stage < most_steps self.new.depth self.new.stage }
         ensures least { least_steps self.new.stage ≤ least_steps self.old.stage + 1 }
-        ensures fits { (z : Sizes) (lo : List ℕ) (hi : KeyBound) (t : Trailed) (u v w : View) (asked : AskedStep) →
+        ensures fits { (z : Sizes) (lo : List ℕ) (hi : KeyBound) (t : Trailed) (u v w : View) (asked : ActionOf) →
             Fits z lo hi self.old t u v → asks self.old.stage ≡ Some asked →
-            Answers z (deed_at lo hi t self.old.stage) asked (told.Begun (Ok stamp)) v w → Fits z lo hi self.new t u w }
+            Answers z (telling (deed_at lo hi t self.old.stage)) asked (told.Begun (Ok stamp)) v w → Fits z lo hi self.new t u w }
     {
         self.stage = match stage {
             LookStage::Start => LookStage::Anchor(stamp),
@@ -243,9 +265,9 @@ impl Look {
         ensures going { has_ended self.new.stage ≡ true → IsSettling self.old.stage }
         ensures steps { most_steps self.old.depth self.old.stage < most_steps self.new.depth self.new.stage }
         ensures least { least_steps self.new.stage ≤ least_steps self.old.stage + 1 }
-        ensures fits { (z : Sizes) (lo : List ℕ) (hi : KeyBound) (t : Trailed) (u v w : View) (asked : AskedStep) →
+        ensures fits { (z : Sizes) (lo : List ℕ) (hi : KeyBound) (t : Trailed) (u v w : View) (asked : ActionOf) →
             Fits z lo hi self.old t u v → asks self.old.stage ≡ Some asked →
-            Answers z (deed_at lo hi t self.old.stage) asked (told.Checked (Ok tt)) v w → Fits z lo hi self.new t u w }
+            Answers z (telling (deed_at lo hi t self.old.stage)) asked (told.Checked (Ok tt)) v w → Fits z lo hi self.new t u w }
     {
         self.checked_at(self.stage);
     }
@@ -258,9 +280,9 @@ impl Look {
         ensures going { has_ended self.new.stage ≡ true → IsSettling self.old.stage }
         ensures steps { most_steps self.old.depth self.old.stage < most_steps self.new.depth self.new.stage }
         ensures least { least_steps self.new.stage ≤ least_steps self.old.stage + 1 }
-        ensures fits { (z : Sizes) (lo : List ℕ) (hi : KeyBound) (t : Trailed) (u v w : View) (asked : AskedStep) →
+        ensures fits { (z : Sizes) (lo : List ℕ) (hi : KeyBound) (t : Trailed) (u v w : View) (asked : ActionOf) →
             Fits z lo hi self.old t u v → asks self.old.stage ≡ Some asked →
-            Answers z (deed_at lo hi t self.old.stage) asked (told.Checked (Ok tt)) v w → Fits z lo hi self.new t u w }
+            Answers z (telling (deed_at lo hi t self.old.stage)) asked (told.Checked (Ok tt)) v w → Fits z lo hi self.new t u w }
     {
         self.stage = match stage {
             LookStage::Child(stamp, link) => below(stamp, link),

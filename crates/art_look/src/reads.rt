@@ -16,11 +16,12 @@ use art_step::Stamp;
 impl Look {
     ghost use Rattle.art_cell.specs.declared.cells.Cell.TheVariants as cells;
     ghost use Rattle.art_cell.specs.declared.cells.Link.TheVariants as links;
-    ghost use Rattle.art_find.specs.Asking.{Answers, WantsWord};
+    ghost use Rattle.art_find.specs.Asking.{WantsWord};
+    ghost use Rattle.art_machine.specs.Acting.{Answers, telling};
     ghost use Rattle.art_find.specs.Descents.{IsAbove, IsOn, IsReading, WasNoted};
     ghost use Rattle.art_find.specs.Ways.{count_in};
-    ghost use Rattle.art_find.specs.declared.asked.Answer.TheVariants as told;
-    ghost use Rattle.art_find.specs.declared.asked.Asked.{Asked as AskedStep};
+    ghost use Rattle.art_machine.specs.declared.actions.Answer.TheVariants as told;
+    ghost use Rattle.art_machine.specs.declared.actions.Action.{Action as ActionOf};
     ghost use Rattle.art_look.specs.Fronts.{low_at};
     ghost use Rattle.art_look.specs.Looks.{Fits, IsSought, asks, deed_at, has_ended, least_steps, most_steps};
     ghost use Rattle.art_look.specs.Trails.{HasFirstValue, SeeksChild, SeeksKeys, SpellsKey, SpellsPath, SpellsPrefix, SpellsWords};
@@ -39,9 +40,9 @@ impl Look {
         ensures going { has_ended self.new.stage ≡ false }
         ensures steps { most_steps self.old.depth self.old.stage < most_steps self.new.depth self.new.stage }
         ensures least { least_steps self.new.stage ≤ least_steps self.old.stage + 1 }
-        ensures fits { (z : Sizes) (hi : KeyBound) (u v w : View) (asked : AskedStep) →
+        ensures fits { (z : Sizes) (hi : KeyBound) (u v w : View) (asked : ActionOf) →
             Fits z lo.now hi self.old trail.old u v → asks self.old.stage ≡ Some asked →
-            Answers z (deed_at lo.now hi trail.old self.old.stage) asked (told.Word word) v w → Fits z lo.now hi self.new trail.new u w }
+            Answers z (telling (deed_at lo.now hi trail.old self.old.stage)) asked (told.Word word) v w → Fits z lo.now hi self.new trail.new u w }
     {
         self.read_at(self.stage, lo, trail, word);
     }
@@ -55,9 +56,9 @@ impl Look {
         ensures going { has_ended self.new.stage ≡ false }
         ensures steps { most_steps self.old.depth self.old.stage < most_steps self.new.depth self.new.stage }
         ensures least { least_steps self.new.stage ≤ least_steps self.old.stage + 1 }
-        ensures fits { (z : Sizes) (hi : KeyBound) (u v w : View) (asked : AskedStep) →
+        ensures fits { (z : Sizes) (hi : KeyBound) (u v w : View) (asked : ActionOf) →
             Fits z lo.now hi self.old trail.old u v → asks self.old.stage ≡ Some asked →
-            Answers z (deed_at lo.now hi trail.old self.old.stage) asked (told.Word word) v w → Fits z lo.now hi self.new trail.new u w }
+            Answers z (telling (deed_at lo.now hi trail.old self.old.stage)) asked (told.Word word) v w → Fits z lo.now hi self.new trail.new u w }
     {
         match stage {
             LookStage::Anchor(stamp) => self.see_root(trail, stamp, word),

@@ -5,11 +5,12 @@
 //! machine, and so is the check that settles what was seen.
 ghost use Rattle.std.specs.Prelude.{◌≡◌, ◌+◌, ◌<◌, ◌≤◌, ◌⊎◌, ℕ, List, Some, false};
 ghost use Rattle.art_cell.specs.declared.cells.Cell.{Cell as CellOf};
-ghost use Rattle.art_find.specs.Asking.{Answers, WantsCheck, WantsVersion, WantsWord};
+ghost use Rattle.art_find.specs.Asking.{WantsCheck, WantsVersion, WantsWord};
+ghost use Rattle.art_machine.specs.Acting.{Answers, telling};
 ghost use Rattle.art_find.specs.Descents.{IsReading};
-ghost use Rattle.art_find.specs.declared.asked.Answer.TheVariants as told;
-ghost use Rattle.art_find.specs.declared.asked.Asked.{Asked as AskedStep};
-ghost use Rattle.art_find.specs.declared.asked.Asked.TheVariants as askeds;
+ghost use Rattle.art_machine.specs.declared.actions.Answer.TheVariants as told;
+ghost use Rattle.art_machine.specs.declared.actions.Action.{Action as ActionOf};
+ghost use Rattle.art_machine.specs.declared.actions.Action.TheVariants as askeds;
 ghost use Rattle.art_key.specs.declared.bounds.Bound.{Bound as KeyBound};
 ghost use Rattle.art_look.specs.Driven.{LookFits};
 ghost use Rattle.art_look.specs.Looks.{Fits, asks, has_ended, least_steps, most_steps};
@@ -215,8 +216,8 @@ fn hear_word(
     requires at { look.old.stage ≡ stage }
     requires wants { WantsWord (asks stage) }
     requires looks { (z : Sizes) × (v : View) × IsUnderWay z lo.now v look.old trail.old tally.old }
-    ensures gone { (z : Sizes) (v w : View) (asked : AskedStep) → asks stage ≡ Some asked →
-        ((d : Deed) → Answers z d asked (told.Word word) v w) →
+    ensures gone { (z : Sizes) (v w : View) (asked : ActionOf) → asks stage ≡ Some asked →
+        ((d : Deed) → Answers z (telling d) asked (told.Word word) v w) →
         HasGone z lo.now v look.old trail.old tally.old w look.new trail.new tally.new }
 {
     tally.left -= 1;

@@ -6,7 +6,7 @@ use Rattle.art_cell.specs.declared.cells.Cell.{Cell}
 use Rattle.art_cell.specs.declared.cells.Cell.TheVariants as cell
 use Rattle.art_cell.specs.declared.cells.Link.TheVariants.{Node as node}
 use Rattle.art_cell.specs.declared.cells.Node.{Node}
-use Rattle.art_make.specs.Asking.{MayCommit, MayRelease, MayUpgrade, MayWrite}
+use Rattle.art_machine.specs.Acting.{MayCommit, MayRelease, MayUpgrade, MayWrite}
 use Rattle.art_make.specs.Making.{GivesUp, IsLocking, IsReleasing, so_many}
 use Rattle.art_make.proofs.Committing.{limbo_after}
 use Rattle.art_make.proofs.Holding.{new_apart, none_filled, no_members, same_target, target_low, target_not_new}
@@ -103,7 +103,7 @@ module _ (z : Sizes) (u : View) (c : Change) (planned : IsWhole z u c) where
 
   -- ---- the commit
 
-  pub may_commit : (x : Target) (v : View) → target_at c 0 ≡ Some x → IsLocking u c (targets c) c.puts.items (filled_ends c) v → MayCommit z v c x.stamp.cell x.obsolete
+  pub may_commit : (x : Target) (v : View) → target_at c 0 ≡ Some x → IsLocking u c (targets c) c.puts.items (filled_ends c) v → MayCommit z v c.effects x.stamp.cell x.obsolete
   may_commit x v at was =
       let h = was.holds.each 0 x (omega arith) planned.some at in
       record {

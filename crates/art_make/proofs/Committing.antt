@@ -146,11 +146,11 @@ module _ (z : Sizes) (u : View) (c : Change) (planned : IsWhole z u c) where
   -- ---- the commit
 
   module _ (v w : View) (x : Target) (was : IsLocking u c (targets c) c.puts.items (filled_ends c) v) (at : target_at c 0 ≡ Some x)
-      (row : (h : Holding) → IsHolding v x.stamp.cell h → commit.Outcome v w c.deed (unlinked c) (coming v (leaf_linked c)) h) (once : IsOnce (links_in_limbo w.limbo)) where
+      (row : (h : Holding) → IsHolding v x.stamp.cell h → commit.Outcome v w c.effects.deed (unlinked c) (coming v (leaf_linked c)) h) (once : IsOnce (links_in_limbo w.limbo)) where
     top : (h : Holding) × Member h v.held × IsLocked u 0 x c.puts.items h
     top = was.holds.each 0 x (omega arith) planned.some at
 
-    o : commit.Outcome v w c.deed (unlinked c) (coming v (leaf_linked c)) top.0
+    o : commit.Outcome v w c.effects.deed (unlinked c) (coming v (leaf_linked c)) top.0
     o = row top.0 (top.1, top.2.cell)
 
     rest_was : (f : Rest → Rest) → f (rest_of (record v { held = u.held; committed = u.committed })) ≡ f (rest_of u)
@@ -160,7 +160,7 @@ module _ (z : Sizes) (u : View) (c : Change) (planned : IsWhole z u c) where
     committed = record {
       event = record {
         between = o.made.between;
-        seen = o.made.seen ∙ ap₂ (λ (l : List Event) (i : ℕ). (l ++ o.made.between) ++ event i c.deed ∷ []) (ap (λ (r : Rest). r.seen) was.same.rest) (ap (λ (r : Rest). r.pass) was.same.rest);
+        seen = o.made.seen ∙ ap₂ (λ (l : List Event) (i : ℕ). (l ++ o.made.between) ++ event i c.effects.deed ∷ []) (ap (λ (r : Rest). r.seen) was.same.rest) (ap (λ (r : Rest). r.pass) was.same.rest);
         own = o.made.own ∙ ap₂ (λ (l : List ℕ) (k : List Event). l ++ length (k ++ o.made.between) ∷ []) (ap (λ (r : Rest). r.own) was.same.rest) (ap (λ (r : Rest). r.seen) was.same.rest);
         legal = o.made.legal;
         all = subst (λ (i : ℕ). places i w.seen ≡ w.own) (ap (λ (r : Rest). r.pass) was.same.rest) o.made.all;
@@ -197,7 +197,7 @@ module _ (z : Sizes) (u : View) (c : Change) (planned : IsWhole z u c) where
 
   release_committed : (v w : View) (h : Holding) → IsCommitted u c v → release.Outcome v w h → IsCommitted u c w
   release_committed v w h was o = record {
-    event = subst (λ (t : View). MakesEvent u t c.deed) (sym o.is) (record { between = was.event.between; seen = was.event.seen; own = was.event.own; legal = was.event.legal; all = was.event.all });
+    event = subst (λ (t : View). MakesEvent u t c.effects.deed) (sym o.is) (record { between = was.event.between; seen = was.event.seen; own = was.event.own; legal = was.event.legal; all = was.event.all });
     hand = subst (λ (t : View). HandsOver u.hand (linked c) t.hand) (sym o.is) was.hand;
     pins = was.pins;
     limbo = ap (λ (t : View). t.limbo) o.is ∙ was.limbo;

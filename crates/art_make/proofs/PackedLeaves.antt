@@ -1,5 +1,5 @@
 -- A leaf in hand, as one word after another is written.
-use Rattle.std.proofs.Common.{◌≡◌, ◌≢◌, ℕ, ◌+◌, ◌<◌, ◌≤◌, List, length, get_or, set, ⊎_elim, sym, ap, ◌∙◌, subst, arith, length-set, get_or-set_same, get_or-set_other}
+use Rattle.std.proofs.Common.{◌≡◌, ◌≢◌, ℕ, ◌+◌, ◌<◌, ◌≤◌, List, length, get_or, set, ⊎_elim, sym, refl, ap, ltb-true, ◌∙◌, subst, arith, length-set, get_or-set_same, get_or-set_other}
 use Rattle.std.proofs.lemmas.Bool.{cases_eq}
 use Rattle.std.proofs.lemmas.Option.{same_Some}
 use Rattle.std.specs.Prelude.{Bool, None, Some, false, if◌then◌else◌, nat_lt, true}
@@ -9,7 +9,9 @@ use Rattle.art_cell.specs.Lemmas.LeafWords.{words_mean_leaf}
 use Rattle.art_cell.specs.declared.cells.Link.TheVariants.{Leaf as leaf}
 use Rattle.art_plan.specs.ArtCommit.CommitLaws.{HasLeaf}
 use Rattle.art_make.specs.Packing.{IsPacked, OnlyPacks, word_asked}
-use Rattle.art_make.specs.declared.packing.LeafWrite.{LeafWrite}
+use Rattle.art_machine.specs.Acting.{IsAllowed, IsLeafInHand}
+use Rattle.art_machine.specs.declared.actions.Action.{Action}
+use Rattle.art_machine.specs.declared.actions.Action.TheVariants.{WriteLeaf}
 use Rattle.art_step.proofs.WordForms.{leaf_form}
 use Rattle.art_step.specs.Shows.{rest_of}
 use Rattle.art_step.specs.Steps.Write as write
@@ -22,16 +24,16 @@ use Rattle.art_step.specs.declared.views.View.{View}
 pub word_form : (z : Sizes) (l : ℕ) (k : List ℕ) (value place : ℕ) → length k ≤ 64 → IsWordOf z (cell.Leaf l) place (leaf_word k value place)
 word_form z l k value place few = leaf_form z l place (leaf_word k value place) (λ at. subst (λ (p : ℕ). leaf_word k value p ≤ 64) (sym at) few)
 
--- and so has the one that is asked for
-pub asked_form : (z : Sizes) (l : ℕ) (k : List ℕ) (value place : ℕ) (x : LeafWrite) → length k ≤ 64 → word_asked k value place ≡ Some x → IsWordOf z (cell.Leaf l) x.place x.word
-asked_form z l k value place x few = by_test (nat_lt place 10)
+-- and the one that is asked for may be written
+pub word_allowed : (z : Sizes) (v : View) (l : ℕ) (k : List ℕ) (value place : ℕ) (a : Action) → IsLeafInHand z v l → length k ≤ 64 → word_asked l k value place ≡ Some a → IsAllowed z None v a
+word_allowed z v l k value place a has few = by_test (nat_lt place 10) refl
   where
-    next : LeafWrite
-    next = record { place = place; word = leaf_word k value place }
+    next : Action
+    next = WriteLeaf l place (leaf_word k value place)
 
-    by_test : (b : Bool) → (if b then Some next else None) ≡ Some x → IsWordOf z (cell.Leaf l) x.place x.word
-    by_test true is = subst (λ (y : LeafWrite). IsWordOf z (cell.Leaf l) y.place y.word) (same_Some next x is) (word_form z l k value place few)
-    by_test false is = absurd (cc)
+    by_test : (b : Bool) → nat_lt place 10 ≡ b → (if b then Some next else None) ≡ Some a → IsAllowed z None v a
+    by_test true low is = subst (IsAllowed z None v) (same_Some next a is) (has, ltb-true place 10 low, word_form z l k value place few)
+    by_test false low is = absurd (cc)
 
 -- all ten words are written
 pub packed_leaf : (z : Sizes) (v : View) (l : ℕ) (k : List ℕ) (value : ℕ) → ((i : ℕ) → get_or k i 0 < 256) → length k ≤ 64 → IsPacked z v l k value 10 → HasLeaf z v l k value

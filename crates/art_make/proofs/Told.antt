@@ -8,12 +8,14 @@ use Rattle.art_cell.specs.declared.layouts.Layout.{Layout}
 use Rattle.art_cell.specs.declared.layouts.Layout.TheVariants.{Node4, Node16, Node48, Node256}
 use Rattle.art_cell.specs.declared.cells.Cell.TheVariants as cell
 use Rattle.art_cell.specs.declared.cells.Node.{Node}
-use Rattle.art_make.specs.Asking.{Answers, IsAllowed}
-use Rattle.art_make.specs.Making.{Fits, GivesUp, IsLocking, IsOver, IsReleasing, StageFits, asks, at_claim, at_fill, at_release, claim_of, claimed_so, claims, ended_at, most_steps, put_into, released_so, releases}
-use Rattle.art_make.specs.declared.asked.Answer.{Answer}
-use Rattle.art_make.specs.declared.asked.Answer.TheVariants.{Upgraded, Done}
-use Rattle.art_make.specs.declared.asked.Asked.{Asked}
-use Rattle.art_make.specs.declared.asked.Asked.TheVariants.{Upgrade, Claim, Write, Commit, Release}
+use Rattle.art_machine.proofs.Counting.{steps_few, steps_made}
+use Rattle.art_machine.proofs.Words.{done_row}
+use Rattle.art_machine.specs.Acting.{Answers, IsAllowed}
+use Rattle.art_make.specs.Making.{Fits, GivesUp, IsLocking, IsOver, IsReleasing, StageFits, asks, at_claim, at_fill, at_release, brings, claim_of, claimed_so, claims, ended_at, most_steps, put_into, released_so, releases}
+use Rattle.art_machine.specs.declared.actions.Answer.{Answer}
+use Rattle.art_machine.specs.declared.actions.Answer.TheVariants.{Upgraded, Done}
+use Rattle.art_machine.specs.declared.actions.Action.{Action}
+use Rattle.art_machine.specs.declared.actions.Action.TheVariants.{Begin, Read, ReadLeaf, Check, Settle, Upgrade, Claim, Write, WriteLeaf, Commit, Release, ClearBit, GiveBack, Free, ReadEpoch, StorePin, RaiseEpoch, ReadPin}
 use Rattle.art_make.specs.declared.making.Making.{Making}
 use Rattle.art_make.specs.declared.making.Making.TheVariants.{Upgrading, Claiming, Filling, Writing, Committing, Releasing, ReleasingNode, GivingUp, Ended}
 use Rattle.art_make.proofs.Allowed.{may_claim, may_commit, may_fill, may_give_up, may_release, may_release_new, may_upgrade, may_write}
@@ -128,7 +130,7 @@ two_are f g a b = λ i d. each d i
 -- ---- it goes on
 
 -- at each stage but the last there is something to do
-pub going : (z : Sizes) (u v : View) (c : Change) (m : Making) → Fits z c m u v → ended_at m ≡ None → (a : Asked) × (asks c m ≡ Some a)
+pub going : (z : Sizes) (u v : View) (c : Change) (m : Making) → Fits z c m u v → ended_at m ≡ None → (a : Action) × (asks c m ≡ Some a)
 going z u v c (Upgrading i) fits on = let x = there c i fits.stage.0 in (Upgrade x.0.stamp, ap (option_map (λ (y : Target). Upgrade y.stamp)) x.1)
 going z u v c (Claiming b) fits on = let n = fits.stage.0 in (Claim n.0, ap (option_map Claim) n.1)
 going z u v c (Filling b place) fits on =
@@ -149,31 +151,31 @@ going z u v c (GivingUp locked released e) fits on =
 going z u v c (Ended r) fits on = absurd (cc)
 
 -- what is asked may be done
-pub allowed : (z : Sizes) (u v : View) (c : Change) (m : Making) (a : Asked) → Fits z c m u v → asks c m ≡ Some a → IsAllowed z c v a
+pub allowed : (z : Sizes) (u v : View) (c : Change) (m : Making) (a : Action) → Fits z c m u v → asks c m ≡ Some a → IsAllowed z (brings c) v a
 allowed z u v c (Upgrading i) a fits is =
     let k = map_some (λ (y : Target). Upgrade y.stamp) (target_at c i) a is in
-    subst (IsAllowed z c v) k.2 (may_upgrade z u c fits.planned i k.0 v k.1 fits.stage.1)
-allowed z u v c (Claiming b) a fits is = let k = map_some Claim (made_at b c) a is in subst (IsAllowed z c v) k.2 (may_claim z u c fits.planned b (at_claim c b) k.0 v (claim_none c b) k.1 fits.stage.1)
+    subst (IsAllowed z (brings c) v) k.2 (may_upgrade z u c fits.planned i k.0 v k.1 fits.stage.1)
+allowed z u v c (Claiming b) a fits is = let k = map_some Claim (made_at b c) a is in subst (IsAllowed z (brings c) v) k.2 (may_claim z u c fits.planned b (at_claim c b) k.0 v (claim_none c b) k.1 fits.stage.1)
 allowed z u v c (Filling b place) a fits is =
     let k = map_some (λ (m : Node). Write (cell.Node m) place (made_word b c place)) (made_at b c) a is in
     let low : place < filled_at c (Some k.0) = subst (λ (o : Option Node). place < filled_at c o) k.1 fits.stage.1 in
-    subst (IsAllowed z c v) k.2 (may_fill z u c fits.planned b place (at_fill c b place) k.0 v (fill_so c b place) k.1 fits.stage.0 low fits.stage.2)
+    subst (IsAllowed z (brings c) v) k.2 (may_fill z u c fits.planned b place (at_fill c b place) k.0 v (fill_so c b place) k.1 fits.stage.0 low fits.stage.2)
 allowed z u v c (Writing j) a fits is =
     let p = then_some (λ (q : Put). option_map (put_into q) (target_at c q.target)) (put_at c j) a is in
     let x = map_some (put_into p.0) (target_at c p.0.target) a p.2 in
-    subst (IsAllowed z c v) x.2 (may_write z u c fits.planned j (filled_ends c) p.0 x.0 v p.1 x.1 fits.stage.1)
+    subst (IsAllowed z (brings c) v) x.2 (may_write z u c fits.planned j (filled_ends c) p.0 x.0 v p.1 x.1 fits.stage.1)
 allowed z u v c Committing a fits is =
     let k = map_some (λ (y : Target). Commit y.stamp.cell y.obsolete) (target_at c 0) a is in
-    subst (IsAllowed z c v) k.2 (may_commit z u c fits.planned k.0 v k.1 fits.stage)
+    subst (IsAllowed z (brings c) v) k.2 (may_commit z u c fits.planned k.0 v k.1 fits.stage)
 allowed z u v c (Releasing i) a fits is =
     let k = map_some releases (target_at c i) a is in
-    subst (IsAllowed z c v) k.2 (may_release z u c fits.planned i (filled_ends c) k.0 v k.1 fits.stage.1)
+    subst (IsAllowed z (brings c) v) k.2 (may_release z u c fits.planned i (filled_ends c) k.0 v k.1 fits.stage.1)
 allowed z u v c (ReleasingNode b) a fits is =
     let k = map_some (λ (m : Node). Release (cell.Node m) false) (made_at b c) a is in
-    subst (IsAllowed z c v) k.2 (may_release_new z u c fits.planned b (at_release c b) k.0 v k.1 (release_some c b k.0 k.1) fits.stage.1)
+    subst (IsAllowed z (brings c) v) k.2 (may_release_new z u c fits.planned b (at_release c b) k.0 v k.1 (release_some c b k.0 k.1) fits.stage.1)
 allowed z u v c (GivingUp locked released e) a fits is =
     let k = map_some (λ (y : Target). Release y.stamp.cell false) (target_at c released) a is in
-    subst (IsAllowed z c v) k.2 (may_give_up z u c fits.planned released locked e k.0 v fits.stage.0 fits.stage.2 k.1)
+    subst (IsAllowed z (brings c) v) k.2 (may_give_up z u c fits.planned released locked e k.0 v fits.stage.0 fits.stage.2 k.1)
 allowed z u v c (Ended r) a fits is = absurd (cc)
 
 -- ---- an upgrade alone is refused
@@ -193,12 +195,25 @@ upgrade_asked c (GivingUp locked released e) x is = let k = map_some (λ (y : Ta
 upgrade_asked c (Ended r) x is = absurd (cc)
 
 -- what is refused was an upgrade
-pub refused_upgrade : (c : Change) (m : Making) (a : Asked) (r : Result ⊤ UpgradeFault) (v w : View) → asks c m ≡ Some a → Answers c a (Upgraded r) v w → (i : ℕ) × (m ≡ Upgrading i)
-refused_upgrade c m (Upgrade x) r v w is row = upgrade_asked c m x is
-refused_upgrade c m (Claim n) r v w is row = absurd row
-refused_upgrade c m (Write d i x) r v w is row = absurd row
-refused_upgrade c m (Commit d b) r v w is row = absurd row
-refused_upgrade c m (Release d b) r v w is row = absurd row
+pub refused_upgrade : (z : Sizes) (c : Change) (m : Making) (a : Action) (r : Result ⊤ UpgradeFault) (v w : View) → asks c m ≡ Some a → Answers z (brings c) a (Upgraded r) v w → (i : ℕ) × (m ≡ Upgrading i)
+refused_upgrade z c m (Upgrade x) r v w is row = upgrade_asked c m x is
+refused_upgrade z c m (Claim n) r v w is row = absurd row
+refused_upgrade z c m (Write d i x) r v w is row = absurd row
+refused_upgrade z c m (Commit d b) r v w is row = absurd row
+refused_upgrade z c m (Release d b) r v w is row = absurd row
+refused_upgrade z c m (Begin d) r v w is row = absurd row
+refused_upgrade z c m (Read x i) r v w is row = absurd row
+refused_upgrade z c m (ReadLeaf x l i) r v w is row = absurd row
+refused_upgrade z c m (Check x) r v w is row = absurd row
+refused_upgrade z c m (Settle x) r v w is row = absurd row
+refused_upgrade z c m (WriteLeaf l i y) r v w is row = absurd row
+refused_upgrade z c m (ClearBit p i b) r v w is row = absurd row
+refused_upgrade z c m (GiveBack d) r v w is row = absurd row
+refused_upgrade z c m (Free d) r v w is row = absurd row
+refused_upgrade z c m ReadEpoch r v w is row = absurd row
+refused_upgrade z c m (StorePin y) r v w is row = absurd row
+refused_upgrade z c m RaiseEpoch r v w is row = absurd row
+refused_upgrade z c m (ReadPin q) r v w is row = absurd row
 
 -- ---- few steps
 
@@ -243,102 +258,77 @@ ends_as z u v c (Releasing i) r fits is = absurd (cc)
 ends_as z u v c (ReleasingNode b) r fits is = absurd (cc)
 ends_as z u v c (GivingUp locked released e) r fits is = absurd (cc)
 
--- ---- a step is one step, or none
-
-refused_counts : (v w : View) (x : Stamp) (e : UpgradeFault) → upgrade.Refused v w x e → w.steps ≤ v.steps + 1
-refused_counts v w x (fault.Changed e) k = let is = ap (λ (t : View). t.steps) k.3.is in omega arith
-refused_counts v w x (fault.Exhausted e) k = let is = ap (λ (t : View). t.steps) k.2 in omega arith
-
-pub counts : (z : Sizes) (v w : View) (c : Change) (a : Asked) (answer : Answer) → IsAllowed z c v a → Answers c a answer v w → w.steps ≤ v.steps + 1
-counts z v w c (Upgrade x) (Upgraded (Ok done)) may row = let is = ap (λ (t : View). t.steps) row.is in omega arith
-counts z v w c (Upgrade x) (Upgraded (Err e)) may row = refused_counts v w x e row
-counts z v w c (Upgrade x) Done may row = absurd row
-counts z v w c (Claim n) (Upgraded r) may row = absurd row
-counts z v w c (Claim n) Done may row = let is = ap (λ (t : View). t.steps) row.is in omega arith
-counts z v w c (Write d i x) (Upgraded r) may row = absurd row
-counts z v w c (Write d i x) Done may row = let o = row may.holding (may.may.held, may.cell) in let is = ap (λ (t : View). t.steps) o.is in omega arith
-counts z v w c (Commit d b) (Upgraded r) may row = absurd row
-counts z v w c (Commit d b) Done may row = let o = row.outcome may.holding (may.first.held, may.cell) in let is = ap (λ (t : View). t.steps) o.is in omega arith
-counts z v w c (Release d b) (Upgraded r) may row = absurd row
-counts z v w c (Release d b) Done may row = let o = row may.holding (may.may.0, may.cell) in let is = ap (λ (t : View). t.steps) o.is in omega arith
-
 -- ---- from stage to stage
 
-module _ (z : Sizes) (u v w : View) (c : Change) (a : Asked) (answer : Answer) where
+module _ (z : Sizes) (u v w : View) (c : Change) (a : Action) (answer : Answer) where
   -- where the next stage fits, and comes further, so does all that is known
-  pub fits_on : (m n : Making) → Fits z c m u v → asks c m ≡ Some a → Answers c a answer v w → most_steps m < most_steps n → StageFits c n u w → Fits z c n u w
+  pub fits_on : (m n : Making) → Fits z c m u v → asks c m ≡ Some a → Answers z (brings c) a answer v w → most_steps m < most_steps n → StageFits c n u w → Fits z c n u w
   fits_on m n fits is row more stage = record {
     planned = fits.planned;
     small = fits.small;
     stage = stage;
     steps =
-        let one = counts z v w c a answer (allowed z u v c m a fits is) row in
+        let made = steps_made z (brings c) a answer v w (allowed z u v c m a fits is) row in
+        let one = steps_few answer in
         let before = fits.steps in
-        omega arith;
+        omega (arith, made, one);
   }
 
-  pub told_claim : (b : Bool) → Fits z c (Claiming b) u v → asks c (Claiming b) ≡ Some a → Answers c a answer v w → IsLocking u c (targets c) [] (claimed_so c b) w
+  pub told_claim : (b : Bool) → Fits z c (Claiming b) u v → asks c (Claiming b) ≡ Some a → Answers z (brings c) a answer v w → IsLocking u c (targets c) [] (claimed_so c b) w
   told_claim b fits is row =
       let k = map_some Claim (made_at b c) a is in
-      by_answer k.0 k.1 answer (subst (λ (d : Asked). Answers c d answer v w) (sym k.2) row)
+      by_answer k.0 k.1 (done_row z (brings c) (Claim k.0) answer v w tt (subst (λ (d : Action). Answers z (brings c) d answer v w) (sym k.2) row))
     where
-      by_answer : (n : Node) → made_at b c ≡ Some n → (r : Answer) → Answers c (Claim n) r v w → IsLocking u c (targets c) [] (claimed_so c b) w
-      by_answer n made (Upgraded r) row = absurd row
-      by_answer n made Done row = claim_on z u c fits.planned b (at_claim c b) (claimed_so c b) (claim_fills c b n made) (claim_none c b) n v w made fits.stage.1 row
+      by_answer : (n : Node) → made_at b c ≡ Some n → Answers z (brings c) (Claim n) Done v w → IsLocking u c (targets c) [] (claimed_so c b) w
+      by_answer n made row = claim_on z u c fits.planned b (at_claim c b) (claimed_so c b) (claim_fills c b n made) (claim_none c b) n v w made fits.stage.1 row
 
-  pub told_fill : (b : Bool) (place : ℕ) → Fits z c (Filling b place) u v → asks c (Filling b place) ≡ Some a → Answers c a answer v w → IsLocking u c (targets c) [] (at_fill c b (place + 1)) w
+  pub told_fill : (b : Bool) (place : ℕ) → Fits z c (Filling b place) u v → asks c (Filling b place) ≡ Some a → Answers z (brings c) a answer v w → IsLocking u c (targets c) [] (at_fill c b (place + 1)) w
   told_fill b place fits is row =
       let k = map_some (λ (m : Node). Write (cell.Node m) place (made_word b c place)) (made_at b c) a is in
-      by_answer k.0 k.1 answer (subst (λ (d : Asked). Answers c d answer v w) (sym k.2) row)
+      by_answer k.0 k.1 (done_row z (brings c) (Write (cell.Node k.0) place (made_word b c place)) answer v w tt (subst (λ (d : Action). Answers z (brings c) d answer v w) (sym k.2) row))
     where
-      by_answer : (n : Node) → made_at b c ≡ Some n → (r : Answer) → Answers c (Write (cell.Node n) place (made_word b c place)) r v w → IsLocking u c (targets c) [] (at_fill c b (place + 1)) w
-      by_answer n made (Upgraded r) row = absurd row
-      by_answer n made Done row =
+      by_answer : (n : Node) → made_at b c ≡ Some n → Answers z (brings c) (Write (cell.Node n) place (made_word b c place)) Done v w → IsLocking u c (targets c) [] (at_fill c b (place + 1)) w
+      by_answer n made row =
           let low : place < filled_at c (Some n) = subst (λ (o : Option Node). place < filled_at c o) made fits.stage.1 in
           fill_on z u c fits.planned b place (at_fill c b place) (at_fill c b (place + 1)) (fill_fills c b place) (fill_so c b place) n v w made fits.stage.0 low fits.stage.2 row
 
-  pub told_write : (j : ℕ) → Fits z c (Writing j) u v → asks c (Writing j) ≡ Some a → Answers c a answer v w → IsLocking u c (targets c) (take (j + 1) c.puts.items) (filled_ends c) w
+  pub told_write : (j : ℕ) → Fits z c (Writing j) u v → asks c (Writing j) ≡ Some a → Answers z (brings c) a answer v w → IsLocking u c (targets c) (take (j + 1) c.puts.items) (filled_ends c) w
   told_write j fits is row =
       let p = then_some (λ (q : Put). option_map (put_into q) (target_at c q.target)) (put_at c j) a is in
       let x = map_some (put_into p.0) (target_at c p.0.target) a p.2 in
-      by_answer p.0 x.0 p.1 x.1 answer (subst (λ (b : Asked). Answers c b answer v w) (sym x.2) row)
+      by_answer p.0 x.0 p.1 x.1 (done_row z (brings c) (put_into p.0 x.0) answer v w tt (subst (λ (b : Action). Answers z (brings c) b answer v w) (sym x.2) row))
     where
-      by_answer : (p : Put) (x : Target) → put_at c j ≡ Some p → target_at c p.target ≡ Some x → (r : Answer) → Answers c (put_into p x) r v w → IsLocking u c (targets c) (take (j + 1) c.puts.items) (filled_ends c) w
-      by_answer p x at is (Upgraded r) row = absurd row
-      by_answer p x at is Done row = write_on z u c fits.planned j (filled_ends c) p x v w at is fits.stage.1 row
+      by_answer : (p : Put) (x : Target) → put_at c j ≡ Some p → target_at c p.target ≡ Some x → Answers z (brings c) (put_into p x) Done v w → IsLocking u c (targets c) (take (j + 1) c.puts.items) (filled_ends c) w
+      by_answer p x at is row = write_on z u c fits.planned j (filled_ends c) p x v w at is fits.stage.1 row
 
-  pub told_commit : Fits z c Committing u v → asks c Committing ≡ Some a → Answers c a answer v w → IsReleasing u c 1 (filled_ends c) w
+  pub told_commit : Fits z c Committing u v → asks c Committing ≡ Some a → Answers z (brings c) a answer v w → IsReleasing u c 1 (filled_ends c) w
   told_commit fits is row =
       let k = map_some (λ (y : Target). Commit y.stamp.cell y.obsolete) (target_at c 0) a is in
-      by_answer k.0 k.1 answer (subst (λ (b : Asked). Answers c b answer v w) (sym k.2) row)
+      by_answer k.0 k.1 (done_row z (brings c) (Commit k.0.stamp.cell k.0.obsolete) answer v w tt (subst (λ (b : Action). Answers z (brings c) b answer v w) (sym k.2) row))
     where
-      by_answer : (x : Target) → target_at c 0 ≡ Some x → (r : Answer) → Answers c (Commit x.stamp.cell x.obsolete) r v w → IsReleasing u c 1 (filled_ends c) w
-      by_answer x at (Upgraded r) row = absurd row
-      by_answer x at Done row = commit_on z u c fits.planned v w x fits.stage at row.outcome row.once
+      by_answer : (x : Target) → target_at c 0 ≡ Some x → Answers z (brings c) (Commit x.stamp.cell x.obsolete) Done v w → IsReleasing u c 1 (filled_ends c) w
+      by_answer x at row = commit_on z u c fits.planned v w x fits.stage at row.outcome row.once
 
-  pub told_release : (i : ℕ) → Fits z c (Releasing i) u v → asks c (Releasing i) ≡ Some a → Answers c a answer v w → IsReleasing u c (i + 1) (filled_ends c) w
+  pub told_release : (i : ℕ) → Fits z c (Releasing i) u v → asks c (Releasing i) ≡ Some a → Answers z (brings c) a answer v w → IsReleasing u c (i + 1) (filled_ends c) w
   told_release i fits is row =
       let k = map_some releases (target_at c i) a is in
-      by_answer k.0 k.1 answer (subst (λ (b : Asked). Answers c b answer v w) (sym k.2) row)
+      by_answer k.0 k.1 (done_row z (brings c) (releases k.0) answer v w tt (subst (λ (b : Action). Answers z (brings c) b answer v w) (sym k.2) row))
     where
-      by_answer : (x : Target) → target_at c i ≡ Some x → (r : Answer) → Answers c (releases x) r v w → IsReleasing u c (i + 1) (filled_ends c) w
-      by_answer x at (Upgraded r) row = absurd row
-      by_answer x at Done row = release_on z u c fits.planned i (filled_ends c) x v w fits.stage.1 at row
+      by_answer : (x : Target) → target_at c i ≡ Some x → Answers z (brings c) (releases x) Done v w → IsReleasing u c (i + 1) (filled_ends c) w
+      by_answer x at row = release_on z u c fits.planned i (filled_ends c) x v w fits.stage.1 at row
 
-  pub told_release_new : (b : Bool) → Fits z c (ReleasingNode b) u v → asks c (ReleasingNode b) ≡ Some a → Answers c a answer v w → IsReleasing u c (targets c) (released_so c b) w
+  pub told_release_new : (b : Bool) → Fits z c (ReleasingNode b) u v → asks c (ReleasingNode b) ≡ Some a → Answers z (brings c) a answer v w → IsReleasing u c (targets c) (released_so c b) w
   told_release_new b fits is row =
       let k = map_some (λ (m : Node). Release (cell.Node m) false) (made_at b c) a is in
-      by_answer k.0 k.1 answer (subst (λ (d : Asked). Answers c d answer v w) (sym k.2) row)
+      by_answer k.0 k.1 (done_row z (brings c) (Release (cell.Node k.0) false) answer v w tt (subst (λ (d : Action). Answers z (brings c) d answer v w) (sym k.2) row))
     where
-      by_answer : (n : Node) → made_at b c ≡ Some n → (r : Answer) → Answers c (Release (cell.Node n) false) r v w → IsReleasing u c (targets c) (released_so c b) w
-      by_answer n made (Upgraded r) row = absurd row
-      by_answer n made Done row = release_new z u c fits.planned b (at_release c b) (released_so c b) (release_fills c b) (release_some c b n made) n v w fits.stage.1 made row
+      by_answer : (n : Node) → made_at b c ≡ Some n → Answers z (brings c) (Release (cell.Node n) false) Done v w → IsReleasing u c (targets c) (released_so c b) w
+      by_answer n made row = release_new z u c fits.planned b (at_release c b) (released_so c b) (release_fills c b) (release_some c b n made) n v w fits.stage.1 made row
 
-  pub told_give : (locked i : ℕ) (e : UpgradeFault) → Fits z c (GivingUp locked i e) u v → asks c (GivingUp locked i e) ≡ Some a → Answers c a answer v w → GivesUp u c (i + 1) locked e w
+  pub told_give : (locked i : ℕ) (e : UpgradeFault) → Fits z c (GivingUp locked i e) u v → asks c (GivingUp locked i e) ≡ Some a → Answers z (brings c) a answer v w → GivesUp u c (i + 1) locked e w
   told_give locked i e fits is row =
       let k = map_some (λ (y : Target). Release y.stamp.cell false) (target_at c i) a is in
-      by_answer k.0 k.1 answer (subst (λ (b : Asked). Answers c b answer v w) (sym k.2) row)
+      by_answer k.0 k.1 (done_row z (brings c) (Release k.0.stamp.cell false) answer v w tt (subst (λ (b : Action). Answers z (brings c) b answer v w) (sym k.2) row))
     where
-      by_answer : (x : Target) → target_at c i ≡ Some x → (r : Answer) → Answers c (Release x.stamp.cell false) r v w → GivesUp u c (i + 1) locked e w
-      by_answer x at (Upgraded r) row = absurd row
-      by_answer x at Done row = give_on z u c fits.planned i locked e x v w fits.stage.0 fits.stage.2 at row
+      by_answer : (x : Target) → target_at c i ≡ Some x → Answers z (brings c) (Release x.stamp.cell false) Done v w → GivesUp u c (i + 1) locked e w
+      by_answer x at row = give_on z u c fits.planned i locked e x v w fits.stage.0 fits.stage.2 at row

@@ -8,8 +8,9 @@ use Rattle.art_cell.specs.declared.cells.Link.TheVariants.{Node as node}
 use Rattle.art_cell.specs.declared.cells.Node.{Node}
 use Rattle.art_plan.specs.Changes.{OnlyLocks, leaf_linked, put_at, target_at, targets, unlinked}
 use Rattle.art_plan.specs.Whole.{HoldsWhole, IsWhole, filled_ends, made_at, made_word}
-use Rattle.art_make.specs.declared.asked.Asked.{Asked}
-use Rattle.art_make.specs.declared.asked.Asked.TheVariants.{Upgrade, Claim, Write, Commit, Release}
+use Rattle.art_machine.specs.declared.actions.Action.{Action}
+use Rattle.art_machine.specs.declared.actions.Action.TheVariants.{Upgrade, Claim, Write, Commit, Release}
+use Rattle.art_machine.specs.declared.actions.Effects.{Effects}
 use Rattle.art_plan.specs.declared.changes.Change.{Change}
 use Rattle.art_plan.specs.declared.changes.Put.{Put}
 use Rattle.art_plan.specs.declared.changes.Target.{Target}
@@ -28,16 +29,20 @@ use Rattle.art_step.specs.declared.views.View.{View}
 
 -- ---- what it asks
 
+-- what comes about at its commit
+abbrev pub brings : Change → Option Effects
+brings c = Some c.effects
+
 -- the cell of a target is released, as the change says
-abbrev pub releases : Target → Asked
+abbrev pub releases : Target → Action
 releases x = Release x.stamp.cell x.obsolete
 
 -- a word of the target is put
-abbrev pub put_into : Put → Target → Asked
+abbrev pub put_into : Put → Target → Action
 put_into p x = Write x.stamp.cell p.place p.value
 
 -- the next step
-abbrev pub asks : Change → Making → Option Asked
+abbrev pub asks : Change → Making → Option Action
 asks c (Upgrading i) = option_map (λ (x : Target). Upgrade x.stamp) (target_at c i)
 asks c (Claiming b) = option_map Claim (made_at b c)
 asks c (Filling b place) = option_map (λ (n : Node). Write (cell.Node n) place (made_word b c place)) (made_at b c)
@@ -174,7 +179,7 @@ linked c = cons_option (leaf_linked c) (cons_option (option_map node (made_at fa
 
 -- the event was made: what comes left the hand, what goes is in limbo, each number once, and nothing else changed but what is held
 pub record IsCommitted (u : View) (c : Change) (v : View) : Type 0 where
-  pub event : MakesEvent u v c.deed
+  pub event : MakesEvent u v c.effects.deed
   pub hand : HandsOver u.hand (linked c) v.hand
   pub pins : List Pin
   pub limbo : v.limbo ≡ all_retired pins (unlinked c) ++ u.limbo

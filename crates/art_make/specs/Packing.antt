@@ -2,7 +2,9 @@
 use Rattle.std.specs.Prelude.{◌≡◌, ◌≢◌, ◌↔◌, ℕ, ◌+◌, ◌<◌, ◌≤◌, List, length, nat_lt, if◌then◌else◌, Option, Some, None}
 use Rattle.art_cell.specs.Leaves.{leaf_word}
 use Rattle.art_cell.specs.declared.cells.Link.TheVariants.{Leaf as leaf}
-use Rattle.art_make.specs.declared.packing.LeafWrite.{LeafWrite}
+use Rattle.art_machine.specs.Acting.{IsLeafInHand}
+use Rattle.art_machine.specs.declared.actions.Action.{Action}
+use Rattle.art_machine.specs.declared.actions.Action.TheVariants.{WriteLeaf}
 use Rattle.art_make.specs.declared.packing.Packing.{Packing}
 use Rattle.art_step.specs.Shows.{rest_of}
 use Rattle.art_step.specs.Views.{IsInHand, Member, words_in}
@@ -11,19 +13,11 @@ use Rattle.art_step.specs.declared.views.Sizes.{Sizes}
 use Rattle.art_step.specs.declared.views.View.{View}
 use Rattle.art_tree.specs.WordChanges.{FitsWord}
 
--- the next word
-abbrev pub word_asked : List ℕ → ℕ → ℕ → Option LeafWrite
-word_asked k value place = if nat_lt place 10 then Some (record { place = place; word = leaf_word k value place }) else None
+-- the next word of the leaf
+abbrev pub word_asked : ℕ → List ℕ → ℕ → ℕ → Option Action
+word_asked l k value place = if nat_lt place 10 then Some (WriteLeaf l place (leaf_word k value place)) else None
 
--- the leaf's number is in hand, with its ten words, and a child word can name it
-pub record IsLeafInHand (z : Sizes) (v : View) (l : ℕ) : Type 0 where
-  pub hand : InHand
-  pub has : IsInHand v (leaf l) hand
-  pub long : length hand.words ≡ 10
-  pub inside : l < z.leaves
-  pub fits : FitsWord (leaf l)
-
--- and so many of them are those of this key and value
+-- a leaf is in hand, and so many of its words are those of this key and value
 pub record IsPacked (z : Sizes) (v : View) (l : ℕ) (k : List ℕ) (value place : ℕ) : Type 0 where
   pub is : IsLeafInHand z v l
   pub words : (i : ℕ) → i < place → words_in is.hand.words i ≡ leaf_word k value i

@@ -33,7 +33,7 @@
 //! obsolete as a number in hand is.
 //!
 //! `Making` is the machine that makes them: a value of scalars with `next` and `told`, as that of `art_find`. The change stands
-//! beside it and stays as it is. `make` makes the step that it asks for, and `make_change` runs it to its end.
+//! beside it and stays as it is. `perform` of `art_machine` makes the step that it asks for.
 //! Where words are next (`is_writing`), `write_on` writes all that are left. The words of each new node, of which there may be
 //! 265, are written in a loop of their own.
 //!
@@ -55,13 +55,9 @@
 //! failed for one of its two causes and nothing was told (`HasFailed`). It makes at most 580 steps.
 #![tactic(auto)]
 
-mod asked;
-mod driver;
 mod making;
 mod packing;
 mod words;
 
-pub use asked::{Answer, Asked, make};
-pub use driver::make_change;
 pub use making::Making;
-pub use packing::{LeafWrite, Packing, write_leaf};
+pub use packing::Packing;

@@ -1,13 +1,13 @@
 //! The making of a change, step by step.
 ghost use Rattle.std.specs.Prelude.{◌≡◌, ℕ, ◌+◌, ◌<◌, ◌≤◌, [], take, length, Some, true, false};
-ghost use Rattle.art_make.specs.Asking.{Answers};
+ghost use Rattle.art_machine.specs.Acting.{Answers};
 ghost use Rattle.art_plan.specs.Changes.{target_at, targets};
 ghost use Rattle.art_plan.specs.Whole.{IsWhole, filled_ends};
 ghost use Rattle.std.specs.Prelude.{Err};
-ghost use Rattle.art_make.specs.Making.{GivesUp, IsLocking, IsReleasing, StageFits, at_fill, claimed_so, claims, fault_of, most_steps, released_so, so_many};
+ghost use Rattle.art_make.specs.Making.{GivesUp, IsLocking, IsReleasing, StageFits, at_fill, brings, claimed_so, claims, fault_of, most_steps, released_so, so_many};
 ghost use Rattle.art_make.specs.declared.making.Making.TheVariants.{Claiming as claiming, Filling as filling, ReleasingNode as releasing_node};
-ghost use Rattle.art_make.specs.declared.asked.Answer.TheVariants.{Upgraded as upgraded};
-ghost use Rattle.art_make.specs.declared.asked.Asked.TheVariants.{Upgrade as upgrade};
+ghost use Rattle.art_machine.specs.declared.actions.Answer.TheVariants.{Upgraded as upgraded};
+ghost use Rattle.art_machine.specs.declared.actions.Action.TheVariants.{Upgrade as upgrade};
 ghost use Rattle.art_plan.specs.declared.changes.Change.{Change as ChangeOf};
 ghost use Rattle.art_plan.specs.declared.changes.Target.{Target as TargetOf};
 ghost use Rattle.art_step.specs.declared.faults.UpgradeFault.{UpgradeFault as FaultOf};
@@ -15,8 +15,8 @@ ghost use Rattle.art_step.specs.declared.views.Sizes.{Sizes};
 ghost use Rattle.art_step.specs.declared.views.Stamp.{Stamp as StampOf};
 ghost use Rattle.art_step.specs.declared.views.View.{View};
 
-use crate::{Answer, Asked};
 use art_cell::Cell;
+use art_machine::{Action, Answer};
 use art_plan::Change;
 use art_step::UpgradeFault;
 
@@ -45,12 +45,12 @@ pub enum Making {
 
 impl Making {
     ghost use Rattle.std.specs.Prelude.{ℕ, ◌+◌, ◌<◌, ◌≤◌, [], Some, None, IfSome};
-    ghost use Rattle.art_make.specs.Asking.{Answers, IsAllowed};
+    ghost use Rattle.art_machine.specs.Acting.{Answers, IsAllowed};
     ghost use Rattle.art_plan.specs.Whole.{IsWhole};
     ghost use Rattle.std.specs.Prelude.{Err};
-    ghost use Rattle.art_make.specs.Making.{Fits, IsOver, asks, ended_at, fault_of, most_steps};
-    ghost use Rattle.art_make.specs.declared.asked.Answer.TheVariants.{Upgraded as upgraded};
-    ghost use Rattle.art_make.specs.declared.asked.Asked.{Asked as AskedStep};
+    ghost use Rattle.art_make.specs.Making.{Fits, IsOver, asks, ended_at, brings, fault_of, most_steps};
+    ghost use Rattle.art_machine.specs.declared.actions.Answer.TheVariants.{Upgraded as upgraded};
+    ghost use Rattle.art_machine.specs.declared.actions.Action.{Action as ActionOf};
     ghost use Rattle.art_make.specs.declared.making.Making.TheVariants.{Upgrading as upgrading};
     ghost use Rattle.art_plan.specs.declared.changes.Change.{Change as ChangeOf};
     ghost use Rattle.art_step.specs.declared.faults.UpgradeFault.{UpgradeFault as FaultOf};
@@ -72,11 +72,11 @@ impl Making {
 
     /// The next step, or none where it has ended.
     #[inline(always)]
-    pub fn next(&self, change: &Change) -> Option<Asked>
+    pub fn next(&self, change: &Change) -> Option<Action>
         ensures asks { result ≡ asks change.now self.now }
-        ensures allowed { (z : Sizes) (u v : View) → Fits z change.now self.now u v → IfSome result (IsAllowed z change.now v) }
+        ensures allowed { (z : Sizes) (u v : View) → Fits z change.now self.now u v → IfSome result (IsAllowed z (brings change.now) v) }
         ensures going { (z : Sizes) (u v : View) → Fits z change.now self.now u v → ended_at self.now ≡ None →
-            (a : AskedStep) × (result ≡ Some a) }
+            (a : ActionOf) × (result ≡ Some a) }
     {
         self.asked(change)
     }
@@ -84,13 +84,13 @@ impl Making {
     /// The step that it asked for was made, with this answer.
     #[inline(always)]
     pub fn told(&mut self, change: &Change, answer: Answer)
-        requires fits { (z : Sizes) × (u : View) × (v : View) × (w : View) × (asked : AskedStep) × Fits z change.now self.old u v ×
-            (asks change.now self.old ≡ Some asked) × Answers change.now asked answer v w }
+        requires fits { (z : Sizes) × (u : View) × (v : View) × (w : View) × (asked : ActionOf) × Fits z change.now self.old u v ×
+            (asks change.now self.old ≡ Some asked) × Answers z (brings change.now) asked answer v w }
         ensures steps { most_steps self.old < most_steps self.new }
         ensures stays { (e : FaultOf) → fault_of self.old ≡ Some e → fault_of self.new ≡ Some e }
         ensures refused { (e : FaultOf) → answer ≡ upgraded (Err e) → fault_of self.new ≡ Some e }
-        ensures fits { (z : Sizes) (u v w : View) (asked : AskedStep) → Fits z change.now self.old u v →
-            asks change.now self.old ≡ Some asked → Answers change.now asked answer v w → Fits z change.now self.new u w }
+        ensures fits { (z : Sizes) (u v w : View) (asked : ActionOf) → Fits z change.now self.old u v →
+            asks change.now self.old ≡ Some asked → Answers z (brings change.now) asked answer v w → Fits z change.now self.new u w }
     {
         *self = match *self {
             Making::Upgrading(index) => upgraded(change, index, answer),
@@ -107,36 +107,52 @@ impl Making {
 
     /// The next step, by the stage alone.
     #[inline(always)]
-    fn asked(&self, change: &Change) -> Option<Asked>
+    fn asked(&self, change: &Change) -> Option<Action>
         ensures { result ≡ asks change.now self.now }
     {
         match *self {
-            Making::Upgrading(index) => Some(Asked::Upgrade(change.target(index)?.stamp)),
-            Making::Claiming(copy) => Some(Asked::Claim(change.made_at(copy)?)),
-            Making::Filling(copy, place) => Some(Asked::Write(
-                Cell::Node(change.made_at(copy)?),
+            Making::Upgrading(index) => Some(Action::Upgrade {
+                stamp: change.target(index)?.stamp,
+            }),
+            Making::Claiming(copy) => Some(Action::Claim {
+                node: change.made_at(copy)?,
+            }),
+            Making::Filling(copy, place) => Some(Action::Write {
+                cell: Cell::Node(change.made_at(copy)?),
                 place,
-                change.made_word(copy, place),
-            )),
+                word: change.made_word(copy, place),
+            }),
             Making::Writing(index) => {
                 let put = change.put(index)?;
                 let target = change.target(put.target)?;
-                Some(Asked::Write(target.stamp.cell, put.place, put.value))
+                Some(Action::Write {
+                    cell: target.stamp.cell,
+                    place: put.place,
+                    word: put.value,
+                })
             }
             Making::Committing => {
                 let top = change.target(0)?;
-                Some(Asked::Commit(top.stamp.cell, top.obsolete))
+                Some(Action::Commit {
+                    cell: top.stamp.cell,
+                    obsolete: top.obsolete,
+                })
             }
             Making::Releasing(index) => {
                 let target = change.target(index)?;
-                Some(Asked::Release(target.stamp.cell, target.obsolete))
+                Some(Action::Release {
+                    cell: target.stamp.cell,
+                    obsolete: target.obsolete,
+                })
             }
-            Making::ReleasingNode(copy) => {
-                Some(Asked::Release(Cell::Node(change.made_at(copy)?), false))
-            }
-            Making::GivingUp(_, released, _) => {
-                Some(Asked::Release(change.target(released)?.stamp.cell, false))
-            }
+            Making::ReleasingNode(copy) => Some(Action::Release {
+                cell: Cell::Node(change.made_at(copy)?),
+                obsolete: false,
+            }),
+            Making::GivingUp(_, released, _) => Some(Action::Release {
+                cell: change.target(released)?.stamp.cell,
+                obsolete: false,
+            }),
             Making::Ended(_) => None,
         }
     }
@@ -158,13 +174,13 @@ impl Making {
 fn upgraded(change: &Change, index: usize, answer: Answer) -> Making
     requires few { index < targets change.now }
     requires five { index < 5 }
-    requires answer { (x : StampOf) × (v : View) × (w : View) × Answers change.now (upgrade x) answer v w }
+    requires answer { (z : Sizes) × (x : StampOf) × (v : View) × (w : View) × Answers z (brings change.now) (upgrade x) answer v w }
     ensures steps { index < most_steps result }
     ensures refused { (e : FaultOf) → answer ≡ upgraded (Err e) → fault_of result ≡ Some e }
     ensures fits { (z : Sizes) (u v w : View) (x : TargetOf) → IsWhole z u change.now → target_at change.now index ≡ Some x →
-        IsLocking u change.now index [] (so_many 0 0) v → Answers change.now (upgrade x.stamp) answer v w → StageFits change.now result u w }
+        IsLocking u change.now index [] (so_many 0 0) v → Answers z (brings change.now) (upgrade x.stamp) answer v w → StageFits change.now result u w }
 {
-    let Answer::Upgraded(result) = answer else {
+    let Answer::Upgraded { result } = answer else {
         unreachable!();
     };
     match result {

@@ -16,7 +16,7 @@ abbrev pub with_made : ℕ → Change → Change
 with_made number c = record c { node = Some number }
 
 abbrev pub with_unlinked : ℕ → Change → Change
-with_unlinked child c = record c { unlinked = record { items = c.unlinked.items ++ child ∷ [] } }
+with_unlinked child c = record c { effects = record c.effects { unlinked = record { items = c.effects.unlinked.items ++ child ∷ [] } } }
 
 -- words are planned, and they are put
 abbrev pub with_writes : List Write → Change → Change

@@ -136,7 +136,7 @@ apart_from y n us other only m i e = other (e ∙ ap cell.Node (only m i))
 
 -- the commit of a change that is ready
 abbrev MayCommit : Sizes → View → Change → Type 0
-MayCommit z u c = (v : View) → IsReady u c v → commit.May z v c.deed (unlinked c) (commit.coming v (leaf_linked c))
+MayCommit z u c = (v : View) → IsReady u c v → commit.May z v c.effects.deed (unlinked c) (commit.coming v (leaf_linked c))
 
 module _ (z : Sizes) (u : View) (x : Stamp) (ps : List Put) (ws : List Write) (made : Option ℕ) (body : Body) (l : Option ℕ) (us : List ℕ) (deed : Deed) where
   -- one cell is locked, and no node goes

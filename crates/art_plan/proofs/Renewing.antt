@@ -183,7 +183,7 @@ module _ (z : Sizes) (u : View) (c : Change) (first : Bool) (site : Site) (write
   -- ---- what goes
 
   goes_more : unlinked c' ≡ unlinked c ++ node n ∷ []
-  goes_more = filter_map-append link_of c.unlinked.items (child_word (node n) ∷ []) ∙ ap (λ (o : Option Link). unlinked c ++ cons_option o []) (link_back (node n) r.place.fits)
+  goes_more = filter_map-append link_of c.effects.unlinked.items (child_word (node n) ∷ []) ∙ ap (λ (o : Option Link). unlinked c ++ cons_option o []) (link_back (node n) r.place.fits)
 
   goes_either : (d : Link) → Member d (unlinked c') → Member d (unlinked c) ⊎ (d ≡ node n)
   goes_either d i = ⊎_elim
@@ -306,8 +306,8 @@ module _ (z : Sizes) (u : View) (c : Change) (first : Bool) (site : Site) (write
       (λ (e : node o ≡ node n). let is : o ≡ n = cc in (1, gone worn, refl, at_worn ∙ ap cell.Node (sym is)))
       (goes_either (node o) i)
 
-  words_are : map child_word (unlinked c') ≡ c'.unlinked.items
-  words_are = ap (map child_word) goes_more ∙ more (unlinked c) c.unlinked.items r.planned.words
+  words_are : map child_word (unlinked c') ≡ c'.effects.unlinked.items
+  words_are = ap (map child_word) goes_more ∙ more (unlinked c) c.effects.unlinked.items r.planned.words
     where
       more : (ds : List Link) (us : List ℕ) → map child_word ds ≡ us → map child_word (ds ++ node n ∷ []) ≡ us ++ child_word (node n) ∷ []
       more ds us e = append ds ∙ ap (λ (xs : List ℕ). xs ++ child_word (node n) ∷ []) e
@@ -720,7 +720,7 @@ module _ (z : Sizes) (u : View) (c : Change) (first : Bool) (site : Site) (write
 
     copy_not_come : Member (node m) (commit.coming (for_change v hs) (leaf_linked c)) → ⊥
     copy_not_come i = ⊎_elim
-        (λ (e : leaf_linked c ≡ Some (node m)). no_leaf c.leaf e)
+        (λ (e : leaf_linked c ≡ Some (node m)). no_leaf c.effects.leaf e)
         (λ (o : (a : Node) × (node m ≡ node a) × IsClaimed (for_change v hs) a). let same : m ≡ o.0 = (let e = o.1 in cc) in not_copy o.2.0 o.2.1 (o.2.3 ∙ ap cell.Node (sym same)))
         ((claimed_nodes_come (for_change v hs) (leaf_linked c) (node m)).0 i)
       where
@@ -762,14 +762,14 @@ module _ (z : Sizes) (u : View) (c : Change) (first : Bool) (site : Site) (write
         of_claimed a e h i free is (inl t) = let no : None ≡ Some t.target.stamp.version = sym free ∙ t.locked.stamped in absurd (cc)
         of_claimed a e h i free is (inr o) = of_new o.which a o.made h e i free is o.is o.filled_up.cell
 
-    may : commit.May z v c.deed (unlinked c') (commit.coming v (leaf_linked c))
+    may : commit.May z v c.effects.deed (unlinked c') (commit.coming v (leaf_linked c))
     may s s' shape knows new =
         let us = unlinked c ++ node n ∷ [] in
-        let done = may_renew z v c.deed (unlinked c) (commit.coming (for_change v hs) (leaf_linked c)) hs n m x held_worn.0 held_copy.0 held_above.0 ns held_above.0.old beside has_copy writes_copy copy_not_come worn_linked
-        (λ s t shape knows new first_done. stays_named z v c.deed (unlinked c) (commit.coming (for_change v hs) (leaf_linked c)) hs n x s t x_free (named s shape knows) new first_done)
+        let done = may_renew z v c.effects.deed (unlinked c) (commit.coming (for_change v hs) (leaf_linked c)) hs n m x held_worn.0 held_copy.0 held_above.0 ns held_above.0.old beside has_copy writes_copy copy_not_come worn_linked
+        (λ s t shape knows new first_done. stays_named z v c.effects.deed (unlinked c) (commit.coming (for_change v hs) (leaf_linked c)) hs n x s t x_free (named s shape knows) new first_done)
         (r.planned.may (for_change v hs) one_ready) s s' shape knows new in
-        subst (λ (ds : List Link). Commits z v c.deed ds (commit.coming v (leaf_linked c)) s s') (sym goes_more)
-        (same_commits z v c.deed us us (commit.coming (for_change v hs) (leaf_linked c) ++ node m ∷ []) (commit.coming v (leaf_linked c)) s s' (λ d. ((λ i. i), (λ i. i))) done.once comes done)
+        subst (λ (ds : List Link). Commits z v c.effects.deed ds (commit.coming v (leaf_linked c)) s s') (sym goes_more)
+        (same_commits z v c.effects.deed us us (commit.coming (for_change v hs) (leaf_linked c) ++ node m ∷ []) (commit.coming v (leaf_linked c)) s s' (λ d. ((λ i. i), (λ i. i))) done.once comes done)
 
   pub renewed_whole : IsWhole z u (renewed first (site_stamp site) writes below.stamp below.node twin c)
   renewed_whole = record {

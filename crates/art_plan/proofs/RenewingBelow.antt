@@ -133,7 +133,7 @@ module _ (z : Sizes) (u : View) (c : Change) (site : Site) (o : Node) (a : ℕ) 
   -- ---- what goes
 
   goes_more : unlinked c' ≡ unlinked c ++ node n ∷ []
-  goes_more = filter_map-append link_of c.unlinked.items (child_word (node n) ∷ []) ∙ ap (λ (y : Option Link). unlinked c ++ cons_option y []) (link_back (node n) r.place.fits)
+  goes_more = filter_map-append link_of c.effects.unlinked.items (child_word (node n) ∷ []) ∙ ap (λ (y : Option Link). unlinked c ++ cons_option y []) (link_back (node n) r.place.fits)
 
   goes_either : (d : Link) → Member d (unlinked c') → Member d (unlinked c) ⊎ (d ≡ node n)
   goes_either d i = ⊎_elim
@@ -203,8 +203,8 @@ module _ (z : Sizes) (u : View) (c : Change) (site : Site) (o : Node) (a : ℕ) 
       (λ (e : node y ≡ node n). let is : y ≡ n = cc in (1, gone worn, refl, at_worn ∙ ap cell.Node (sym is)))
       (goes_either (node y) i)
 
-  words_are : map child_word (unlinked c') ≡ c'.unlinked.items
-  words_are = ap (map child_word) goes_more ∙ more (unlinked c) c.unlinked.items r.planned.words
+  words_are : map child_word (unlinked c') ≡ c'.effects.unlinked.items
+  words_are = ap (map child_word) goes_more ∙ more (unlinked c) c.effects.unlinked.items r.planned.words
     where
       more : (ds : List Link) (us : List ℕ) → map child_word ds ≡ us → map child_word (ds ++ node n ∷ []) ≡ us ++ child_word (node n) ∷ []
       more ds us e = append ds ∙ ap (λ (xs : List ℕ). xs ++ child_word (node n) ∷ []) e
@@ -642,7 +642,7 @@ module _ (z : Sizes) (u : View) (c : Change) (site : Site) (o : Node) (a : ℕ) 
         (take depth k, at_place (heap_of s) place (node n) (take depth k) so.0 so.1)
 
     -- the new node comes by the change, and names the worn node
-    stands : (s t : Cells) → IsShape z s → Knows v s → AllNew hs s t → Commits z (for_change v hs) c.deed (unlinked c) (commit.coming (for_change v hs) (leaf_linked c)) s t → Names t x n
+    stands : (s t : Cells) → IsShape z s → Knows v s → AllNew hs s t → Commits z (for_change v hs) c.effects.deed (unlinked c) (commit.coming (for_change v hs) (leaf_linked c)) s t → Names t x n
     stands s t shape knows new done =
         let i : Member new_one hs = held_one.each held_new.0 new_one held_new.1 for_new in
         let comes : Member (node o) (commit.coming (for_change v hs) (leaf_linked c)) = (claimed_nodes_come (for_change v hs) (leaf_linked c) (node o)).1 (inr (o, refl, (new_one, i, held_new.2.stamped, held_new.2.cell))) in
@@ -658,7 +658,7 @@ module _ (z : Sizes) (u : View) (c : Change) (site : Site) (o : Node) (a : ℕ) 
 
     copy_not_come : Member (node m) (commit.coming (for_change v hs) (leaf_linked c)) → ⊥
     copy_not_come i = ⊎_elim
-        (λ (e : leaf_linked c ≡ Some (node m)). no_leaf c.leaf e)
+        (λ (e : leaf_linked c ≡ Some (node m)). no_leaf c.effects.leaf e)
         (λ (y : (b : Node) × (node m ≡ node b) × IsClaimed (for_change v hs) b). let same : m ≡ y.0 = (let e = y.1 in cc) in not_copy y.2.0 y.2.1 (y.2.3 ∙ ap cell.Node (sym same)))
         ((claimed_nodes_come (for_change v hs) (leaf_linked c) (node m)).0 i)
       where
@@ -699,13 +699,13 @@ module _ (z : Sizes) (u : View) (c : Change) (site : Site) (o : Node) (a : ℕ) 
         of_claimed q e h i free is (inl t) = let no : None ≡ Some t.target.stamp.version = sym free ∙ t.locked.stamped in absurd (cc)
         of_claimed q e h i free is (inr y) = of_new y.which q y.made e (sym is ∙ y.filled_up.cell) y.is
 
-    may : commit.May z v c.deed (unlinked c') (commit.coming v (leaf_linked c))
+    may : commit.May z v c.effects.deed (unlinked c') (commit.coming v (leaf_linked c))
     may s s' shape knows new =
         let us = unlinked c ++ node n ∷ [] in
-        let done = may_renew z v c.deed (unlinked c) (commit.coming (for_change v hs) (leaf_linked c)) hs n m x held_worn.0 held_copy.0 held_new.0 ns plain_words beside has_copy writes_copy copy_not_come worn_linked stands
+        let done = may_renew z v c.effects.deed (unlinked c) (commit.coming (for_change v hs) (leaf_linked c)) hs n m x held_worn.0 held_copy.0 held_new.0 ns plain_words beside has_copy writes_copy copy_not_come worn_linked stands
         (r.planned.may (for_change v hs) one_ready) s s' shape knows new in
-        subst (λ (ds : List Link). Commits z v c.deed ds (commit.coming v (leaf_linked c)) s s') (sym goes_more)
-        (same_commits z v c.deed us us (commit.coming (for_change v hs) (leaf_linked c) ++ node m ∷ []) (commit.coming v (leaf_linked c)) s s' (λ d. ((λ i. i), (λ i. i))) done.once comes done)
+        subst (λ (ds : List Link). Commits z v c.effects.deed ds (commit.coming v (leaf_linked c)) s s') (sym goes_more)
+        (same_commits z v c.effects.deed us us (commit.coming (for_change v hs) (leaf_linked c) ++ node m ∷ []) (commit.coming v (leaf_linked c)) s s' (λ d. ((λ i. i), (λ i. i))) done.once comes done)
 
   pub renewed_below_whole : IsWhole z u (renewed_below (kept (site_stamp site)) below.stamp body below.node twin c)
   renewed_below_whole = record {

@@ -9,6 +9,7 @@ use Rattle.art_cell.specs.declared.cells.Cell.TheVariants as cell
 use Rattle.art_cell.specs.declared.cells.Link.{Link}
 use Rattle.art_cell.specs.declared.cells.Link.TheVariants.{Leaf as leaf, Node as node}
 use Rattle.art_cell.specs.declared.cells.Node.{Node}
+use Rattle.art_machine.specs.Acting as effects
 use Rattle.art_plan.specs.declared.changes.Change.{Change}
 use Rattle.art_plan.specs.declared.changes.Put.{Put}
 use Rattle.art_plan.specs.declared.changes.Target.{Target}
@@ -44,11 +45,11 @@ node_made c = option_map (λ (number : ℕ). record { layout = c.body.layout; nu
 
 -- the leaf that it links, if it links one
 abbrev pub leaf_linked : Change → Option Link
-leaf_linked c = option_map leaf c.leaf
+leaf_linked c = effects.leaf_linked c.effects
 
 -- what it unlinks
 abbrev pub unlinked : Change → List Link
-unlinked c = links_of c.unlinked.items
+unlinked c = effects.unlinked c.effects
 
 -- how many words of the node that it makes are written in the end, the version's place among them; 0 where it makes none
 abbrev pub filled_at : Change → Option Node → ℕ
@@ -150,7 +151,7 @@ pub record IsPlanned (z : Sizes) (u : View) (c : Change) : Type 0 where
   pub apart : (i j : ℕ) (x y : Target) → target_at c i ≡ Some x → target_at c j ≡ Some y → x.stamp.cell ≡ y.stamp.cell → i ≡ j
   pub puts : (j : ℕ) (p : Put) → put_at c j ≡ Some p → MayPut z c p
   pub new : (n : Node) → node_made c ≡ Some n → MayMake z u c n
-  pub words : map child_word (unlinked c) ≡ c.unlinked.items
+  pub words : map child_word (unlinked c) ≡ c.effects.unlinked.items
   pub obsolete : (i : ℕ) (x : Target) → target_at c i ≡ Some x → (x.obsolete ≡ true) ↔ IsNodeAmong x.stamp.cell (λ d. Member d (unlinked c))
   pub gone : (n : Node) → Member (node n) (unlinked c) → (i : ℕ) × (x : Target) × (target_at c i ≡ Some x) × (x.stamp.cell ≡ cell.Node n)
-  pub may : (v : View) → IsReady u c v → commit.May z v c.deed (unlinked c) (commit.coming v (leaf_linked c))
+  pub may : (v : View) → IsReady u c v → commit.May z v c.effects.deed (unlinked c) (commit.coming v (leaf_linked c))

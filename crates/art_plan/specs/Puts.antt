@@ -74,7 +74,5 @@ change_of ts ps ws made body leaf us deed = record {
   node = made;
   body = body;
   copy = None;
-  leaf = leaf;
-  unlinked = record { items = us };
-  deed = deed;
+  effects = record { deed = deed; leaf = leaf; unlinked = record { items = us } };
 }

@@ -46,7 +46,7 @@ renewed first above writes worn n twin c = record c {
   writes = record { items = writes };
   puts = record { items = puts_of 0 writes ++ filter_map (moved_put first) c.puts.items };
   copy = Some twin;
-  unlinked = record { items = c.unlinked.items ++ child_word (node n) ∷ [] };
+  effects = record c.effects { unlinked = record { items = c.effects.unlinked.items ++ child_word (node n) ∷ [] } };
 }
 
 -- the words of the worn node, after these puts where it is the first target
@@ -114,7 +114,7 @@ renewed_below top worn body n twin c = record c {
   puts = record { items = filter_map kept_put c.puts.items };
   body = body;
   copy = Some twin;
-  unlinked = record { items = c.unlinked.items ++ child_word (node n) ∷ [] };
+  effects = record c.effects { unlinked = record { items = c.effects.unlinked.items ++ child_word (node n) ∷ [] } };
 }
 
 -- what is asked beside the words that are made

@@ -96,7 +96,7 @@ pub record IsWhole (z : Sizes) (u : View) (c : Change) : Type 0 where
   pub puts : (j : ℕ) (p : Put) → put_at c j ≡ Some p → MayPut z c p
   pub new : (b : Bool) (n : Node) → made_at b c ≡ Some n → MayMakeBy z u (made_word b c) n
   pub two : (n : Node) → made_at false c ≡ Some n → made_at true c ≡ Some n → ⊥
-  pub words : map child_word (unlinked c) ≡ c.unlinked.items
+  pub words : map child_word (unlinked c) ≡ c.effects.unlinked.items
   pub obsolete : (i : ℕ) (x : Target) → target_at c i ≡ Some x → (x.obsolete ≡ true) ↔ IsNodeAmong x.stamp.cell (λ d. Member d (unlinked c))
   pub gone : (n : Node) → Member (node n) (unlinked c) → (i : ℕ) × (x : Target) × (target_at c i ≡ Some x) × (x.stamp.cell ≡ cell.Node n)
-  pub may : (v : View) → IsWholeReady u c v → commit.May z v c.deed (unlinked c) (commit.coming v (leaf_linked c))
+  pub may : (v : View) → IsWholeReady u c v → commit.May z v c.effects.deed (unlinked c) (commit.coming v (leaf_linked c))

@@ -6,7 +6,8 @@ ghost use Rattle.art_plan.specs.Whole.{made_at, made_word, node_copied};
 
 use arrayvec::ArrayVec;
 use art_cell::{Body, Cell, Node, Writes};
-use art_step::{Deed, Stamp};
+use art_machine::Effects;
+use art_step::Stamp;
 
 /// A cell that a change locks under its stamp, and whether it becomes obsolete when it is released.
 #[derive(Clone, Copy)]
@@ -57,12 +58,8 @@ pub struct Change {
     pub body: Body,
     /// The copy that it makes of a node that is worn, if it renews one.
     pub copy: Option<Twin>,
-    /// The number of the leaf that it links, if it links one.
-    pub leaf: Option<u32>,
-    /// The child words of what it unlinks.
-    pub unlinked: ArrayVec<u64, 3>,
-    /// What it does.
-    pub deed: Deed,
+    /// What it does, the leaf that it links, and what it unlinks.
+    pub effects: Effects,
 }
 
 impl Change {

@@ -25,9 +25,9 @@ pub fn begin(change: &mut Change, deed: Deed, leaf: Option<u32>)
     if change.copy.is_some() {
         change.copy = None;
     }
-    change.leaf = leaf;
-    change.unlinked.clear();
-    change.deed = deed;
+    change.effects.leaf = leaf;
+    change.effects.unlinked.clear();
+    change.effects.deed = deed;
 }
 
 /// Locks one more cell, below the others.
@@ -42,10 +42,12 @@ pub fn lock(change: &mut Change, stamp: Stamp, obsolete: bool)
 
 /// Unlinks one more cell, by its child word.
 pub fn unlink(change: &mut Change, child: u64)
-    requires { length change.old.unlinked.items < 3 }
-    ensures { change.new ≡ record change.old { unlinked = record { items = change.old.unlinked.items ++ child ∷ [] } } }
+    requires { length change.old.effects.unlinked.items < 3 }
+    ensures { change.new ≡ record change.old {
+      effects = record change.old.effects { unlinked = record { items = change.old.effects.unlinked.items ++ child ∷ [] } };
+    } }
 {
-    change.unlinked.push(child);
+    change.effects.unlinked.push(child);
 }
 
 /// Makes a node with this number, of which the body has all words.

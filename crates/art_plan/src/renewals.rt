@@ -32,7 +32,7 @@ pub fn renew(change: &mut Change, site: &Site, worn: &Below, number: u32, first:
     requires some { 0 < targets change.old }
     requires few { targets change.old ≤ 3 }
     requires words { length change.old.puts.items ≤ 32 }
-    requires goes { length change.old.unlinked.items < 3 }
+    requires goes { length change.old.effects.unlinked.items < 3 }
     requires small { (p : PutOf) → Member p change.old.puts.items → (p.target < 3) × (p.place < 266) }
     ensures renewed { IsRenewed first site.now worn.now number change.old change.new }
     ensures whole { (z : Sizes) (u : View) (k : List ℕ) (depth : ℕ) → MayRenewAt z u change.old first site.now worn.now number k depth →
@@ -48,7 +48,10 @@ pub fn renew(change: &mut Change, site: &Site, worn: &Below, number: u32, first:
     let puts = moved_puts(change.writes.as_slice(), change.puts.as_slice(), first);
     change.targets = targets;
     change.puts = puts;
-    change.unlinked.push(word_of_link(Link::Node(worn.node)));
+    change
+        .effects
+        .unlinked
+        .push(word_of_link(Link::Node(worn.node)));
     change.copy = Some(Twin { number, body });
 }
 
@@ -59,7 +62,7 @@ pub fn renew_below(change: &mut Change, worn: &Below, byte: u8, number: u32)
     requires there { child_of layouts.Node4 (word_of change.old.body) byte ≡ Some (child_word (node worn.now.node)) }
     requires some { 0 < targets change.old }
     requires words { length change.old.puts.items ≤ 33 }
-    requires goes { length change.old.unlinked.items < 3 }
+    requires goes { length change.old.effects.unlinked.items < 3 }
     requires small { (p : PutOf) → Member p change.old.puts.items → p.place < 266 }
     ensures renewed { IsRenewedBelow byte worn.now number change.old change.new }
     ensures whole { (z : Sizes) (u : View) (site : SiteOf) (o : NodeOf) (k : List ℕ) (depth : ℕ) →
@@ -75,7 +78,10 @@ pub fn renew_below(change: &mut Change, worn: &Below, byte: u8, number: u32)
     let puts = kept_puts(change.puts.as_slice());
     change.targets = targets;
     change.puts = puts;
-    change.unlinked.push(word_of_link(Link::Node(worn.node)));
+    change
+        .effects
+        .unlinked
+        .push(word_of_link(Link::Node(worn.node)));
     change.copy = Some(Twin { number, body });
 }
 

@@ -6,18 +6,15 @@ use Rattle.art_cell.specs.declared.cells.Cell.{Cell}
 use Rattle.art_cell.specs.declared.cells.Cell.TheVariants as cell
 use Rattle.art_cell.specs.declared.cells.Link.TheVariants.{Node as node}
 use Rattle.art_cell.specs.declared.layouts.Pool.{Pool}
-use Rattle.art_epoch.specs.Asking.{Answers as FrameAnswers}
-use Rattle.art_epoch.specs.declared.asked.Asked.{Asked as FrameAsked}
-use Rattle.art_epoch.specs.declared.asked.Asked.TheVariants as frame
 use Rattle.art_call.proofs.ArtFind.Allowed.{none_held}
-use Rattle.art_call.specs.ArtFind.Asking.{Answers as CellAnswers}
-use Rattle.art_call.specs.ArtFind.declared.asked.Answer.{Answer as CellAnswer}
-use Rattle.art_call.specs.ArtFind.declared.asked.Answer.TheVariants.{Begun, Word as word_told, Checked}
-use Rattle.art_call.specs.ArtFind.declared.asked.Asked.{Asked as CellAsked}
-use Rattle.art_call.specs.ArtFind.declared.asked.Asked.TheVariants.{Begin, Read, ReadLeaf, Check, Settle}
-use Rattle.art_call.specs.ArtGather.Asking.{Answers as SupplyAnswers, IsAllowed as MaySupply}
-use Rattle.art_call.specs.ArtGather.declared.asked.Asked.{Asked as SupplyAsked}
-use Rattle.art_call.specs.ArtGather.declared.asked.Asked.TheVariants.{Number, Leaf}
+use Rattle.art_call.proofs.ArtChange.FrameSteps.{IsFrame}
+use Rattle.art_machine.specs.Acting.{Answers, IsLook}
+use Rattle.art_machine.specs.declared.actions.Action.{Action}
+use Rattle.art_machine.specs.declared.actions.Action.TheVariants.{Begin, Read, ReadLeaf, Check, Settle, Upgrade, Claim, Write, WriteLeaf, Commit, Release}
+use Rattle.art_machine.specs.declared.actions.Action.TheVariants.{ClearBit, GiveBack, Free, ReadEpoch, StorePin, RaiseEpoch, ReadPin}
+use Rattle.art_machine.specs.declared.actions.Answer.{Answer}
+use Rattle.art_machine.specs.declared.actions.Answer.TheVariants.{Begun, Word, Checked, Upgraded, Done}
+use Rattle.art_machine.specs.declared.actions.Effects.{Effects}
 use Rattle.art_runs.proofs.OthersIdle.{clear_unless}
 use Rattle.art_runs.proofs.Found.{found_is}
 use Rattle.art_runs.proofs.Versions.{SameCells, versions_stay}
@@ -54,31 +51,22 @@ IsLedTo z v (cell.Node n) = (x : Stamp) × Member x v.stamps × Shows z v x (λ 
 abbrev pub IsFreeStamp : View → Stamp → Type 0
 IsFreeStamp v x = Member x v.stamps × IsNotHeld v.held x.cell
 
--- a cell that is begun was led to, while nothing is held; one that is checked is not held
-abbrev pub IsCellFounded : Sizes → View → CellAsked → Type 0
+-- a cell that is begun was led to, while nothing is held; one that is checked or locked is not held
+abbrev pub IsCellFounded : Sizes → View → Action → Type 0
 IsCellFounded z v (Begin c) = (v.held ≡ []) × IsLedTo z v c
-IsCellFounded z v (Read x i) = ⊤
-IsCellFounded z v (ReadLeaf x l i) = ⊤
 IsCellFounded z v (Check x) = IsFreeStamp v x
 IsCellFounded z v (Settle x) = IsFreeStamp v x
+IsCellFounded z v (Upgrade x) = IsFreeStamp v x
+IsCellFounded z v a = ⊤
 
 -- a bit that is taken is set
 abbrev pub IsBitSet : Memory → Pool → ℕ → Option ℕ → Type 0
 IsBitSet m pool i None = ⊤
 IsBitSet m pool i (Some k) = bit_of (m.free_word pool i) k ≡ 1
 
-abbrev pub IsFrameFounded : Memory → FrameAsked → Type 0
-IsFrameFounded m (frame.Clear pool i bit) = IsBitSet m pool i bit
-IsFrameFounded m (frame.Give d) = ⊤
-IsFrameFounded m (frame.Free d) = ⊤
-IsFrameFounded m frame.Note = ⊤
-IsFrameFounded m (frame.Store x) = ⊤
-IsFrameFounded m frame.Raise = ⊤
-IsFrameFounded m (frame.Watch q) = ⊤
-
-abbrev pub IsSupplyFounded : Memory → SupplyAsked → Type 0
-IsSupplyFounded m (Number a) = IsFrameFounded m a
-IsSupplyFounded m (Leaf l x) = ⊤
+abbrev pub IsFounded : Sizes → Memory → View → Action → Type 0
+IsFounded z m v (ClearBit pool i bit) = IsBitSet m pool i bit
+IsFounded z m v a = IsCellFounded z v a
 
 -- ---- what stays
 
@@ -163,8 +151,8 @@ module _ (z : Sizes) (p : ℕ) (m : Memory) (f : Views) (m' : Memory) (f' : View
   checks_calm x o (Ok done) current free row = calm_same m v w (ap (λ (u : View). u.failures) row.is) (ap (λ (u : View). u.held) row.is) (ap (λ (u : View). u.stamps) row.is)
   checks_calm x o (Err c) current free row = absurd (unchanged x current free c.found c.seen row.1 row.2 row.3)
 
-  pub cell_calm : AreCurrent m v → (d : Deed) (a : CellAsked) (r : CellAnswer) → IsCellFounded z v a → CellAnswers z d a r v w → StaysCalm m v w
-  cell_calm current d (Begin c) (Begun (Ok x)) founded row =
+  pub cell_calm : AreCurrent m v → (o : Option Effects) (a : Action) (r : Answer) → IsLook a → IsCellFounded z v a → Answers z o a r v w → StaysCalm m v w
+  cell_calm current o (Begin c) (Begun (Ok x)) is founded row =
       let is = row.2 ∙ begun_clear z v c x.version row.1 in
       record {
         failures = ap (λ (u : View). u.failures) is;
@@ -174,23 +162,47 @@ module _ (z : Sizes) (p : ℕ) (m : Memory) (f : Views) (m' : Memory) (f' : View
             (λ (old : Member y v.stamps). inl old)
             (subst (Member y) (ap (λ (u : View). u.stamps) is) there);
       }
-  cell_calm current d (Begin c) (Begun (Err l)) founded row =
+  cell_calm current o (Begin c) (Begun (Err l)) is founded row =
       let now = version_is c l.found (ap (λ (u : View). u.found) row.2 ∙ begun_found c l.found) in
       absurd (row.1 (subst IsClear now (led_clear founded.0 current c founded.1)))
-  cell_calm current d (Read x i) (word_told a) founded row = calm_same m v w (ap (λ (u : View). u.failures) row.is) (ap (λ (u : View). u.held) row.is) (ap (λ (u : View). u.stamps) row.is)
-  cell_calm current d (ReadLeaf x l i) (word_told a) founded row = calm_same m v w (ap (λ (u : View). u.failures) row) (ap (λ (u : View). u.held) row) (ap (λ (u : View). u.stamps) row)
-  cell_calm current d (Check x) (Checked r) founded row = checks_calm x None r current founded row
-  cell_calm current d (Settle x) (Checked r) founded row = checks_calm x (Some d) r current founded row
-  cell_calm current d (Begin c) (word_told a) founded row = absurd row
-  cell_calm current d (Begin c) (Checked r) founded row = absurd row
-  cell_calm current d (Read x i) (Begun r) founded row = absurd row
-  cell_calm current d (Read x i) (Checked r) founded row = absurd row
-  cell_calm current d (ReadLeaf x l i) (Begun r) founded row = absurd row
-  cell_calm current d (ReadLeaf x l i) (Checked r) founded row = absurd row
-  cell_calm current d (Check x) (Begun r) founded row = absurd row
-  cell_calm current d (Check x) (word_told a) founded row = absurd row
-  cell_calm current d (Settle x) (Begun r) founded row = absurd row
-  cell_calm current d (Settle x) (word_told a) founded row = absurd row
+  cell_calm current o (Read x i) (Word a) is founded row = calm_same m v w (ap (λ (u : View). u.failures) row.is) (ap (λ (u : View). u.held) row.is) (ap (λ (u : View). u.stamps) row.is)
+  cell_calm current o (ReadLeaf x l i) (Word a) is founded row = calm_same m v w (ap (λ (u : View). u.failures) row) (ap (λ (u : View). u.held) row) (ap (λ (u : View). u.stamps) row)
+  cell_calm current o (Check x) (Checked r) is founded row = checks_calm x None r current founded row
+  cell_calm current (Some e) (Settle x) (Checked r) is founded row = checks_calm x (Some e.deed) r current founded row
+  cell_calm current None (Settle x) r is founded row = absurd row
+  cell_calm current o (Begin c) (Word a) is founded row = absurd row
+  cell_calm current o (Begin c) (Checked s) is founded row = absurd row
+  cell_calm current o (Begin c) (Upgraded s) is founded row = absurd row
+  cell_calm current o (Begin c) Done is founded row = absurd row
+  cell_calm current o (Read x i) (Begun s) is founded row = absurd row
+  cell_calm current o (Read x i) (Checked s) is founded row = absurd row
+  cell_calm current o (Read x i) (Upgraded s) is founded row = absurd row
+  cell_calm current o (Read x i) Done is founded row = absurd row
+  cell_calm current o (ReadLeaf x l i) (Begun s) is founded row = absurd row
+  cell_calm current o (ReadLeaf x l i) (Checked s) is founded row = absurd row
+  cell_calm current o (ReadLeaf x l i) (Upgraded s) is founded row = absurd row
+  cell_calm current o (ReadLeaf x l i) Done is founded row = absurd row
+  cell_calm current o (Check x) (Begun s) is founded row = absurd row
+  cell_calm current o (Check x) (Word a) is founded row = absurd row
+  cell_calm current o (Check x) (Upgraded s) is founded row = absurd row
+  cell_calm current o (Check x) Done is founded row = absurd row
+  cell_calm current (Some e) (Settle x) (Begun s) is founded row = absurd row
+  cell_calm current (Some e) (Settle x) (Word a) is founded row = absurd row
+  cell_calm current (Some e) (Settle x) (Upgraded s) is founded row = absurd row
+  cell_calm current (Some e) (Settle x) Done is founded row = absurd row
+  cell_calm current o (Upgrade x) r is founded row = absurd is
+  cell_calm current o (Claim n) r is founded row = absurd is
+  cell_calm current o (Write c i word) r is founded row = absurd is
+  cell_calm current o (WriteLeaf l i word) r is founded row = absurd is
+  cell_calm current o (Commit c b) r is founded row = absurd is
+  cell_calm current o (Release c b) r is founded row = absurd is
+  cell_calm current o (ClearBit pool i bit) r is founded row = absurd is
+  cell_calm current o (GiveBack d) r is founded row = absurd is
+  cell_calm current o (Free d) r is founded row = absurd is
+  cell_calm current o ReadEpoch r is founded row = absurd is
+  cell_calm current o (StorePin y) r is founded row = absurd is
+  cell_calm current o RaiseEpoch r is founded row = absurd is
+  cell_calm current o (ReadPin q) r is founded row = absurd is
 
   -- ---- numbers and epochs
 
@@ -215,22 +227,56 @@ module _ (z : Sizes) (p : ℕ) (m : Memory) (f : Views) (m' : Memory) (f' : View
       (λ e. calm_none m v _ refl refl refl)
       (λ e. calm_same m v _ refl refl refl))
 
-  pub frame_calm : (a : FrameAsked) (x : ℕ) → IsFrameFounded m a → FrameAnswers z a x v w → StaysCalm m v w
-  frame_calm (frame.Clear pool i bit) x founded row =
+  pub clear_calm : (o : Option Effects) (pool : Pool) (i : ℕ) (bit : Option ℕ) (r : Answer) → IsBitSet m pool i bit → Answers z o (ClearBit pool i bit) r v w → StaysCalm m v w
+  clear_calm o pool i bit (Word x) set row =
       let now = free_is pool i x (ap (λ (u : View). u.found) row.is ∙ taken_found pool i bit x row.words) in
-      let quiet = takes_quiet pool i bit x row.words now founded in
+      let quiet = takes_quiet pool i bit x row.words now set in
       calm_same m v w (ap (λ (u : View). u.failures) row.is ∙ quiet.0) (ap (λ (u : View). u.held) row.is ∙ quiet.1) (ap (λ (u : View). u.stamps) row.is ∙ quiet.2)
-  frame_calm (frame.Give d) x founded row = calm_same m v w (ap (λ (u : View). u.failures) row.is) (ap (λ (u : View). u.held) row.is) (ap (λ (u : View). u.stamps) row.is)
-  frame_calm (frame.Free d) x founded row = calm_same m v w (ap (λ (u : View). u.failures) row.is) (ap (λ (u : View). u.held) row.is) (ap (λ (u : View). u.stamps) row.is)
-  frame_calm frame.Note x founded row = calm_same m v w (ap (λ (u : View). u.failures) row.is) (ap (λ (u : View). u.held) row.is) (ap (λ (u : View). u.stamps) row.is)
-  frame_calm (frame.Store y) x founded row = pinned_calm y row
-  frame_calm frame.Raise x founded row = calm_same m v w (ap (λ (u : View). u.failures) row) (ap (λ (u : View). u.held) row) (ap (λ (u : View). u.stamps) row)
-  frame_calm (frame.Watch q) x founded row = calm_same m v w (ap (λ (u : View). u.failures) row) (ap (λ (u : View). u.held) row) (ap (λ (u : View). u.stamps) row)
+  clear_calm o pool i bit (Begun s) set row = absurd row
+  clear_calm o pool i bit (Checked s) set row = absurd row
+  clear_calm o pool i bit (Upgraded s) set row = absurd row
+  clear_calm o pool i bit Done set row = absurd row
 
-  -- ---- a supply
-
-  pub supply_calm : (a : SupplyAsked) (x : ℕ) → IsSupplyFounded m a → MaySupply z v a → SupplyAnswers z a x v w → StaysCalm m v w
-  supply_calm (Number a) x founded may row = frame_calm a x founded row
-  supply_calm (Leaf l y) x founded may row =
-      let o = row may.0.hand may.0.has in
-      calm_same m v w (ap (λ (u : View). u.failures) o.is) (ap (λ (u : View). u.held) o.is) (ap (λ (u : View). u.stamps) o.is)
+  pub frame_calm : (o : Option Effects) (a : Action) (r : Answer) → IsFrame a → Answers z o a r v w → StaysCalm m v w
+  frame_calm o (Begin c) r is row = absurd is
+  frame_calm o (Read x i) r is row = absurd is
+  frame_calm o (ReadLeaf x l i) r is row = absurd is
+  frame_calm o (Check x) r is row = absurd is
+  frame_calm o (Settle x) r is row = absurd is
+  frame_calm o (Upgrade x) r is row = absurd is
+  frame_calm o (Claim n) r is row = absurd is
+  frame_calm o (Write c i word) r is row = absurd is
+  frame_calm o (WriteLeaf l i word) r is row = absurd is
+  frame_calm o (Commit c b) r is row = absurd is
+  frame_calm o (Release c b) r is row = absurd is
+  frame_calm o (ClearBit pool i bit) r is row = absurd is
+  frame_calm o (GiveBack d) (Begun s) is row = absurd row
+  frame_calm o (GiveBack d) (Word a) is row = absurd row
+  frame_calm o (GiveBack d) (Checked s) is row = absurd row
+  frame_calm o (GiveBack d) (Upgraded s) is row = absurd row
+  frame_calm o (GiveBack d) Done is row = calm_same m v w (ap (λ (u : View). u.failures) row.is) (ap (λ (u : View). u.held) row.is) (ap (λ (u : View). u.stamps) row.is)
+  frame_calm o (Free d) (Begun s) is row = absurd row
+  frame_calm o (Free d) (Word a) is row = absurd row
+  frame_calm o (Free d) (Checked s) is row = absurd row
+  frame_calm o (Free d) (Upgraded s) is row = absurd row
+  frame_calm o (Free d) Done is row = calm_same m v w (ap (λ (u : View). u.failures) row.is) (ap (λ (u : View). u.held) row.is) (ap (λ (u : View). u.stamps) row.is)
+  frame_calm o ReadEpoch (Begun s) is row = absurd row
+  frame_calm o ReadEpoch (Word a) is row = calm_same m v w (ap (λ (u : View). u.failures) row.is) (ap (λ (u : View). u.held) row.is) (ap (λ (u : View). u.stamps) row.is)
+  frame_calm o ReadEpoch (Checked s) is row = absurd row
+  frame_calm o ReadEpoch (Upgraded s) is row = absurd row
+  frame_calm o ReadEpoch Done is row = absurd row
+  frame_calm o (StorePin y) (Begun s) is row = absurd row
+  frame_calm o (StorePin y) (Word a) is row = absurd row
+  frame_calm o (StorePin y) (Checked s) is row = absurd row
+  frame_calm o (StorePin y) (Upgraded s) is row = absurd row
+  frame_calm o (StorePin y) Done is row = pinned_calm y row
+  frame_calm o RaiseEpoch (Begun s) is row = absurd row
+  frame_calm o RaiseEpoch (Word a) is row = calm_same m v w (ap (λ (u : View). u.failures) row) (ap (λ (u : View). u.held) row) (ap (λ (u : View). u.stamps) row)
+  frame_calm o RaiseEpoch (Checked s) is row = absurd row
+  frame_calm o RaiseEpoch (Upgraded s) is row = absurd row
+  frame_calm o RaiseEpoch Done is row = absurd row
+  frame_calm o (ReadPin q) (Begun s) is row = absurd row
+  frame_calm o (ReadPin q) (Word a) is row = calm_same m v w (ap (λ (u : View). u.failures) row) (ap (λ (u : View). u.held) row) (ap (λ (u : View). u.stamps) row)
+  frame_calm o (ReadPin q) (Checked s) is row = absurd row
+  frame_calm o (ReadPin q) (Upgraded s) is row = absurd row
+  frame_calm o (ReadPin q) Done is row = absurd row

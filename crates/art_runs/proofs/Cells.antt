@@ -15,8 +15,8 @@ use Rattle.art_call.proofs.ArtPlan.WholeCells.{IsWhole, node_whole}
 use Rattle.art_call.specs.ArtPlan.ChooseInsert.Bodies.{HasWords, IsFilled}
 use Rattle.art_call.proofs.ArtFind.Allowed.{none_held}
 use Rattle.art_call.specs.ArtFind.Descents as descents
-use Rattle.art_call.specs.ArtFind.declared.asked.Asked.{Asked}
-use Rattle.art_call.specs.ArtFind.declared.asked.Asked.TheVariants.{Begin, Read}
+use Rattle.art_machine.specs.declared.actions.Action.{Action}
+use Rattle.art_machine.specs.declared.actions.Action.TheVariants.{Begin, Read}
 use Rattle.art_call.specs.ArtFind.declared.descents.Stage.{Stage}
 use Rattle.art_call.specs.ArtFind.declared.descents.Stage.TheVariants as descent
 use Rattle.art_call.specs.ArtGather.Vouching as vouching
@@ -91,7 +91,7 @@ look_founded z lo hi depth (look.Ended r o) t u v free fits = tt
 -- ---- what begins no cell
 
 -- it is asked for nothing that begins a cell
-abbrev pub BeginsNone : Option Asked → Type 0
+abbrev pub BeginsNone : Option Action → Type 0
 BeginsNone o = (c : Cell) → o ≡ Some (Begin c) → ⊥
 
 pub reads_only : (x : Stamp) (r : Rereading) → BeginsNone (reads_next x r)

@@ -1,21 +1,15 @@
--- An attempt that alone makes steps: no step of it fails, and its stamps stay current as long as it has unlocked nothing.
-use Rattle.std.proofs.Common.{◌≡◌, ◌≢◌, ◌∷◌, ℕ, Bool, List, [], length, inl, inr, refl, sym, ap, ◌∙◌, subst, arith, ⊎_elim}
+-- A step of a pass that is alone does not fail, and stamps stay current as long as it unlocks nothing and makes no event.
+use Rattle.std.proofs.Common.{◌≡◌, ◌≢◌, ◌∷◌, ℕ, List, [], length, inl, inr, refl, sym, ap, ◌∙◌, subst, arith, ⊎_elim, Option, Some, None}
 use Rattle.std.proofs.lemmas.List.{length-append}
 use Rattle.std.specs.Prelude.{Ok, Err, ⊤, ◌++◌}
-use Rattle.art_call.specs.ArtAttempt.Asking.{Answers, IsAllowed}
-use Rattle.art_call.specs.ArtAttempt.declared.asked.Answer.{Answer}
-use Rattle.art_call.specs.ArtAttempt.declared.asked.Answer.TheVariants as told
-use Rattle.art_call.specs.ArtAttempt.declared.asked.Asked.{Asked}
-use Rattle.art_call.specs.ArtAttempt.declared.asked.Asked.TheVariants.{Cell, Supply, Change}
-use Rattle.art_cell.specs.declared.cells.Cell.{Cell as CellOf}
-use Rattle.art_call.specs.ArtMake.Asking.{Answers as ChangeAnswers, IsAllowed as MayChange}
-use Rattle.art_call.specs.ArtMake.declared.asked.Answer.{Answer as ChangeAnswer}
-use Rattle.art_call.specs.ArtMake.declared.asked.Answer.TheVariants.{Upgraded, Done}
-use Rattle.art_call.specs.ArtMake.declared.asked.Asked.{Asked as ChangeAsked}
-use Rattle.art_call.specs.ArtMake.declared.asked.Asked.TheVariants as change
-use Rattle.art_call.specs.ArtPlan.declared.changes.Change.{Change as ChangeOf}
-use Rattle.art_runs.proofs.Calm.{IsMoment, calm_current, calm_same, cell_calm, supply_calm, unchanged}
-use Rattle.art_runs.proofs.Tries.{IsChangeFounded, IsTryFounded}
+use Rattle.art_machine.specs.Acting.{Answers, IsAllowed}
+use Rattle.art_machine.specs.declared.actions.Action.{Action}
+use Rattle.art_machine.specs.declared.actions.Action.TheVariants.{Begin, Read, ReadLeaf, Check, Settle, Upgrade, Claim, Write, WriteLeaf, Commit, Release}
+use Rattle.art_machine.specs.declared.actions.Action.TheVariants.{ClearBit, GiveBack, Free, ReadEpoch, StorePin, RaiseEpoch, ReadPin}
+use Rattle.art_machine.specs.declared.actions.Answer.{Answer}
+use Rattle.art_machine.specs.declared.actions.Answer.TheVariants.{Begun, Word, Checked, Upgraded, Done}
+use Rattle.art_machine.specs.declared.actions.Effects.{Effects}
+use Rattle.art_runs.proofs.Calm.{IsFounded, IsMoment, calm_current, calm_same, cell_calm, clear_calm, frame_calm, unchanged}
 use Rattle.art_runs.proofs.Versions.{SameCells, versions_but}
 use Rattle.art_runs.specs.OthersIdle.{AreCurrent}
 use Rattle.art_tree.proofs.Places.{same_cell}
@@ -26,20 +20,29 @@ use Rattle.art_step.specs.declared.deeds.Deed.{Deed}
 use Rattle.art_step.specs.declared.faults.UpgradeFault.TheVariants as fault
 use Rattle.art_step.specs.declared.views.Holding.{Holding}
 use Rattle.art_step.specs.declared.views.Sizes.{Sizes}
-use Rattle.art_step.specs.declared.views.Stamp.{Stamp}
 use Rattle.art_step.specs.declared.views.View.{View}
 
--- it asks to look at a version word
-abbrev pub IsLook : Asked → Type 0
-IsLook (Cell a) = ⊤
-IsLook (Supply a) = ⊥
-IsLook (Change (change.Upgrade x)) = ⊤
-IsLook (Change (change.Claim n)) = ⊥
-IsLook (Change (change.Write c i x)) = ⊥
-IsLook (Change (change.Commit c b)) = ⊥
-IsLook (Change (change.Release c b)) = ⊥
+-- it looks at a version word, or locks it: its stamp has to be that of its cell
+abbrev pub NeedsCurrent : Action → Type 0
+NeedsCurrent (Begin c) = ⊤
+NeedsCurrent (Read x i) = ⊤
+NeedsCurrent (ReadLeaf x l i) = ⊤
+NeedsCurrent (Check x) = ⊤
+NeedsCurrent (Settle x) = ⊤
+NeedsCurrent (Upgrade x) = ⊤
+NeedsCurrent a = ⊥
 
--- ---- a step of a change
+-- it locks a cell
+abbrev pub IsUpgrade : Action → Type 0
+IsUpgrade (Upgrade x) = ⊤
+IsUpgrade a = ⊥
+
+-- it releases a cell, and commits nothing
+abbrev pub IsRelease : Action → Type 0
+IsRelease (Release c b) = ⊤
+IsRelease a = ⊥
+
+-- ---- a step
 
 -- a word is written: the same cells are held
 puts_same : (hs hs' : List Holding) (h : Holding) (i x : ℕ) → Member h hs → write.Puts hs h (write.with_word h i x) hs' → SameCells hs hs'
@@ -69,63 +72,103 @@ module _ (z : Sizes) (p : ℕ) (m : Memory) (f : Views) (m' : Memory) (f' : View
       let same = ap (λ (o : List ℕ). length o) own in
       absurd (omega (arith, long, same))
 
-  module _ (c : ChangeOf) where
-    change_calm : (a : ChangeAsked) (r : ChangeAnswer) → IsChangeFounded v a → ((x : Stamp) → a ≡ change.Upgrade x → AreCurrent m v) → MayChange z c v a → ChangeAnswers c a r v w → w.failures ≡ v.failures
-    change_calm (change.Upgrade x) (Upgraded (Ok done)) founded needs may row = ap (λ (u : View). u.failures) row.is
-    change_calm (change.Upgrade x) (Upgraded (Err (fault.Changed e))) founded needs may row = absurd (unchanged z p m f m' f' v w at x (needs x refl) founded e.found e.seen row.1 row.2 row.3)
-    change_calm (change.Upgrade x) (Upgraded (Err (fault.Exhausted e))) founded needs may row = ap (λ (u : View). u.failures) row.2
-    change_calm (change.Upgrade x) Done founded needs may row = absurd row
-    change_calm (change.Claim n) Done founded needs may row = ap (λ (u : View). u.failures) row.is
-    change_calm (change.Claim n) (Upgraded r) founded needs may row = absurd row
-    change_calm (change.Write d i x) Done founded needs may row = let o = row may.holding (may.may.held, may.cell) in ap (λ (u : View). u.failures) o.is
-    change_calm (change.Write d i x) (Upgraded r) founded needs may row = absurd row
-    change_calm (change.Commit d b) Done founded needs may row = ap (λ (u : View). u.failures) (row.outcome may.holding (may.first.held, may.cell)).is
-    change_calm (change.Commit d b) (Upgraded r) founded needs may row = absurd row
-    change_calm (change.Release d b) Done founded needs may row = let o = row may.holding (may.may.0, may.cell) in ap (λ (u : View). u.failures) o.is
-    change_calm (change.Release d b) (Upgraded r) founded needs may row = absurd row
+  -- it does not fail
+  pub step_calm : (o : Option Effects) (a : Action) (r : Answer) → IsFounded z m v a → (NeedsCurrent a → AreCurrent m v) → IsAllowed z o v a → Answers z o a r v w → w.failures ≡ v.failures
+  step_calm o (Begin c) r founded needs may row = (cell_calm z p m f m' f' v w at (needs tt) o (Begin c) r tt founded row).failures
+  step_calm o (Read x i) r founded needs may row = (cell_calm z p m f m' f' v w at (needs tt) o (Read x i) r tt founded row).failures
+  step_calm o (ReadLeaf x l i) r founded needs may row = (cell_calm z p m f m' f' v w at (needs tt) o (ReadLeaf x l i) r tt founded row).failures
+  step_calm o (Check x) r founded needs may row = (cell_calm z p m f m' f' v w at (needs tt) o (Check x) r tt founded row).failures
+  step_calm o (Settle x) r founded needs may row = (cell_calm z p m f m' f' v w at (needs tt) o (Settle x) r tt founded row).failures
+  step_calm o (Upgrade x) (Upgraded (Ok done)) founded needs may row = ap (λ (u : View). u.failures) row.is
+  step_calm o (Upgrade x) (Upgraded (Err (fault.Changed e))) founded needs may row = absurd (unchanged z p m f m' f' v w at x (needs tt) founded e.found e.seen row.1 row.2 row.3)
+  step_calm o (Upgrade x) (Upgraded (Err (fault.Exhausted e))) founded needs may row = ap (λ (u : View). u.failures) row.2
+  step_calm o (Upgrade x) (Begun s) founded needs may row = absurd row
+  step_calm o (Upgrade x) (Word a) founded needs may row = absurd row
+  step_calm o (Upgrade x) (Checked s) founded needs may row = absurd row
+  step_calm o (Upgrade x) Done founded needs may row = absurd row
+  step_calm o (Claim n) (Begun s) founded needs may row = absurd row
+  step_calm o (Claim n) (Word a) founded needs may row = absurd row
+  step_calm o (Claim n) (Checked s) founded needs may row = absurd row
+  step_calm o (Claim n) (Upgraded s) founded needs may row = absurd row
+  step_calm o (Claim n) Done founded needs may row = ap (λ (u : View). u.failures) row.is
+  step_calm o (Write c i word) (Begun s) founded needs may row = absurd row
+  step_calm o (Write c i word) (Word a) founded needs may row = absurd row
+  step_calm o (Write c i word) (Checked s) founded needs may row = absurd row
+  step_calm o (Write c i word) (Upgraded s) founded needs may row = absurd row
+  step_calm o (Write c i word) Done founded needs may row = let q = row may.holding (may.may.held, may.cell) in ap (λ (u : View). u.failures) q.is
+  step_calm o (WriteLeaf l i word) (Begun s) founded needs may row = absurd row
+  step_calm o (WriteLeaf l i word) (Word a) founded needs may row = absurd row
+  step_calm o (WriteLeaf l i word) (Checked s) founded needs may row = absurd row
+  step_calm o (WriteLeaf l i word) (Upgraded s) founded needs may row = absurd row
+  step_calm o (WriteLeaf l i word) Done founded needs may row = let q = row may.0.hand may.0.has in ap (λ (u : View). u.failures) q.is
+  step_calm None (Commit c b) r founded needs may row = absurd may
+  step_calm (Some e) (Commit c b) (Begun s) founded needs may row = absurd row
+  step_calm (Some e) (Commit c b) (Word a) founded needs may row = absurd row
+  step_calm (Some e) (Commit c b) (Checked s) founded needs may row = absurd row
+  step_calm (Some e) (Commit c b) (Upgraded s) founded needs may row = absurd row
+  step_calm (Some e) (Commit c b) Done founded needs may row = ap (λ (u : View). u.failures) (row.outcome may.holding (may.first.held, may.cell)).is
+  step_calm o (Release c b) (Begun s) founded needs may row = absurd row
+  step_calm o (Release c b) (Word a) founded needs may row = absurd row
+  step_calm o (Release c b) (Checked s) founded needs may row = absurd row
+  step_calm o (Release c b) (Upgraded s) founded needs may row = absurd row
+  step_calm o (Release c b) Done founded needs may row = let q = row may.holding (may.may.0, may.cell) in ap (λ (u : View). u.failures) q.is
+  step_calm o (ClearBit pool i bit) r founded needs may row = (clear_calm z p m f m' f' v w at o pool i bit r founded row).failures
+  step_calm o (GiveBack d) r founded needs may row = (frame_calm z p m f m' f' v w at o (GiveBack d) r tt row).failures
+  step_calm o (Free d) r founded needs may row = (frame_calm z p m f m' f' v w at o (Free d) r tt row).failures
+  step_calm o ReadEpoch r founded needs may row = (frame_calm z p m f m' f' v w at o ReadEpoch r tt row).failures
+  step_calm o (StorePin y) r founded needs may row = (frame_calm z p m f m' f' v w at o (StorePin y) r tt row).failures
+  step_calm o RaiseEpoch r founded needs may row = (frame_calm z p m f m' f' v w at o RaiseEpoch r tt row).failures
+  step_calm o (ReadPin q) r founded needs may row = (frame_calm z p m f m' f' v w at o (ReadPin q) r tt row).failures
 
-    change_keeps : (a : ChangeAsked) (r : ChangeAnswer) → IsChangeFounded v a → AreCurrent m v → w.own ≡ v.own → ((d : CellOf) (b : Bool) → a ≡ change.Release d b → ⊥) → MayChange z c v a → ChangeAnswers c a r v w
-        → AreCurrent m' w
-    change_keeps (change.Upgrade x) (Upgraded (Ok done)) founded current own stays may row = locks_current current own _ (ap (λ (u : View). u.held) row.is) (ap (λ (u : View). u.stamps) row.is)
-    change_keeps (change.Upgrade x) (Upgraded (Err (fault.Changed e))) founded current own stays may row = absurd (unchanged z p m f m' f' v w at x current founded e.found e.seen row.1 row.2 row.3)
-    change_keeps (change.Upgrade x) (Upgraded (Err (fault.Exhausted e))) founded current own stays may row =
-        calm_current z p m f m' f' v w at (calm_same m v w (ap (λ (u : View). u.failures) row.2) (ap (λ (u : View). u.held) row.2) (ap (λ (u : View). u.stamps) row.2)) own current
-    change_keeps (change.Upgrade x) Done founded current own stays may row = absurd row
-    change_keeps (change.Claim n) Done founded current own stays may row = locks_current current own _ (ap (λ (u : View). u.held) row.is) (ap (λ (u : View). u.stamps) row.is)
-    change_keeps (change.Claim n) (Upgraded r) founded current own stays may row = absurd row
-    change_keeps (change.Write d i x) Done founded current own stays may row =
-        let o = row may.holding (may.may.held, may.cell) in
-        calm_current z p m f m' f' v w at (record {
-          failures = ap (λ (u : View). u.failures) o.is;
-          held = subst (SameCells v.held) (sym (ap (λ (u : View). u.held) o.is)) (puts_same v.held o.held may.holding i x may.may.held o.puts);
-          stamps = λ y there. inl (subst (Member y) (ap (λ (u : View). u.stamps) o.is) there);
-        }) own current
-    change_keeps (change.Write d i x) (Upgraded r) founded current own stays may row = absurd row
-    change_keeps (change.Commit d b) Done founded current own stays may row = absurd (event_longer c.deed (row.outcome may.holding (may.first.held, may.cell)).made own)
-    change_keeps (change.Commit d b) (Upgraded r) founded current own stays may row = absurd row
-    change_keeps (change.Release d b) r founded current own stays may row = absurd (stays d b refl)
-
-  -- ---- a step of an attempt
-
-  module _ (d : Deed) (c : ChangeOf) where
-    pub try_calm : (a : Asked) (r : Answer) → IsTryFounded z m v a → (IsLook a → AreCurrent m v) → IsAllowed z d c v a → Answers z d c a r v w → w.failures ≡ v.failures
-    try_calm (Cell a) (told.Cell r) founded needs may row = (cell_calm z p m f m' f' v w at (needs tt) d a r founded row).failures
-    try_calm (Supply a) (told.Word x) founded needs may row = (supply_calm z p m f m' f' v w at a x founded may row).failures
-    try_calm (Change a) (told.Change r) founded needs may row = change_calm c a r founded (λ x same. needs (subst (λ (b : ChangeAsked). IsLook (Change b)) (sym same) tt)) may row
-    try_calm (Cell a) (told.Word x) founded needs may row = absurd row
-    try_calm (Cell a) (told.Change r) founded needs may row = absurd row
-    try_calm (Supply a) (told.Cell r) founded needs may row = absurd row
-    try_calm (Supply a) (told.Change r) founded needs may row = absurd row
-    try_calm (Change a) (told.Cell r) founded needs may row = absurd row
-    try_calm (Change a) (told.Word x) founded needs may row = absurd row
-
-    pub try_keeps : (a : Asked) (r : Answer) → IsTryFounded z m v a → AreCurrent m v → w.own ≡ v.own → ((e : CellOf) (b : Bool) → a ≡ Change (change.Release e b) → ⊥) → IsAllowed z d c v a → Answers z d c a r v w → AreCurrent m' w
-    try_keeps (Cell a) (told.Cell r) founded current own stays may row = calm_current z p m f m' f' v w at (cell_calm z p m f m' f' v w at current d a r founded row) own current
-    try_keeps (Supply a) (told.Word x) founded current own stays may row = calm_current z p m f m' f' v w at (supply_calm z p m f m' f' v w at a x founded may row) own current
-    try_keeps (Change a) (told.Change r) founded current own stays may row = change_keeps c a r founded current own (λ e b same. stays e b (ap Change same)) may row
-    try_keeps (Cell a) (told.Word x) founded current own stays may row = absurd row
-    try_keeps (Cell a) (told.Change r) founded current own stays may row = absurd row
-    try_keeps (Supply a) (told.Cell r) founded current own stays may row = absurd row
-    try_keeps (Supply a) (told.Change r) founded current own stays may row = absurd row
-    try_keeps (Change a) (told.Cell r) founded current own stays may row = absurd row
-    try_keeps (Change a) (told.Word x) founded current own stays may row = absurd row
+  -- and where it is no release and makes no event, stamps stay current
+  pub step_keeps : (o : Option Effects) (a : Action) (r : Answer) → IsFounded z m v a → AreCurrent m v → w.own ≡ v.own → (IsRelease a → ⊥) → IsAllowed z o v a → Answers z o a r v w → AreCurrent m' w
+  step_keeps o (Begin c) r founded current own stays may row = calm_current z p m f m' f' v w at (cell_calm z p m f m' f' v w at current o (Begin c) r tt founded row) own current
+  step_keeps o (Read x i) r founded current own stays may row = calm_current z p m f m' f' v w at (cell_calm z p m f m' f' v w at current o (Read x i) r tt founded row) own current
+  step_keeps o (ReadLeaf x l i) r founded current own stays may row = calm_current z p m f m' f' v w at (cell_calm z p m f m' f' v w at current o (ReadLeaf x l i) r tt founded row) own current
+  step_keeps o (Check x) r founded current own stays may row = calm_current z p m f m' f' v w at (cell_calm z p m f m' f' v w at current o (Check x) r tt founded row) own current
+  step_keeps o (Settle x) r founded current own stays may row = calm_current z p m f m' f' v w at (cell_calm z p m f m' f' v w at current o (Settle x) r tt founded row) own current
+  step_keeps o (Upgrade x) (Upgraded (Ok done)) founded current own stays may row = locks_current current own _ (ap (λ (u : View). u.held) row.is) (ap (λ (u : View). u.stamps) row.is)
+  step_keeps o (Upgrade x) (Upgraded (Err (fault.Changed e))) founded current own stays may row = absurd (unchanged z p m f m' f' v w at x current founded e.found e.seen row.1 row.2 row.3)
+  step_keeps o (Upgrade x) (Upgraded (Err (fault.Exhausted e))) founded current own stays may row =
+      calm_current z p m f m' f' v w at (calm_same m v w (ap (λ (u : View). u.failures) row.2) (ap (λ (u : View). u.held) row.2) (ap (λ (u : View). u.stamps) row.2)) own current
+  step_keeps o (Upgrade x) (Begun s) founded current own stays may row = absurd row
+  step_keeps o (Upgrade x) (Word a) founded current own stays may row = absurd row
+  step_keeps o (Upgrade x) (Checked s) founded current own stays may row = absurd row
+  step_keeps o (Upgrade x) Done founded current own stays may row = absurd row
+  step_keeps o (Claim n) (Begun s) founded current own stays may row = absurd row
+  step_keeps o (Claim n) (Word a) founded current own stays may row = absurd row
+  step_keeps o (Claim n) (Checked s) founded current own stays may row = absurd row
+  step_keeps o (Claim n) (Upgraded s) founded current own stays may row = absurd row
+  step_keeps o (Claim n) Done founded current own stays may row = locks_current current own _ (ap (λ (u : View). u.held) row.is) (ap (λ (u : View). u.stamps) row.is)
+  step_keeps o (Write c i word) (Begun s) founded current own stays may row = absurd row
+  step_keeps o (Write c i word) (Word a) founded current own stays may row = absurd row
+  step_keeps o (Write c i word) (Checked s) founded current own stays may row = absurd row
+  step_keeps o (Write c i word) (Upgraded s) founded current own stays may row = absurd row
+  step_keeps o (Write c i word) Done founded current own stays may row =
+      let q = row may.holding (may.may.held, may.cell) in
+      calm_current z p m f m' f' v w at (record {
+        failures = ap (λ (u : View). u.failures) q.is;
+        held = subst (SameCells v.held) (sym (ap (λ (u : View). u.held) q.is)) (puts_same v.held q.held may.holding i word may.may.held q.puts);
+        stamps = λ y there. inl (subst (Member y) (ap (λ (u : View). u.stamps) q.is) there);
+      }) own current
+  step_keeps o (WriteLeaf l i word) (Begun s) founded current own stays may row = absurd row
+  step_keeps o (WriteLeaf l i word) (Word a) founded current own stays may row = absurd row
+  step_keeps o (WriteLeaf l i word) (Checked s) founded current own stays may row = absurd row
+  step_keeps o (WriteLeaf l i word) (Upgraded s) founded current own stays may row = absurd row
+  step_keeps o (WriteLeaf l i word) Done founded current own stays may row =
+      let q = row may.0.hand may.0.has in
+      calm_current z p m f m' f' v w at (calm_same m v w (ap (λ (u : View). u.failures) q.is) (ap (λ (u : View). u.held) q.is) (ap (λ (u : View). u.stamps) q.is)) own current
+  step_keeps None (Commit c b) r founded current own stays may row = absurd may
+  step_keeps (Some e) (Commit c b) (Begun s) founded current own stays may row = absurd row
+  step_keeps (Some e) (Commit c b) (Word a) founded current own stays may row = absurd row
+  step_keeps (Some e) (Commit c b) (Checked s) founded current own stays may row = absurd row
+  step_keeps (Some e) (Commit c b) (Upgraded s) founded current own stays may row = absurd row
+  step_keeps (Some e) (Commit c b) Done founded current own stays may row = absurd (event_longer e.deed (row.outcome may.holding (may.first.held, may.cell)).made own)
+  step_keeps o (Release c b) r founded current own stays may row = absurd (stays tt)
+  step_keeps o (ClearBit pool i bit) r founded current own stays may row = calm_current z p m f m' f' v w at (clear_calm z p m f m' f' v w at o pool i bit r founded row) own current
+  step_keeps o (GiveBack d) r founded current own stays may row = calm_current z p m f m' f' v w at (frame_calm z p m f m' f' v w at o (GiveBack d) r tt row) own current
+  step_keeps o (Free d) r founded current own stays may row = calm_current z p m f m' f' v w at (frame_calm z p m f m' f' v w at o (Free d) r tt row) own current
+  step_keeps o ReadEpoch r founded current own stays may row = calm_current z p m f m' f' v w at (frame_calm z p m f m' f' v w at o ReadEpoch r tt row) own current
+  step_keeps o (StorePin y) r founded current own stays may row = calm_current z p m f m' f' v w at (frame_calm z p m f m' f' v w at o (StorePin y) r tt row) own current
+  step_keeps o RaiseEpoch r founded current own stays may row = calm_current z p m f m' f' v w at (frame_calm z p m f m' f' v w at o RaiseEpoch r tt row) own current
+  step_keeps o (ReadPin q) r founded current own stays may row = calm_current z p m f m' f' v w at (frame_calm z p m f m' f' v w at o (ReadPin q) r tt row) own current

@@ -2,32 +2,30 @@
 use Rattle.std.proofs.Common.{◌≡◌, ◌≤◌, ℕ, List, Option, Some, None, sym, ap, ◌∙◌, subst, arith, ⊎_elim}
 use Rattle.std.proofs.lemmas.Bool.{cond_both}
 use Rattle.std.proofs.lemmas.Option.{same_Some}
-use Rattle.std.specs.Option.{option_and_then, option_map}
+use Rattle.std.specs.Option.{option_and_then}
 use Rattle.std.specs.Prelude.{nat_lt}
+use Rattle.art_cell.specs.Leaves.{leaf_word}
 use Rattle.art_cell.specs.declared.layouts.Layout.{Layout}
 use Rattle.art_cell.specs.declared.layouts.Layout.TheVariants.{Node4, Node16, Node48, Node256}
 use Rattle.art_cell.specs.declared.layouts.Pool.{Pool}
 use Rattle.art_cell.specs.declared.layouts.Pool.TheVariants.{Leaves}
 use Rattle.art_epoch.specs.Taking as taking
 use Rattle.art_epoch.specs.Taking.{IsSeen, SearchFits, around}
-use Rattle.art_epoch.specs.declared.asked.Asked.{Asked as NumberAsked}
-use Rattle.art_epoch.specs.declared.asked.Asked.TheVariants.{Clear}
 use Rattle.art_epoch.specs.declared.taking.Search.{Search}
 use Rattle.art_epoch.specs.declared.taking.Search.TheVariants.{Looking, Clearing, Took}
 use Rattle.art_epoch.specs.declared.taking.Taking.{Taking}
 use Rattle.art_call.specs.ArtFrame.Stocks.{IsIn, node_in}
 use Rattle.art_call.specs.ArtFrame.declared.stocks.Stock.{Stock}
 use Rattle.art_call.specs.ArtGather.Supplying as supplying
-use Rattle.art_call.specs.ArtGather.Supplying.{leaf_asked, leaf_write}
-use Rattle.art_call.specs.ArtGather.declared.asked.Asked.{Asked}
-use Rattle.art_call.specs.ArtGather.declared.asked.Asked.TheVariants as asked
+use Rattle.art_call.specs.ArtGather.Supplying.{leaf_asked}
 use Rattle.art_call.specs.ArtGather.declared.supplying.Supplying.{Supplying}
 use Rattle.art_call.specs.ArtGather.declared.supplying.Supplying.TheVariants as supplies
 use Rattle.art_call.specs.ArtGather.declared.supplying.Wants.{Wants}
-use Rattle.art_call.proofs.ArtMake.Told.{map_some}
-use Rattle.art_call.specs.ArtMake.Packing.{word_asked}
+use Rattle.art_call.proofs.ArtAttempt.Given.{if_some}
+use Rattle.art_machine.specs.declared.actions.Action.{Action}
+use Rattle.art_machine.specs.declared.actions.Action.TheVariants.{ClearBit, WriteLeaf}
 use Rattle.art_call.specs.ArtMake.declared.packing.Packing.{Packing}
-use Rattle.art_runs.proofs.Calm.{IsFrameFounded, IsSupplyFounded}
+use Rattle.art_runs.proofs.Calm.{IsFounded}
 use Rattle.art_runs.proofs.Finding.{found_since}
 use Rattle.art_runs.specs.OthersIdle.{HasFound}
 use Rattle.art_step.specs.Views.{Member, Memory, bit_of, number_at, pool_of_layout}
@@ -70,42 +68,37 @@ module _ (m : Memory) (u v : View) (had : HasFound m u v) (timely : IsTimely u) 
       (λ (has : (x : InHand) × Member x v.hand × (x.link ≡ number_at pool i k)). absurd (none i k has.0 (subst (Member has.0) s.hand has.1) has.2))
       (had.free own pool i k s.lowest.low (ap (λ (x : ℕ). bit_of x k) last ∙ s.lowest.is))
 
-  search_founded : (z : Sizes) (b : View) (pool : Pool) (words first : ℕ) (a : NumberAsked) → u.steps ≤ b.steps → HasNoneOf pool b.hand → (s : Search) → SearchFits z b v pool words first s
-      → taking.asks_at pool words first s ≡ Some a → IsFrameFounded m a
+  search_founded : (z : Sizes) (b : View) (pool : Pool) (words first : ℕ) (a : Action) → u.steps ≤ b.steps → HasNoneOf pool b.hand → (s : Search) → SearchFits z b v pool words first s
+      → taking.asks_at pool words first s ≡ Some a → IsFounded z m v a
   search_founded z b pool words first a late none (Looking i) fits is =
-      let Founds : Option NumberAsked → Type 0 = λ o. o ≡ Some a → IsFrameFounded m a in
-      cond_both (nat_lt i words) (Some (Clear pool (around words first i) None)) None Founds
-      (λ e is. subst (IsFrameFounded m) (same_Some (Clear pool (around words first i) None) a is) tt)
+      let Founds : Option Action → Type 0 = λ o. o ≡ Some a → IsFounded z m v a in
+      cond_both (nat_lt i words) (Some (ClearBit pool (around words first i) None)) None Founds
+      (λ e is. subst (IsFounded z m v) (same_Some (ClearBit pool (around words first i) None) a is) tt)
       (λ e is. absurd (cc))
       is
-  search_founded z b pool words first a late none (Clearing i k) fits is = subst (IsFrameFounded m) (same_Some (Clear pool (around words first i) (Some k)) a is) (seen_set b pool words first i k late none fits)
+  search_founded z b pool words first a late none (Clearing i k) fits is = subst (IsFounded z m v) (same_Some (ClearBit pool (around words first i) (Some k)) a is) (seen_set b pool words first i k late none fits)
   search_founded z b pool words first a late none (Took i k) fits is = absurd (cc)
 
-  taking_founded : (z : Sizes) (b : View) (t : Taking) (pool : Pool) (a : NumberAsked) → t.pool ≡ pool → u.steps ≤ b.steps → HasNoneOf pool b.hand → taking.Fits z b t v → taking.asks t ≡ Some a
-      → IsFrameFounded m a
+  taking_founded : (z : Sizes) (b : View) (t : Taking) (pool : Pool) (a : Action) → t.pool ≡ pool → u.steps ≤ b.steps → HasNoneOf pool b.hand → taking.Fits z b t v → taking.asks t ≡ Some a
+      → IsFounded z m v a
   taking_founded z b t pool a same late none fits is = search_founded z b t.pool t.words t.first a late (subst (λ (q : Pool). HasNoneOf q b.hand) (sym same) none) t.search fits.search is
 
   -- ---- a supply
 
-  packing_founded : (k : List ℕ) (value : ℕ) (p : Packing) (a : Asked) (o : Option ℕ) → option_and_then (leaf_asked k value p) o ≡ Some a → IsSupplyFounded m a
-  packing_founded k value p a (Some l) is =
-      let q = map_some (leaf_write l) (word_asked k value p.place) a is in
-      subst (IsSupplyFounded m) q.2 tt
-  packing_founded k value p a None is = absurd (cc)
+  packing_founded : (z : Sizes) (k : List ℕ) (value : ℕ) (p : Packing) (a : Action) (o : Option ℕ) → option_and_then (leaf_asked k value p) o ≡ Some a → IsFounded z m v a
+  packing_founded z k value p a (Some l) is = subst (IsFounded z m v) (if_some (nat_lt p.place 10) (WriteLeaf l p.place (leaf_word k value p.place)) a is) tt
+  packing_founded z k value p a None is = absurd (cc)
 
-  number_founded : (a : Asked) (o : Option NumberAsked) → option_map asked.Number o ≡ Some a → ((n : NumberAsked) → o ≡ Some n → IsFrameFounded m n) → IsSupplyFounded m a
-  number_founded a o is founded = let q = map_some asked.Number o a is in subst (IsSupplyFounded m) q.2 (founded q.0 q.1)
-
-  pub supply_founded : (z : Sizes) (wants : Wants) (k : List ℕ) (value : ℕ) (stock : Stock) (b : View) (a : Asked) → u.steps ≤ b.steps → (s : Supplying) → supplying.StageFits z wants k value s stock b v
-      → supplying.asks k value stock s ≡ Some a → IsSupplyFounded m a
+  pub supply_founded : (z : Sizes) (wants : Wants) (k : List ℕ) (value : ℕ) (stock : Stock) (b : View) (a : Action) → u.steps ≤ b.steps → (s : Supplying) → supplying.StageFits z wants k value s stock b v
+      → supplying.asks k value stock s ≡ Some a → IsFounded z m v a
   supply_founded z wants k value stock b a late (supplies.Leaf t) fits is =
       let q = fits.2.sought in
       let later = q.base.later in
-      number_founded a (taking.asks t) is (λ n asks. taking_founded z q.early t Leaves n q.pool_is (omega (arith, late, later)) (no_leaf stock q.early.hand q.base.has.only fits.1) q.seeks asks)
-  supply_founded z wants k value stock b a late (supplies.Packing p) fits is = packing_founded k value p a stock.leaf is
+      taking_founded z q.early t Leaves a q.pool_is (omega (arith, late, later)) (no_leaf stock q.early.hand q.base.has.only fits.1) q.seeks is
+  supply_founded z wants k value stock b a late (supplies.Packing p) fits is = packing_founded z k value p a stock.leaf is
   supply_founded z wants k value stock b a late (supplies.Node t) fits is =
       let s = fits.1 in
       let q = s.seeking.sought in
       let later = q.base.later in
-      number_founded a (taking.asks t) is (λ n asks. taking_founded z q.early t (pool_of_layout s.layout) n q.pool_is (omega (arith, late, later)) (no_node stock q.early.hand s.layout q.base.has.only s.none) q.seeks asks)
+      taking_founded z q.early t (pool_of_layout s.layout) a q.pool_is (omega (arith, late, later)) (no_node stock q.early.hand s.layout q.base.has.only s.none) q.seeks is
   supply_founded z wants k value stock b a late (supplies.Ended r) fits is = absurd (cc)

@@ -1,17 +1,18 @@
 -- How far an attempt has come: while it looks at version words it has told nothing and many steps are left; and a cell is released
 -- only after an event, after a failure, or where few steps are left.
-use Rattle.std.proofs.Common.{◌≡◌, ◌<◌, ◌≤◌, ◌∷◌, ℕ, Bool, true, false, List, [], length, Option, Some, None, refl, sym, ap, ◌∙◌, subst, arith, ⊎_elim}
+use Rattle.std.proofs.Common.{◌≡◌, ◌<◌, ◌≤◌, ◌∷◌, ℕ, true, false, List, [], length, Option, Some, None, refl, sym, ap, ◌∙◌, subst, arith, ⊎_elim}
 use Rattle.std.proofs.lemmas.Bool.{cases_Bool}
 use Rattle.std.proofs.lemmas.List.{length-append}
 use Rattle.std.specs.Option.{option_and_then, option_map}
 use Rattle.std.specs.Prelude.{◌==◌, ◌++◌}
 use Rattle.art_call.proofs.ArtAttempt.Free.{free_so}
+use Rattle.art_call.proofs.ArtAttempt.Finds as insert_finds
+use Rattle.art_call.proofs.ArtAttempt.Given.{IsMade, IsSupply, ask_looks, lower_asks_look, making_asks_made, reads_look, supply_asks_supply, vouch_asks_look}
 use Rattle.art_call.proofs.ArtAttempt.Left.{tries_some}
+use Rattle.art_call.proofs.ArtErase.Finds as erase_finds
 use Rattle.art_call.specs.ArtAttempt.Inserting as inserts
 use Rattle.art_call.specs.ArtAttempt.Inserting.{free_at, held_left, is_begun, last_left, making_left, tries_left}
 use Rattle.art_call.specs.ArtAttempt.Trying.{StillTries}
-use Rattle.art_call.specs.ArtAttempt.declared.asked.Asked.{Asked}
-use Rattle.art_call.specs.ArtAttempt.declared.asked.Asked.TheVariants.{Cell, Supply, Change}
 use Rattle.art_call.specs.ArtAttempt.declared.inserting.Inserting.{Inserting as Insertion}
 use Rattle.art_call.specs.ArtAttempt.declared.inserting.Stage.{Stage as InsertStage}
 use Rattle.art_call.specs.ArtAttempt.declared.inserting.Stage.TheVariants as insert
@@ -19,19 +20,14 @@ use Rattle.art_call.specs.ArtAttempt.declared.rooms.Room.{Room}
 use Rattle.art_cell.specs.declared.cells.Cell.{Cell as CellOf}
 use Rattle.art_cell.specs.declared.cells.Cell.TheVariants as cell
 use Rattle.art_cell.specs.declared.cells.Node.{Node}
-use Rattle.art_cell.specs.Reads.{word_of}
 use Rattle.art_call.proofs.ArtErase.Free as erase_free
 use Rattle.art_call.specs.ArtErase.Erasing as erases
 use Rattle.art_call.specs.ArtErase.declared.erasing.Erasing.{Erasing as Erasure}
 use Rattle.art_call.specs.ArtErase.declared.erasing.Stage.{Stage as EraseStage}
 use Rattle.art_call.specs.ArtErase.declared.erasing.Stage.TheVariants as erase
-use Rattle.art_call.specs.ArtFind.declared.asked.Asked.{Asked as CellAsked}
-use Rattle.art_call.specs.ArtGather.declared.asked.Asked.{Asked as SupplyAsked}
 use Rattle.art_call.proofs.ArtMake.Told.{map_some}
 use Rattle.art_call.specs.ArtMake.Making as making
 use Rattle.art_call.specs.ArtMake.Making.{Fails, IsCommitted, put_into, releases}
-use Rattle.art_call.specs.ArtMake.declared.asked.Asked.{Asked as ChangeAsked}
-use Rattle.art_call.specs.ArtMake.declared.asked.Asked.TheVariants as change
 use Rattle.art_call.specs.ArtMake.declared.making.Making.{Making}
 use Rattle.art_call.specs.ArtMake.declared.making.Making.TheVariants.{Upgrading, Claiming, Filling, Writing, Committing, Releasing, ReleasingNode, GivingUp, Ended}
 use Rattle.art_call.specs.ArtPlan.Changes.{put_at, target_at}
@@ -39,7 +35,11 @@ use Rattle.art_call.specs.ArtPlan.Whole.{made_at, made_word}
 use Rattle.art_call.specs.ArtPlan.declared.changes.Change.{Change as ChangeOf}
 use Rattle.art_call.specs.ArtPlan.declared.changes.Put.{Put}
 use Rattle.art_call.specs.ArtPlan.declared.changes.Target.{Target}
-use Rattle.art_runs.proofs.Making.{IsLook}
+use Rattle.art_machine.specs.Acting.{IsLook}
+use Rattle.art_machine.specs.declared.actions.Action.{Action}
+use Rattle.art_machine.specs.declared.actions.Action.TheVariants.{Begin, Read, ReadLeaf, Check, Settle, Upgrade, Claim, Write, WriteLeaf, Commit, Release}
+use Rattle.art_machine.specs.declared.actions.Action.TheVariants.{ClearBit, GiveBack, Free, ReadEpoch, StorePin, RaiseEpoch, ReadPin}
+use Rattle.art_runs.proofs.Making.{IsRelease, IsUpgrade, NeedsCurrent}
 use Rattle.art_step.specs.Events.{MakesEvent}
 use Rattle.art_step.specs.Shows.{Rest}
 use Rattle.art_step.specs.declared.deeds.Deed.{Deed}
@@ -81,19 +81,11 @@ no_event v w what made own =
     let same = ap (λ (o : List ℕ). length o) own in
     absurd (omega (arith, long, same))
 
--- it asks for a release
-abbrev AsksRelease : ChangeAsked → Type 0
-AsksRelease a = (d : CellOf) × (b : Bool) × (a ≡ change.Release d b)
-
--- it asks for an upgrade
-abbrev AsksUpgrade : ChangeAsked → Type 0
-AsksUpgrade a = (x : _) × (a ≡ change.Upgrade x)
-
-module _ (z : Sizes) (c : ChangeOf) (u v : View) (a : ChangeAsked) where
-  by_none : {A : Type 0} (P : ChangeAsked → Type 0) (f : A → ChangeAsked) (o : Option A) → option_map f o ≡ Some a → ((x : A) → P (f x)) → P a
+module _ (z : Sizes) (c : ChangeOf) (u v : View) (a : Action) where
+  by_none : {A : Type 0} (P : Action → Type 0) (f : A → Action) (o : Option A) → option_map f o ≡ Some a → ((x : A) → P (f x)) → P a
   by_none P f o is each = let k = map_some f o a is in subst P k.2 (each k.0)
 
-  by_put : (P : ChangeAsked → Type 0) (o : Option Put) → option_and_then (λ (q : Put). option_map (put_into q) (target_at c q.target)) o ≡ Some a → ((q : Put) (x : Target) → P (put_into q x)) → P a
+  by_put : (P : Action → Type 0) (o : Option Put) → option_and_then (λ (q : Put). option_map (put_into q) (target_at c q.target)) o ≡ Some a → ((q : Put) (x : Target) → P (put_into q x)) → P a
   by_put P (Some q) is each = by_none P (put_into q) (target_at c q.target) is (each q)
   by_put P None is each = absurd (cc)
 
@@ -101,18 +93,18 @@ module _ (z : Sizes) (c : ChangeOf) (u v : View) (a : ChangeAsked) where
   abbrev IsEarly : ℕ → Making → Type 0
   IsEarly left m = (v.own ≡ u.own) × (575 < making_left left m)
 
-  upgrade_early : (left : ℕ) (m : Making) → making.Fits z c m u v → (is_begun m ≡ true → 0 < left) → making.asks c m ≡ Some a → AsksUpgrade a → IsEarly left m
+  upgrade_early : (left : ℕ) (m : Making) → making.Fits z c m u v → (is_begun m ≡ true → 0 < left) → making.asks c m ≡ Some a → IsUpgrade a → IsEarly left m
   upgrade_early left (Upgrading i) fits some is up =
       let few = fits.small.targets in
       let low = fits.stage.0 in
       (ap (λ (o : Rest). o.own) fits.stage.1.same.rest, many_upgrades left i (omega (arith, few, low)) some)
-  upgrade_early left (Claiming b) fits some is up = absurd (by_none (λ q. AsksUpgrade q → ⊥) change.Claim (made_at b c) is (λ n o. (let e = o.1 in cc)) up)
-  upgrade_early left (Filling b place) fits some is up = absurd (by_none (λ q. AsksUpgrade q → ⊥) (λ (n : Node). change.Write (cell.Node n) place (made_word b c place)) (made_at b c) is (λ n o. (let e = o.1 in cc)) up)
-  upgrade_early left (Writing j) fits some is up = absurd (by_put (λ q. AsksUpgrade q → ⊥) (put_at c j) is (λ q x o. (let e = o.1 in cc)) up)
-  upgrade_early left Committing fits some is up = absurd (by_none (λ q. AsksUpgrade q → ⊥) (λ (x : Target). change.Commit x.stamp.cell x.obsolete) (target_at c 0) is (λ x o. (let e = o.1 in cc)) up)
-  upgrade_early left (Releasing i) fits some is up = absurd (by_none (λ q. AsksUpgrade q → ⊥) releases (target_at c i) is (λ x o. (let e = o.1 in cc)) up)
-  upgrade_early left (ReleasingNode b) fits some is up = absurd (by_none (λ q. AsksUpgrade q → ⊥) (λ (n : Node). change.Release (cell.Node n) false) (made_at b c) is (λ n o. (let e = o.1 in cc)) up)
-  upgrade_early left (GivingUp locked released e) fits some is up = absurd (by_none (λ q. AsksUpgrade q → ⊥) (λ (x : Target). change.Release x.stamp.cell false) (target_at c released) is (λ x o. (let e = o.1 in cc)) up)
+  upgrade_early left (Claiming b) fits some is up = absurd (by_none (λ q. IsUpgrade q → ⊥) Claim (made_at b c) is (λ n no. no) up)
+  upgrade_early left (Filling b place) fits some is up = absurd (by_none (λ q. IsUpgrade q → ⊥) (λ (n : Node). Write (cell.Node n) place (made_word b c place)) (made_at b c) is (λ n no. no) up)
+  upgrade_early left (Writing j) fits some is up = absurd (by_put (λ q. IsUpgrade q → ⊥) (put_at c j) is (λ q x no. no) up)
+  upgrade_early left Committing fits some is up = absurd (by_none (λ q. IsUpgrade q → ⊥) (λ (x : Target). Commit x.stamp.cell x.obsolete) (target_at c 0) is (λ x no. no) up)
+  upgrade_early left (Releasing i) fits some is up = absurd (by_none (λ q. IsUpgrade q → ⊥) releases (target_at c i) is (λ x no. no) up)
+  upgrade_early left (ReleasingNode b) fits some is up = absurd (by_none (λ q. IsUpgrade q → ⊥) (λ (n : Node). Release (cell.Node n) false) (made_at b c) is (λ n no. no) up)
+  upgrade_early left (GivingUp locked released e) fits some is up = absurd (by_none (λ q. IsUpgrade q → ⊥) (λ (x : Target). Release x.stamp.cell false) (target_at c released) is (λ x no. no) up)
   upgrade_early left (Ended r) fits some is up = absurd (cc)
 
   given_up_few : (left locked released : ℕ) (e : UpgradeFault) (x : Target) → Fails u x e v → v.failures ≤ u.failures → held_left left (GivingUp locked released e) ≤ 575
@@ -120,87 +112,141 @@ module _ (z : Sizes) (c : ChangeOf) (u v : View) (a : ChangeAsked) where
   given_up_few left locked released (fault.Exhausted d) x fails few = few_given_up left locked released d
 
   -- a release comes after an event, after a failure, or where few steps are left
-  release_late : (left : ℕ) (m : Making) → making.Fits z c m u v → making.asks c m ≡ Some a → AsksRelease a → v.own ≡ u.own → v.failures ≤ u.failures → 575 < making_left left m → ⊥
-  release_late left (Releasing i) fits is up own few many = no_event u v c.deed fits.stage.1.done.event own
-  release_late left (ReleasingNode b) fits is up own few many = no_event u v c.deed fits.stage.1.done.event own
+  release_late : (left : ℕ) (m : Making) → making.Fits z c m u v → making.asks c m ≡ Some a → IsRelease a → v.own ≡ u.own → v.failures ≤ u.failures → 575 < making_left left m → ⊥
+  release_late left (Releasing i) fits is up own few many = no_event u v c.effects.deed fits.stage.1.done.event own
+  release_late left (ReleasingNode b) fits is up own few many = no_event u v c.effects.deed fits.stage.1.done.event own
   release_late left (GivingUp locked released e) fits is up own few many =
       let failed = fits.stage.2.failed in
       let low = given_up_few left locked released e failed.target failed.fails few in
       absurd (omega (arith, low, many))
-  release_late left (Upgrading i) fits is up own few many = by_none (λ q. AsksRelease q → ⊥) (λ (x : Target). change.Upgrade x.stamp) (target_at c i) is (λ x o. (let e = o.2 in cc)) up
-  release_late left (Claiming b) fits is up own few many = by_none (λ q. AsksRelease q → ⊥) change.Claim (made_at b c) is (λ n o. (let e = o.2 in cc)) up
-  release_late left (Filling b place) fits is up own few many = by_none (λ q. AsksRelease q → ⊥) (λ (n : Node). change.Write (cell.Node n) place (made_word b c place)) (made_at b c) is (λ n o. (let e = o.2 in cc)) up
-  release_late left (Writing j) fits is up own few many = by_put (λ q. AsksRelease q → ⊥) (put_at c j) is (λ q x o. (let e = o.2 in cc)) up
-  release_late left Committing fits is up own few many = by_none (λ q. AsksRelease q → ⊥) (λ (x : Target). change.Commit x.stamp.cell x.obsolete) (target_at c 0) is (λ x o. (let e = o.2 in cc)) up
+  release_late left (Upgrading i) fits is up own few many = by_none (λ q. IsRelease q → ⊥) (λ (x : Target). Upgrade x.stamp) (target_at c i) is (λ x no. no) up
+  release_late left (Claiming b) fits is up own few many = by_none (λ q. IsRelease q → ⊥) Claim (made_at b c) is (λ n no. no) up
+  release_late left (Filling b place) fits is up own few many = by_none (λ q. IsRelease q → ⊥) (λ (n : Node). Write (cell.Node n) place (made_word b c place)) (made_at b c) is (λ n no. no) up
+  release_late left (Writing j) fits is up own few many = by_put (λ q. IsRelease q → ⊥) (put_at c j) is (λ q x no. no) up
+  release_late left Committing fits is up own few many = by_none (λ q. IsRelease q → ⊥) (λ (x : Target). Commit x.stamp.cell x.obsolete) (target_at c 0) is (λ x no. no) up
   release_late left (Ended r) fits is up own few many = absurd (cc)
 
 -- ---- an attempt that began with the view b
 
-look_upgrade : (x : ChangeAsked) → IsLook (Change x) → AsksUpgrade x
-look_upgrade (change.Upgrade x) look = (x, refl)
-look_upgrade (change.Claim n) look = absurd look
-look_upgrade (change.Write c i x) look = absurd look
-look_upgrade (change.Commit c b) look = absurd look
-look_upgrade (change.Release c b) look = absurd look
+look_upgrade : (a : Action) → IsMade a → NeedsCurrent a → IsUpgrade a
+look_upgrade (Begin c) made needs = absurd made
+look_upgrade (Read x i) made needs = absurd made
+look_upgrade (ReadLeaf x l i) made needs = absurd made
+look_upgrade (Check x) made needs = absurd made
+look_upgrade (Settle x) made needs = absurd made
+look_upgrade (Upgrade x) made needs = tt
+look_upgrade (Claim n) made needs = absurd needs
+look_upgrade (Write c i word) made needs = absurd needs
+look_upgrade (WriteLeaf l i word) made needs = absurd made
+look_upgrade (Commit c b) made needs = absurd needs
+look_upgrade (Release c b) made needs = absurd needs
+look_upgrade (ClearBit pool i bit) made needs = absurd made
+look_upgrade (GiveBack d) made needs = absurd made
+look_upgrade (Free d) made needs = absurd made
+look_upgrade ReadEpoch made needs = absurd made
+look_upgrade (StorePin y) made needs = absurd made
+look_upgrade RaiseEpoch made needs = absurd made
+look_upgrade (ReadPin q) made needs = absurd made
 
--- the attempt asks for a release
-abbrev pub IsRelease : Asked → Type 0
-IsRelease a = (d : CellOf) × (b : Bool) × (a ≡ Change (change.Release d b))
+no_look_supply : (a : Action) → IsSupply a → NeedsCurrent a → ⊥
+no_look_supply (Begin c) supply needs = absurd supply
+no_look_supply (Read x i) supply needs = absurd supply
+no_look_supply (ReadLeaf x l i) supply needs = absurd supply
+no_look_supply (Check x) supply needs = absurd supply
+no_look_supply (Settle x) supply needs = absurd supply
+no_look_supply (Upgrade x) supply needs = absurd supply
+no_look_supply (Claim n) supply needs = absurd supply
+no_look_supply (Write c i word) supply needs = absurd supply
+no_look_supply (WriteLeaf l i word) supply needs = absurd needs
+no_look_supply (Commit c b) supply needs = absurd supply
+no_look_supply (Release c b) supply needs = absurd supply
+no_look_supply (ClearBit pool i bit) supply needs = absurd needs
+no_look_supply (GiveBack d) supply needs = absurd supply
+no_look_supply (Free d) supply needs = absurd supply
+no_look_supply ReadEpoch supply needs = absurd supply
+no_look_supply (StorePin y) supply needs = absurd supply
+no_look_supply RaiseEpoch supply needs = absurd supply
+no_look_supply (ReadPin q) supply needs = absurd supply
 
-module _ (z : Sizes) (b v : View) (r : Room) (a : Asked) (left : ℕ) where
+no_release_look : (a : Action) → IsLook a → IsRelease a → ⊥
+no_release_look (Begin c) look up = absurd up
+no_release_look (Read x i) look up = absurd up
+no_release_look (ReadLeaf x l i) look up = absurd up
+no_release_look (Check x) look up = absurd up
+no_release_look (Settle x) look up = absurd up
+no_release_look (Upgrade x) look up = absurd look
+no_release_look (Claim n) look up = absurd look
+no_release_look (Write c i word) look up = absurd look
+no_release_look (WriteLeaf l i word) look up = absurd look
+no_release_look (Commit c b) look up = absurd look
+no_release_look (Release c b) look up = absurd look
+no_release_look (ClearBit pool i bit) look up = absurd look
+no_release_look (GiveBack d) look up = absurd look
+no_release_look (Free d) look up = absurd look
+no_release_look ReadEpoch look up = absurd look
+no_release_look (StorePin y) look up = absurd look
+no_release_look RaiseEpoch look up = absurd look
+no_release_look (ReadPin q) look up = absurd look
+
+no_release_supply : (a : Action) → IsSupply a → IsRelease a → ⊥
+no_release_supply (Begin c) supply up = absurd supply
+no_release_supply (Read x i) supply up = absurd supply
+no_release_supply (ReadLeaf x l i) supply up = absurd supply
+no_release_supply (Check x) supply up = absurd supply
+no_release_supply (Settle x) supply up = absurd supply
+no_release_supply (Upgrade x) supply up = absurd supply
+no_release_supply (Claim n) supply up = absurd supply
+no_release_supply (Write c i word) supply up = absurd supply
+no_release_supply (WriteLeaf l i word) supply up = absurd up
+no_release_supply (Commit c b) supply up = absurd supply
+no_release_supply (Release c b) supply up = absurd supply
+no_release_supply (ClearBit pool i bit) supply up = absurd up
+no_release_supply (GiveBack d) supply up = absurd supply
+no_release_supply (Free d) supply up = absurd supply
+no_release_supply ReadEpoch supply up = absurd supply
+no_release_supply (StorePin y) supply up = absurd supply
+no_release_supply RaiseEpoch supply up = absurd supply
+no_release_supply (ReadPin q) supply up = absurd supply
+
+module _ (z : Sizes) (b v : View) (r : Room) (a : Action) (left : ℕ) where
   -- it has told nothing, and many steps are left
   abbrev IsEarlyBy : ℕ → Type 0
   IsEarlyBy n = (v.own ≡ b.own) × (575 < n)
 
-  no_look_supply : (o : Option SupplyAsked) → option_map Supply o ≡ Some a → IsLook a → ⊥
-  no_look_supply o is look = let k = map_some Supply o a is in subst IsLook (sym k.2) look
-
-  look_change : (early : View) (n : Making) → StillTries b early → making.Fits z r.change n early v → (is_begun n ≡ true → 0 < left) → option_map Change (making.asks r.change n) ≡ Some a → IsLook a
-      → IsEarlyBy (making_left left n)
+  look_change : (early : View) (n : Making) → StillTries b early → making.Fits z r.change n early v → (is_begun n ≡ true → 0 < left) → making.asks r.change n ≡ Some a → NeedsCurrent a → IsEarlyBy (making_left left n)
   look_change early n base fits some is look =
-      let k = map_some Change (making.asks r.change n) a is in
-      let e = upgrade_early z r.change early v k.0 left n fits some k.1 (look_upgrade k.0 (subst IsLook (sym k.2) look)) in
+      let e = upgrade_early z r.change early v a left n fits some is (look_upgrade a (making_asks_made r.change n a is) look) in
       (e.0 ∙ ap (λ (o : Rest). o.own) base.rest, e.1)
 
-  no_release_cell : (o : Option CellAsked) → option_map Cell o ≡ Some a → IsRelease a → ⊥
-  no_release_cell o is up = let k = map_some Cell o a is in let e : Cell k.0 ≡ Change (change.Release up.0 up.1) = k.2 ∙ up.2 in cc
-
-  no_release_supply : (o : Option SupplyAsked) → option_map Supply o ≡ Some a → IsRelease a → ⊥
-  no_release_supply o is up = let k = map_some Supply o a is in let e : Supply k.0 ≡ Change (change.Release up.0 up.1) = k.2 ∙ up.2 in cc
-
-  release_change : (early : View) (n : Making) → StillTries b early → making.Fits z r.change n early v → option_map Change (making.asks r.change n) ≡ Some a → IsRelease a → v.own ≡ b.own → v.failures ≤ b.failures
-      → 575 < making_left left n → ⊥
+  release_change : (early : View) (n : Making) → StillTries b early → making.Fits z r.change n early v → making.asks r.change n ≡ Some a → IsRelease a → v.own ≡ b.own → v.failures ≤ b.failures → 575 < making_left left n → ⊥
   release_change early n base fits is up own few many =
-      let k = map_some Change (making.asks r.change n) a is in
-      let e : Change k.0 ≡ Change (change.Release up.0 up.1) = k.2 ∙ up.2 in
-      let same : k.0 ≡ change.Release up.0 up.1 = cc in
       let later = base.later.failures in
-      release_late z r.change early v k.0 left n fits k.1 (up.0, up.1, same) (own ∙ sym (ap (λ (o : Rest). o.own) base.rest)) (omega (arith, few, later)) many
+      release_late z r.change early v a left n fits is up (own ∙ sym (ap (λ (o : Rest). o.own) base.rest)) (omega (arith, few, later)) many
 
   -- ---- of an insert
 
-  pub insert_look : (i : Insertion) → length r.row.key.items ≤ 64 → (s : InsertStage) → inserts.StageFits z b s i r v → (free_at s i.making ≡ true → 0 < left) → inserts.asks_at s i r ≡ Some a → IsLook a
+  pub insert_look : (i : Insertion) → length r.row.key.items ≤ 64 → (s : InsertStage) → inserts.StageFits z b s i r v → (free_at s i.making ≡ true → 0 < left) → inserts.asks_at s i r ≡ Some a → NeedsCurrent a
       → IsEarlyBy (inserts.left_at left s i.making)
   insert_look i short insert.Finding fits some is look = (ap (λ (o : Rest). o.own) (free_so z b i r v short insert.Finding refl refl fits).still.rest, many_tries left (some refl))
-  insert_look i short insert.Supplying fits some is look = absurd (no_look_supply (inserts.supply_asks i r) is look)
+  insert_look i short insert.Supplying fits some is look = absurd (no_look_supply a (supply_asks_supply r.row.key.items r.row.value r.stock i.supplying a is) look)
   insert_look i short insert.Vouching fits some is look = (ap (λ (o : Rest). o.own) (free_so z b i r v short insert.Vouching refl refl fits).still.rest, many_tries left (some refl))
   insert_look i short insert.Making fits some is look = look_change fits.0.early i.making fits.0.base fits.0.fits some is look
   insert_look i short (insert.Ended e) fits some is look = absurd (cc)
 
   pub insert_release : (i : Insertion) (s : InsertStage) → inserts.StageFits z b s i r v → inserts.asks_at s i r ≡ Some a → IsRelease a → v.own ≡ b.own → v.failures ≤ b.failures
       → 575 < inserts.left_at left s i.making → ⊥
-  insert_release i insert.Finding fits is up own few many = no_release_cell (inserts.finding_asks i.finding) is up
-  insert_release i insert.Supplying fits is up own few many = no_release_supply (inserts.supply_asks i r) is up
-  insert_release i insert.Vouching fits is up own few many = no_release_cell (inserts.vouching_asks i) is up
+  insert_release i insert.Finding fits is up own few many = no_release_look a (ask_looks z (inserts.deed_at i r) v a (insert_finds.finding_allowed z b i r v fits a is)) up
+  insert_release i insert.Supplying fits is up own few many = no_release_supply a (supply_asks_supply r.row.key.items r.row.value r.stock i.supplying a is) up
+  insert_release i insert.Vouching fits is up own few many = no_release_look a (vouch_asks_look i.stand i.vouching a is) up
   insert_release i insert.Making fits is up own few many = release_change fits.0.early i.making fits.0.base fits.0.fits is up own few many
   insert_release i (insert.Ended e) fits is up own few many = absurd (cc)
 
   -- ---- of a removal
 
-  pub erase_look : (i : Erasure) → length r.gone.key.items ≤ 64 → (s : EraseStage) → erases.StageFits z b s i r v → (erases.free_at s i.making ≡ true → 0 < left) → erases.asks_at s i r ≡ Some a → IsLook a
+  pub erase_look : (i : Erasure) → length r.gone.key.items ≤ 64 → (s : EraseStage) → erases.StageFits z b s i r v → (erases.free_at s i.making ≡ true → 0 < left) → erases.asks_at s i r ≡ Some a → NeedsCurrent a
       → IsEarlyBy (erases.left_at left s i.making)
   erase_look i short erase.Finding fits some is look = (ap (λ (o : Rest). o.own) (erase_free.free_so z b i r v short erase.Finding refl refl fits).still.rest, many_tries left (some refl))
-  erase_look i short (erase.Supplying layout) fits some is look = absurd (no_look_supply (erases.supply_asks i r) is look)
+  erase_look i short (erase.Supplying layout) fits some is look = absurd (no_look_supply a (supply_asks_supply r.gone.key.items 0 r.stock i.supplying a is) look)
   erase_look i short (erase.Reading q) fits some is look = (ap (λ (o : Rest). o.own) (erase_free.free_so z b i r v short (erase.Reading q) refl refl fits).still.rest, many_tries left (some refl))
   erase_look i short erase.Vouching fits some is look = (ap (λ (o : Rest). o.own) (erase_free.free_so z b i r v short erase.Vouching refl refl fits).still.rest, many_tries left (some refl))
   erase_look i short erase.Lowering fits some is look = (ap (λ (o : Rest). o.own) (erase_free.free_so z b i r v short erase.Lowering refl refl fits).still.rest, many_tries left (some refl))
@@ -209,10 +255,10 @@ module _ (z : Sizes) (b v : View) (r : Room) (a : Asked) (left : ℕ) where
 
   pub erase_release : (i : Erasure) (s : EraseStage) → erases.StageFits z b s i r v → erases.asks_at s i r ≡ Some a → IsRelease a → v.own ≡ b.own → v.failures ≤ b.failures
       → 575 < erases.left_at left s i.making → ⊥
-  erase_release i erase.Finding fits is up own few many = no_release_cell (erases.finding_asks i.finding) is up
-  erase_release i (erase.Supplying layout) fits is up own few many = no_release_supply (erases.supply_asks i r) is up
-  erase_release i (erase.Reading q) fits is up own few many = no_release_cell (erases.reading_asks i q) is up
-  erase_release i erase.Vouching fits is up own few many = no_release_cell (erases.vouching_asks i) is up
-  erase_release i erase.Lowering fits is up own few many = no_release_cell (erases.lower_asks i) is up
+  erase_release i erase.Finding fits is up own few many = no_release_look a (ask_looks z (erases.absent r.gone) v a (erase_finds.finding_allowed z b i r v fits a is)) up
+  erase_release i (erase.Supplying layout) fits is up own few many = no_release_supply a (supply_asks_supply r.gone.key.items 0 r.stock i.supplying a is) up
+  erase_release i (erase.Reading q) fits is up own few many = no_release_look a (reads_look i.stand.stamp q a is) up
+  erase_release i erase.Vouching fits is up own few many = no_release_look a (vouch_asks_look i.stand i.vouching a is) up
+  erase_release i erase.Lowering fits is up own few many = no_release_look a (lower_asks_look i.stand i.lowering a is) up
   erase_release i erase.Making fits is up own few many = release_change fits.0.early i.making fits.0.base fits.0.fits is up own few many
   erase_release i (erase.Ended e) fits is up own few many = absurd (cc)

@@ -5,42 +5,34 @@ use Rattle.std.proofs.lemmas.Option.{same_Some}
 use Rattle.std.specs.Prelude.{◌==◌}
 use Rattle.art_call.specs.AsAsked.{SeekMakes}
 use Rattle.art_call.proofs.ArtChange.EitherKind.{map_none}
-use Rattle.art_epoch.specs.Pins as pins
 use Rattle.art_epoch.specs.Pins.{Pins}
-use Rattle.art_epoch.specs.declared.asked.Asked.{Asked as FrameAsked}
-use Rattle.art_epoch.specs.declared.asked.Asked.TheVariants as frame
 use Rattle.art_call.proofs.ArtFind.Stages.{still_reading}
-use Rattle.art_call.specs.ArtFind.Asking.{Answers as CellAnswers}
 use Rattle.art_call.specs.ArtFind.Descents as descents
 use Rattle.art_call.specs.ArtFind.Descents.{IsReading}
 use Rattle.art_call.specs.ArtFind.Driven.{get_done}
-use Rattle.art_call.specs.ArtFind.declared.asked.Answer.{Answer as CellAnswer}
-use Rattle.art_call.specs.ArtFind.declared.asked.Asked.{Asked as CellAsked}
 use Rattle.art_key.specs.declared.bounds.Bound.{Bound}
 use Rattle.art_call.proofs.ArtLook.Stages as look_stages
 use Rattle.art_call.specs.ArtLook.Looks as looks
 use Rattle.art_call.specs.ArtLook.declared.trails.Trail.{Trail}
-use Rattle.art_call.proofs.ArtMake.Told.{map_some}
-use Rattle.art_call.specs.ArtSeek.Asking.{Answers}
 use Rattle.art_call.specs.ArtSeek.Seeks.{Fits, StageFits, asks_at}
 use Rattle.art_call.specs.ArtSeek.Walks as walks
 use Rattle.art_call.specs.ArtSeek.Walks.{deed_at, of_value}
-use Rattle.art_call.specs.ArtSeek.declared.asked.Answer.{Answer}
-use Rattle.art_call.specs.ArtSeek.declared.asked.Answer.TheVariants as told
-use Rattle.art_call.specs.ArtSeek.declared.asked.Asked.{Asked}
-use Rattle.art_call.specs.ArtSeek.declared.asked.Asked.TheVariants.{Frame, Cell}
 use Rattle.art_call.specs.ArtSeek.declared.seeks.Seek.{Seek}
 use Rattle.art_call.specs.ArtSeek.declared.seeks.SeekStage.{SeekStage}
 use Rattle.art_call.specs.ArtSeek.declared.seeks.SeekStage.TheVariants as stage
 use Rattle.art_call.specs.ArtSeek.declared.walks.Outcome.TheVariants.{Seen}
 use Rattle.art_call.specs.ArtSeek.declared.walks.Walk.{Walk}
 use Rattle.art_call.specs.ArtSeek.declared.walks.Walk.TheVariants.{Key, Range}
-use Rattle.art_runs.proofs.Calm.{IsCellFounded, IsFrameFounded, IsMoment, calm_current, cell_calm, frame_calm}
+use Rattle.art_call.proofs.ArtChange.FrameSteps.{IsFrame, pinning_frame}
+use Rattle.art_call.proofs.ArtSeek.Parts.{walk_looks}
+use Rattle.art_machine.specs.Acting.{Answers, telling}
+use Rattle.art_machine.specs.declared.actions.Action.{Action}
+use Rattle.art_machine.specs.declared.actions.Action.TheVariants.{StorePin}
+use Rattle.art_machine.specs.declared.actions.Answer.{Answer}
+use Rattle.art_runs.proofs.Calm.{IsCellFounded, IsMoment, calm_current, cell_calm, frame_calm}
 use Rattle.art_runs.proofs.Cells.{descent_founded, look_founded}
 use Rattle.art_runs.proofs.Versions.{own_grows}
-use Rattle.art_runs.proofs.Writes.{pin_founded}
 use Rattle.art_runs.specs.OthersIdle.{AreCurrent, HasFound}
-use Rattle.art_epoch.specs.Asking.{Answers as FrameAnswers}
 use Rattle.art_step.specs.Shows.{Rest}
 use Rattle.art_step.specs.Steps.Epoch as epoch
 use Rattle.art_step.specs.Steps.Pin as pin
@@ -77,38 +69,22 @@ module _ (z : Sizes) (p : ℕ) (m : Memory) (f : Views) (m' : Memory) (f' : View
     failures : w.failures ≡ v.failures
     keeps : v.own ≡ u.own → w.own ≡ v.own → AreCurrent m' w
 
-  module _ (d : Deed) (asked : Asked) (answer : Answer) (row : Answers z d asked answer v w) (current : v.own ≡ u.own → AreCurrent m v) where
-    frame_row : (a : FrameAsked) (r : Answer) → Answers z d (Frame a) r v w → (x : ℕ) × FrameAnswers z a x v w
-    frame_row a (told.Word x) row = (x, row)
-    frame_row a (told.Cell x) row = absurd row
-
-    cell_row : (a : CellAsked) (r : Answer) → Answers z d (Cell a) r v w → (x : CellAnswer) × CellAnswers z d a x v w
-    cell_row a (told.Cell x) row = (x, row)
-    cell_row a (told.Word x) row = absurd row
-
-    frame_goes : (a : FrameAsked) → Frame a ≡ asked → IsFrameFounded m a → Goes
-    frame_goes a is founded =
-        let x = frame_row a answer (subst (λ (b : Asked). Answers z d b answer v w) (sym is) row) in
-        let calm = frame_calm z p m f m' f' v w at a x.0 founded x.1 in
+  module _ (d : Deed) (a : Action) (answer : Answer) (row : Answers z (telling d) a answer v w) (current : v.own ≡ u.own → AreCurrent m v) where
+    frame_goes : IsFrame a → Goes
+    frame_goes is =
+        let calm = frame_calm z p m f m' f' v w at (telling d) a answer is row in
         record { failures = calm.failures; keeps = λ own stays. calm_current z p m f m' f' v w at calm stays (current own) }
 
-    cell_goes : (a : CellAsked) → Cell a ≡ asked → AreCurrent m v → IsCellFounded z v a → Goes
-    cell_goes a is now founded =
-        let x = cell_row a answer (subst (λ (b : Asked). Answers z d b answer v w) (sym is) row) in
-        let calm = cell_calm z p m f m' f' v w at now d a x.0 founded x.1 in
-        record { failures = calm.failures; keeps = λ own stays. calm_current z p m f m' f' v w at calm stays now }
-
-    seek_goes : (k : List ℕ) (hi : Bound) (n : Seek) (t : Trail) (s : SeekStage) → StageFits z k hi u s n t v → asks_at s n ≡ Some asked → Goes
-    seek_goes k hi n t stage.Pinning fits is =
-        let a = map_some Frame (pins.asks n.pinning) asked is in
-        frame_goes a.0 a.2 (pin_founded m a.0 n.pinning a.1)
+    seek_goes : (k : List ℕ) (hi : Bound) (n : Seek) (t : Trail) (s : SeekStage) → StageFits z k hi u s n t v → asks_at s n ≡ Some a → Goes
+    seek_goes k hi n t stage.Pinning fits is = frame_goes (pinning_frame n.pinning a is)
     seek_goes k hi n t stage.Walking fits is =
-        let a = map_some Cell (walks.asks n.walk) asked is in
         let q = fits.walking in
         let reads = walk_reads z k hi q.opened t n.restarts v n.walk q.walk fits.going in
         let own : v.own ≡ u.own = ap (λ (o : Rest). o.own) reads.only ∙ pins_own z u q.opened q.pins_to in
-        cell_goes a.0 a.2 (current own) (subst (λ (o : Option CellAsked). IfSome o (IsCellFounded z v)) a.1 (walk_founded z k hi q.opened t n.restarts v n.walk reads.free q.walk))
-    seek_goes k hi n t stage.Closing fits is = frame_goes (frame.Store 0) (same_Some (Frame (frame.Store 0)) asked is) tt
+        let founded = subst (λ (o : Option Action). IfSome o (IsCellFounded z v)) is (walk_founded z k hi q.opened t n.restarts v n.walk reads.free q.walk) in
+        let calm = cell_calm z p m f m' f' v w at (current own) (telling d) a answer (walk_looks n.walk a is) founded row in
+        record { failures = calm.failures; keeps = λ own' stays. calm_current z p m f m' f' v w at calm stays (current own) }
+    seek_goes k hi n t stage.Closing fits is = frame_goes (subst IsFrame (same_Some (StorePin 0) a is) tt)
     seek_goes k hi n t stage.Ended fits is = absurd (cc)
 
   -- what was asked for was made

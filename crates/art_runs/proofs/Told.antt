@@ -104,7 +104,7 @@ abbrev MadeSo : View → View → Deed → Type 0
 MadeSo u v what = SeesEvent u v None ⊎ MakesEvent u v what
 
 module _ (z : Sizes) (c : Change) (u v : View) where
-  making_made : (m : Making) → MakeFits z c m u v → make_ended m ≡ None → MadeSo u v c.deed
+  making_made : (m : Making) → MakeFits z c m u v → make_ended m ≡ None → MadeSo u v c.effects.deed
   making_made (Upgrading i) fits on = let r = fits.stage.1.same.rest in inl (ap (λ (o : Rest). o.seen) r, ap (λ (o : Rest). o.own) r)
   making_made (Claiming b) fits on = let r = fits.stage.1.same.rest in inl (ap (λ (o : Rest). o.seen) r, ap (λ (o : Rest). o.own) r)
   making_made (Filling b place) fits on = let r = fits.stage.2.same.rest in inl (ap (λ (o : Rest). o.seen) r, ap (λ (o : Rest). o.own) r)
@@ -127,7 +127,7 @@ module _ (z : Sizes) (u : View) (r : Room) (v : View) where
   insert_made m insert.Finding short fits on = inl (still_none (insert_free z u m r v short insert.Finding refl refl fits).still)
   insert_made m insert.Supplying short fits on = inl (still_none (insert_free z u m r v short insert.Supplying refl refl fits).still)
   insert_made m insert.Vouching short fits on = inl (still_none (insert_free z u m r v short insert.Vouching refl refl fits).still)
-  insert_made m insert.Making short fits on = made_since fits.0.early (inserted r.row) r.change.deed fits.0.deed fits.0.base (making_made z r.change fits.0.early v m.making fits.0.fits fits.1)
+  insert_made m insert.Making short fits on = made_since fits.0.early (inserted r.row) r.change.effects.deed fits.0.deed fits.0.base (making_made z r.change fits.0.early v m.making fits.0.fits fits.1)
   insert_made m (insert.Ended e) short fits on = cc
 
   erase_made : (m : Erasure) (s : EraseStage) → length r.gone.key.items ≤ 64 → erases.StageFits z u s m r v → erases.erased_at s ≡ None → MadeSo u v (removed r.gone)
@@ -136,7 +136,7 @@ module _ (z : Sizes) (u : View) (r : Room) (v : View) where
   erase_made m (erase.Reading q) short fits on = inl (still_none (erase_free z u m r v short (erase.Reading q) refl refl fits).still)
   erase_made m erase.Vouching short fits on = inl (still_none (erase_free z u m r v short erase.Vouching refl refl fits).still)
   erase_made m erase.Lowering short fits on = inl (still_none (erase_free z u m r v short erase.Lowering refl refl fits).still)
-  erase_made m erase.Making short fits on = made_since fits.0.early (removed r.gone) r.change.deed fits.0.deed fits.0.base (making_made z r.change fits.0.early v m.making fits.0.fits fits.1)
+  erase_made m erase.Making short fits on = made_since fits.0.early (removed r.gone) r.change.effects.deed fits.0.deed fits.0.base (making_made z r.change fits.0.early v m.making fits.0.fits fits.1)
   erase_made m (erase.Ended e) short fits on = cc
 
 no_end : {A B : Type 0} (f : A → B) (o : Option A) → option_map f o ≡ None → o ≡ None

@@ -2,14 +2,14 @@
 use Rattle.std.proofs.Common.{◌≡◌, ◌<◌, ◌≤◌, ℕ, Bool, true, false, List, [], length, Option, Some, None, IfSome, refl, sym, ap, ◌∙◌, subst, arith, ⊎_elim}
 use Rattle.std.proofs.lemmas.Option.{same_Some}
 use Rattle.std.specs.Option.{option_and_then, option_map}
-use Rattle.std.specs.Prelude.{⊤}
 use Rattle.art_call.proofs.ArtAttempt.Free.{free_so}
-use Rattle.art_call.specs.ArtAttempt.Asking.{IsAllowed, MayAsk}
+use Rattle.art_call.proofs.ArtAttempt.Finds as insert_finds
+use Rattle.art_call.proofs.ArtAttempt.Given.{ask_looks, lower_asks_look, reads_look, vouch_asks_look}
+use Rattle.art_call.proofs.ArtErase.Finds as erase_finds
+use Rattle.art_call.specs.ArtAttempt.Asking.{IsAllowed}
 use Rattle.art_call.specs.ArtAttempt.Inserting as inserts
 use Rattle.art_call.specs.ArtAttempt.Rooms.{wants_of}
 use Rattle.art_call.specs.ArtAttempt.Trying.{StillTries}
-use Rattle.art_call.specs.ArtAttempt.declared.asked.Asked.{Asked}
-use Rattle.art_call.specs.ArtAttempt.declared.asked.Asked.TheVariants.{Cell, Supply, Change}
 use Rattle.art_call.specs.ArtAttempt.declared.inserting.Inserting.{Inserting as Insertion}
 use Rattle.art_call.specs.ArtAttempt.declared.inserting.Stage.{Stage as InsertStage}
 use Rattle.art_call.specs.ArtAttempt.declared.inserting.Stage.TheVariants as insert
@@ -24,19 +24,14 @@ use Rattle.art_call.specs.ArtErase.declared.erasing.Stage.{Stage as EraseStage}
 use Rattle.art_call.specs.ArtErase.declared.erasing.Stage.TheVariants as erase
 use Rattle.art_call.proofs.ArtFind.Allowed.{none_held}
 use Rattle.art_call.specs.ArtFind.Descents as descents
-use Rattle.art_call.specs.ArtFind.declared.asked.Asked.{Asked as CellAsked}
-use Rattle.art_call.specs.ArtFind.declared.asked.Asked.TheVariants.{Begin, Read, ReadLeaf, Check, Settle}
 use Rattle.art_call.specs.ArtFind.declared.verdicts.Verdict.{Verdict}
 use Rattle.art_call.specs.ArtFind.declared.verdicts.Verdict.TheVariants as verdict
 use Rattle.art_call.specs.ArtGather.Supplying as supplying
 use Rattle.art_call.specs.ArtGather.declared.supplying.Supplying.{Supplying}
 use Rattle.art_call.specs.ArtGather.declared.supplying.Wants.{Wants}
 use Rattle.art_call.proofs.ArtMake.Told.{map_some}
-use Rattle.art_call.specs.ArtMake.Asking.{IsAllowed as MayChange}
 use Rattle.art_call.specs.ArtMake.Making as making
 use Rattle.art_call.specs.ArtMake.Making.{put_into, releases, so_many}
-use Rattle.art_call.specs.ArtMake.declared.asked.Asked.{Asked as ChangeAsked}
-use Rattle.art_call.specs.ArtMake.declared.asked.Asked.TheVariants as change
 use Rattle.art_call.specs.ArtMake.declared.making.Making.{Making}
 use Rattle.art_call.specs.ArtMake.declared.making.Making.TheVariants.{Upgrading, Claiming, Filling, Writing, Committing, Releasing, ReleasingNode, GivingUp, Ended}
 use Rattle.art_call.specs.ArtFind.Findings.{stand_at}
@@ -46,7 +41,11 @@ use Rattle.art_call.specs.ArtPlan.Whole.{HoldsWhole, IsNewBy, IsWhole, made_at, 
 use Rattle.art_call.specs.ArtPlan.declared.changes.Change.{Change as ChangeOf}
 use Rattle.art_call.specs.ArtPlan.declared.changes.Put.{Put}
 use Rattle.art_call.specs.ArtPlan.declared.changes.Target.{Target}
-use Rattle.art_runs.proofs.Calm.{IsCellFounded, IsFreeStamp, IsLedTo, IsSupplyFounded}
+use Rattle.art_machine.specs.Acting.{IsLook}
+use Rattle.art_machine.specs.declared.actions.Action.{Action}
+use Rattle.art_machine.specs.declared.actions.Action.TheVariants.{Begin, Read, ReadLeaf, Check, Settle, Upgrade, Claim, Write, WriteLeaf, Commit, Release}
+use Rattle.art_machine.specs.declared.actions.Action.TheVariants.{ClearBit, GiveBack, Free, ReadEpoch, StorePin, RaiseEpoch, ReadPin}
+use Rattle.art_runs.proofs.Calm.{IsCellFounded, IsFounded, IsLedTo}
 use Rattle.art_runs.proofs.Cells.{descent_founded, lower_begins, reads_only, vouching_begins_none}
 use Rattle.art_runs.proofs.Numbers.{supply_founded}
 use Rattle.art_runs.specs.OthersIdle.{HasFound}
@@ -56,23 +55,7 @@ use Rattle.art_step.specs.declared.deeds.Deed.{Deed}
 use Rattle.art_step.specs.declared.views.Holding.{Holding}
 use Rattle.art_step.specs.declared.views.Sizes.{Sizes}
 use Rattle.art_step.specs.declared.views.View.{View}
-use Rattle.art_cell.specs.Reads.{word_of}
 use Rattle.art_world.specs.Lasting.{IsTimely}
-
--- ---- what founds a step of a change, and of an attempt
-
--- a cell that is locked is not held yet
-abbrev pub IsChangeFounded : View → ChangeAsked → Type 0
-IsChangeFounded v (change.Upgrade x) = IsFreeStamp v x
-IsChangeFounded v (change.Claim n) = ⊤
-IsChangeFounded v (change.Write c i x) = ⊤
-IsChangeFounded v (change.Commit c b) = ⊤
-IsChangeFounded v (change.Release c b) = ⊤
-
-abbrev pub IsTryFounded : Sizes → Memory → View → Asked → Type 0
-IsTryFounded z m v (Cell a) = IsCellFounded z v a
-IsTryFounded z m v (Supply a) = IsSupplyFounded m a
-IsTryFounded z m v (Change a) = IsChangeFounded v a
 
 -- ---- the making of a change
 
@@ -90,44 +73,57 @@ not_locked_yet z u c i x hs planned is holds h there same = ⊎_elim
     (λ (n : IsNewBy u c (so_many 0 0) h). absurd (none_new n.which n.some))
     (holds.only h there)
 
-module _ (z : Sizes) (c : ChangeOf) (u v : View) (a : ChangeAsked) (may : MayChange z c v a) where
-  asks_founded : {A : Type 0} (f : A → ChangeAsked) (o : Option A) → option_map f o ≡ Some a → ((x : A) → IsChangeFounded v (f x)) → IsChangeFounded v a
-  asks_founded f o is founded = let k = map_some f o a is in subst (IsChangeFounded v) k.2 (founded k.0)
+module _ (z : Sizes) (m : Memory) (d : Deed) (c : ChangeOf) (u v : View) (a : Action) (may : IsAllowed z d c v a) where
+  asks_founded : {A : Type 0} (f : A → Action) (o : Option A) → option_map f o ≡ Some a → ((x : A) → IsFounded z m v (f x)) → IsFounded z m v a
+  asks_founded f o is founded = let k = map_some f o a is in subst (IsFounded z m v) k.2 (founded k.0)
 
-  puts_founded : (p : Option Put) → option_and_then (λ (q : Put). option_map (put_into q) (target_at c q.target)) p ≡ Some a → IsChangeFounded v a
+  puts_founded : (p : Option Put) → option_and_then (λ (q : Put). option_map (put_into q) (target_at c q.target)) p ≡ Some a → IsFounded z m v a
   puts_founded (Some q) is = asks_founded (put_into q) (target_at c q.target) is (λ x. tt)
   puts_founded None is = absurd (cc)
 
-  upgrade_founded : (i : ℕ) → IsWhole z u c → HoldsWhole u c 0 i [] (so_many 0 0) v.held → (x : Target) → target_at c i ≡ Some x → change.Upgrade x.stamp ≡ a → IsChangeFounded v a
+  upgrade_founded : (i : ℕ) → IsWhole z u c → HoldsWhole u c 0 i [] (so_many 0 0) v.held → (x : Target) → target_at c i ≡ Some x → Upgrade x.stamp ≡ a → IsFounded z m v a
   upgrade_founded i planned holds x is same =
-      let allowed : MayChange z c v (change.Upgrade x.stamp) = subst (MayChange z c v) (sym same) may in
-      subst (IsChangeFounded v) same (allowed.stamp, not_locked_yet z u c i x v.held planned is holds)
+      let allowed : IsAllowed z d c v (Upgrade x.stamp) = subst (IsAllowed z d c v) (sym same) may in
+      subst (IsFounded z m v) same (allowed.stamp, not_locked_yet z u c i x v.held planned is holds)
 
-  making_founded : (m : Making) → making.Fits z c m u v → making.asks c m ≡ Some a → IsChangeFounded v a
+  making_founded : (n : Making) → making.Fits z c n u v → making.asks c n ≡ Some a → IsFounded z m v a
   making_founded (Upgrading i) fits is =
-      let k = map_some (λ (x : Target). change.Upgrade x.stamp) (target_at c i) a is in
+      let k = map_some (λ (x : Target). Upgrade x.stamp) (target_at c i) a is in
       upgrade_founded i fits.planned fits.stage.1.holds k.0 k.1 k.2
-  making_founded (Claiming b) fits is = asks_founded change.Claim (made_at b c) is (λ n. tt)
-  making_founded (Filling b place) fits is = asks_founded (λ (n : Node). change.Write (cell.Node n) place (made_word b c place)) (made_at b c) is (λ n. tt)
+  making_founded (Claiming b) fits is = asks_founded Claim (made_at b c) is (λ n. tt)
+  making_founded (Filling b place) fits is = asks_founded (λ (n : Node). Write (cell.Node n) place (made_word b c place)) (made_at b c) is (λ n. tt)
   making_founded (Writing j) fits is = puts_founded (put_at c j) is
-  making_founded Committing fits is = asks_founded (λ (x : Target). change.Commit x.stamp.cell x.obsolete) (target_at c 0) is (λ x. tt)
+  making_founded Committing fits is = asks_founded (λ (x : Target). Commit x.stamp.cell x.obsolete) (target_at c 0) is (λ x. tt)
   making_founded (Releasing i) fits is = asks_founded releases (target_at c i) is (λ x. tt)
-  making_founded (ReleasingNode b) fits is = asks_founded (λ (n : Node). change.Release (cell.Node n) false) (made_at b c) is (λ n. tt)
-  making_founded (GivingUp locked released e) fits is = asks_founded (λ (x : Target). change.Release x.stamp.cell false) (target_at c released) is (λ x. tt)
+  making_founded (ReleasingNode b) fits is = asks_founded (λ (n : Node). Release (cell.Node n) false) (made_at b c) is (λ n. tt)
+  making_founded (GivingUp locked released e) fits is = asks_founded (λ (x : Target). Release x.stamp.cell false) (target_at c released) is (λ x. tt)
   making_founded (Ended r) fits is = absurd (cc)
 
 -- ---- looks of an attempt, while nothing is held
 
 -- a check is of a stamp; what is begun has to be shown
-looks_founded : (z : Sizes) (d : Deed) (v : View) → v.held ≡ [] → (a : CellAsked) → MayAsk z d v a → ((c : CellOf) → a ≡ Begin c → IsLedTo z v c) → IsCellFounded z v a
-looks_founded z d v free (Begin c) may led = (free, led c refl)
-looks_founded z d v free (Read x i) may led = tt
-looks_founded z d v free (ReadLeaf x l i) may led = tt
-looks_founded z d v free (Check x) may led = (may.1.stamp, none_held v x.cell free)
-looks_founded z d v free (Settle x) may led = (may.1.stamp, none_held v x.cell free)
+looks_founded : (z : Sizes) (m : Memory) (d : Deed) (c : ChangeOf) (v : View) → v.held ≡ [] → (a : Action) → IsLook a → IsAllowed z d c v a → ((b : CellOf) → a ≡ Begin b → IsLedTo z v b) → IsFounded z m v a
+looks_founded z m d c v free (Begin b) is may led = (free, led b refl)
+looks_founded z m d c v free (Read x i) is may led = tt
+looks_founded z m d c v free (ReadLeaf x l i) is may led = tt
+looks_founded z m d c v free (Check x) is may led = (may.1.stamp, none_held v x.cell free)
+looks_founded z m d c v free (Settle x) is may led = (may.1.stamp, none_held v x.cell free)
+looks_founded z m d c v free (Upgrade x) is may led = absurd is
+looks_founded z m d c v free (Claim n) is may led = absurd is
+looks_founded z m d c v free (Write b i word) is may led = absurd is
+looks_founded z m d c v free (WriteLeaf l i word) is may led = absurd is
+looks_founded z m d c v free (Commit b o) is may led = absurd is
+looks_founded z m d c v free (Release b o) is may led = absurd is
+looks_founded z m d c v free (ClearBit pool i bit) is may led = absurd is
+looks_founded z m d c v free (GiveBack e) is may led = absurd is
+looks_founded z m d c v free (Free e) is may led = absurd is
+looks_founded z m d c v free ReadEpoch is may led = absurd is
+looks_founded z m d c v free (StorePin y) is may led = absurd is
+looks_founded z m d c v free RaiseEpoch is may led = absurd is
+looks_founded z m d c v free (ReadPin q) is may led = absurd is
 
 -- what a descent begins was led to
-descent_led : (z : Sizes) (v : View) (o : Option CellAsked) → IfSome o (IsCellFounded z v) → (c : CellOf) → o ≡ Some (Begin c) → IsLedTo z v c
+descent_led : (z : Sizes) (v : View) (o : Option Action) → IfSome o (IsCellFounded z v) → (c : CellOf) → o ≡ Some (Begin c) → IsLedTo z v c
 descent_led z v (Some a) founded c is = (subst (IsCellFounded z v) (same_Some a (Begin c) is) founded).1
 descent_led z v None founded c is = absurd (cc)
 
@@ -152,72 +148,65 @@ erase_check_only t verdict.Overlaps c is = cc
 erase_check_only t verdict.Torn c is = cc
 erase_check_only t verdict.Absent c is = cc
 
-insert_place_led : (z : Sizes) (v : View) (p : Option Stand) (o : Option CellAsked) → IfSome o (IsCellFounded z v) → (c : CellOf) → inserts.asks_place p o ≡ Some (Begin c) → IsLedTo z v c
+insert_place_led : (z : Sizes) (v : View) (p : Option Stand) (o : Option Action) → IfSome o (IsCellFounded z v) → (c : CellOf) → inserts.asks_place p o ≡ Some (Begin c) → IsLedTo z v c
 insert_place_led z v (Some t) o founded c is = absurd (insert_check_only t t.verdict c (same_Some (inserts.check_of t) (Begin c) is))
 insert_place_led z v None o founded c is = descent_led z v o founded c is
 
-erase_place_led : (z : Sizes) (v : View) (p : Option Stand) (o : Option CellAsked) → IfSome o (IsCellFounded z v) → (c : CellOf) → erases.asks_place p o ≡ Some (Begin c) → IsLedTo z v c
+erase_place_led : (z : Sizes) (v : View) (p : Option Stand) (o : Option Action) → IfSome o (IsCellFounded z v) → (c : CellOf) → erases.asks_place p o ≡ Some (Begin c) → IsLedTo z v c
 erase_place_led z v (Some t) o founded c is = absurd (erase_check_only t t.verdict c (same_Some (erases.check_of t) (Begin c) is))
 erase_place_led z v None o founded c is = descent_led z v o founded c is
 
 -- ---- an attempt, of a call that began with the view u, and that itself began with the view b
 
-module _ (z : Sizes) (m : Memory) (u b v : View) (had : HasFound m u v) (timely : IsTimely u) (late : u.steps ≤ b.steps) (begun : b.own ≡ u.own) (d : Deed) (r : Room) (a : Asked) (may : IsAllowed z d r.change v a) where
+module _ (z : Sizes) (m : Memory) (u b v : View) (had : HasFound m u v) (timely : IsTimely u) (late : u.steps ≤ b.steps) (begun : b.own ≡ u.own) (d : Deed) (r : Room) (a : Action) (may : IsAllowed z d r.change v a) where
   -- it is a look
-  cell_founded : (o : Option CellAsked) → option_map Cell o ≡ Some a → v.held ≡ [] → ((c : CellOf) → o ≡ Some (Begin c) → IsLedTo z v c) → IsTryFounded z m v a
-  cell_founded o is free led =
-      let k = map_some Cell o a is in
-      let allowed : MayAsk z d v k.0 = subst (IsAllowed z d r.change v) (sym k.2) may in
-      subst (IsTryFounded z m v) k.2 (looks_founded z d v free k.0 allowed (λ c same. led c (k.1 ∙ ap (λ (x : CellAsked). Some x) same)))
+  cell_founded : (o : Option Action) → o ≡ Some a → IsLook a → v.held ≡ [] → ((c : CellOf) → o ≡ Some (Begin c) → IsLedTo z v c) → IsFounded z m v a
+  cell_founded o is look free led = looks_founded z m d r.change v free a look may (λ c same. led c (is ∙ ap (λ (x : Action). Some x) same))
 
   -- or a supply, of an attempt that has told nothing
   supplies_founded : (wants : Wants) (k : List ℕ) (value : ℕ) (early : View) (s : Supplying) → StillTries b early → StillTries b v → supplying.StageFits z wants k value s r.stock early v
-      → option_map Supply (supplying.asks k value r.stock s) ≡ Some a → IsTryFounded z m v a
+      → supplying.asks k value r.stock s ≡ Some a → IsFounded z m v a
   supplies_founded wants k value early s base still fits is =
-      let q = map_some Supply (supplying.asks k value r.stock s) a is in
       let first = base.later.steps in
       let own : v.own ≡ u.own = ap (λ (o : Rest). o.own) still.rest ∙ begun in
-      subst (IsTryFounded z m v) q.2 (supply_founded m u v had timely own z wants k value r.stock early q.0 (omega (arith, late, first)) s fits q.1)
+      supply_founded m u v had timely own z wants k value r.stock early a (omega (arith, late, first)) s fits is
 
   -- or a step of a change
-  change_founded : (early : View) (n : Making) → making.Fits z r.change n early v → option_map Change (making.asks r.change n) ≡ Some a → IsTryFounded z m v a
-  change_founded early n fits is =
-      let k = map_some Change (making.asks r.change n) a is in
-      let allowed : MayChange z r.change v k.0 = subst (IsAllowed z d r.change v) (sym k.2) may in
-      subst (IsTryFounded z m v) k.2 (making_founded z r.change early v k.0 allowed n fits k.1)
+  change_founded : (early : View) (n : Making) → making.Fits z r.change n early v → making.asks r.change n ≡ Some a → IsFounded z m v a
+  change_founded early n fits is = making_founded z m d r.change early v a may n fits is
 
   -- of an insert
-  pub insert_founded : (i : Insertion) → length r.row.key.items ≤ 64 → (s : InsertStage) → inserts.StageFits z b s i r v → inserts.asks_at s i r ≡ Some a → IsTryFounded z m v a
+  pub insert_founded : (i : Insertion) → length r.row.key.items ≤ 64 → (s : InsertStage) → inserts.StageFits z b s i r v → inserts.asks_at s i r ≡ Some a → IsFounded z m v a
   insert_founded i short insert.Finding fits is =
       let so = free_so z b i r v short insert.Finding refl refl fits in
-      cell_founded (inserts.finding_asks i.finding) is so.still.free (insert_place_led z v (stand_at i.finding) (descents.asks i.finding.descent.stage)
+      cell_founded (inserts.finding_asks i.finding) is (ask_looks z (inserts.deed_at i r) v a (insert_finds.finding_allowed z b i r v fits a is)) so.still.free (insert_place_led z v (stand_at i.finding) (descents.asks i.finding.descent.stage)
       (descent_founded z r.row.key.items (inserts.present_of r.row) i.finding.descent.depth i.finding.descent.stage fits.early v so.still.free fits.fits.descent))
   insert_founded i short insert.Supplying fits is =
       let so = free_so z b i r v short insert.Supplying refl refl fits in
       supplies_founded (wants_of z i.stand.verdict) r.row.key.items r.row.value fits.0.early i.supplying fits.0.base so.still fits.0.fits.stage is
   insert_founded i short insert.Vouching fits is =
       let so = free_so z b i r v short insert.Vouching refl refl fits in
-      cell_founded (inserts.vouching_asks i) is so.still.free (λ c asks. absurd (vouching_begins_none i.stand i.vouching c asks))
+      cell_founded (inserts.vouching_asks i) is (vouch_asks_look i.stand i.vouching a is) so.still.free (λ c asks. absurd (vouching_begins_none i.stand i.vouching c asks))
   insert_founded i short insert.Making fits is = change_founded fits.0.early i.making fits.0.fits is
   insert_founded i short (insert.Ended e) fits is = absurd (cc)
 
   -- of a removal
-  pub erase_founded : (i : Erasure) → length r.gone.key.items ≤ 64 → (s : EraseStage) → erases.StageFits z b s i r v → erases.asks_at s i r ≡ Some a → IsTryFounded z m v a
+  pub erase_founded : (i : Erasure) → length r.gone.key.items ≤ 64 → (s : EraseStage) → erases.StageFits z b s i r v → erases.asks_at s i r ≡ Some a → IsFounded z m v a
   erase_founded i short erase.Finding fits is =
       let so = erase_free.free_so z b i r v short erase.Finding refl refl fits in
-      cell_founded (erases.finding_asks i.finding) is so.still.free (erase_place_led z v (stand_at i.finding) (descents.asks i.finding.descent.stage)
+      cell_founded (erases.finding_asks i.finding) is (ask_looks z (erases.absent r.gone) v a (erase_finds.finding_allowed z b i r v fits a is)) so.still.free (erase_place_led z v (stand_at i.finding) (descents.asks i.finding.descent.stage)
       (descent_founded z r.gone.key.items (erases.absent_of r.gone) i.finding.descent.depth i.finding.descent.stage fits.early v so.still.free fits.fits.descent))
   erase_founded i short (erase.Supplying layout) fits is =
       let so = erase_free.free_so z b i r v short (erase.Supplying layout) refl refl fits in
       supplies_founded (erases.wants_of z layout) r.gone.key.items 0 fits.0.early i.supplying fits.0.base so.still fits.0.fits.stage is
   erase_founded i short (erase.Reading q) fits is =
       let so = erase_free.free_so z b i r v short (erase.Reading q) refl refl fits in
-      cell_founded (erases.reading_asks i q) is so.still.free (λ c asks. absurd (reads_only i.stand.stamp q c asks))
+      cell_founded (erases.reading_asks i q) is (reads_look i.stand.stamp q a is) so.still.free (λ c asks. absurd (reads_only i.stand.stamp q c asks))
   erase_founded i short erase.Vouching fits is =
       let so = erase_free.free_so z b i r v short erase.Vouching refl refl fits in
-      cell_founded (erases.vouching_asks i) is so.still.free (λ c asks. absurd (vouching_begins_none i.stand i.vouching c asks))
+      cell_founded (erases.vouching_asks i) is (vouch_asks_look i.stand i.vouching a is) so.still.free (λ c asks. absurd (vouching_begins_none i.stand i.vouching c asks))
   erase_founded i short erase.Lowering fits is =
       let so = erase_free.free_so z b i r v short erase.Lowering refl refl fits in
-      cell_founded (erases.lower_asks i) is so.still.free (lower_begins z r.gone.key.items i.stand fits.0.lower i.lowering r.desk r.lower fits.0.early v fits.0.fits.stage)
+      cell_founded (erases.lower_asks i) is (lower_asks_look i.stand i.lowering a is) so.still.free (lower_begins z r.gone.key.items i.stand fits.0.lower i.lowering r.desk r.lower fits.0.early v fits.0.fits.stage)
   erase_founded i short erase.Making fits is = change_founded fits.0.early i.making fits.0.fits is
   erase_founded i short (erase.Ended e) fits is = absurd (cc)

@@ -1,22 +1,11 @@
 -- A write that alone makes steps: no step of it fails, and its stamps stay current as long as they may be looked at.
-use Rattle.std.proofs.Common.{◌≡◌, ◌+◌, ◌<◌, ◌≤◌, ℕ, true, List, length, Option, Some, None, sym, ap, ◌∙◌, subst, arith, ⊎_elim}
-use Rattle.std.proofs.lemmas.Bool.{cond_both}
-use Rattle.std.proofs.lemmas.Option.{same_Some}
-use Rattle.std.specs.Option.{option_map}
-use Rattle.std.specs.Prelude.{nat_lt}
-use Rattle.art_call.specs.ArtAttempt.Asking.{Answers as AttemptAnswers, IsAllowed as MayAttempt}
-use Rattle.art_call.specs.ArtAttempt.declared.asked.Answer.{Answer as AttemptAnswer}
-use Rattle.art_call.specs.ArtAttempt.declared.asked.Asked.{Asked as AttemptAsked}
+use Rattle.std.proofs.Common.{◌≡◌, ◌+◌, ◌<◌, ◌≤◌, ℕ, true, List, length, Option, Some, None, sym, ap, ◌∙◌, arith, ⊎_elim}
 use Rattle.art_call.specs.ArtAttempt.declared.rooms.Room.{Room}
 use Rattle.art_call.specs.AsAsked.{WriteMakes}
-use Rattle.art_cell.specs.declared.cells.Link.{Link}
-use Rattle.art_call.specs.ArtChange.Asking.{Answers, IsAllowed}
+use Rattle.art_call.specs.ArtAttempt.Asking.{Answers, IsAllowed, given}
+use Rattle.art_call.proofs.ArtChange.FrameSteps.{IsFrame, closing_frame, opening_frame}
 use Rattle.art_call.specs.ArtChange.Tries as tries
 use Rattle.art_call.specs.ArtChange.Writes.{Fits, StageFits, asks_at, deed_at, left_at, steps_left}
-use Rattle.art_call.specs.ArtChange.declared.asked.Answer.{Answer}
-use Rattle.art_call.specs.ArtChange.declared.asked.Answer.TheVariants as told
-use Rattle.art_call.specs.ArtChange.declared.asked.Asked.{Asked}
-use Rattle.art_call.specs.ArtChange.declared.asked.Asked.TheVariants.{Frame, Attempt}
 use Rattle.art_call.specs.ArtChange.declared.tries.Job.{Job}
 use Rattle.art_call.specs.ArtChange.declared.tries.Job.TheVariants.{Insert, Remove}
 use Rattle.art_call.specs.ArtChange.declared.tries.Trying.{Trying}
@@ -24,31 +13,19 @@ use Rattle.art_call.specs.ArtChange.declared.tries.Trying.TheVariants.{Inserting
 use Rattle.art_call.specs.ArtChange.declared.writes.Stage.{Stage}
 use Rattle.art_call.specs.ArtChange.declared.writes.Stage.TheVariants as stage
 use Rattle.art_call.specs.ArtChange.declared.writes.Write.{Write}
-use Rattle.art_epoch.specs.Asking.{Answers as FrameAnswers}
-use Rattle.art_epoch.specs.Limbo.{open_index}
-use Rattle.art_epoch.specs.Pins as pins
-use Rattle.art_epoch.specs.Reclaiming as reclaims
-use Rattle.art_epoch.specs.declared.asked.Asked.{Asked as FrameAsked}
-use Rattle.art_epoch.specs.declared.asked.Asked.TheVariants as frame
 use Rattle.art_epoch.specs.declared.limbo.Place.{Place}
-use Rattle.art_epoch.specs.declared.pins.Pinning.{Pinning}
-use Rattle.art_epoch.specs.declared.pins.Pinning.TheVariants as pinning
-use Rattle.art_epoch.specs.declared.reclaiming.ReclaimStage.{ReclaimStage}
-use Rattle.art_epoch.specs.declared.reclaiming.ReclaimStage.TheVariants.{Noting, Raising, Watching, Freeing}
 use Rattle.art_call.specs.ArtFrame.Closings as closings
 use Rattle.art_call.specs.ArtFrame.Closings.{gives, gives_link}
-use Rattle.art_call.specs.ArtFrame.Openings as openings
-use Rattle.art_call.specs.ArtFrame.Stocks.{count_in, first_in, one_of}
+use Rattle.art_call.specs.ArtFrame.Stocks.{count_in, one_of}
 use Rattle.art_call.specs.ArtFrame.declared.closings.Closing.{Closing}
 use Rattle.art_call.specs.ArtFrame.declared.closings.Closing.TheVariants.{Labelling, Giving, Ended}
-use Rattle.art_call.specs.ArtFrame.declared.openings.Opening.{Opening}
-use Rattle.art_call.specs.ArtFrame.declared.openings.Opening.TheVariants as opening
 use Rattle.art_call.specs.ArtFrame.declared.stocks.Stock.{Stock}
-use Rattle.art_call.proofs.ArtMake.Told.{map_some}
-use Rattle.art_runs.proofs.Calm.{IsFrameFounded, IsMoment, calm_current, frame_calm}
-use Rattle.art_runs.proofs.Making.{IsLook, try_calm, try_keeps}
-use Rattle.art_runs.proofs.Phases.{IsRelease, erase_look, erase_release, insert_look, insert_release}
-use Rattle.art_runs.proofs.Tries.{IsTryFounded, erase_founded, insert_founded}
+use Rattle.art_machine.specs.declared.actions.Action.{Action}
+use Rattle.art_machine.specs.declared.actions.Answer.{Answer}
+use Rattle.art_runs.proofs.Calm.{IsFounded, IsMoment, calm_current, frame_calm}
+use Rattle.art_runs.proofs.Making.{IsRelease, NeedsCurrent, step_calm, step_keeps}
+use Rattle.art_runs.proofs.Phases.{erase_look, erase_release, insert_look, insert_release}
+use Rattle.art_runs.proofs.Tries.{erase_founded, insert_founded}
 use Rattle.art_runs.proofs.Versions.{own_grows}
 use Rattle.art_runs.specs.OthersIdle.{AreCurrent, HasFound}
 use Rattle.art_step.specs.Shows.{Rest}
@@ -58,38 +35,7 @@ use Rattle.art_step.specs.declared.views.Sizes.{Sizes}
 use Rattle.art_step.specs.declared.views.View.{View}
 use Rattle.art_world.specs.Lasting.{IsTimely}
 
--- ---- the frame takes no number
-
-module _ (m : Memory) (a : FrameAsked) where
-  founded_by : (b : FrameAsked) → IsFrameFounded m b → Some b ≡ Some a → IsFrameFounded m a
-  founded_by b founded is = subst (IsFrameFounded m) (same_Some b a is) founded
-
-  reclaim_founded : (s : ReclaimStage) (qs : List Place) → reclaims.asks_at s qs ≡ Some a → IsFrameFounded m a
-  reclaim_founded Noting qs is = founded_by frame.Note tt is
-  reclaim_founded Raising qs is = founded_by frame.Raise tt is
-  reclaim_founded (Watching q least) qs is = founded_by (frame.Watch q) tt is
-  reclaim_founded (Freeing least n) qs is =
-      let Founds : Option FrameAsked → Type 0 = λ o. o ≡ Some a → IsFrameFounded m a in
-      cond_both (nat_lt (open_index least qs) (length qs)) _ _ Founds (λ e same. founded_by (frame.Free _) tt same) (λ e same. absurd (cc)) is
-
-  pub pin_founded : (s : Pinning) → pins.asks s ≡ Some a → IsFrameFounded m a
-  pin_founded pinning.Noting is = founded_by frame.Note tt is
-  pin_founded (pinning.Storing x) is = founded_by (frame.Store x) tt is
-  pin_founded pinning.Ended is = absurd (cc)
-
-  opening_founded : (o : Opening) (qs : List Place) → openings.asks o qs ≡ Some a → IsFrameFounded m a
-  opening_founded (opening.Reclaiming r b) qs is = reclaim_founded r.stage qs is
-  opening_founded (opening.Pinning p) qs is = pin_founded p is
-  opening_founded (opening.Ended o) qs is = absurd (cc)
-
-  given_founded : (o : Option Link) → Some (gives_link o) ≡ Some a → IsFrameFounded m a
-  given_founded (Some d) is = founded_by (frame.Give d) tt is
-  given_founded None is = founded_by (frame.Store 0) tt is
-
-  closing_founded : (c : Closing) (s : Stock) → closings.asks c s ≡ Some a → IsFrameFounded m a
-  closing_founded Labelling s is = founded_by frame.Note tt is
-  closing_founded Giving s is = given_founded (first_in s) is
-  closing_founded Ended s is = absurd (cc)
+-- ---- the frame
 
 -- a close makes few steps
 one_few : (o : Option ℕ) → one_of o ≤ 1
@@ -112,15 +58,15 @@ closing_few Ended s = omega arith
 
 -- ---- attempts of either kind
 
-module _ (z : Sizes) (m : Memory) (u b v : View) (had : HasFound m u v) (timely : IsTimely u) (late : u.steps ≤ b.steps) (begun : b.own ≡ u.own) (d : Deed) (r : Room) (a : AttemptAsked) where
-  try_founded : MayAttempt z d r.change v a → (j : Job) (t : Trying) → tries.Fits z b j t r v → tries.asks t r ≡ Some a → IsTryFounded z m v a
+module _ (z : Sizes) (m : Memory) (u b v : View) (had : HasFound m u v) (timely : IsTimely u) (late : u.steps ≤ b.steps) (begun : b.own ≡ u.own) (d : Deed) (r : Room) (a : Action) where
+  try_founded : IsAllowed z d r.change v a → (j : Job) (t : Trying) → tries.Fits z b j t r v → tries.asks t r ≡ Some a → IsFounded z m v a
   try_founded may Insert (Inserting i) fits is = insert_founded z m u b v had timely late begun d r a may i fits.room.key.short i.stage fits.stage is
   try_founded may Remove (Erasing i) fits is = erase_founded z m u b v had timely late begun d r a may i fits.room.key.short i.stage fits.stage is
   try_founded may Insert (Erasing i) fits is = absurd fits
   try_founded may Remove (Inserting i) fits is = absurd fits
 
-module _ (z : Sizes) (b v : View) (r : Room) (a : AttemptAsked) (left : ℕ) where
-  try_look : (j : Job) (t : Trying) → tries.Fits z b j t r v → (tries.is_free t ≡ true → 0 < left) → tries.asks t r ≡ Some a → IsLook a → (v.own ≡ b.own) × (575 < tries.steps_left left t)
+module _ (z : Sizes) (b v : View) (r : Room) (a : Action) (left : ℕ) where
+  try_look : (j : Job) (t : Trying) → tries.Fits z b j t r v → (tries.is_free t ≡ true → 0 < left) → tries.asks t r ≡ Some a → NeedsCurrent a → (v.own ≡ b.own) × (575 < tries.steps_left left t)
   try_look Insert (Inserting i) fits some is look = insert_look z b v r a left i fits.room.key.short i.stage fits.stage some is look
   try_look Remove (Erasing i) fits some is look = erase_look z b v r a left i fits.room.key.short i.stage fits.stage some is look
   try_look Insert (Erasing i) fits some is look = absurd fits
@@ -145,42 +91,29 @@ module _ (z : Sizes) (p : ℕ) (m : Memory) (f : Views) (m' : Memory) (f' : View
     keeps : v.own ≡ u.own → w.own ≡ v.own → 582 < left → AreCurrent m' w
 
   module _ (at : IsMoment z p m f m' f' v w) (d : Deed) (r : Room) where
-    frame_row : (a : FrameAsked) (answer : Answer) → Answers z d r.change (Frame a) answer v w → (x : ℕ) × FrameAnswers z a x v w
-    frame_row a (told.Word x) row = (x, row)
-    frame_row a (told.Attempt x) row = absurd row
-
-    attempt_row : (a : AttemptAsked) (answer : Answer) → Answers z d r.change (Attempt a) answer v w → (x : AttemptAnswer) × AttemptAnswers z d r.change a x v w
-    attempt_row a (told.Attempt x) row = (x, row)
-    attempt_row a (told.Word x) row = absurd row
-
-    module _ (asked : Asked) (answer : Answer) (may : IsAllowed z d r.change v asked) (row : Answers z d r.change asked answer v w) where
-      frame_goes : (o : Option FrameAsked) (left : ℕ) → option_map Frame o ≡ Some asked → ((a : FrameAsked) → o ≡ Some a → IsFrameFounded m a) → (v.own ≡ u.own → 582 < left → AreCurrent m v) → Goes left
-      frame_goes o left is founded current =
-          let k = map_some Frame o asked is in
-          let x = frame_row k.0 answer (subst (λ (a : Asked). Answers z d r.change a answer v w) (sym k.2) row) in
-          let calm = frame_calm z p m f m' f' v w at k.0 x.0 (founded k.0 k.1) x.1 in
+    module _ (a : Action) (answer : Answer) (may : IsAllowed z d r.change v a) (row : Answers z d r.change a answer v w) where
+      frame_goes : (left : ℕ) → IsFrame a → (v.own ≡ u.own → 582 < left → AreCurrent m v) → Goes left
+      frame_goes left is current =
+          let calm = frame_calm z p m f m' f' v w at (given d r.change a) a answer is row in
           record {
             failures = calm.failures;
             keeps = λ own stays many. calm_current z p m f m' f' v w at calm stays (current own many);
           }
 
       attempt_goes : (b : View) (j : Job) (t : Trying) (left : ℕ) → u.steps ≤ b.steps → u.failures ≤ b.failures → b.own ≡ u.own → tries.Fits z b j t r v → (tries.is_free t ≡ true → 0 < left)
-          → option_map Attempt (tries.asks t r) ≡ Some asked → (v.own ≡ u.own → 582 < tries.steps_left left t + 7 → AreCurrent m v) → Goes (tries.steps_left left t + 7)
+          → tries.asks t r ≡ Some a → (v.own ≡ u.own → 582 < tries.steps_left left t + 7 → AreCurrent m v) → Goes (tries.steps_left left t + 7)
       attempt_goes b j t left late low begun fits some is current =
-          let k = map_some Attempt (tries.asks t r) asked is in
-          let x = attempt_row k.0 answer (subst (λ (a : Asked). Answers z d r.change a answer v w) (sym k.2) row) in
-          let allowed : MayAttempt z d r.change v k.0 = subst (IsAllowed z d r.change v) (sym k.2) may in
-          let founded = try_founded z m u b v had timely late begun d r k.0 allowed j t fits k.1 in
+          let founded = try_founded z m u b v had timely late begun d r a may j t fits is in
           record {
-            failures = try_calm z p m f m' f' v w at d r.change k.0 x.0 founded
-                (λ look. (let e = try_look z b v r k.0 left j t fits some k.1 look in let many = e.1 in current (e.0 ∙ begun) (omega (arith, many)))) allowed x.1;
-            keeps = λ own stays many. try_keeps z p m f m' f' v w at d r.change k.0 x.0 founded (current own many) stays
-                (λ c o same. try_release z b v r k.0 left j t fits k.1 (c, o, same) (own ∙ sym begun) (omega (arith, none, low)) (omega (arith, many))) allowed x.1;
+            failures = step_calm z p m f m' f' v w at (given d r.change a) a answer founded
+                (λ needs. (let e = try_look z b v r a left j t fits some is needs in let many = e.1 in current (e.0 ∙ begun) (omega (arith, many)))) may row;
+            keeps = λ own stays many. step_keeps z p m f m' f' v w at (given d r.change a) a answer founded (current own many) stays
+                (λ up. try_release z b v r a left j t fits is up (own ∙ sym begun) (omega (arith, none, low)) (omega (arith, many))) may row;
           }
 
       module _ (ps qs : List Place) (n : Write) where
-        write_goes : (s : Stage) → StageFits z u ps s n r qs v → (v.own ≡ u.own → 582 < left_at s n r qs → AreCurrent m v) → asks_at s n r qs ≡ Some asked → Goes (left_at s n r qs)
-        write_goes stage.Opening fits current is = frame_goes (openings.asks n.opening qs) (left_at stage.Opening n r qs) is (λ a asks. opening_founded m a n.opening qs asks) current
+        write_goes : (s : Stage) → StageFits z u ps s n r qs v → (v.own ≡ u.own → 582 < left_at s n r qs → AreCurrent m v) → asks_at s n r qs ≡ Some a → Goes (left_at s n r qs)
+        write_goes stage.Opening fits current is = frame_goes (left_at stage.Opening n r qs) (opening_frame n.opening qs a is) current
         write_goes stage.Trying fits current is =
             let t = fits.0 in
             let first = t.frame.later in
@@ -191,7 +124,7 @@ module _ (z : Sizes) (p : ℕ) (m : Memory) (f : Views) (m' : Memory) (f' : View
             attempt_goes t.began n.job n.trying n.left (omega (arith, first, later)) (omega (arith, more, opened)) own t.fits fits.1 is current
         write_goes stage.Closing fits current is =
             let few = closing_few n.closing r.stock in
-            let g = frame_goes (closings.asks n.closing r.stock) (closings.steps_left n.closing r.stock) is (λ a asks. closing_founded m a n.closing r.stock asks) (λ own many. absurd (omega (arith, many, few))) in
+            let g = frame_goes (closings.steps_left n.closing r.stock) (closing_frame n.closing r.stock a is) (λ own many. absurd (omega (arith, many, few))) in
             record { failures = g.failures; keeps = g.keeps }
         write_goes stage.Ended fits current is = absurd (cc)
 

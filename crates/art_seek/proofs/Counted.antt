@@ -1,11 +1,11 @@
 -- A step of the walk is counted.
 use Rattle.std.proofs.Common.{◌≡◌, ℕ, ◌-◌, ◌<◌, Bool, List, sym, subst, arith}
-use Rattle.art_find.proofs.Counting.{answers_count}
+use Rattle.art_machine.proofs.Counting.{look_counts}
 use Rattle.art_find.proofs.Driven.{restarts_few}
-use Rattle.art_find.specs.Asking.{Answers, goes_on}
+use Rattle.art_machine.specs.Acting.{Answers, IsLook, goes_on, telling}
 use Rattle.art_find.specs.Driven.{restarts_after}
-use Rattle.art_find.specs.declared.asked.Answer.{Answer}
-use Rattle.art_find.specs.declared.asked.Asked.{Asked}
+use Rattle.art_machine.specs.declared.actions.Answer.{Answer}
+use Rattle.art_machine.specs.declared.actions.Action.{Action}
 use Rattle.art_key.specs.declared.bounds.Bound.{Bound as KeyBound}
 use Rattle.art_look.specs.declared.trails.Trail.{Trail}
 use Rattle.art_seek.specs.Seeks.{IsWalking}
@@ -17,11 +17,11 @@ use Rattle.art_step.specs.declared.views.Sizes.{Sizes}
 use Rattle.art_step.specs.declared.views.View.{View}
 
 -- the seek s is m after a step of its walk that went on, or did not
-pub walks_on : (z : Sizes) (k : List ℕ) (hi : KeyBound) (u : View) (m : Seek) (t : Trail) (v : View) (d : Deed) (asked : Asked) (answer : Answer) (w : View) → 0 < m.left → Answers z d asked answer v w
+pub walks_on : (z : Sizes) (k : List ℕ) (hi : KeyBound) (u : View) (m : Seek) (t : Trail) (v : View) (d : Deed) (asked : Action) (answer : Answer) (w : View) → 0 < m.left → IsLook asked → Answers z (telling d) asked answer v w
     → (b : IsWalking z k hi u m t v) (next : Walk) (t' : Trail) → Fits z k hi b.opened next t' (restarts_after m.restarts (goes_on answer)) w
     → (on : Bool) (s : Seek) → on ≡ goes_on answer → s ≡ record m { walk = next; left = m.left - 1; restarts = restarts_after m.restarts on } → IsWalking z k hi u s t' w
-walks_on z k hi u m t v d asked answer w turn row b next t' fits on s same is =
-    let one = (answers_count z d asked answer v w row).steps in
+walks_on z k hi u m t v d asked answer w turn look row b next t' fits on s same is =
+    let one = (look_counts z d asked answer v w look row).steps in
     let counted = b.counted in
     let within = b.within in
     let few = b.few in

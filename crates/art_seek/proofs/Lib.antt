@@ -6,7 +6,7 @@ mod Counted
 pub mod Ends
 pub mod GivenUp
 mod Going
-mod Parts
+pub mod Parts
 mod Pinned
 pub mod Told
 mod Walking

@@ -1,81 +1,68 @@
--- Which part of a seek asked, what it is told, and which kind of step that was.
-use Rattle.std.proofs.Common.{◌≡◌, true, false, Option, Some, None, refl, sym, subst}
+-- Which part of a seek asked, and which kind of step that was.
+use Rattle.std.proofs.Common.{◌≡◌, ℕ, Bool, true, false, Some, refl, subst}
+use Rattle.std.proofs.lemmas.Option.{same_Some}
 use Rattle.std.specs.Prelude.{Ok, Err}
-use Rattle.std.specs.Option.{option_map}
-use Rattle.art_epoch.specs.declared.asked.Asked.{Asked as FrameAsked}
-use Rattle.art_find.specs.Asking.{Answers as CellAnswers}
-use Rattle.art_find.specs.declared.asked.Answer.{Answer as CellAnswer}
-use Rattle.art_find.specs.declared.asked.Answer.TheVariants.{Begun, Word as word_told, Checked}
-use Rattle.art_find.specs.declared.asked.Asked.{Asked as CellAsked}
-use Rattle.art_find.specs.declared.asked.Asked.TheVariants.{Settle}
-use Rattle.art_seek.specs.Asking.{Answers, cell_in, is_counted, stepped_by, walked}
+use Rattle.art_epoch.specs.Pins as pins
+use Rattle.art_epoch.specs.declared.pins.Pinning.{Pinning}
+use Rattle.art_epoch.specs.declared.pins.Pinning.TheVariants.{Noting, Storing, Ended}
+use Rattle.art_find.proofs.Counting.{asks_look as descent_looks}
+use Rattle.art_look.proofs.Going.{asks_look as look_looks}
+use Rattle.art_machine.specs.Acting.{IsLook, IsPlain, goes_on}
+use Rattle.art_machine.specs.declared.actions.Action.{Action}
+use Rattle.art_machine.specs.declared.actions.Action.TheVariants.{Begin, Read, ReadLeaf, Check, Settle, ReadEpoch, StorePin}
+use Rattle.art_machine.specs.declared.actions.Answer.{Answer}
+use Rattle.art_machine.specs.declared.actions.Answer.TheVariants.{Begun, Word, Checked, Upgraded, Done}
+use Rattle.art_seek.specs.Asking.{is_counted, stepped_by, walked}
 use Rattle.art_seek.specs.Seeks.{asks_at, is_walking}
 use Rattle.art_seek.specs.Walks.{asks}
-use Rattle.art_seek.specs.declared.asked.Answer.{Answer}
-use Rattle.art_seek.specs.declared.asked.Answer.TheVariants as told
-use Rattle.art_seek.specs.declared.asked.Asked.{Asked}
-use Rattle.art_seek.specs.declared.asked.Asked.TheVariants.{Frame, Cell}
 use Rattle.art_seek.specs.declared.seeks.Seek.{Seek}
 use Rattle.art_seek.specs.declared.seeks.SeekStage.{SeekStage}
 use Rattle.art_seek.specs.declared.seeks.SeekStage.TheVariants as stage
-use Rattle.art_step.specs.declared.deeds.Deed.{Deed}
-use Rattle.art_step.specs.declared.views.Sizes.{Sizes}
-use Rattle.art_step.specs.declared.views.View.{View}
+use Rattle.art_seek.specs.declared.walks.Walk.{Walk}
+use Rattle.art_seek.specs.declared.walks.Walk.TheVariants.{Key, Range}
 
--- ---- a step of the walk
+-- a walk asks for looks alone
+pub walk_looks : (w : Walk) (a : Action) → asks w ≡ Some a → IsLook a
+walk_looks (Key m) a is = descent_looks m.stage a is
+walk_looks (Range m) a is = look_looks m.stage a is
 
-map_cell : (o : Option CellAsked) (asked : Asked) → option_map Cell o ≡ Some asked → (a : CellAsked) × (o ≡ Some a) × (Cell a ≡ asked)
-map_cell (Some a) asked is = (a, refl, cc)
-map_cell None asked is = cc
+-- what a pin asks for
+pub record IsPinStep (a : Action) : Type 0 where
+  pub plain : IsPlain a
+  pub counted : (r : Answer) → is_counted (stepped_by a r) ≡ false
 
-no_frame : (o : Option FrameAsked) (a : CellAsked) → option_map Frame o ≡ Some (Cell a) → ⊥
-no_frame (Some b) a is = cc
-no_frame None a is = cc
+reads_epoch : IsPinStep ReadEpoch
+reads_epoch = record { plain = tt; counted = λ r. refl }
 
-pub walk_asked : (s : SeekStage) (m : Seek) (a : CellAsked) → asks_at s m ≡ Some (Cell a) → asks m.walk ≡ Some a
-walk_asked stage.Walking m a is = let q = map_cell (asks m.walk) (Cell a) is in cc (q.1, q.2)
-walk_asked stage.Pinning m a is = absurd (no_frame _ a is)
-walk_asked stage.Closing m a is = cc
-walk_asked stage.Ended m a is = cc
+stores_pin : (x : ℕ) → IsPinStep (StorePin x)
+stores_pin x = record { plain = tt; counted = λ r. refl }
 
-module _ (z : Sizes) (d : Deed) (v w : View) where
-  in_cell : (a : CellAsked) (answer : Answer) → Answers z d (Cell a) answer v w → CellAnswers z d a (cell_in answer) v w
-  in_cell a (told.Word x) row = absurd row
-  in_cell a (told.Cell r) row = row
-
-  pub cell_told : (o : Option CellAsked) (asked : Asked) (answer : Answer) → option_map Cell o ≡ Some asked → Answers z d asked answer v w
-      → (a : CellAsked) × (o ≡ Some a) × CellAnswers z d a (cell_in answer) v w
-  cell_told o asked answer is row =
-      let q = map_cell o asked is in
-      (q.0, q.1, in_cell q.0 answer (subst (λ (b : Asked). Answers z d b answer v w) (sym q.2) row))
+pub pin_step : (p : Pinning) (a : Action) → pins.asks p ≡ Some a → IsPinStep a
+pin_step Noting a is = subst IsPinStep (same_Some ReadEpoch a is) reads_epoch
+pin_step (Storing x) a is = subst IsPinStep (same_Some (StorePin x) a is) (stores_pin x)
+pin_step Ended a is = absurd (cc)
 
 -- ---- it is counted where it is one of the walk
 
-counts_walked : (a : CellAsked) (r : CellAnswer) → is_counted (walked a r) ≡ true
-counts_walked (Settle x) (Checked (Ok done)) = refl
-counts_walked (Settle x) (Checked (Err c)) = refl
-counts_walked (Settle x) (Begun (Ok y)) = refl
-counts_walked (Settle x) (Begun (Err l)) = refl
-counts_walked (Settle x) (word_told word) = refl
-counts_walked a (Checked (Ok done)) = refl
-counts_walked a (Checked (Err c)) = refl
-counts_walked a (Begun (Ok y)) = refl
-counts_walked a (Begun (Err l)) = refl
-counts_walked a (word_told word) = refl
+walk_counts : (on : Bool) → is_counted (walked true on) ≡ true
+walk_counts true = refl
+walk_counts false = refl
 
-counts_cell : (z : Sizes) (d : Deed) (v w : View) (a : CellAsked) (answer : Answer) → Answers z d (Cell a) answer v w → is_counted (stepped_by (Cell a) answer) ≡ true
-counts_cell z d v w a (told.Cell r) row = counts_walked a r
-counts_cell z d v w a (told.Word x) row = absurd row
+counts_look : (a : Action) (r : Answer) → IsLook a → is_counted (stepped_by a r) ≡ true
+counts_look (Begin c) r is = walk_counts (goes_on r)
+counts_look (Read x i) r is = walk_counts (goes_on r)
+counts_look (ReadLeaf x l i) r is = walk_counts (goes_on r)
+counts_look (Check x) r is = walk_counts (goes_on r)
+counts_look (Settle x) (Checked (Ok done)) is = refl
+counts_look (Settle x) (Checked (Err e)) is = refl
+counts_look (Settle x) (Begun r) is = walk_counts (goes_on (Begun r))
+counts_look (Settle x) (Word y) is = refl
+counts_look (Settle x) (Upgraded r) is = refl
+counts_look (Settle x) Done is = refl
+counts_look a r is = absurd is
 
-frame_not : (o : Option FrameAsked) (asked : Asked) (answer : Answer) → option_map Frame o ≡ Some asked → is_counted (stepped_by asked answer) ≡ false
-frame_not (Some a) asked answer is = subst (λ (b : Asked). is_counted (stepped_by b answer) ≡ false) (let same : Frame a ≡ asked = cc in same) refl
-frame_not None asked answer is = cc
-
-pub counts_at : (z : Sizes) (d : Deed) (v w : View) (s : SeekStage) (m : Seek) (asked : Asked) (answer : Answer) → asks_at s m ≡ Some asked → Answers z d asked answer v w
-    → is_counted (stepped_by asked answer) ≡ is_walking s
-counts_at z d v w stage.Walking m asked answer is row =
-    let q = map_cell (asks m.walk) asked is in
-    subst (λ (b : Asked). is_counted (stepped_by b answer) ≡ true) q.2 (counts_cell z d v w q.0 answer (subst (λ (b : Asked). Answers z d b answer v w) (sym q.2) row))
-counts_at z d v w stage.Pinning m asked answer is row = frame_not _ asked answer is
-counts_at z d v w stage.Closing m asked answer is row = frame_not (Some _) asked answer is
-counts_at z d v w stage.Ended m asked answer is row = cc
+pub counts_at : (s : SeekStage) (m : Seek) (a : Action) (r : Answer) → asks_at s m ≡ Some a → is_counted (stepped_by a r) ≡ is_walking s
+counts_at stage.Walking m a r is = counts_look a r (walk_looks m.walk a is)
+counts_at stage.Pinning m a r is = (pin_step m.pinning a is).counted r
+counts_at stage.Closing m a r is = subst (λ (b : Action). is_counted (stepped_by b r) ≡ false) (same_Some (StorePin 0) a is) refl
+counts_at stage.Ended m a r is = absurd (cc)

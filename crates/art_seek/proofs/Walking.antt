@@ -1,12 +1,15 @@
 -- A walk, from step to step.
 use Rattle.std.proofs.Common.{◌≡◌, ℕ, ◌+◌, ◌<◌, ◌≤◌, true, List, length, Some, None, refl, sym, subst, arith}
+use Rattle.art_look.proofs.Going.{asks_look}
+use Rattle.art_machine.proofs.Counting.{look_counts}
 use Rattle.art_find.proofs.Counting.{answers_count, counts_on, few_steps}
-use Rattle.art_find.specs.Asking.{Answers, MaySettle, goes_on}
+use Rattle.art_find.specs.Asking.{MaySettle}
+use Rattle.art_machine.specs.Acting.{Answers, goes_on, telling}
 use Rattle.art_find.specs.Descents as descents
 use Rattle.art_find.specs.Driven.{GetFits, get_done, restarts_after}
-use Rattle.art_find.specs.declared.asked.Answer.{Answer}
-use Rattle.art_find.specs.declared.asked.Asked.{Asked}
-use Rattle.art_find.specs.declared.asked.Asked.TheVariants.{Settle}
+use Rattle.art_machine.specs.declared.actions.Answer.{Answer}
+use Rattle.art_machine.specs.declared.actions.Action.{Action}
+use Rattle.art_machine.specs.declared.actions.Action.TheVariants.{Settle}
 use Rattle.art_find.specs.declared.descents.Descent.{Descent}
 use Rattle.art_find.specs.declared.descents.Stage.{Stage}
 use Rattle.art_find.specs.declared.descents.Stage.TheVariants as stage
@@ -33,14 +36,14 @@ use Rattle.art_step.specs.declared.views.View.{View}
 
 -- ---- where a descent asks for a step, it goes on
 
-descent_going : (s : Stage) (a : Asked) → descents.asks s ≡ Some a → descents.ended_at s ≡ None
+descent_going : (s : Stage) (a : Action) → descents.asks s ≡ Some a → descents.ended_at s ≡ None
 descent_going (stage.Ended o) a is = cc
 descent_going s a is = refl
 
 -- ---- each step counts
 
-module _ (z : Sizes) (k : List ℕ) (u v w : View) (n : ℕ) (asked : Asked) (answer : Answer) where
-  pub key_on : (m m' : Descent) → length k ≤ 64 → descents.asks m.stage ≡ Some asked → Answers z (get_done k (descents.answer_at m.stage)) asked answer v w
+module _ (z : Sizes) (k : List ℕ) (u v w : View) (n : ℕ) (asked : Action) (answer : Answer) where
+  pub key_on : (m m' : Descent) → length k ≤ 64 → descents.asks m.stage ≡ Some asked → Answers z (telling (get_done k (descents.answer_at m.stage))) asked answer v w
       → (goes_on answer ≡ true → descents.most_steps m.depth m.stage < descents.most_steps m'.depth m'.stage) → descents.Fits z k (get_done k) m' u w
       → GetFits z k u v m n → GetFits z k u w m' (restarts_after n (goes_on answer))
   key_on m m' short is row further fits before =
@@ -48,15 +51,15 @@ module _ (z : Sizes) (k : List ℕ) (u v w : View) (n : ℕ) (asked : Asked) (an
       record {
         fits = fits;
         counts = counts_on u v w (descents.most_steps m.depth m.stage) (descents.most_steps m'.depth m'.stage) n (goes_on answer) further (omega (arith, few))
-            (answers_count z (get_done k (descents.answer_at m.stage)) asked answer v w row) before.counts;
+            (answers_count z (get_done k (descents.answer_at m.stage)) m.stage asked answer v w is row) before.counts;
       }
 
-  pub range_on : (hi : KeyBound) (m m' : Look) (t t' : Trail) → looks.asks m.stage ≡ Some asked → Answers z (looks.deed_at k hi t m.stage) asked answer v w
+  pub range_on : (hi : KeyBound) (m m' : Look) (t t' : Trail) → looks.asks m.stage ≡ Some asked → Answers z (telling (looks.deed_at k hi t m.stage)) asked answer v w
       → (goes_on answer ≡ true → looks.most_steps m.depth m.stage < looks.most_steps m'.depth m'.stage) → looks.Fits z k hi m' t' u w
       → looks.least_steps m'.stage ≤ looks.least_steps m.stage + 1
       → LookFits z k hi u v m t n → LookFits z k hi u w m' t' (restarts_after n (goes_on answer))
   range_on hi m m' t t' is row further fits more before =
-      let counted = answers_count z (looks.deed_at k hi t m.stage) asked answer v w row in
+      let counted = look_counts z (looks.deed_at k hi t m.stage) asked answer v w (asks_look m.stage asked is) row in
       let one = counted.steps in
       let least = before.least in
       record {

@@ -1,10 +1,9 @@
 -- What a seek asks, and what it knows between two of its steps: its pin, its walk, its close.
 use Rattle.std.specs.Prelude.{◌≡◌, ℕ, ◌+◌, ◌-◌, ◌<◌, ◌≤◌, List, Bool, true, false, Option, Some, None}
-use Rattle.std.specs.Option.{option_map}
 use Rattle.art_epoch.specs.Pins as pins
 use Rattle.art_epoch.specs.Pins.{MayPin, Pins}
-use Rattle.art_epoch.specs.declared.asked.Asked.{Asked as FrameAsked}
-use Rattle.art_epoch.specs.declared.asked.Asked.TheVariants.{Store}
+use Rattle.art_machine.specs.declared.actions.Action.{Action}
+use Rattle.art_machine.specs.declared.actions.Action.TheVariants.{StorePin}
 use Rattle.art_key.specs.declared.bounds.Bound.{Bound as KeyBound}
 use Rattle.art_look.specs.declared.looks.Reached.{Reached}
 use Rattle.art_look.specs.declared.looks.Seen.{Seen as SeenOf}
@@ -12,8 +11,6 @@ use Rattle.art_look.specs.declared.trails.Trail.{Trail}
 use Rattle.art_seek.specs.Sought.{HasCounted, HasSpent, IsIdleAgain, UsedTurns}
 use Rattle.art_seek.specs.Walks as walks
 use Rattle.art_seek.specs.Walks.{IsAtStart, IsEnd, aim_of, told_of}
-use Rattle.art_seek.specs.declared.asked.Asked.{Asked}
-use Rattle.art_seek.specs.declared.asked.Asked.TheVariants.{Frame, Cell}
 use Rattle.art_seek.specs.declared.seeks.Seek.{Seek}
 use Rattle.art_seek.specs.declared.seeks.SeekStage.{SeekStage}
 use Rattle.art_seek.specs.declared.seeks.SeekStage.TheVariants as stage
@@ -28,14 +25,14 @@ use Rattle.art_step.specs.declared.views.View.{View}
 
 -- ---- what it asks
 
-abbrev pub asks_at : SeekStage → Seek → Option Asked
-asks_at stage.Pinning m = option_map Frame (pins.asks m.pinning)
-asks_at stage.Walking m = option_map Cell (walks.asks m.walk)
-asks_at stage.Closing m = Some (Frame (Store 0))
+abbrev pub asks_at : SeekStage → Seek → Option Action
+asks_at stage.Pinning m = pins.asks m.pinning
+asks_at stage.Walking m = walks.asks m.walk
+asks_at stage.Closing m = Some (StorePin 0)
 asks_at stage.Ended m = None
 
 -- the next step
-abbrev pub asks : Seek → Option Asked
+abbrev pub asks : Seek → Option Action
 asks m = asks_at m.stage m
 
 -- it is one of the walk
@@ -79,7 +76,7 @@ steps_left m = left_at m.stage m
 pub record IsPinning (z : Sizes) (k : List ℕ) (hi : KeyBound) (u : View) (m : Seek) (t : Trail) (v : View) : Type 0 where
   pub may : MayPin u
   pub pinning : pins.Fits z u m.pinning v
-  pub going : (a : FrameAsked) × (pins.asks m.pinning ≡ Some a)
+  pub going : (a : Action) × (pins.asks m.pinning ≡ Some a)
   pub fresh : IsAtStart z k hi m.walk t
   pub full : m.left ≡ m.turns
   pub none : m.restarts ≡ 0

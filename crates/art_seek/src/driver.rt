@@ -1,22 +1,22 @@
 //! Makes the steps of a seek.
 ghost use Rattle.std.specs.Prelude.{◌≡◌, ◌+◌, ◌<◌, ◌≤◌, length, Some, None};
-ghost use Rattle.art_find.specs.Asking.{Answers as CellAnswers, IsAllowed as IsCellAllowed};
-ghost use Rattle.art_seek.specs.Asking.{Answers, IsAllowed, is_counted, restarts_by, stepped_by, told_by};
+ghost use Rattle.art_find.specs.Findings.{IsToSettle};
+ghost use Rattle.art_machine.specs.Acting.{Answers, telling};
+ghost use Rattle.art_machine.specs.declared.actions.Answer.{Answer as AnswerOf};
+ghost use Rattle.art_seek.specs.Asking.{MaySeek, is_counted, restarts_by, stepped_by, told_by, walked};
 ghost use Rattle.art_seek.specs.Seeks.{Fits, WillBeBusy, asks, ended_at, is_walking, steps_left};
 ghost use Rattle.art_seek.specs.Walks.{Settles, aim_of, asks as walk_asks, deed_at};
-ghost use Rattle.art_seek.specs.declared.asked.Answer.{Answer as AnswerOf};
 ghost use Rattle.art_seek.specs.declared.walks.Aim.TheVariants as aims;
 ghost use Rattle.art_seek.specs.declared.walks.Outcome.{Outcome as OutcomeOf};
 ghost use Rattle.art_step.specs.Events.{SeesEvent};
 ghost use Rattle.art_step.specs.declared.views.View.{View};
 
+use crate::Seek;
 use crate::walks::Walk;
-use crate::{Answer, Asked, Seek};
-use art_epoch::make as make_frame;
-use art_find::{Answer as CellAnswer, Asked as CellAsked};
 use art_key::Bound;
 use art_look::Trail;
-use art_step::{EpochSteps, Steps};
+use art_machine::{Action, Answer, Effects, perform};
+use art_step::EpochSteps;
 
 /// Which kind of step was made.
 #[derive(Clone, Copy)]
@@ -31,79 +31,59 @@ pub enum Stepped {
     Told,
 }
 
-/// A step that was made: what was asked, and which kind of step it was.
+/// A step that was made: the action, and which kind of step it was.
 #[derive(Clone, Copy)]
 pub struct Made {
-    pub asked: Asked,
+    pub action: Action,
     pub stepped: Stepped,
 }
 
-/// Looks at a cell; where that settles the answer, the event of the walk is made.
+/// Makes the step that a seek asks for; where that settles the answer, the event of the walk is made. The key is the one that is looked
+/// for, or the lower end of the range.
 #[inline(always)]
-pub(crate) fn look_at<S: Steps>(
+pub(crate) fn make<S: EpochSteps>(
     steps: &mut S,
-    asked: CellAsked,
+    action: Action,
     walk: &Walk,
-    key: &[u8],
-    hi: &Bound,
-    trail: &Trail,
-) -> CellAnswer
-    requires short { length key.now ≤ 64 }
-    requires admitted { aim_of walk.now ≡ aims.Key → S.admits steps.old key.now }
-    requires asked { walk_asks walk.now ≡ Some asked }
-    requires allowed { IsCellAllowed (S.sizes steps.old) (Settles walk.now key.now trail.now) (S.view steps.old) asked }
-    ensures only { S.only steps.old steps.new }
-    ensures row { CellAnswers (S.sizes steps.old) (deed_at walk.now key.now hi.now trail.now) asked result
-        (S.view steps.old) (S.view steps.new) }
-{
-    match asked {
-        CellAsked::Begin(cell) => CellAnswer::Begun(steps.begin(cell)),
-        CellAsked::Read(stamp, place) => CellAnswer::Word(steps.read(stamp, place)),
-        CellAsked::ReadLeaf(stamp, leaf, place) => CellAnswer::Word(steps.read_leaf(
-            stamp, leaf, place,
-        )),
-        CellAsked::Check(stamp) => CellAnswer::Checked(steps.check(stamp, None)),
-        CellAsked::Settle(stamp) => {
-            let deed = walk.deed(key, hi, trail);
-            CellAnswer::Checked(steps.check(stamp, Some(&deed)))
-        }
-    }
-}
-
-/// Makes the step that a seek asks for. The key is the one that is looked for, or the lower end of the range.
-fn make<S: EpochSteps>(
-    steps: &mut S,
-    asked: Asked,
-    seek: &Seek,
     key: &[u8],
     hi: &Bound,
     trail: &Trail,
 ) -> Answer
     requires short { length key.now ≤ 64 }
-    requires admitted { aim_of seek.now.walk ≡ aims.Key → S.admits steps.old key.now }
-    requires asked { asks seek.now ≡ Some asked }
-    requires allowed { IsAllowed (S.sizes steps.old) (Settles seek.now.walk key.now trail.now) (S.view steps.old) asked }
+    requires admitted { aim_of walk.now ≡ aims.Key → S.admits steps.old key.now }
+    requires asked { IsToSettle action → walk_asks walk.now ≡ Some action }
+    requires allowed { MaySeek (S.sizes steps.old) (Settles walk.now key.now trail.now) (S.view steps.old) action }
     ensures only { S.only steps.old steps.new }
-    ensures row { Answers (S.sizes steps.old) (deed_at seek.now.walk key.now hi.now trail.now) asked result
+    ensures row { Answers (S.sizes steps.old) (telling (deed_at walk.now key.now hi.now trail.now)) action result
         (S.view steps.old) (S.view steps.new) }
 {
-    match asked {
-        Asked::Frame(asked) => Answer::Word(make_frame(steps, asked)),
-        Asked::Cell(asked) => Answer::Cell(look_at(steps, asked, seek.walk(), key, hi, trail)),
+    match action {
+        Action::Settle { .. } => {
+            let effects = Effects::telling(walk.deed(key, hi, trail));
+            perform(steps, action, Some(&effects))
+        }
+        _ => perform(steps, action, None),
     }
 }
 
-/// Which kind of step it was, by what was asked and answered.
-fn kind_of(asked: Asked, answer: Answer) -> Stepped
-    ensures { result ≡ stepped_by asked answer }
+/// Which kind of step it was, by the action and its answer.
+fn kind_of(action: Action, answer: Answer) -> Stepped
+    ensures { result ≡ stepped_by action answer }
 {
-    let (Asked::Cell(asked), Answer::Cell(told)) = (asked, answer) else {
-        return Stepped::Frame;
-    };
-    match (asked, told) {
-        (CellAsked::Settle(_), CellAnswer::Checked(Ok(()))) => Stepped::Told,
-        (_, CellAnswer::Begun(Err(_)) | CellAnswer::Checked(Err(_))) => Stepped::Anew,
-        _ => Stepped::Walked,
+    match (action, answer) {
+        (Action::Settle { .. }, Answer::Checked { result: Ok(()) }) => Stepped::Told,
+        _ => walked(action.is_look(), answer.goes_on()),
+    }
+}
+
+/// Of a look, by whether the walk goes on; or of another step.
+fn walked(look: bool, on: bool) -> Stepped
+    ensures { result ≡ walked look on }
+{
+    match (look, on) {
+        (true, true) => Stepped::Walked,
+        (true, false) => Stepped::Anew,
+        (false, _) => Stepped::Frame,
     }
 }
 
@@ -123,10 +103,10 @@ pub fn step<S: EpochSteps>(
     ensures aim { aim_of seek.new.walk ≡ aim_of seek.old.walk }
     ensures turns { seek.new.turns ≡ seek.old.turns }
     ensures one { (S.view steps.new).steps ≡ (S.view steps.old).steps + 1 }
-    ensures asked { asks seek.old ≡ Some result.asked }
-    ensures allowed { IsAllowed (S.sizes steps.old) (Settles seek.old.walk key.now trail.old) (S.view steps.old) result.asked }
-    ensures row { (answer : AnswerOf) × Answers (S.sizes steps.old) (deed_at seek.old.walk key.now hi.now trail.old) result.asked answer
-        (S.view steps.old) (S.view steps.new) × (result.stepped ≡ stepped_by result.asked answer) }
+    ensures asked { asks seek.old ≡ Some result.action }
+    ensures allowed { MaySeek (S.sizes steps.old) (Settles seek.old.walk key.now trail.old) (S.view steps.old) result.action }
+    ensures row { (answer : AnswerOf) × Answers (S.sizes steps.old) (telling (deed_at seek.old.walk key.now hi.now trail.old)) result.action answer
+        (S.view steps.old) (S.view steps.new) × (result.stepped ≡ stepped_by result.action answer) }
     ensures refuses { WillBeBusy seek.old → WillBeBusy seek.new }
     ensures counted { is_counted result.stepped ≡ is_walking seek.old.stage }
     ensures restarts { seek.new.restarts ≡ restarts_by result.stepped seek.old.restarts }
@@ -136,14 +116,14 @@ pub fn step<S: EpochSteps>(
     ensures fits { (u : View) → Fits (S.sizes steps.old) key.now hi.now u seek.old trail.old (S.view steps.old) →
         Fits (S.sizes steps.old) key.now hi.now u seek.new trail.new (S.view steps.new) }
 {
-    let Some(asked) = seek.next() else {
+    let Some(action) = seek.next() else {
         unreachable!()
     };
-    let answer = make(steps, asked, seek, key, hi, trail);
+    let answer = make(steps, action, seek.walk(), key, hi, trail);
     seek.told(key, trail, answer);
     Made {
-        asked,
-        stepped: kind_of(asked, answer),
+        action,
+        stepped: kind_of(action, answer),
     }
 }
 

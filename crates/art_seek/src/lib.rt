@@ -34,14 +34,12 @@
 //! restarts are the failures that were met, and turns that were used are few beside them.
 #![tactic(auto)]
 
-mod asked;
 mod driver;
 mod seeks;
 mod straight;
 mod walks;
 
 pub use art_look;
-pub use asked::{Answer, Asked};
 pub use driver::{Made, Stepped, finish, step};
 pub use seeks::{Seek, SeekStage};
 pub use walks::{Aim, Outcome};

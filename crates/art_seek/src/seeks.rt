@@ -1,20 +1,17 @@
 //! A seek, step by step: its pin, its walk, its close.
 ghost use Rattle.std.specs.Prelude.{◌≡◌, ℕ, ◌+◌, ◌-◌, ◌<◌, ◌≤◌, List, length, Option, Some, None, true, false};
-ghost use Rattle.art_epoch.specs.Asking.{Answers as FrameAnswers};
 ghost use Rattle.art_epoch.specs.Pins as pins;
 ghost use Rattle.art_epoch.specs.Pins.{MayPin};
-ghost use Rattle.art_epoch.specs.declared.asked.Asked.{Asked as FrameAsked};
-ghost use Rattle.art_find.specs.Asking.{Answers as CellAnswers, goes_on};
+ghost use Rattle.art_machine.specs.Acting.{Answers, goes_on, telling};
 ghost use Rattle.art_find.specs.Driven.{restarts_after};
-ghost use Rattle.art_find.specs.declared.asked.Asked.{Asked as CellAsked};
+ghost use Rattle.art_machine.specs.declared.actions.Action.{Action as ActionOf};
 ghost use Rattle.art_key.specs.declared.bounds.Bound.{Bound as KeyBound};
 ghost use Rattle.art_look.specs.Driven.{IsSeen};
 ghost use Rattle.art_look.specs.declared.trails.Trail.{Trail as Trailed};
-ghost use Rattle.art_seek.specs.Asking.{Answers, restarts_told};
+ghost use Rattle.art_seek.specs.Asking.{restarts_told};
 ghost use Rattle.art_seek.specs.Seeks.{Fits, HasSought, IsPinning, IsWalking, WillBeBusy, asks, ended_at, left_at, reached_by, seen_at, steps_left, turns_used};
 ghost use Rattle.art_seek.specs.Walks as walks;
 ghost use Rattle.art_seek.specs.Walks.{IsEnd, Settles, aim_of, deed_at};
-ghost use Rattle.art_seek.specs.declared.asked.Asked.{Asked as AskedStep};
 ghost use Rattle.art_seek.specs.declared.seeks.SeekStage.TheVariants as stages;
 ghost use Rattle.art_seek.specs.declared.walks.Outcome.TheVariants.{Busy as busy};
 ghost use Rattle.art_step.specs.Events.{MakesEvent};
@@ -22,13 +19,12 @@ ghost use Rattle.art_step.specs.declared.deeds.Deed.{Deed as DeedOf};
 ghost use Rattle.art_step.specs.declared.views.Sizes.{Sizes};
 ghost use Rattle.art_step.specs.declared.views.View.{View};
 
-use crate::asked::{cell_in, word_in};
 use crate::walks::Walk;
-use crate::{Aim, Answer, Asked, Outcome};
-use art_epoch::{Asked as FrameStep, Pinning};
-use art_find::Answer as CellAnswer;
+use crate::{Aim, Outcome};
+use art_epoch::Pinning;
 use art_key::Bound;
 use art_look::{Reached, Seen, Trail};
+use art_machine::{Action, Answer};
 
 /// Where a seek stands between two of its steps.
 #[derive(Clone, Copy)]
@@ -56,7 +52,7 @@ pub struct Seek {
 }
 
 impl Seek {
-    ghost use Rattle.art_seek.specs.Asking.{IsAllowed};
+    ghost use Rattle.art_seek.specs.Asking.{MaySeek};
     ghost use Rattle.std.specs.Prelude.{IfSome};
 
     /// Of this, in so many turns.
@@ -79,17 +75,17 @@ impl Seek {
     }
 
     /// The next step, or none where it has ended.
-    pub fn next(&self) -> Option<Asked>
+    pub fn next(&self) -> Option<Action>
         ensures asks { result ≡ asks self.now }
         ensures allowed { (z : Sizes) (k : List ℕ) (hi : KeyBound) (u v : View) (t : Trailed) → Fits z k hi u self.now t v →
-            IfSome result (IsAllowed z (Settles self.now.walk k t) v) }
+            IfSome result (MaySeek z (Settles self.now.walk k t) v) }
         ensures going { (z : Sizes) (k : List ℕ) (hi : KeyBound) (u v : View) (t : Trailed) → Fits z k hi u self.now t v →
-            ended_at self.now ≡ None → (a : AskedStep) × (result ≡ Some a) }
+            ended_at self.now ≡ None → (a : ActionOf) × (result ≡ Some a) }
     {
         match self.stage {
-            SeekStage::Pinning => Some(Asked::Frame(self.pinning.next()?)),
-            SeekStage::Walking => Some(Asked::Cell(self.walk.next()?)),
-            SeekStage::Closing => Some(Asked::Frame(FrameStep::Store(0))),
+            SeekStage::Pinning => self.pinning.next(),
+            SeekStage::Walking => self.walk.next(),
+            SeekStage::Closing => Some(Action::StorePin { word: 0 }),
             SeekStage::Ended => None,
         }
     }
@@ -97,21 +93,21 @@ impl Seek {
     /// The step that it asked for was made, with this answer. The key is the one that is looked for, or the lower end of the range.
     pub fn told(&mut self, key: &[u8], trail: &mut Trail, answer: Answer)
         requires short { length key.now ≤ 64 }
-        requires told { (z : Sizes) × (hi : KeyBound) × (u : View) × (v : View) × (w : View) × (asked : AskedStep) ×
+        requires told { (z : Sizes) × (hi : KeyBound) × (u : View) × (v : View) × (w : View) × (asked : ActionOf) ×
             Fits z key.now hi u self.old trail.old v × (asks self.old ≡ Some asked) ×
-            Answers z (deed_at self.old.walk key.now hi trail.old) asked answer v w }
+            Answers z (telling (deed_at self.old.walk key.now hi trail.old)) asked answer v w }
         ensures aim { aim_of self.new.walk ≡ aim_of self.old.walk }
         ensures turns { self.new.turns ≡ self.old.turns }
         ensures restarts { self.new.restarts ≡ restarts_told answer self.old.restarts }
         ensures refuses { WillBeBusy self.old → WillBeBusy self.new }
         ensures left { steps_left self.new < steps_left self.old }
-        ensures fits { (z : Sizes) (hi : KeyBound) (u v w : View) (asked : AskedStep) →
+        ensures fits { (z : Sizes) (hi : KeyBound) (u v w : View) (asked : ActionOf) →
             Fits z key.now hi u self.old trail.old v → asks self.old ≡ Some asked →
-            Answers z (deed_at self.old.walk key.now hi trail.old) asked answer v w → Fits z key.now hi u self.new trail.new w }
+            Answers z (telling (deed_at self.old.walk key.now hi trail.old)) asked answer v w → Fits z key.now hi u self.new trail.new w }
     {
         match self.stage {
-            SeekStage::Pinning => self.pin_told(word_in(answer)),
-            SeekStage::Walking => self.walk_told(key, trail, cell_in(answer)),
+            SeekStage::Pinning => self.pin_told(answer),
+            SeekStage::Walking => self.walk_told(key, trail, answer),
             SeekStage::Closing => self.stage = SeekStage::Ended,
             SeekStage::Ended => {}
         }
@@ -204,19 +200,20 @@ impl Seek {
 
     /// A step of the pin was made.
     #[inline(always)]
-    pub(crate) fn pin_told(&mut self, word: u64)
+    pub(crate) fn pin_told(&mut self, answer: Answer)
         requires stage { self.old.stage ≡ stages.Pinning }
-        requires going { (a : FrameAsked) × (pins.asks self.old.pinning ≡ Some a) }
+        requires told { (z : Sizes) × (u : View) × (v : View) × (w : View) × (a : ActionOf) × pins.Fits z u self.old.pinning v ×
+            (pins.asks self.old.pinning ≡ Some a) × Answers z None a answer v w }
         ensures walk { self.new.walk ≡ self.old.walk }
         ensures turns { self.new.turns ≡ self.old.turns }
         ensures restarts { self.new.restarts ≡ self.old.restarts }
         ensures refuses { self.old.left ≡ 0 → WillBeBusy self.new }
         ensures left { steps_left self.new < left_at stages.Pinning self.old }
-        ensures fits { (z : Sizes) (k : List ℕ) (hi : KeyBound) (u v w : View) (t : Trailed) (asked : FrameAsked) →
-            IsPinning z k hi u self.old t v → pins.asks self.old.pinning ≡ Some asked → FrameAnswers z asked word v w →
+        ensures fits { (z : Sizes) (k : List ℕ) (hi : KeyBound) (u v w : View) (t : Trailed) (asked : ActionOf) →
+            IsPinning z k hi u self.old t v → pins.asks self.old.pinning ≡ Some asked → Answers z None asked answer v w →
             Fits z k hi u self.new t w }
     {
-        self.pinning.told(word);
+        self.pinning.told(answer);
         match self.pinning.next() {
             Some(_) => {}
             None => self.turn(),
@@ -258,20 +255,20 @@ impl Seek {
 
     /// A step of the walk was made: it is counted, and so is a restart.
     #[inline(always)]
-    pub(crate) fn walk_told(&mut self, key: &[u8], trail: &mut Trail, answer: CellAnswer)
+    pub(crate) fn walk_told(&mut self, key: &[u8], trail: &mut Trail, answer: Answer)
         requires short { length key.now ≤ 64 }
         requires turn { 0 < self.old.left }
         requires few { self.old.restarts + self.old.left ≤ 4294967295 }
-        requires told { (z : Sizes) × (hi : KeyBound) × (u : View) × (v : View) × (w : View) × (asked : CellAsked) ×
+        requires told { (z : Sizes) × (hi : KeyBound) × (u : View) × (v : View) × (w : View) × (asked : ActionOf) ×
             IsWalking z key.now hi u self.old trail.old v × (walks.asks self.old.walk ≡ Some asked) ×
-            CellAnswers z (deed_at self.old.walk key.now hi trail.old) asked answer v w }
+            Answers z (telling (deed_at self.old.walk key.now hi trail.old)) asked answer v w }
         ensures aim { aim_of self.new.walk ≡ aim_of self.old.walk }
         ensures turns { self.new.turns ≡ self.old.turns }
         ensures restarts { self.new.restarts ≡ restarts_after self.old.restarts (goes_on answer) }
         ensures left { steps_left self.new < left_at stages.Walking self.old }
-        ensures fits { (z : Sizes) (hi : KeyBound) (u v w : View) (asked : CellAsked) →
+        ensures fits { (z : Sizes) (hi : KeyBound) (u v w : View) (asked : ActionOf) →
             IsWalking z key.now hi u self.old trail.old v → walks.asks self.old.walk ≡ Some asked →
-            CellAnswers z (deed_at self.old.walk key.now hi trail.old) asked answer v w → Fits z key.now hi u self.new trail.new w }
+            Answers z (telling (deed_at self.old.walk key.now hi trail.old)) asked answer v w → Fits z key.now hi u self.new trail.new w }
     {
         self.left -= 1;
         if !self.walk.told(key, trail, answer) {

@@ -11,12 +11,13 @@ ghost use Rattle.art_seek.specs.declared.seeks.SeekStage.TheVariants as stages;
 ghost use Rattle.art_seek.specs.declared.walks.Aim.TheVariants as aims;
 ghost use Rattle.art_seek.specs.declared.walks.Outcome.{Outcome as OutcomeOf};
 
-use crate::driver::look_at;
+use crate::driver::make;
 use crate::{Seek, SeekStage};
 use art_epoch::{Pinning, unpin};
 use art_find::Tally;
 use art_key::Bound;
 use art_look::Trail;
+use art_machine::Answer;
 use art_step::{EpochSteps, Steps};
 
 impl Seek {
@@ -78,12 +79,12 @@ impl Seek {
     {
         match self.pinning {
             Pinning::Noting => {
-                let epoch = steps.epoch();
-                self.pin_told(epoch);
+                let found = steps.epoch();
+                self.pin_told(Answer::Word { found });
             }
             Pinning::Storing(epoch) => {
                 steps.pass_store(epoch);
-                self.pin_told(0);
+                self.pin_told(Answer::Done);
             }
             Pinning::Ended => unreachable!(),
         }
@@ -111,7 +112,7 @@ impl Seek {
 
     /// Makes the next step of its walk.
     #[inline(always)]
-    pub(crate) fn walk_by<S: Steps>(
+    pub(crate) fn walk_by<S: EpochSteps>(
         &mut self,
         steps: &mut S,
         key: &[u8],
@@ -126,10 +127,10 @@ impl Seek {
         ensures less { steps_left self.new < steps_left self.old }
         ensures goes { GoesTo (S.sizes steps.old) key.now hi.now self.old trail.old (S.view steps.old) self.new trail.new (S.view steps.new) }
     {
-        let Some(asked) = self.walk.next() else {
+        let Some(action) = self.walk.next() else {
             unreachable!()
         };
-        let answer = look_at(steps, asked, &self.walk, key, hi, trail);
+        let answer = make(steps, action, &self.walk, key, hi, trail);
         self.walk_told(key, trail, answer);
     }
 

@@ -1,9 +1,10 @@
 //! A descent by a key, or a look of a range.
 ghost use Rattle.std.specs.Prelude.{◌≡◌, ℕ, List, length, ◌<◌, ◌≤◌, Option, None, Some};
-ghost use Rattle.art_find.specs.Asking.{Answers, IsAllowed, goes_on};
+ghost use Rattle.art_find.specs.Asking.{MayLook};
+ghost use Rattle.art_machine.specs.Acting.{Answers, goes_on, telling};
 ghost use Rattle.art_find.specs.Driven.{get_done, restarts_after};
-ghost use Rattle.art_find.specs.declared.asked.Asked.{Asked as AskedStep};
-ghost use Rattle.art_find.specs.declared.asked.Asked.TheVariants.{Settle as settle_asked};
+ghost use Rattle.art_machine.specs.declared.actions.Action.{Action as ActionOf};
+ghost use Rattle.art_machine.specs.declared.actions.Action.TheVariants.{Settle as settle_asked};
 ghost use Rattle.art_key.specs.declared.bounds.Bound.{Bound as KeyBound};
 ghost use Rattle.art_look.specs.Looks as looks;
 ghost use Rattle.art_look.specs.declared.trails.Trail.{Trail as Trailed};
@@ -12,9 +13,10 @@ ghost use Rattle.art_step.specs.declared.views.Sizes.{Sizes};
 ghost use Rattle.art_step.specs.declared.views.Stamp.{Stamp};
 ghost use Rattle.art_step.specs.declared.views.View.{View};
 
-use art_find::{Answer, Asked, Descent, Tally, go_down};
+use art_find::{Descent, Tally, go_down};
 use art_key::{Bound, Key};
 use art_look::{Look, Reached, Trail, look_on};
+use art_machine::{Action, Answer};
 use art_model::Answer as Reply;
 use art_step::{Act, Deed, Steps};
 
@@ -62,11 +64,11 @@ impl Walk {
     }
 
     /// The next step, or none where it has ended.
-    pub(crate) fn next(&self) -> Option<Asked>
+    pub(crate) fn next(&self) -> Option<Action>
         ensures asks { result ≡ asks self.now }
         ensures allowed { (z : Sizes) (k : List ℕ) (hi : KeyBound) (t : Trailed) (u v : View) (n : ℕ) →
-            Fits z k hi u self.now t n v → IfSome result (IsAllowed z (Settles self.now k t) v) }
-        ensures going { ended_at self.now ≡ None → (a : AskedStep) × (result ≡ Some a) }
+            Fits z k hi u self.now t n v → IfSome result (MayLook z (Settles self.now k t) v) }
+        ensures going { ended_at self.now ≡ None → (a : ActionOf) × (result ≡ Some a) }
     {
         match self {
             Walk::Key(descent) => descent.next(),
@@ -78,14 +80,14 @@ impl Walk {
     /// looked for, or the lower end of the range.
     pub(crate) fn told(&mut self, key: &[u8], trail: &mut Trail, answer: Answer) -> bool
         requires short { length key.now ≤ 64 }
-        requires told { (z : Sizes) × (hi : KeyBound) × (u : View) × (v : View) × (w : View) × (n : ℕ) × (asked : AskedStep) ×
+        requires told { (z : Sizes) × (hi : KeyBound) × (u : View) × (v : View) × (w : View) × (n : ℕ) × (asked : ActionOf) ×
             Fits z key.now hi u self.old trail.old n v × (asks self.old ≡ Some asked) ×
-            Answers z (deed_at self.old key.now hi trail.old) asked answer v w }
+            Answers z (telling (deed_at self.old key.now hi trail.old)) asked answer v w }
         ensures on { result ≡ goes_on answer }
         ensures aim { aim_of self.new ≡ aim_of self.old }
-        ensures fits { (z : Sizes) (hi : KeyBound) (u v w : View) (n : ℕ) (asked : AskedStep) →
+        ensures fits { (z : Sizes) (hi : KeyBound) (u v w : View) (n : ℕ) (asked : ActionOf) →
             Fits z key.now hi u self.old trail.old n v → asks self.old ≡ Some asked →
-            Answers z (deed_at self.old key.now hi trail.old) asked answer v w →
+            Answers z (telling (deed_at self.old key.now hi trail.old)) asked answer v w →
             Fits z key.now hi u self.new trail.new (restarts_after n (goes_on answer)) w }
     {
         match self {

@@ -4,8 +4,9 @@ ghost use Rattle.art_step.specs.WordPlaces.{HasFreeWord};
 
 use crate::worlds::opened;
 use art_cell::{Link, Pool};
-use art_epoch::{Taking, advance, give, make, take};
+use art_epoch::{Taking, advance, give, take};
 use art_frame::Stock;
+use art_machine::perform;
 use art_step::{EpochSteps, Number, Sizes, spent};
 use art_world::World;
 use std::process::Abort;
@@ -25,8 +26,8 @@ fn counted_take<S: EpochSteps>(steps: &mut S) -> (Option<Number>, u32) {
     let mut taking = Taking::new(Pool::Leaves, steps.pool_sizes());
     let mut count = 0u32;
     while let Some(asked) = taking.next() {
-        let word = make(steps, asked);
-        taking.told(word);
+        let answer = perform(steps, asked, None);
+        taking.told(answer);
         count = count.wrapping_add(1);
     }
     (taking.number(), count)

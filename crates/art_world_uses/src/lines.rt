@@ -1,83 +1,59 @@
 //! The steps of an insert, as lines of text.
-use art_attempt::Asked as AttemptAsked;
 use art_cell::{Cell, Link, Pool};
-use art_change::Asked;
-use art_epoch::Asked as FrameAsked;
-use art_find::Asked as CellAsked;
-use art_gather::Asked as SupplyAsked;
-use art_make::Asked as ChangeAsked;
+use art_machine::Action;
 use art_step::pool_of_layout;
 use std::fmt::{self, Write};
 
 /// Writes what is asked, as one line.
-pub(crate) fn write_line<W: Write>(out: &mut W, asked: Asked) -> fmt::Result {
-    match asked {
-        Asked::Frame(asked) => frame(out, asked)?,
-        Asked::Attempt(AttemptAsked::Cell(asked)) => looked(out, asked)?,
-        Asked::Attempt(AttemptAsked::Supply(asked)) => supplied(out, asked)?,
-        Asked::Attempt(AttemptAsked::Change(asked)) => changed(out, asked)?,
-    }
+pub(crate) fn write_line<W: Write>(out: &mut W, action: Action) -> fmt::Result {
+    write_step(out, action)?;
     writeln!(out)
 }
 
-/// A step of numbers or epochs.
-fn frame<W: Write>(out: &mut W, asked: FrameAsked) -> fmt::Result {
-    match asked {
-        FrameAsked::Clear(pool, index, None) => write!(
-            out,
-            "take {} word {index}",
-            pool_name(pool)
-        ),
-        FrameAsked::Clear(pool, index, Some(_)) => write!(
-            out,
-            "take {} word {index} lowest",
-            pool_name(pool)
-        ),
-        FrameAsked::Give(link) | FrameAsked::Free(link) => {
-            write!(out, "give ")?;
-            link_name(out, link)
-        }
-        FrameAsked::Note => write!(out, "epoch"),
-        FrameAsked::Store(word) => write!(out, "pin {word}"),
-        FrameAsked::Raise => write!(out, "advance"),
-        FrameAsked::Watch(pass) => write!(out, "watch {pass}"),
-    }
-}
-
-/// A look at a cell.
-fn looked<W: Write>(out: &mut W, asked: CellAsked) -> fmt::Result {
-    match asked {
-        CellAsked::Begin(cell) => named(out, "begin", cell),
-        CellAsked::Read(stamp, place) => {
+/// A step of a cell, or of a leaf.
+fn write_step<W: Write>(out: &mut W, action: Action) -> fmt::Result {
+    match action {
+        Action::Begin { cell } => named(out, "begin", cell),
+        Action::Read { stamp, place } => {
             named(out, "read", stamp.cell)?;
             write!(out, "[{place}]")
         }
-        CellAsked::ReadLeaf(_, leaf, place) => write!(out, "read leaves#{leaf}[{place}]"),
-        CellAsked::Check(stamp) | CellAsked::Settle(stamp) => named(out, "check", stamp.cell),
-    }
-}
-
-/// A number, or a word of a leaf in hand.
-fn supplied<W: Write>(out: &mut W, asked: SupplyAsked) -> fmt::Result {
-    match asked {
-        SupplyAsked::Number(asked) => frame(out, asked),
-        SupplyAsked::Leaf(leaf, put) => {
-            write!(out, "write leaves#{leaf}[{}] := {:#x}", put.place, put.word)
-        }
-    }
-}
-
-/// A step of the change.
-fn changed<W: Write>(out: &mut W, asked: ChangeAsked) -> fmt::Result {
-    match asked {
-        ChangeAsked::Upgrade(stamp) => named(out, "upgrade", stamp.cell),
-        ChangeAsked::Claim(node) => named(out, "claim", Cell::Node(node)),
-        ChangeAsked::Write(cell, place, value) => {
+        Action::ReadLeaf { leaf, place, .. } => write!(out, "read leaves#{leaf}[{place}]"),
+        Action::Check { stamp } | Action::Settle { stamp } => named(out, "check", stamp.cell),
+        Action::Upgrade { stamp } => named(out, "upgrade", stamp.cell),
+        Action::Claim { node } => named(out, "claim", Cell::Node(node)),
+        Action::Write { cell, place, word } => {
             named(out, "write", cell)?;
-            write!(out, "[{place}] := {value:#x}")
+            write!(out, "[{place}] := {word:#x}")
         }
-        ChangeAsked::Commit(cell, _) => named(out, "commit", cell),
-        ChangeAsked::Release(cell, _) => named(out, "release", cell),
+        Action::WriteLeaf { leaf, place, word } => {
+            write!(out, "write leaves#{leaf}[{place}] := {word:#x}")
+        }
+        Action::Commit { cell, .. } => named(out, "commit", cell),
+        Action::Release { cell, .. } => named(out, "release", cell),
+        _ => write_frame(out, action),
+    }
+}
+
+/// A step of numbers or epochs.
+fn write_frame<W: Write>(out: &mut W, action: Action) -> fmt::Result {
+    match action {
+        Action::ClearBit { pool, index, bit } => {
+            write!(out, "take {} word {index}", pool_name(pool))?;
+            match bit {
+                Some(_) => write!(out, " lowest"),
+                None => Ok(()),
+            }
+        }
+        Action::GiveBack { link } | Action::Free { link } => {
+            write!(out, "give ")?;
+            link_name(out, link)
+        }
+        Action::ReadEpoch => write!(out, "epoch"),
+        Action::StorePin { word } => write!(out, "pin {word}"),
+        Action::RaiseEpoch => write!(out, "advance"),
+        Action::ReadPin { pass } => write!(out, "watch {pass}"),
+        _ => Ok(()),
     }
 }
 

@@ -10,11 +10,11 @@ use crate::expected::*;
 use crate::lines::write_line;
 use crate::worlds::opened;
 use arrayvec::ArrayString;
-use art_attempt::{Asked as AttemptAsked, Room};
-use art_change::{Asked, Job, Write, step};
-use art_epoch::{Asked as FrameAsked, Limbo};
-use art_gather::Asked as SupplyAsked;
+use art_attempt::Room;
+use art_change::{Job, Write, step};
+use art_epoch::Limbo;
 use art_key::{Key, Schema, encode};
+use art_machine::Action;
 use art_model::{Tuple, Value};
 use art_step::Sizes;
 use art_world::Stepper;
@@ -50,12 +50,13 @@ enum Shown {
 }
 
 impl Shown {
-    fn has(self, asked: Asked) -> bool {
-        match (self, asked) {
-            (Shown::All, _) => true,
-            (_, Asked::Frame(FrameAsked::Give(_) | FrameAsked::Free(_))) => true,
-            (_, Asked::Attempt(AttemptAsked::Supply(SupplyAsked::Number(_)))) => true,
-            _ => false,
+    fn has(self, action: Action) -> bool {
+        match self {
+            Shown::All => true,
+            Shown::Numbers => matches!(
+                action,
+                Action::ClearBit { .. } | Action::GiveBack { .. } | Action::Free { .. }
+            ),
         }
     }
 }
@@ -116,16 +117,16 @@ fn run(
             let _ = outcome;
             return text;
         }
-        if let Some(asked) = write.next(room, limbo) {
-            tell(rt, &mut text, asked, shown);
+        if let Some(action) = write.next(room, limbo) {
+            tell(rt, &mut text, action, shown);
         }
         step(stepper, &mut write, room, limbo);
     }
 }
 
-fn tell(rt: &impl Abort, text: &mut Text, asked: Asked, shown: Shown) {
-    if shown.has(asked) {
-        write_line(text, asked).expect(rt, "the text has room");
+fn tell(rt: &impl Abort, text: &mut Text, action: Action, shown: Shown) {
+    if shown.has(action) {
+        write_line(text, action).expect(rt, "the text has room");
     }
 }
 

@@ -29,8 +29,8 @@ pub(crate) fn beside_leaf(
     ensures planned { PlansInsert stand.now desk.now new.now made change.new }
     ensures targets { 0 < targets change.new }
     ensures locks { LocksOnly (IsLockedAt stand.now) change.new }
-    ensures deed { change.new.deed ≡ inserted new.now }
-    ensures leaf { change.new.leaf ≡ Some new.now.number }
+    ensures deed { change.new.effects.deed ≡ inserted new.now }
+    ensures leaf { change.new.effects.leaf ≡ Some new.now.number }
 {
     let Verdict::OtherLeaf(other, at, byte) = stand.verdict else {
         unreachable!();
@@ -58,8 +58,8 @@ pub(crate) fn beside_node(
     ensures planned { PlansInsert stand.now desk.now new.now made change.new }
     ensures targets { 0 < targets change.new }
     ensures locks { LocksOnly (IsLockedAt stand.now) change.new }
-    ensures deed { change.new.deed ≡ inserted new.now }
-    ensures leaf { change.new.leaf ≡ Some new.now.number }
+    ensures deed { change.new.effects.deed ≡ inserted new.now }
+    ensures leaf { change.new.effects.leaf ≡ Some new.now.number }
 {
     let Verdict::OtherPrefix(node, _, at) = stand.verdict else {
         unreachable!();

@@ -22,8 +22,8 @@ pub(crate) fn to_anchor(change: &mut Change, stand: &Stand, new: &NewLeaf)
     ensures planned { (desk : DeskOf) (made : ℕ) → PlansInsert stand.now desk new.now made change.new }
     ensures targets { 0 < targets change.new }
     ensures locks { LocksOnly (IsLockedAt stand.now) change.new }
-    ensures deed { change.new.deed ≡ inserted new.now }
-    ensures leaf { change.new.leaf ≡ Some new.now.number }
+    ensures deed { change.new.effects.deed ≡ inserted new.now }
+    ensures leaf { change.new.effects.leaf ≡ Some new.now.number }
 {
     add(change, &Site::Root(stand.stamp), new);
 }
@@ -42,8 +42,8 @@ pub(crate) fn to_byte(
     ensures planned { (made : ℕ) → PlansInsert stand.now desk.now new.now made change.new }
     ensures targets { 0 < targets change.new }
     ensures locks { LocksOnly (IsLockedAt stand.now) change.new }
-    ensures deed { change.new.deed ≡ inserted new.now }
-    ensures leaf { change.new.leaf ≡ Some new.now.number }
+    ensures deed { change.new.effects.deed ≡ inserted new.now }
+    ensures leaf { change.new.effects.leaf ≡ Some new.now.number }
 {
     fill(&mut bodies.node, stand.stamp.cell, desk.node());
     let key = new.key.as_slice();
@@ -66,8 +66,8 @@ pub(crate) fn to_larger(
     ensures planned { PlansInsert stand.now desk.now new.now made change.new }
     ensures targets { 0 < targets change.new }
     ensures locks { LocksOnly (IsLockedAt stand.now) change.new }
-    ensures deed { change.new.deed ≡ inserted new.now }
-    ensures leaf { change.new.leaf ≡ Some new.now.number }
+    ensures deed { change.new.effects.deed ≡ inserted new.now }
+    ensures leaf { change.new.effects.leaf ≡ Some new.now.number }
 {
     let Verdict::Free(node, _) = stand.verdict else {
         unreachable!();

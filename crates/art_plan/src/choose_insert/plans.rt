@@ -28,8 +28,8 @@ pub fn plan_insert(
     ensures planned { PlansInsert stand.now desk.now new.now made change.new }
     ensures targets { 0 < targets change.new }
     ensures locks { LocksOnly (IsLockedAt stand.now) change.new }
-    ensures deed { change.new.deed ≡ inserted new.now }
-    ensures leaf { change.new.leaf ≡ Some new.now.number }
+    ensures deed { change.new.effects.deed ≡ inserted new.now }
+    ensures leaf { change.new.effects.leaf ≡ Some new.now.number }
 {
     match stand.verdict {
         Verdict::Empty => to_anchor(change, stand, new),

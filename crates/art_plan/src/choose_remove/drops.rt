@@ -29,8 +29,8 @@ pub fn plan_drop(
     ensures planned { PlansDrop stand.now desk.now old.now change.new }
     ensures targets { targets change.new ≡ 1 }
     ensures locks { LocksOnly (IsNodeAt stand.now) change.new }
-    ensures deed { change.new.deed ≡ removed old.now }
-    ensures leaf { change.new.leaf ≡ None }
+    ensures deed { change.new.effects.deed ≡ removed old.now }
+    ensures leaf { change.new.effects.leaf ≡ None }
 {
     fill(&mut bodies.node, stand.stamp.cell, desk.node());
     let site = site_at(stand.stamp, &bodies.node, old.key.as_slice(), stand.depth);

@@ -48,8 +48,8 @@ pub fn plan_merge_node(
     ensures planned { result ≡ true → PlansMergeNode stand.now desk.now lower.now reads.now old.now change.new }
     ensures targets { result ≡ true → targets change.new ≡ 3 }
     ensures locks { result ≡ true → LocksOnly (IsAnyAt stand.now lower.now) change.new }
-    ensures deed { change.new.deed ≡ removed old.now }
-    ensures leaf { change.new.leaf ≡ None }
+    ensures deed { change.new.effects.deed ≡ removed old.now }
+    ensures leaf { change.new.effects.leaf ≡ None }
     ensures refused { result ≡ false → MayNotMerge stand.now desk.now lower.now reads.now }
 {
     let Cell::Node(node) = stand.stamp.cell else {

@@ -30,8 +30,8 @@ pub fn plan_merge_leaf(
     ensures planned { PlansMerge stand.now desk.now old.now change.new }
     ensures targets { targets change.new ≡ 2 }
     ensures locks { LocksOnly (IsEitherAt stand.now) change.new }
-    ensures deed { change.new.deed ≡ removed old.now }
-    ensures leaf { change.new.leaf ≡ None }
+    ensures deed { change.new.effects.deed ≡ removed old.now }
+    ensures leaf { change.new.effects.leaf ≡ None }
 {
     let Cell::Node(node) = stand.stamp.cell else {
         unreachable!();

@@ -32,8 +32,8 @@ pub fn plan_shrink(
     ensures planned { PlansShrink stand.now desk.now old.now made change.new }
     ensures targets { targets change.new ≡ 2 }
     ensures locks { LocksOnly (IsEitherAt stand.now) change.new }
-    ensures deed { change.new.deed ≡ removed old.now }
-    ensures leaf { change.new.leaf ≡ None }
+    ensures deed { change.new.effects.deed ≡ removed old.now }
+    ensures leaf { change.new.effects.leaf ≡ None }
 {
     let Cell::Node(node) = stand.stamp.cell else {
         unreachable!();

@@ -19,8 +19,8 @@ pub fn add(change: &mut Change, site: &Site, new: &NewLeaf)
     ensures planned { (z : Sizes) (u : View) (depth : ℕ) → IsAdd z u site.now new.now depth → IsPlanned z u change.new }
     ensures targets { targets change.new ≡ 1 }
     ensures locks { change.new.targets.items ≡ kept (site_stamp site.now) ∷ [] }
-    ensures deed { change.new.deed ≡ inserted new.now }
-    ensures leaf { change.new.leaf ≡ Some new.now.number }
+    ensures deed { change.new.effects.deed ≡ inserted new.now }
+    ensures leaf { change.new.effects.leaf ≡ Some new.now.number }
 {
     added(site, child_word(Link::Leaf(new.number)), &mut change.writes);
     begin(change, new);

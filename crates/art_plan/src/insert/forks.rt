@@ -33,8 +33,8 @@ pub fn fork_leaf(
     ensures planned { (z : Sizes) (u : View) → IsForkLeaf z u site.now new.now parting other byte made → IsPlanned z u change.new }
     ensures targets { targets change.new ≡ 1 }
     ensures locks { change.new.targets.items ≡ kept (site_stamp site.now) ∷ [] }
-    ensures deed { change.new.deed ≡ inserted new.now }
-    ensures leaf { change.new.leaf ≡ Some new.now.number }
+    ensures deed { change.new.effects.deed ≡ inserted new.now }
+    ensures leaf { change.new.effects.leaf ≡ Some new.now.number }
 {
     let key = new.key.as_slice();
     let at = parting.depth + parting.common;
@@ -80,8 +80,8 @@ pub fn fork_prefix(
         → IsPlanned z u change.new }
     ensures targets { targets change.new ≡ 2 }
     ensures locks { change.new.targets.items ≡ kept (site_stamp site.now) ∷ kept below.now.stamp ∷ [] }
-    ensures deed { change.new.deed ≡ inserted new.now }
-    ensures leaf { change.new.leaf ≡ Some new.now.number }
+    ensures deed { change.new.effects.deed ≡ inserted new.now }
+    ensures leaf { change.new.effects.leaf ≡ Some new.now.number }
 {
     let parts = split(prefix, parting.common);
     let key = new.key.as_slice();

@@ -30,8 +30,8 @@ pub fn grow(change: &mut Change, site: &Site, below: &Below, byte: u8, new: &New
         → IsGrow z u site.now new.now depth below.now byte (larger_node below.now.body.now made) → IsPlanned z u change.new }
     ensures targets { targets change.new ≡ 2 }
     ensures locks { change.new.targets.items ≡ kept (site_stamp site.now) ∷ gone below.now.stamp ∷ [] }
-    ensures deed { change.new.deed ≡ inserted new.now }
-    ensures leaf { change.new.leaf ≡ Some new.now.number }
+    ensures deed { change.new.effects.deed ≡ inserted new.now }
+    ensures leaf { change.new.effects.leaf ≡ Some new.now.number }
 {
     let new_leaf = child_word(Link::Leaf(new.number));
     grown(below.body, byte, new_leaf, &mut change.body);

@@ -20,8 +20,8 @@ pub fn drop(change: &mut Change, site: &Site, old: &OldLeaf)
     ensures planned { (z : Sizes) (u : View) (depth : ℕ) → IsDrop z u site.now old.now depth → IsPlanned z u change.new }
     ensures targets { targets change.new ≡ 1 }
     ensures locks { change.new.targets.items ≡ kept (site_stamp site.now) ∷ [] }
-    ensures deed { change.new.deed ≡ removed old.now }
-    ensures leaf { change.new.leaf ≡ None }
+    ensures deed { change.new.effects.deed ≡ removed old.now }
+    ensures leaf { change.new.effects.leaf ≡ None }
 {
     let old_leaf = child_word(Link::Leaf(old.number));
     dropped(site, &mut change.writes);

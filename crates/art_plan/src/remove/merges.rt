@@ -23,8 +23,8 @@ pub fn merge_leaf(change: &mut Change, site: &Site, below: &Below, other: u32, o
         → IsMergeLeaf z u site.now old.now depth below.now byte beside other → IsPlanned z u change.new }
     ensures targets { targets change.new ≡ 2 }
     ensures locks { change.new.targets.items ≡ kept (site_stamp site.now) ∷ gone below.now.stamp ∷ [] }
-    ensures deed { change.new.deed ≡ removed old.now }
-    ensures leaf { change.new.leaf ≡ None }
+    ensures deed { change.new.effects.deed ≡ removed old.now }
+    ensures leaf { change.new.effects.leaf ≡ None }
 {
     let old_leaf = child_word(Link::Leaf(old.number));
     let old_node = child_word(Link::Node(below.node));
@@ -54,8 +54,8 @@ pub fn merge_node(
     ensures targets { result ≡ true → targets change.new ≡ 3 }
     ensures locks { result ≡ true →
         change.new.targets.items ≡ kept (site_stamp site.now) ∷ gone below.now.stamp ∷ kept lower.now.stamp ∷ [] }
-    ensures deed { change.new.deed ≡ removed old.now }
-    ensures leaf { change.new.leaf ≡ None }
+    ensures deed { change.new.effects.deed ≡ removed old.now }
+    ensures leaf { change.new.effects.leaf ≡ None }
     ensures refused { result ≡ false → IsTooLong parts.now }
 {
     begin(change, old);

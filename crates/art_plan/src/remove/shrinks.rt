@@ -30,8 +30,8 @@ pub fn shrink(change: &mut Change, site: &Site, below: &Below, byte: u8, old: &O
         → IsShrink z u site.now old.now depth below.now byte (smaller_node below.now.body.now made) → IsPlanned z u change.new }
     ensures targets { targets change.new ≡ 2 }
     ensures locks { change.new.targets.items ≡ kept (site_stamp site.now) ∷ gone below.now.stamp ∷ [] }
-    ensures deed { change.new.deed ≡ removed old.now }
-    ensures leaf { change.new.leaf ≡ None }
+    ensures deed { change.new.effects.deed ≡ removed old.now }
+    ensures leaf { change.new.effects.leaf ≡ None }
 {
     shrunk(below.body, byte, &mut change.body);
     let new_node = child_word(Link::Node(Node {

@@ -116,7 +116,7 @@ returns-in-Some-clause-asked g c =
     let new = c.step-stepped.new in
     let sizes = g.met.S.Steps.only_sizes c.args.steps.now l.steps i.only in
     let makes : WriteMakes (g.S.Steps.sizes l.steps) (g.S.Steps.view l.steps) l.write l.room (places_of l.limbo) (g.S.Steps.view new.steps) new.write new.room (places_of new.limbo) = record {
-      asked = c.step-stepped.result.asked;
+      asked = c.step-stepped.result.action;
       answer = c.step-stepped.result.answer;
       asks = e.asked;
       allowed = e.allowed;
@@ -205,7 +205,7 @@ loop-steps-preserved g c =
               (λ (t : View). WriteMakes (g.S.Steps.sizes c.args.steps.now) t l.write l.room (places_of l.limbo) t c.step-stepped.new.write c.step-stepped.new.room (places_of c.step-stepped.new.limbo)) i.same
               (subst (λ (t : View). WriteMakes (g.S.Steps.sizes c.args.steps.now) v l.write l.room (places_of l.limbo) t c.step-stepped.new.write c.step-stepped.new.room (places_of c.step-stepped.new.limbo)) none
               (subst (λ (z : Sizes). WriteMakes z v l.write l.room (places_of l.limbo) w c.step-stepped.new.write c.step-stepped.new.room (places_of c.step-stepped.new.limbo)) sizes
-              record { asked = c.step-stepped.result.asked; answer = c.step-stepped.result.answer; asks = e.asked; allowed = e.allowed; row = e.row; left = e.left; fits = e.fits })),
+              record { asked = c.step-stepped.result.action; answer = c.step-stepped.result.answer; asks = e.asked; allowed = e.allowed; row = e.row; left = e.left; fits = e.fits })),
         ),
       );
       fits = λ u ps fits. subst (λ (z : Sizes). Fits z u ps c.step-stepped.new.write c.step-stepped.new.room (places_of c.step-stepped.new.limbo) w) sizes

@@ -1,14 +1,15 @@
-use Rattle.std.proofs.Common.{◌≡◌, ◌∙◌, ⊎_elim, sym, subst}
-use Rattle.art_erase.specs.ArtAttempt.Asking.{cell_in}
+use Rattle.std.proofs.Common.{◌≡◌, ◌∙◌, Some, ⊎_elim, ap, sym, subst}
 use Rattle.art_change.proofs.Overlaps.{never_overlaps}
-use Rattle.art_change.proofs.Steps.{write_few}
+use Rattle.art_change.proofs.Steps.{write_few, write_made}
 use Rattle.art_change.proofs.driver.step.Goals as goal
-use Rattle.art_change.specs.Asking.{Answers, attempt_in}
+use Rattle.art_erase.specs.ArtAttempt.Asking.{Answers}
+use Rattle.art_change.specs.Made.{IsMadeBy}
 use Rattle.art_change.specs.Tries.{IsOverlapBy, deed_at}
 use Rattle.art_change.specs.declared.tries.Trying.{Trying}
 use Rattle.art_change.specs.declared.writes.Outcome.TheVariants.{Overlaps}
 use Rattle.art_change.specs.declared.writes.Stage.TheVariants.{Trying as trying}
 use Rattle.art_epoch.specs.Limbo.{places_of}
+use Rattle.art_machine.specs.declared.actions.Action.TheVariants.{Commit}
 
 pub returns-clause-one : goal.returns-clause-one
 returns-clause-one g c =
@@ -18,8 +19,8 @@ returns-clause-one g c =
     let m = c.args.write.now in
     let r = c.args.room.now in
     let q = c.requires.fits in
-    let row = subst (λ (t : Trying). Answers z (deed_at t r) r.change c.in-Some.asked c.make-answer.result v w) c.trying.ensures c.make-answer.ensures.row in
-    write_few z q.0 q.1 m r (places_of c.args.limbo.now) v w c.in-Some.asked c.make-answer.result row q.2 (sym c.next.ensures.asks ∙ c.in-Some.is)
+    let row = subst (λ (t : Trying). Answers z (deed_at t r) r.change c.in-Some.action c.make-answer.result v w) c.trying.ensures c.make-answer.ensures.row in
+    write_few z q.0 q.1 m r (places_of c.args.limbo.now) v w c.in-Some.action c.make-answer.result row q.2 (sym c.next.ensures.asks ∙ c.in-Some.is)
 
 pub returns-clause-fits : goal.returns-clause-fits
 returns-clause-fits g c u ps fits =
@@ -27,8 +28,8 @@ returns-clause-fits g c u ps fits =
     let v = g.S.Steps.view c.args.steps.now in
     let w = g.S.Steps.view c.make-answer.new.steps in
     let r = c.args.room.now in
-    let row = subst (λ (t : Trying). Answers z (deed_at t r) r.change c.in-Some.asked c.make-answer.result v w) c.trying.ensures c.make-answer.ensures.row in
-    c.told.ensures.fits z u v w ps c.in-Some.asked fits (sym c.next.ensures.asks ∙ c.in-Some.is) row
+    let row = subst (λ (t : Trying). Answers z (deed_at t r) r.change c.in-Some.action c.make-answer.result v w) c.trying.ensures c.make-answer.ensures.row in
+    c.told.ensures.fits z u v w ps c.in-Some.action fits (sym c.next.ensures.asks ∙ c.in-Some.is) row
 
 pub returns-clause-apart : goal.returns-clause-apart
 returns-clause-apart g c apart was now =
@@ -38,7 +39,17 @@ returns-clause-apart g c apart was now =
     let q = c.requires.fits in
     ⊎_elim
     (λ (had : m.outcome ≡ Overlaps). was had)
-    (λ (here : (m.stage ≡ trying) × IsOverlapBy m.trying (cell_in (attempt_in c.make-answer.result))).
-    never_overlaps (g.S.Steps.admits c.args.steps.now) apart z v q.0 q.1 m c.args.room.now (places_of c.args.limbo.now) c.in-Some.asked c.make-answer.result q.2 c.requires.admitted
+    (λ (here : (m.stage ≡ trying) × IsOverlapBy m.trying c.make-answer.result).
+    never_overlaps (g.S.Steps.admits c.args.steps.now) apart z v q.0 q.1 m c.args.room.now (places_of c.args.limbo.now) c.in-Some.action c.make-answer.result q.2 c.requires.admitted
     (sym c.next.ensures.asks ∙ c.in-Some.is) c.make-answer.ensures.keys here)
     (c.told.ensures.overlaps now)
+
+pub make-answer-requires-clause-deed : goal.make-answer-requires-clause-deed
+make-answer-requires-clause-deed g c cell obsolete is =
+    let z = g.S.Steps.sizes c.args.steps.now in
+    let v = g.S.Steps.view c.args.steps.now in
+    let m = c.args.write.now in
+    let r = c.args.room.now in
+    let q = c.requires.fits in
+    let asks : _ ≡ Some (Commit cell obsolete) = sym c.next.ensures.asks ∙ (c.in-Some.is ∙ ap Some is) in
+    subst (λ (t : Trying). IsMadeBy t r) (sym c.trying.ensures) (write_made z q.0 q.1 m r (places_of c.args.limbo.now) v cell obsolete q.2 asks)

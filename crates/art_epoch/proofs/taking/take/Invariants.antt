@@ -3,8 +3,8 @@ use Rattle.std.proofs.Common.{◌≡◌, ◌+◌, ◌-◌, ◌*◌}
 use Rattle.art_epoch.specs.Taking.{Fits}
 use Rattle.art_epoch.proofs.taking.take.Given as goal
 
-abbrev pub invariant-loop-asked : goal.invariant-loop-asked
-invariant-loop-asked g l = record {
+abbrev pub invariant-loop-action : goal.invariant-loop-action
+invariant-loop-action g l = record {
   only : g.S.Steps.only l.initial.steps l.steps;
   sizes : g.S.Steps.sizes l.steps ≡ g.S.Steps.sizes l.initial.steps;
   pool : l.taking.pool ≡ l.fn.pool;
@@ -14,5 +14,5 @@ invariant-loop-asked g l = record {
 }
 
 -- each step counts, and so many are made at most
-abbrev pub decreases-loop-asked : goal.decreases-loop-asked
-decreases-loop-asked g l = (g.S.Steps.view l.initial.steps).steps + 2 * l.initial.taking.words - (g.S.Steps.view l.steps).steps
+abbrev pub decreases-loop-action : goal.decreases-loop-action
+decreases-loop-action g l = (g.S.Steps.view l.initial.steps).steps + 2 * l.initial.taking.words - (g.S.Steps.view l.steps).steps

@@ -2,8 +2,8 @@ use Rattle.std.proofs.Common.{None, refl, sym, subst, arith}
 use Rattle.std.specs.Prelude.{Option, Result, Ok, Err}
 use Rattle.art_find.specs.Driven.{get_done}
 use Rattle.art_find.specs.Straight.{GetGoes, at_stage, come_to}
-use Rattle.art_find.specs.declared.asked.Answer.TheVariants.{Checked}
-use Rattle.art_find.specs.declared.asked.Asked.TheVariants.{Check}
+use Rattle.art_machine.specs.declared.actions.Answer.TheVariants.{Checked}
+use Rattle.art_machine.specs.declared.actions.Action.TheVariants.{Check}
 use Rattle.art_find.specs.declared.descents.Stage.TheVariants.{Both, Header}
 use Rattle.art_find.proofs.Allowed.{allowed}
 use Rattle.art_find.proofs.Going.{went_anew, went_on}

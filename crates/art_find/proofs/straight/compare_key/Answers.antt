@@ -1,8 +1,8 @@
 use Rattle.std.proofs.Common.{◌+◌, ◌-◌, ℕ, refl, sym, subst, arith}
 use Rattle.art_find.specs.Driven.{get_done}
 use Rattle.art_find.specs.Straight.{GoesOn, at_stage}
-use Rattle.art_find.specs.declared.asked.Answer.TheVariants.{Word as word_told}
-use Rattle.art_find.specs.declared.asked.Asked.TheVariants.{ReadLeaf}
+use Rattle.art_machine.specs.declared.actions.Answer.TheVariants.{Word as word_told}
+use Rattle.art_machine.specs.declared.actions.Action.TheVariants.{ReadLeaf}
 use Rattle.art_find.specs.declared.straight.Tally.{Tally}
 use Rattle.art_find.specs.declared.descents.Stage.TheVariants.{Bytes}
 use Rattle.art_find.proofs.Allowed.{allowed}

@@ -2,8 +2,8 @@ use Rattle.std.proofs.Common.{refl, arith}
 use Rattle.art_find.specs.Compares.{at_first}
 use Rattle.art_find.specs.Driven.{get_done}
 use Rattle.art_find.specs.Straight.{at_stage}
-use Rattle.art_find.specs.declared.asked.Answer.TheVariants.{Word as word_told}
-use Rattle.art_find.specs.declared.asked.Asked.TheVariants.{ReadLeaf}
+use Rattle.art_machine.specs.declared.actions.Answer.TheVariants.{Word as word_told}
+use Rattle.art_machine.specs.declared.actions.Action.TheVariants.{ReadLeaf}
 use Rattle.art_find.specs.declared.descents.LeafSeen.{LeafSeen}
 use Rattle.art_find.specs.declared.descents.Stage.TheVariants.{Bytes, Length}
 use Rattle.art_find.proofs.Allowed.{allowed}

@@ -3,8 +3,8 @@ use Rattle.std.specs.Prelude.{Option, Result, Ok, Err}
 use Rattle.art_find.specs.Descents.{stage_below}
 use Rattle.art_find.specs.Driven.{get_done}
 use Rattle.art_find.specs.Straight.{GetGoes, at_below, at_child, at_stage, come_to}
-use Rattle.art_find.specs.declared.asked.Answer.TheVariants.{Checked}
-use Rattle.art_find.specs.declared.asked.Asked.TheVariants.{Check}
+use Rattle.art_machine.specs.declared.actions.Answer.TheVariants.{Checked}
+use Rattle.art_machine.specs.declared.actions.Action.TheVariants.{Check}
 use Rattle.art_find.specs.declared.descents.Stage.TheVariants.{Child}
 use Rattle.art_find.specs.declared.straight.Below.{Below}
 use Rattle.art_find.proofs.Allowed.{allowed}

@@ -3,8 +3,8 @@ use Rattle.std.specs.Prelude.{IfSome}
 use Rattle.art_find.specs.Descents.{StageFits, asks}
 use Rattle.art_find.specs.Driven.{get_done}
 use Rattle.art_find.specs.Straight.{GetGoes, GoesOn, at_search, come_to}
-use Rattle.art_find.specs.declared.asked.Answer.TheVariants.{Word as word_told}
-use Rattle.art_find.specs.declared.asked.Asked.TheVariants.{Read}
+use Rattle.art_machine.specs.declared.actions.Answer.TheVariants.{Word as word_told}
+use Rattle.art_machine.specs.declared.actions.Action.TheVariants.{Read}
 use Rattle.art_find.specs.declared.descents.Descent.{Descent}
 use Rattle.art_find.specs.declared.descents.Stage.{Stage}
 use Rattle.art_find.specs.declared.descents.Stage.TheVariants.{Prefix}

@@ -2,8 +2,8 @@ use Rattle.std.proofs.Common.{refl, sym, ◌∙◌, arith}
 use Rattle.art_cell.specs.declared.cells.Cell.TheVariants as cell
 use Rattle.art_find.specs.Driven.{get_done}
 use Rattle.art_find.specs.Straight.{at_stage}
-use Rattle.art_find.specs.declared.asked.Answer.TheVariants.{Word as word_told}
-use Rattle.art_find.specs.declared.asked.Asked.TheVariants.{Read}
+use Rattle.art_machine.specs.declared.actions.Answer.TheVariants.{Word as word_told}
+use Rattle.art_machine.specs.declared.actions.Action.TheVariants.{Read}
 use Rattle.art_find.specs.declared.descents.Stage.TheVariants.{Anchor, Child, Decided}
 use Rattle.art_find.specs.declared.verdicts.Verdict.TheVariants.{Empty}
 use Rattle.art_find.proofs.Going.{went_on}

@@ -5,8 +5,8 @@ use Rattle.art_find.specs.Descents.{staged}
 use Rattle.art_find.specs.Driven.{get_done}
 use Rattle.art_find.specs.Straight.{at_stage}
 use Rattle.art_find.specs.Ways.{HasHeader, IsPastPrefix, count_in}
-use Rattle.art_find.specs.declared.asked.Answer.TheVariants.{Word as word_told}
-use Rattle.art_find.specs.declared.asked.Asked.TheVariants.{Read}
+use Rattle.art_machine.specs.declared.actions.Answer.TheVariants.{Word as word_told}
+use Rattle.art_machine.specs.declared.actions.Action.TheVariants.{Read}
 use Rattle.art_find.specs.declared.descents.NodeSeen.{NodeSeen}
 use Rattle.art_find.specs.declared.descents.Stage.TheVariants.{Header}
 use Rattle.art_find.proofs.Allowed.{allowed}

@@ -3,8 +3,8 @@ use Rattle.art_cell.specs.declared.cells.Cell.TheVariants as cell
 use Rattle.art_find.specs.Descents.{staged}
 use Rattle.art_find.specs.Driven.{get_done}
 use Rattle.art_find.specs.Straight.{GetGoes, at_stage}
-use Rattle.art_find.specs.declared.asked.Answer.TheVariants.{Word as word_told}
-use Rattle.art_find.specs.declared.asked.Asked.TheVariants.{Read}
+use Rattle.art_machine.specs.declared.actions.Answer.TheVariants.{Word as word_told}
+use Rattle.art_machine.specs.declared.actions.Action.TheVariants.{Read}
 use Rattle.art_find.specs.declared.descents.Stage.TheVariants.{Keys}
 use Rattle.art_find.proofs.Counting.{staged_going, staged_later}
 use Rattle.art_find.proofs.Going.{went_on}

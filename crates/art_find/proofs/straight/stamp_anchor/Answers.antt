@@ -3,8 +3,8 @@ use Rattle.std.specs.Prelude.{Option, Result, Ok, Err}
 use Rattle.art_cell.specs.declared.cells.Cell.TheVariants as cell
 use Rattle.art_find.specs.Driven.{get_done}
 use Rattle.art_find.specs.Straight.{GetGoes, at_stage, come_to}
-use Rattle.art_find.specs.declared.asked.Answer.TheVariants.{Begun}
-use Rattle.art_find.specs.declared.asked.Asked.TheVariants.{Begin}
+use Rattle.art_machine.specs.declared.actions.Answer.TheVariants.{Begun}
+use Rattle.art_machine.specs.declared.actions.Action.TheVariants.{Begin}
 use Rattle.art_find.specs.declared.descents.Stage.TheVariants.{Start, Anchor}
 use Rattle.art_find.proofs.Allowed.{allowed}
 use Rattle.art_find.proofs.Going.{went_anew, went_on}

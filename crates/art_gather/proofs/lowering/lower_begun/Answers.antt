@@ -1,6 +1,6 @@
 use Rattle.std.proofs.Common.{◌≡◌, ◌∙◌, ℕ, List, Option, ap, subst, sym}
 use Rattle.std.specs.Prelude.{Ok}
-use Rattle.art_find.specs.declared.asked.Answer.TheVariants.{Begun}
+use Rattle.art_machine.specs.declared.actions.Answer.TheVariants.{Begun}
 use Rattle.art_gather.proofs.Lowers.{begun_told}
 use Rattle.art_gather.specs.Lowering.{Fits}
 use Rattle.art_gather.specs.declared.lowering.Lowering.TheVariants.{Named}

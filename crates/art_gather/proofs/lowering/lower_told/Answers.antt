@@ -11,15 +11,15 @@ returns-clause-fits c z k t n desk deed u v w asked fits is row =
     let i = c.args.rereading.place in
     let reading = fits.stage.4 in
     let read = read_told z deed x c.args.rereading asked c.args.answer v w reading.more is row in
-    let word = subst (λ (o : ℕ). ReadOutcome z v w x i o) (sym c.word_in.ensures) read in
+    let word = subst (λ (o : ℕ). ReadOutcome z v w x i o) (sym c.found.ensures) read in
     let now = c.told.ensures.fits z v w x reading.fits reading.more word in
     let before = cell_fits x.cell in
     let more = reading.more in
     let steps = c.told.ensures.steps in
     c.lower_read_on.ensures.fits z k t n desk c.told.new.reads u w
-    (lower_on z k t n desk u v w x i c.word_in.result word fits.stage.0)
-    (lower_below z k t n desk u v w x i c.word_in.result word c.args.lower.now c.told.new.reads now.kept fits.stage.1)
-    (lower_leads z k t n desk u v w x i c.word_in.result word fits.stage.2)
-    (read_left z u v w x i c.word_in.result (266 - i + 3) (266 - c.told.new.self.place + 3) 535 word (omega (arith, before, more, steps)) (record { failures = fits.failures; steps = fits.steps }))
+    (lower_on z k t n desk u v w x i c.found.result word fits.stage.0)
+    (lower_below z k t n desk u v w x i c.found.result word c.args.lower.now c.told.new.reads now.kept fits.stage.1)
+    (lower_leads z k t n desk u v w x i c.found.result word fits.stage.2)
+    (read_left z u v w x i c.found.result (266 - i + 3) (266 - c.told.new.self.place + 3) 535 word (omega (arith, before, more, steps)) (record { failures = fits.failures; steps = fits.steps }))
     fits.stage.3
     now

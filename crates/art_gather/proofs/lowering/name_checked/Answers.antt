@@ -1,8 +1,8 @@
 use Rattle.std.proofs.Common.{◌≡◌, ◌∙◌, ◌+◌, ◌-◌, arith, subst, sym}
 use Rattle.std.proofs.lemmas.Option.{same_Some}
-use Rattle.art_find.specs.Asking.{Answers}
-use Rattle.art_find.specs.declared.asked.Asked.{Asked}
-use Rattle.art_find.specs.declared.asked.Asked.TheVariants.{Check}
+use Rattle.art_machine.specs.Acting.{Answers, telling}
+use Rattle.art_machine.specs.declared.actions.Action.{Action}
+use Rattle.art_machine.specs.declared.actions.Action.TheVariants.{Check}
 use Rattle.art_gather.proofs.Vouches.{above_begins, passed_left}
 use Rattle.art_gather.proofs.Lowers.{named_below, named_leads, named_on, passed_unchanged}
 use Rattle.art_gather.proofs.lowering.name_checked.Goals as goal
@@ -11,8 +11,8 @@ pub returns-clause-fits : goal.returns-clause-fits
 returns-clause-fits c z k n deed u v w asked fits is row =
     let t = c.args.stand.now in
     let desk = c.args.desk.now in
-    let at : Check t.stamp ≡ asked = same_Some {A = Asked} (Check t.stamp) asked is in
-    let passed = passed_unchanged z deed t.stamp c.args.answer v w (sym c.passed.ensures ∙ c.if-not-passed.false) (subst (λ (q : Asked). Answers z deed q c.args.answer v w) (sym at) row) in
+    let at : Check t.stamp ≡ asked = same_Some {A = Action} (Check t.stamp) asked is in
+    let passed = passed_unchanged z deed t.stamp c.args.answer v w (sym c.passed.ensures ∙ c.if-not-passed.false) (subst (λ (q : Action). Answers z (telling deed) q c.args.answer v w) (sym at) row) in
     let lowering = named_on z k t n desk u v w fits.stage.0 passed in
     let begins = c.new.ensures.begins in
     c.above_read_on.ensures.fits z k t n desk u w lowering

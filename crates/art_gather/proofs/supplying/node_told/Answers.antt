@@ -1,28 +1,25 @@
 use Rattle.std.proofs.Common.{◌≡◌, ◌∙◌, None, sym, subst}
 use Rattle.std.proofs.lemmas.Option.{same_Some}
 use Rattle.art_cell.specs.declared.layouts.Layout.{Layout}
-use Rattle.art_epoch.specs.Taking.{asks as taking_asks}
 use Rattle.art_frame.specs.Stocks.{node_in}
 use Rattle.art_gather.specs.Supplying.{IsSought}
 use Rattle.art_step.specs.Views.{pool_of_layout}
-use Rattle.art_gather.proofs.Supplies.{number_answers, told_sought}
+use Rattle.art_gather.proofs.Supplies.{told_sought}
 use Rattle.art_gather.proofs.supplying.node_told.Goals as goal
 
 pub node_sought-requires : goal.node_sought-requires
 node_sought-requires c =
     let r = c.requires in
     let p = r.7.stage.1.seeking.sought in
-    let a = number_answers r.0 (taking_asks c.args.taking) r.6 c.args.word r.4 r.5 r.8 r.9 in
-    (r.0, p.early, r.5, c.told.ensures.fits r.0 p.early r.4 r.5 a.0 p.seeks a.1 a.2)
+    (r.0, p.early, r.5, c.told.ensures.fits r.0 p.early r.4 r.5 r.6 p.seeks r.8 r.9)
 
 pub returns-clause-fits : goal.returns-clause-fits
 returns-clause-fits c z k value u v w asked fits is row =
     let wants = c.args.wants.now in
     let q = fits.stage.1 in
     let p = q.seeking.sought in
-    let a = number_answers z (taking_asks c.args.taking) asked c.args.word v w is row in
     let one : q.layout ≡ c.in-Some.layout = same_Some {A = Layout} q.layout c.in-Some.layout (sym q.wanted ∙ c.in-Some.is) in
-    let then = told_sought z k value c.args.stock.now u c.args.taking c.told.new.self (pool_of_layout q.layout) v w p c.told.ensures.pool (c.told.ensures.fits z p.early v w a.0 p.seeks a.1 a.2) in
+    let then = told_sought z k value c.args.stock.now u c.args.taking c.told.new.self (pool_of_layout q.layout) v w p c.told.ensures.pool (c.told.ensures.fits z p.early v w asked p.seeks is row) in
     c.node_sought.ensures.fits z wants k value u w fits.sizes c.in-Some.is
     (subst (λ (b : Layout). node_in c.args.stock.now b ≡ None) one q.none)
     fits.stage.0

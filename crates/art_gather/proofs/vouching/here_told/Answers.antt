@@ -13,15 +13,15 @@ returns-clause-fits c z k deed u v w asked fits is row =
     let x = t.stamp in
     let here = fits.stage.2 in
     let read = read_told z deed x c.args.rereading asked c.args.answer v w here.more is row in
-    let word = subst (λ (n : ℕ). ReadOutcome z v w x c.args.rereading.place n) (sym c.word_in.ensures) read in
+    let word = subst (λ (n : ℕ). ReadOutcome z v w x c.args.rereading.place n) (sym c.found.ensures) read in
     let now = c.reread_node.ensures.fits z v w x here.fits here.more word in
     let i = c.args.rereading.place in
     let before = cell_fits x.cell in
     let more = here.more in
     let steps = c.reread_node.ensures.steps in
     c.here_read_on.ensures.fits z k c.reread_node.new.self u w
-    (here_on z k t c.args.desk.now c.reread_node.new.self u v w x c.args.rereading.place c.word_in.result word fits.stage.0 c.reread_node.ensures.above now.kept)
-    (read_left z u v w x i c.word_in.result (266 - i + 2) (266 - c.reread_node.new.rereading.place + 2) 532 word (omega (arith, before, more, steps)) (record { failures = fits.failures; steps = fits.steps }))
+    (here_on z k t c.args.desk.now c.reread_node.new.self u v w x c.args.rereading.place c.found.result word fits.stage.0 c.reread_node.ensures.above now.kept)
+    (read_left z u v w x i c.found.result (266 - i + 2) (266 - c.reread_node.new.rereading.place + 2) 532 word (omega (arith, before, more, steps)) (record { failures = fits.failures; steps = fits.steps }))
     (λ a at. subst (λ (reads : List (Option ℕ)). AreKnown reads 1 (size_of a.stamp.cell)) (sym c.reread_node.ensures.above) (fits.stage.1 a at))
     now
 

@@ -1,7 +1,7 @@
 use Rattle.std.proofs.Common.{◌∙◌, true, false, None, refl, ap, subst, arith}
 use Rattle.std.specs.Prelude.{Result, Ok, Err}
-use Rattle.art_find.specs.declared.asked.Answer.TheVariants.{Checked}
-use Rattle.art_find.specs.declared.asked.Asked.TheVariants.{Check}
+use Rattle.art_machine.specs.declared.actions.Answer.TheVariants.{Checked}
+use Rattle.art_machine.specs.declared.actions.Action.TheVariants.{Check}
 use Rattle.art_find.specs.declared.straight.Tally.{Tally}
 use Rattle.art_look.specs.Looks.{asks}
 use Rattle.art_look.specs.declared.looks.LookStage.{LookStage}
@@ -18,7 +18,7 @@ returns-in-Ok c = record {
       let e = c.checked_at.ensures in
       let is = ap (λ (s : LookStage). asks s) c.requires.at ∙ asked in
       let row = subst (λ (r : Result (Unit {0}) Changed). check.Outcome z v w x None r) c.in-Ok.is found in
-      has_gone z lo v w m n t t (Check x) (Checked (Ok tt)) true refl (λ d. row) c.args.tally.now _ (still_going m.stage n.stage x is e.going) (λ on. e.steps) e.least
+      has_gone z lo v w m n t t (Check x) (Checked (Ok tt)) true refl (λ d. row) tt c.args.tally.now _ (still_going m.stage n.stage x is e.going) (λ on. e.steps) e.least
       (λ hi u fits. e.fits z lo hi t u v w (Check x) fits is row) (omega (arith, c.requires.turn.some)) refl;
 }
 
@@ -32,6 +32,6 @@ returns-in-Err c = record {
       let is = ap (λ (s : LookStage). asks s) c.requires.at ∙ asked in
       let row = subst (λ (r : Result (Unit {0}) Changed). check.Outcome z v w x None r) c.in-Err.is found in
       let least = e.least in
-      has_gone z lo v w m n t t (Check x) (Checked (Err fault)) false refl (λ d. row) c.args.tally.now _ (anew_going n.stage e.least) (λ on. absurd (cc)) (omega (arith, least))
+      has_gone z lo v w m n t t (Check x) (Checked (Err fault)) false refl (λ d. row) tt c.args.tally.now _ (anew_going n.stage e.least) (λ on. absurd (cc)) (omega (arith, least))
       (λ hi u fits. e.fits z lo hi t u w (check_fails z lo hi m t u v w x fault is fits row)) (omega (arith, ap (λ (a : Tally). a.left) e.tally, c.requires.turn.some)) (ap (λ (a : Tally). a.restarts) e.tally);
 }

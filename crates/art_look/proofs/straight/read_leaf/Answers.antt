@@ -1,6 +1,6 @@
 -- Each word is the one that was asked for.
 use Rattle.std.proofs.Common.{ℕ, ◌+◌, refl, sym, subst}
-use Rattle.art_find.specs.declared.asked.Asked.TheVariants.{ReadLeaf}
+use Rattle.art_machine.specs.declared.actions.Action.TheVariants.{ReadLeaf}
 use Rattle.art_look.specs.declared.looks.LookStage.TheVariants.{Value, Length, Bytes}
 use Rattle.art_look.proofs.Going.{may_go}
 use Rattle.art_step.specs.Steps.Read as read

@@ -45,7 +45,7 @@ returns-clause-renewed c =
     c.moved_targets-targets.ensures ∙ (ap (λ (x : Stamp). kept x ∷ gone below.stamp ∷ lower_targets first c.as_slice-2.result.now) c.stamp.ensures ∙ ap (λ (xs : List Target). kept (site_stamp site) ∷ gone below.stamp ∷ lower_targets first xs) c.as_slice-2.ensures.value) in
     let puts : c.moved_puts-puts.result.items ≡ puts_of 0 ws ++ filter_map (moved_put first) ch.puts.items =
     c.moved_puts-puts.ensures ∙ (ap (λ (xs : List Write). puts_of 0 xs ++ filter_map (moved_put first) c.as_slice-4.result.now) c.as_slice-3.ensures.value ∙ ap (λ (ps : List Put). puts_of 0 ws ++ filter_map (moved_put first) ps) c.as_slice-4.ensures.value) in
-    let goes : c.push.new.self.items ≡ ch.unlinked.items ++ child_word (node below.node) ∷ [] = c.push.ensures.items ∙ ap (λ (x : ℕ). ch.unlinked.items ++ x ∷ []) c.child_word-2.ensures in
+    let goes : c.push.new.self.items ≡ ch.effects.unlinked.items ++ child_word (node below.node) ∷ [] = c.push.ensures.items ∙ ap (λ (x : ℕ). ch.effects.unlinked.items ++ x ∷ []) c.child_word-2.ensures in
     record {
       twin = twin;
       numbered = refl;
@@ -55,7 +55,7 @@ returns-clause-renewed c =
       is = λ i. record (renewed first (site_stamp site) ws below.stamp below.node twin ch) {
         targets = record { items = targets i };
         puts = record { items = puts i };
-        unlinked = record { items = goes i };
+        effects = record ch.effects { unlinked = record { items = goes i } };
       };
     }
 

@@ -50,7 +50,7 @@ returns-clause-renewed c =
     let copy_word : c.child_word.result ≡ child_word (node (twin_node twin)) = c.child_word.ensures ∙ ap (λ (n : Node). child_word (node n)) (sym same) in
     let set = c.set.ensures.set in
     let puts : c.kept_puts-puts.result.items ≡ filter_map kept_put ch.puts.items = c.kept_puts-puts.ensures ∙ ap (filter_map kept_put) c.as_slice-3.ensures.value in
-    let goes : c.push.new.self.items ≡ ch.unlinked.items ++ child_word (node below.node) ∷ [] = c.push.ensures.items ∙ ap (λ (x : ℕ). ch.unlinked.items ++ x ∷ []) c.child_word-2.ensures in
+    let goes : c.push.new.self.items ≡ ch.effects.unlinked.items ++ child_word (node below.node) ∷ [] = c.push.ensures.items ∙ ap (λ (x : ℕ). ch.effects.unlinked.items ++ x ∷ []) c.child_word-2.ensures in
     record {
       twin = twin;
       numbered = refl;
@@ -63,7 +63,7 @@ returns-clause-renewed c =
           λ i. record (renewed_below top below.stamp body below.node twin ch) {
             targets = record { items = targets i };
             puts = record { items = puts i };
-            unlinked = record { items = goes i };
+            effects = record ch.effects { unlinked = record { items = goes i } };
           };
     }
 

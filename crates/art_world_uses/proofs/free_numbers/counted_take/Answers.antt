@@ -1,7 +1,7 @@
 -- The steps are those of the machine.
-use Rattle.std.proofs.Common.{◌∙◌, refl, sym, subst}
-use Rattle.art_epoch.specs.Asking.{Answers, IsAllowed}
+use Rattle.std.proofs.Common.{◌∙◌, None, refl, sym, subst}
 use Rattle.art_epoch.specs.Taking.{Fits}
+use Rattle.art_machine.specs.Acting.{Answers, IsAllowed}
 use Rattle.art_step.specs.declared.views.Sizes.{Sizes}
 use Rattle.art_world_uses.proofs.free_numbers.counted_take.Goals as goal
 
@@ -20,17 +20,17 @@ loop-asked-preserved g c =
     let t = c.loop-asked.steps in
     let i = c.loop-asked.invariant in
     let z = g.S.Steps.sizes s in
-    let row = subst (λ (y : Sizes). Answers y c.in-Some.asked c.make-word.result (g.S.Steps.view t) (g.S.Steps.view c.make-word.new.steps)) i.sizes c.make-word.ensures.row in
+    let row = subst (λ (y : Sizes). Answers y None c.in-Some.asked c.perform-answer.result (g.S.Steps.view t) (g.S.Steps.view c.perform-answer.new.steps)) i.sizes c.perform-answer.ensures.row in
     record {
-      sizes = g.met.S.Steps.only_sizes t c.make-word.new.steps c.make-word.ensures.only ∙ i.sizes;
+      sizes = g.met.S.Steps.only_sizes t c.perform-answer.new.steps c.perform-answer.ensures.only ∙ i.sizes;
       words = c.told.ensures.words ∙ i.words;
-      fits = c.told.ensures.fits z (g.S.Steps.view s) (g.S.Steps.view t) (g.S.Steps.view c.make-word.new.steps) c.in-Some.asked i.fits (sym c.next.ensures.asks ∙ c.in-Some.is) row;
+      fits = c.told.ensures.fits z (g.S.Steps.view s) (g.S.Steps.view t) (g.S.Steps.view c.perform-answer.new.steps) c.in-Some.asked i.fits (sym c.next.ensures.asks ∙ c.in-Some.is) row;
     }
 
-pub make-word-requires : goal.make-word-requires
-make-word-requires g c =
+pub perform-answer-requires-clause-allowed : goal.perform-answer-requires-clause-allowed
+perform-answer-requires-clause-allowed g c =
     let s = c.args.steps.now in
     let t = c.loop-asked.steps in
     let i = c.loop-asked.invariant in
-    subst (λ (z : Sizes). IsAllowed z (g.S.Steps.view t) c.in-Some.asked) (sym i.sizes)
+    subst (λ (z : Sizes). IsAllowed z None (g.S.Steps.view t) c.in-Some.asked) (sym i.sizes)
     (c.in-Some.ensures.allowed (g.S.Steps.sizes s) (g.S.Steps.view s) (g.S.Steps.view t) i.fits)

@@ -1,13 +1,14 @@
 use Rattle.std.proofs.Common.{◌≡◌, ◌∙◌, ◌-◌, ◌<◌, Some, true, ap, sym, subst, arith}
 use Rattle.std.specs.Prelude.{Result, ⊤}
 use Rattle.std.proofs.lemmas.Option.{same_Some}
+use Rattle.art_attempt.proofs.Given.{making_asks_made}
 use Rattle.art_attempt.proofs.Looks.{begun_none}
 use Rattle.art_attempt.proofs.Left.{anew_fault, ended_less, fault_ended, going_less, last_stays, step_or_last, still_made}
 use Rattle.art_attempt.proofs.Overlaps.{made_apart}
 use Rattle.art_attempt.proofs.Steps.{change_later}
 use Rattle.art_attempt.proofs.Tries.{later_then}
 use Rattle.art_attempt.proofs.inserting.Inserting.make_told.Goals as goal
-use Rattle.art_attempt.specs.Asking.{steps_of}
+use Rattle.art_machine.specs.Acting.{steps_in}
 use Rattle.art_attempt.specs.Inserting.{HasMade, StageFits, entered_at, entered_so, free_at, is_begun, left_at, making_left}
 use Rattle.art_attempt.specs.declared.inserting.Entered.{Entered}
 use Rattle.art_attempt.specs.declared.inserting.Entered.TheVariants.{Anew, Overlaps}
@@ -22,7 +23,7 @@ pub returns-in-None-clause-fits : goal.returns-in-None-clause-fits
 returns-in-None-clause-fits c z u v w asked room h is row =
     let m = c.args.self.now in
     let r = c.args.room.now in
-    let one = change_later z v w r.change asked c.args.answer (allowed z h.early v r.change m.making asked h.fits is) row in
+    let one = change_later z v w r.change.effects asked c.args.answer (making_asks_made r.change m.making asked is) (allowed z h.early v r.change m.making asked h.fits is) row in
     let next : Inserting = record m { making = c.told.new.self } in
     let made : HasMade z u next r w = record {
       early = h.early;
@@ -45,7 +46,7 @@ pub returns-in-Some-clause-fits : goal.returns-in-Some-clause-fits
 returns-in-Some-clause-fits c z u v w asked room h is row =
     let m = c.args.self.now in
     let r = c.args.room.now in
-    let one = change_later z v w r.change asked c.args.answer (allowed z h.early v r.change m.making asked h.fits is) row in
+    let one = change_later z v w r.change.effects asked c.args.answer (making_asks_made r.change m.making asked is) (allowed z h.early v r.change m.making asked h.fits is) row in
     c.made.ensures.fits z u w room (record {
       early = h.early;
       base = h.base;
@@ -69,8 +70,8 @@ returns-in-None-clause-left c left begun =
     let few = few_steps q.0 h.early q.2 r.change m.making h.fits (still_made r.change m.making q.4 q.7) in
     let fits = c.told.ensures.fits q.0 h.early q.2 q.3 q.4 h.fits q.7 q.8 in
     let end = few_steps q.0 h.early q.3 r.change next fits (sym c.ended.ensures ∙ c.in-None.is) in
-    subst (λ (s : StageOf). left_at (left - steps_of c.args.answer) s next < making_left left m.making) (sym c.requires.stage)
-    (going_less left (steps_of c.args.answer) m.making next begun few (last_stays (fault_of m.making) (fault_of next) c.told.ensures.stays)
+    subst (λ (s : StageOf). left_at (left - steps_in c.args.answer) s next < making_left left m.making) (sym c.requires.stage)
+    (going_less left (steps_in c.args.answer) m.making next begun few (last_stays (fault_of m.making) (fault_of next) c.told.ensures.stays)
     (step_or_last c.args.answer (fault_of next) c.told.ensures.refused) c.told.ensures.steps end)
 
 pub returns-in-Some-clause-left : goal.returns-in-Some-clause-left
@@ -81,8 +82,8 @@ returns-in-Some-clause-left c left begun =
     let h = q.6 in
     let next = c.told.new.self in
     let few = few_steps q.0 h.early q.2 r.change m.making h.fits (still_made r.change m.making q.4 q.7) in
-    subst (λ (s : StageOf). left_at (left - steps_of c.args.answer) s c.made.new.self.making < making_left left m.making) (sym c.made.ensures.stage)
-    (ended_less left (steps_of c.args.answer) m.making next begun few (last_stays (fault_of m.making) (fault_of next) c.told.ensures.stays)
+    subst (λ (s : StageOf). left_at (left - steps_in c.args.answer) s c.made.new.self.making < making_left left m.making) (sym c.made.ensures.stage)
+    (ended_less left (steps_in c.args.answer) m.making next begun few (last_stays (fault_of m.making) (fault_of next) c.told.ensures.stays)
     (step_or_last c.args.answer (fault_of next) c.told.ensures.refused) c.in-Some.made (sym c.ended.ensures ∙ c.in-Some.is))
 
 pub returns-in-Some-clause-anew : goal.returns-in-Some-clause-anew

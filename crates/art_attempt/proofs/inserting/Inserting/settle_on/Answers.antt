@@ -1,14 +1,15 @@
 -- The check is that of the place.
 use Rattle.std.proofs.Common.{◌≡◌, ◌∙◌, Some, sym, ap, subst, arith}
+use Rattle.art_attempt.proofs.Given.{check_look}
 use Rattle.art_attempt.proofs.Finds.{asks_check, finding_allowed, may_look}
 use Rattle.art_attempt.specs.Inserting.{Fits, IsFinding, StageFits, deed_at}
 use Rattle.art_attempt.specs.declared.inserting.Inserting.{Inserting}
 use Rattle.art_attempt.specs.declared.inserting.Stage.{Stage}
 use Rattle.art_attempt.specs.declared.inserting.Stage.TheVariants.{Finding}
 use Rattle.art_attempt.specs.declared.rooms.Room.{Room}
-use Rattle.art_find.proofs.Counting.{answers_count}
-use Rattle.art_find.specs.Asking.{Answers}
-use Rattle.art_find.specs.declared.asked.Asked.{Asked}
+use Rattle.art_machine.proofs.Counting.{look_counts}
+use Rattle.art_machine.specs.Acting.{Answers, IsLook, telling}
+use Rattle.art_machine.specs.declared.actions.Action.{Action}
 use Rattle.art_step.specs.declared.views.Sizes.{Sizes}
 use Rattle.art_step.specs.declared.views.View.{View}
 use Rattle.art_attempt.proofs.inserting.Inserting.settle_on.Goals as goal
@@ -41,7 +42,7 @@ settled-requires g c =
     let q = c.requires.fits in
     let f = is_finding z q.0 m r v c.in-Finding.is q.1 in
     let at = sym c.stand.ensures.at ∙ c.in-Some.is in
-    let row = subst (λ (a : Asked). Answers z (deed_at m r) a c.in-Some-look.answer v w) c.check_of.ensures (c.in-Some-look.ensures.row (deed_at m r)) in
+    let row = subst (λ (a : Action). Answers z (telling (deed_at m r)) a c.in-Some-look.answer v w) c.check_of.ensures (c.in-Some-look.ensures.row (deed_at m r)) in
     (z, q.0, v, w, q.1.room, f, at, row)
 
 pub returns-clause-fits : goal.returns-clause-fits
@@ -53,7 +54,7 @@ returns-clause-fits g c = λ u fits.
     let r = c.args.room.now in
     let f = is_finding z u m r v c.in-Finding.is fits in
     let at = sym c.stand.ensures.at ∙ c.in-Some.is in
-    let row = subst (λ (a : Asked). Answers z (deed_at m r) a c.in-Some-look.answer v w) c.check_of.ensures (c.in-Some-look.ensures.row (deed_at m r)) in
+    let row = subst (λ (a : Action). Answers z (telling (deed_at m r)) a c.in-Some-look.answer v w) c.check_of.ensures (c.in-Some-look.ensures.row (deed_at m r)) in
     c.settled.ensures.fits z u v w fits.room f at row
 
 pub returns-clause-made : goal.returns-clause-made
@@ -62,6 +63,6 @@ returns-clause-made g c =
     let v = g.S.Steps.view c.args.steps.now in
     let w = g.S.Steps.view c.look.new.steps in
     let d = deed_at c.args.self.now c.args.room.now in
-    let one = (answers_count z d c.check_of.result c.in-Some-look.answer v w (c.in-Some-look.ensures.row d)).steps in
+    let one = (look_counts z d c.check_of.result c.in-Some-look.answer v w (subst IsLook (sym c.check_of.ensures) (check_look c.in-Some.stand.verdict c.in-Some.stand)) (c.in-Some-look.ensures.row d)).steps in
     let more = c.if-left-le1.false in
     omega (arith, one, more)

@@ -1,5 +1,6 @@
 use Rattle.std.proofs.Common.{◌∙◌, sym}
 use Rattle.art_attempt.proofs.Finds.{comes_there, deed_there, ends_so, ends_there, fails_there, finding_spent, place_checked, place_off, stands_still, stands_there}
+use Rattle.art_attempt.proofs.Given.{check_look}
 use Rattle.art_attempt.proofs.Overlaps.{overlap_there}
 use Rattle.art_attempt.proofs.Steps.{cell_later, cell_step}
 use Rattle.art_attempt.proofs.inserting.Inserting.settled.Goals as goal
@@ -10,8 +11,8 @@ returns-then-not-passed-clause-fits c z u v w room f at row =
     let m = c.args.self.now in
     let r = c.args.room.now in
     let d = deed_at m r in
-    let later = cell_later z d (check_of c.args.stand) c.args.answer v w row in
-    let step = cell_step z d (check_of c.args.stand) c.args.answer v w row in
+    let later = cell_later z d (check_of c.args.stand) c.args.answer v w (check_look c.args.stand.verdict c.args.stand) row in
+    let step = cell_step z d (check_of c.args.stand) c.args.answer v w (check_look c.args.stand.verdict c.args.stand) row in
     let s = stands_there z r.row.key.items (present_of r.row) m.finding r.desk f.early v f.fits f.exact c.args.stand at in
     record {
       room = room;
@@ -23,8 +24,8 @@ returns-in-Some-clause-fits c z u v w room f at row =
     let m = c.args.self.now in
     let r = c.args.room.now in
     let d = deed_at m r in
-    let later = cell_later z d (check_of c.args.stand) c.args.answer v w row in
-    let step = cell_step z d (check_of c.args.stand) c.args.answer v w row in
+    let later = cell_later z d (check_of c.args.stand) c.args.answer v w (check_look c.args.stand.verdict c.args.stand) row in
+    let step = cell_step z d (check_of c.args.stand) c.args.answer v w (check_look c.args.stand.verdict c.args.stand) row in
     let s = stands_there z r.row.key.items (present_of r.row) m.finding r.desk f.early v f.fits f.exact c.args.stand at in
     record {
       room = room;
@@ -38,8 +39,8 @@ returns-in-None-clause-fits c z u v w room f at row =
     let r = c.args.room.now in
     let d = deed_at m r in
     let t = c.args.stand in
-    let later = cell_later z d (check_of t) c.args.answer v w row in
-    let step = cell_step z d (check_of t) c.args.answer v w row in
+    let later = cell_later z d (check_of t) c.args.answer v w (check_look t.verdict t) row in
+    let step = cell_step z d (check_of t) c.args.answer v w (check_look t.verdict t) row in
     let s = stands_there z r.row.key.items (present_of r.row) m.finding r.desk f.early v f.fits f.exact t at in
     let on = sym c.passed.ensures ∙ c.if-not-passed.false in
     let none = sym c.entered_by.ensures ∙ c.in-None.is in

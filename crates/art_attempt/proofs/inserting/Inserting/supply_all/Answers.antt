@@ -1,17 +1,17 @@
 -- The steps are those of the supplying.
 use Rattle.std.proofs.Common.{◌≡◌, ◌∙◌, ℕ, List, sym, subst, arith}
-use Rattle.art_attempt.proofs.Counts.{supply_few, supply_one}
+use Rattle.art_attempt.proofs.Given.{supply_asks_supply, supply_steps}
 use Rattle.art_attempt.specs.Inserting.{Fits, HasSupplies, StageFits}
 use Rattle.art_attempt.specs.Rooms.{wants_of}
 use Rattle.art_attempt.specs.declared.inserting.Inserting.{Inserting}
 use Rattle.art_attempt.specs.declared.inserting.Stage.{Stage}
 use Rattle.art_attempt.specs.declared.inserting.Stage.TheVariants.{Supplying}
 use Rattle.art_attempt.specs.declared.rooms.Room.{Room}
-use Rattle.art_gather.specs.Asking.{Answers, IsAllowed}
+use Rattle.art_machine.specs.Acting.{Answers, IsAllowed}
 use Rattle.art_gather.specs.Supplying.{Fits as SupplyFits, asks}
 use Rattle.art_step.specs.declared.views.Sizes.{Sizes}
 use Rattle.art_step.specs.declared.views.View.{View}
-use Rattle.std.specs.Prelude.{Some}
+use Rattle.std.specs.Prelude.{None, Some}
 use Rattle.art_attempt.proofs.inserting.Inserting.supply_all.Goals as goal
 
 has_supplies : (z : Sizes) (u : View) (m : Inserting) (r : Room) (v : View) → m.stage ≡ Supplying → Fits z u m r v → HasSupplies z u m r v
@@ -38,8 +38,8 @@ returns-then-left-eq1-clause-fits g c u fits =
     let i = c.loop-left.invariant in
     keeps (g.S.Steps.sizes c.loop-left.steps) z c.loop-left.self c.pack_all.new.self c.loop-left.room v w i.sizes c.pack_all.ensures.fits u (i.fits u fits)
 
-pub make-word-requires : goal.make-word-requires
-make-word-requires g c =
+pub perform-answer-requires-clause-allowed : goal.perform-answer-requires-clause-allowed
+perform-answer-requires-clause-allowed g c =
     let z = g.S.Steps.sizes c.args.steps.now in
     let v = g.S.Steps.view c.pack_all.new.steps in
     let i = c.loop-left.invariant in
@@ -49,21 +49,21 @@ make-word-requires g c =
     let here = keeps (g.S.Steps.sizes c.loop-left.steps) z c.loop-left.self m r (g.S.Steps.view c.loop-left.steps) v i.sizes c.pack_all.ensures.fits i.here.0 i.here.1 in
     let h = has_supplies z i.here.0 m r v c.pack_all.ensures.stage here in
     let wants = wants_of z m.stand.verdict in
-    subst (λ (y : Sizes). IsAllowed y v c.in-Some.asked) (sym same)
+    subst (λ (y : Sizes). IsAllowed y None v c.in-Some.asked) (sym same)
     (c.in-Some.ensures.allowed z h.early v wants (subst (λ (l : List ℕ). SupplyFits z wants l r.row.value m.supplying r.stock h.early v) (sym c.as_slice-key.ensures.value) h.fits))
 
 pub supply_told-requires : goal.supply_told-requires
 supply_told-requires g c =
     let z = g.S.Steps.sizes c.args.steps.now in
     let v = g.S.Steps.view c.pack_all.new.steps in
-    let w = g.S.Steps.view c.make-word.new.steps in
+    let w = g.S.Steps.view c.perform-answer.new.steps in
     let i = c.loop-left.invariant in
     let m = c.pack_all.new.self in
     let r = c.loop-left.room in
     let same = g.met.S.Steps.only_sizes c.loop-left.steps c.pack_all.new.steps c.pack_all.ensures.only ∙ i.sizes in
     let here = keeps (g.S.Steps.sizes c.loop-left.steps) z c.loop-left.self m r (g.S.Steps.view c.loop-left.steps) v i.sizes c.pack_all.ensures.fits i.here.0 i.here.1 in
     let is = subst (λ (l : List ℕ). asks l r.row.value r.stock m.supplying ≡ Some c.in-Some.asked) c.as_slice-key.ensures.value (sym {b = asks _ r.row.value r.stock m.supplying} c.next.ensures.asks ∙ c.in-Some.is) in
-    let row = subst (λ (y : Sizes). Answers y c.in-Some.asked c.make-word.result v w) same c.make-word.ensures.row in
+    let row = subst (λ (y : Sizes). Answers y None c.in-Some.asked c.perform-answer.result v w) same c.perform-answer.ensures.row in
     (z, i.here.0, v, w, c.in-Some.asked, i.here.1.room, has_supplies z i.here.0 m r v c.pack_all.ensures.stage here, is, row)
 
 pub loop-left-preserved : goal.loop-left-preserved
@@ -72,7 +72,7 @@ loop-left-preserved g c =
     let t = c.pack_all.new.steps in
     let z = g.S.Steps.sizes s in
     let v = g.S.Steps.view t in
-    let w = g.S.Steps.view c.make-word.new.steps in
+    let w = g.S.Steps.view c.perform-answer.new.steps in
     let i = c.loop-left.invariant in
     let m = c.pack_all.new.self in
     let r = c.loop-left.room in
@@ -80,11 +80,11 @@ loop-left-preserved g c =
     let same = g.met.S.Steps.only_sizes c.loop-left.steps t c.pack_all.ensures.only ∙ i.sizes in
     let packs = keeps (g.S.Steps.sizes c.loop-left.steps) z c.loop-left.self m r (g.S.Steps.view c.loop-left.steps) v i.sizes c.pack_all.ensures.fits in
     let is : asks k r.row.value r.stock m.supplying ≡ Some c.in-Some.asked = subst (λ (l : List ℕ). asks l r.row.value r.stock m.supplying ≡ Some c.in-Some.asked) c.as_slice-key.ensures.value (sym {b = asks _ r.row.value r.stock m.supplying} c.next.ensures.asks ∙ c.in-Some.is) in
-    let row : Answers z c.in-Some.asked c.make-word.result v w = subst (λ (y : Sizes). Answers y c.in-Some.asked c.make-word.result v w) same c.make-word.ensures.row in
+    let row : Answers z None c.in-Some.asked c.perform-answer.result v w = subst (λ (y : Sizes). Answers y None c.in-Some.asked c.perform-answer.result v w) same c.perform-answer.ensures.row in
     let h = has_supplies z i.here.0 m r v c.pack_all.ensures.stage (packs i.here.0 i.here.1) in
     let wants = wants_of z m.stand.verdict in
-    let few = supply_few z wants k r.row.value r.stock h.early v w m.supplying c.in-Some.asked c.make-word.result h.fits is row in
-    let one = supply_one z wants k r.row.value r.stock h.early v w m.supplying c.in-Some.asked c.make-word.result h.fits is row in
+    let may = c.in-Some.ensures.allowed z h.early v wants (subst (λ (l : List ℕ). SupplyFits z wants l r.row.value m.supplying r.stock h.early v) (sym c.as_slice-key.ensures.value) h.fits) in
+    let one = supply_steps z c.in-Some.asked c.perform-answer.result v w (supply_asks_supply k r.row.value r.stock m.supplying c.in-Some.asked is) may row in
     let on : (u : View) → Fits z u m r v → Fits z u c.supply_told.new.self c.supply_told.new.room w = λ u fits.
     c.supply_told.ensures.fits z u v w c.in-Some.asked fits.room (has_supplies z u m r v c.pack_all.ensures.stage fits) is row in
     let made = i.made in
@@ -94,14 +94,14 @@ loop-left-preserved g c =
     let some = c.pack_all.ensures.turn in
     let more = c.if-left-eq1.false in
     record {
-      only = g.met.S.Steps.only_then s t c.make-word.new.steps (g.met.S.Steps.only_then s c.loop-left.steps t i.only c.pack_all.ensures.only) c.make-word.ensures.only;
-      sizes = g.met.S.Steps.only_sizes t c.make-word.new.steps c.make-word.ensures.only ∙ same;
+      only = g.met.S.Steps.only_then s t c.perform-answer.new.steps (g.met.S.Steps.only_then s c.loop-left.steps t i.only c.pack_all.ensures.only) c.perform-answer.ensures.only;
+      sizes = g.met.S.Steps.only_sizes t c.perform-answer.new.steps c.perform-answer.ensures.only ∙ same;
       row = record { key = c.supply_told.ensures.row.key ∙ i.row.key; value = c.supply_told.ensures.row.value ∙ i.row.value };
       free = c.supply_told.ensures.free;
       not_overlaps = c.supply_told.ensures.not_overlaps;
       some = omega (arith, more, some);
       less = omega (arith, less, fewer);
-      made = omega (arith, made, packed, one, few, more, some);
+      made = omega (arith, made, packed, one, more, some);
       here = (i.here.0, on i.here.0 (packs i.here.0 i.here.1));
       fits = λ u fits. on u (packs u (i.fits u fits));
     }

@@ -7,8 +7,10 @@ use Rattle.art_attempt.specs.declared.inserting.Inserting.{Inserting}
 use Rattle.art_attempt.specs.declared.inserting.Stage.{Stage}
 use Rattle.art_attempt.specs.declared.inserting.Stage.TheVariants.{Vouching}
 use Rattle.art_attempt.specs.declared.rooms.Room.{Room}
-use Rattle.art_find.proofs.Counting.{answers_count}
-use Rattle.art_find.specs.Asking.{Answers, IsAllowed}
+use Rattle.art_attempt.proofs.Given.{vouch_asks_look}
+use Rattle.art_find.specs.Asking.{MayLook}
+use Rattle.art_machine.proofs.Counting.{look_counts}
+use Rattle.art_machine.specs.Acting.{Answers, telling}
 use Rattle.art_step.specs.declared.views.Sizes.{Sizes}
 use Rattle.art_step.specs.declared.views.View.{View}
 use Rattle.art_attempt.proofs.inserting.Inserting.vouch_all.Goals as goal
@@ -25,7 +27,7 @@ look-requires g c =
     let r = c.loop-left.room in
     let h = is_vouching z i.here.0 m r v c.in-Vouching.is i.here.1 in
     record {
-      allowed = subst (λ (y : Sizes). IsAllowed y (λ s. ⊤) v c.in-Some.asked) (sym i.sizes)
+      allowed = subst (λ (y : Sizes). MayLook y (λ s. ⊤) v c.in-Some.asked) (sym i.sizes)
           (c.in-Some.ensures.allowed z r.row.key.items (both_of m.stand.verdict) r.desk h.early v h.fits);
     }
 
@@ -37,7 +39,7 @@ vouch_told-requires-clause-told g c =
     let i = c.loop-left.invariant in
     let m = c.loop-left.self in
     let r = c.loop-left.room in
-    let row = subst (λ (y : Sizes). Answers y (deed_at m r) c.in-Some.asked c.in-Some-look.answer v w) i.sizes (c.in-Some-look.ensures.row (deed_at m r)) in
+    let row = subst (λ (y : Sizes). Answers y (telling (deed_at m r)) c.in-Some.asked c.in-Some-look.answer v w) i.sizes (c.in-Some-look.ensures.row (deed_at m r)) in
     (z, i.here.0, v, w, c.in-Some.asked, i.here.1.room, is_vouching z i.here.0 m r v c.in-Vouching.is i.here.1, sym c.next.ensures.asks ∙ c.in-Some.is, row)
 
 pub loop-left-preserved : goal.loop-left-preserved
@@ -50,9 +52,9 @@ loop-left-preserved g c =
     let i = c.loop-left.invariant in
     let m = c.loop-left.self in
     let r = c.loop-left.room in
-    let row : Answers z (deed_at m r) c.in-Some.asked c.in-Some-look.answer v w = subst (λ (y : Sizes). Answers y (deed_at m r) c.in-Some.asked c.in-Some-look.answer v w) i.sizes (c.in-Some-look.ensures.row (deed_at m r)) in
+    let row : Answers z (telling (deed_at m r)) c.in-Some.asked c.in-Some-look.answer v w = subst (λ (y : Sizes). Answers y (telling (deed_at m r)) c.in-Some.asked c.in-Some-look.answer v w) i.sizes (c.in-Some-look.ensures.row (deed_at m r)) in
     let is = sym c.next.ensures.asks ∙ c.in-Some.is in
-    let one = (answers_count z (deed_at m r) c.in-Some.asked c.in-Some-look.answer v w row).steps in
+    let one = (look_counts z (deed_at m r) c.in-Some.asked c.in-Some-look.answer v w (vouch_asks_look m.stand m.vouching c.in-Some.asked is) row).steps in
     let on : (u : View) → Fits z u m r v → Fits z u c.vouch_told.new.self c.vouch_told.new.room w = λ u fits.
     c.vouch_told.ensures.fits z u v w c.in-Some.asked fits.room (is_vouching z u m r v c.in-Vouching.is fits) is row in
     let made = i.made in

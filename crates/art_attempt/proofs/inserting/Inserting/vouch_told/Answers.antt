@@ -1,5 +1,6 @@
 use Rattle.std.proofs.Common.{◌∙◌, ap, sym, subst, Some}
 use Rattle.art_attempt.proofs.Enters.{changed_by, vouched_changed}
+use Rattle.art_attempt.proofs.Given.{vouch_asks_look}
 use Rattle.art_attempt.proofs.Steps.{cell_later}
 use Rattle.art_attempt.proofs.Tries.{later_then}
 use Rattle.art_attempt.proofs.inserting.Inserting.vouch_told.Goals as goal
@@ -19,7 +20,7 @@ plan-requires c =
     let h = q.6 in
     let k = r.row.key.items in
     let d = deed_at m r in
-    let one = cell_later q.0 d q.4 c.args.answer q.2 q.3 q.8 in
+    let one = cell_later q.0 d q.4 c.args.answer q.2 q.3 (vouch_asks_look m.stand m.vouching q.4 q.7) q.8 in
     let next : Inserting = record m { vouching = c.told.new.self } in
     let then : Room = record r { desk = c.told.new.desk } in
     let fits = c.told.ensures.fits q.0 k d h.early q.2 q.3 q.4 (subst (λ (n : Needs). VouchFits q.0 k n.above m.stand m.vouching r.desk h.early q.2) (sym c.needed-both.ensures) h.fits) q.7 q.8 in
@@ -42,7 +43,7 @@ returns-in-None-clause-fits c z u v w asked room g is row =
     let h = g in
     let k = r.row.key.items in
     let d = deed_at m r in
-    let one = cell_later z d asked c.args.answer v w row in
+    let one = cell_later z d asked c.args.answer v w (vouch_asks_look m.stand m.vouching asked is) row in
     let next : Inserting = record m { vouching = c.told.new.self } in
     let then : Room = record r { desk = c.told.new.desk } in
     let fits = c.told.ensures.fits z k d h.early v w asked (subst (λ (n : Needs). VouchFits z k n.above m.stand m.vouching r.desk h.early v) (sym c.needed-both.ensures) h.fits) is row in
@@ -68,7 +69,7 @@ returns-in-Some-Changed-clause-fits c z u v w asked room g is row =
     let h = g in
     let k = r.row.key.items in
     let d = deed_at m r in
-    let one = cell_later z d asked c.args.answer v w row in
+    let one = cell_later z d asked c.args.answer v w (vouch_asks_look m.stand m.vouching asked is) row in
     let next : Inserting = record m { vouching = c.told.new.self } in
     let then : Room = record r { desk = c.told.new.desk } in
     let fits = c.told.ensures.fits z k d h.early v w asked (subst (λ (n : Needs). VouchFits z k n.above m.stand m.vouching r.desk h.early v) (sym c.needed-both.ensures) h.fits) is row in
@@ -92,7 +93,7 @@ returns-in-Some-Unchanged-clause-fits c z u v w asked room g is row =
     let h = g in
     let k = r.row.key.items in
     let d = deed_at m r in
-    let one = cell_later z d asked c.args.answer v w row in
+    let one = cell_later z d asked c.args.answer v w (vouch_asks_look m.stand m.vouching asked is) row in
     let next : Inserting = record m { vouching = c.told.new.self } in
     let then : Room = record r { desk = c.told.new.desk } in
     let fits = c.told.ensures.fits z k d h.early v w asked (subst (λ (n : Needs). VouchFits z k n.above m.stand m.vouching r.desk h.early v) (sym c.needed-both.ensures) h.fits) is row in
@@ -122,3 +123,11 @@ returns-in-Some-Changed-clause-anew c anew =
     let after = c.told.ensures.fits q.0 k d h.early q.2 q.3 q.4 before q.7 q.8 in
     changed_by q.0 k both m.stand m.vouching c.told.new.self r.desk c.told.new.desk d q.4 c.args.answer h.early q.2 q.3 before after q.7 q.8
     (sym c.ended.ensures.at ∙ (c.in-Some-Changed.is ∙ ap (λ (e : Vouched). Some e) c.in-Some-Changed.field-0-is))
+
+pub told-requires : goal.told-requires
+told-requires c =
+    let q = c.requires.told in
+    let m = c.args.self.now in
+    let r = c.args.room.now in
+    let k = r.row.key.items in
+    (q.0, k, q.6.early, q.2, subst (λ (n : Needs). VouchFits q.0 k n.above m.stand m.vouching r.desk q.6.early q.2) (sym c.needed-both.ensures) q.6.fits)

@@ -29,4 +29,4 @@ returns-in-Write-clause-none g c =
 pub returns-else-is_some-clause-some : goal.returns-else-is_some-clause-some
 returns-else-is_some-clause-some g c =
     let row = c.step-made.ensures.row in
-    c.made_by_seek.ensures _ _ c.in-Seek.seek.walk c.as_slice.result.now c.args.self.now.trail row.0 _ _ row.2 c.step-made.ensures.allowed row.1
+    c.made_by_seek.ensures _ _ c.in-Seek.seek.walk c.as_slice.result.now c.args.self.now.trail row.0 _ _ row.2 c.step-made.ensures.allowed row.1 c.step-made.ensures.one

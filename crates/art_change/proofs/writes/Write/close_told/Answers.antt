@@ -6,7 +6,7 @@ use Rattle.art_change.specs.declared.writes.Write.{Write}
 use Rattle.art_change.specs.declared.writes.Stage.{Stage as StageOf}
 use Rattle.art_change.specs.declared.writes.Stage.TheVariants.{Closing, Ended}
 use Rattle.art_erase.specs.ArtAttempt.declared.rooms.Room.{Room as RoomOf}
-use Rattle.art_epoch.proofs.Counting.{answers_count}
+use Rattle.art_change.proofs.FrameSteps.{closing_frame, frame_one}
 use Rattle.art_epoch.specs.Limbo.{places_of}
 use Rattle.art_change.specs.Tries.{key_of, value_of}
 use Rattle.art_erase.specs.ArtFrame.Closings.{ClosingFits}
@@ -17,7 +17,7 @@ returns-then-ended-clause-fits c z u v w ps asked room k is row =
     let m = c.args.self.now in
     let r = c.args.room.now in
     let words = c.gone_by.ensures.words in
-    let one = answers_count z asked c.args.word v w row in
+    let one = frame_one z asked c.args.answer v w (closing_frame m.closing r.stock asked is) row in
     let before = k.later in
     let fits = c.told.ensures.fits z (key_of m.job r).items (value_of m.job r) k.ended v w k.waiting asked
     (subst (λ (ws : List ℕ). ClosingFits z (key_of m.job r).items (value_of m.job r) k.ended k.waiting (links_of ws) m.closing (places_of c.args.limbo.now) r.stock v) (sym words) k.fits) is row in
@@ -46,7 +46,7 @@ returns-else-ended-clause-fits c z u v w ps asked room k is row =
     let m = c.args.self.now in
     let r = c.args.room.now in
     let words = c.gone_by.ensures.words in
-    let one = answers_count z asked c.args.word v w row in
+    let one = frame_one z asked c.args.answer v w (closing_frame m.closing r.stock asked is) row in
     let before = k.later in
     let fits = c.told.ensures.fits z (key_of m.job r).items (value_of m.job r) k.ended v w k.waiting asked
     (subst (λ (ws : List ℕ). ClosingFits z (key_of m.job r).items (value_of m.job r) k.ended k.waiting (links_of ws) m.closing (places_of c.args.limbo.now) r.stock v) (sym words) k.fits) is row in

@@ -1,16 +1,15 @@
 -- The steps are those of the opening, or of the close.
-use Rattle.std.proofs.Common.{◌≡◌, ◌∙◌, ⊎_elim, refl, sym, subst, arith}
-use Rattle.art_erase.specs.ArtAttempt.Asking.{cell_in}
+use Rattle.std.proofs.Common.{◌≡◌, ◌∙◌, None, ⊎_elim, refl, sym, subst, arith}
+use Rattle.art_change.proofs.Steps.{framed}
 use Rattle.art_change.proofs.SameWrite.{same_still, same_then}
-use Rattle.art_change.specs.Asking.{attempt_in}
+use Rattle.art_change.proofs.FrameSteps.{frame_one}
 use Rattle.art_change.specs.Tries.{IsOverlapBy}
-use Rattle.art_change.specs.Writes.{IsSameWrite}
-use Rattle.art_change.specs.declared.asked.Answer.TheVariants.{Word}
-use Rattle.art_change.specs.declared.asked.Asked.TheVariants.{Frame}
+use Rattle.art_change.specs.Writes.{IsSameWrite, deed_at}
 use Rattle.art_change.specs.declared.writes.Outcome.TheVariants.{Overlaps}
 use Rattle.art_change.specs.declared.writes.Stage.TheVariants.{Trying}
-use Rattle.art_epoch.proofs.Counting.{answers_count}
-use Rattle.art_epoch.specs.Asking.{Answers, IsAllowed}
+use Rattle.art_machine.proofs.AnswerKinds.{answers_any}
+use Rattle.art_machine.specs.Acting.{Answers, IsAllowed}
+use Rattle.art_erase.specs.ArtAttempt.Asking.{given}
 use Rattle.art_epoch.specs.Limbo.{places_of}
 use Rattle.art_step.specs.declared.views.Sizes.{Sizes}
 use Rattle.art_change.proofs.writes.Write.frame_on.Goals as goal
@@ -25,20 +24,30 @@ loop-asked-init g c = record {
   fits = λ u ps fits. fits;
 }
 
-pub make-word-requires : goal.make-word-requires
-make-word-requires g c =
+pub perform-answer-requires-clause-allowed : goal.perform-answer-requires-clause-allowed
+perform-answer-requires-clause-allowed g c =
     let l = c.loop-asked in
     let v = g.S.Steps.view l.steps in
     let q = c.requires.fits in
-    subst (λ (z : Sizes). IsAllowed z v c.in-Some.asked) (sym l.invariant.sizes)
+    subst (λ (z : Sizes). IsAllowed z None v c.in-Some.asked) (sym l.invariant.sizes)
     (c.in-Some.ensures.allowed (g.S.Steps.sizes c.args.steps.now) q.0 v q.1 (l.invariant.fits q.0 q.1 q.2))
 
 pub told-requires : goal.told-requires
 told-requires g c =
     let l = c.loop-asked in
     let z = g.S.Steps.sizes c.args.steps.now in
-    let q = c.requires.fits in
-    (z, q.0, g.S.Steps.view l.steps, g.S.Steps.view c.make-word.new.steps, q.1, Frame c.in-Some.asked, l.invariant.fits q.0 q.1 q.2, c.in-Some.ensures.asks, subst (λ (y : Sizes). Answers y c.in-Some.asked c.make-word.result (g.S.Steps.view l.steps) (g.S.Steps.view c.make-word.new.steps)) l.invariant.sizes c.make-word.ensures.row)
+    let q = c.requires.fits in (
+      z,
+      q.0,
+      g.S.Steps.view l.steps,
+      g.S.Steps.view c.perform-answer.new.steps,
+      q.1,
+      c.in-Some.asked,
+      l.invariant.fits q.0 q.1 q.2,
+      c.in-Some.ensures.asks,
+      answers_any z (given (deed_at l.self l.room) l.room.change c.in-Some.asked) c.in-Some.asked c.perform-answer.result (g.S.Steps.view l.steps) (g.S.Steps.view c.perform-answer.new.steps)
+          (subst (λ (y : Sizes). Answers y None c.in-Some.asked c.perform-answer.result (g.S.Steps.view l.steps) (g.S.Steps.view c.perform-answer.new.steps)) l.invariant.sizes c.perform-answer.ensures.row),
+    )
 
 pub loop-asked-smaller : goal.loop-asked-smaller
 loop-asked-smaller g c = c.told.ensures.left
@@ -50,27 +59,28 @@ loop-asked-preserved g c =
     let s = c.args.steps.now in
     let z = g.S.Steps.sizes s in
     let v = g.S.Steps.view l.steps in
-    let w = g.S.Steps.view c.make-word.new.steps in
+    let w = g.S.Steps.view c.perform-answer.new.steps in
     let n = c.told.new in
     let m = l.self in
     let e = c.told.ensures in
-    let row = subst (λ (y : Sizes). Answers y c.in-Some.asked c.make-word.result v w) i.sizes c.make-word.ensures.row in
-    let one = answers_count z c.in-Some.asked c.make-word.result v w row in
+    let row = subst (λ (y : Sizes). Answers y None c.in-Some.asked c.perform-answer.result v w) i.sizes c.perform-answer.ensures.row in
+    let one = frame_one z c.in-Some.asked c.perform-answer.result v w (framed m l.room (places_of l.limbo) c.in-Some.asked c.in-Some.ensures.framed c.in-Some.ensures.asks) row in
+    let told = answers_any z (given (deed_at m l.room) l.room.change c.in-Some.asked) c.in-Some.asked c.perform-answer.result v w row in
     let here : IsSameWrite m l.room n.self n.room = record {
       job = e.job;
       turns = e.turns;
       key = e.key;
       refuses = e.refuses;
-      apart = λ is over. ⊎_elim (λ (had : m.outcome ≡ Overlaps). is had) (λ (was : (m.stage ≡ Trying) × IsOverlapBy m.trying (cell_in (attempt_in (Word c.make-word.result)))). c.in-Some.ensures.framed was.0) (e.overlaps over);
+      apart = λ is over. ⊎_elim (λ (had : m.outcome ≡ Overlaps). is had) (λ (was : (m.stage ≡ Trying) × IsOverlapBy m.trying c.perform-answer.result). c.in-Some.ensures.framed was.0) (e.overlaps over);
     } in
     let later = i.later in
     let left = i.left in
     let fewer = e.left in
     record {
-      only = g.met.S.Steps.only_then s l.steps c.make-word.new.steps i.only c.make-word.ensures.only;
-      sizes = g.met.S.Steps.only_sizes l.steps c.make-word.new.steps c.make-word.ensures.only ∙ i.sizes;
+      only = g.met.S.Steps.only_then s l.steps c.perform-answer.new.steps i.only c.perform-answer.ensures.only;
+      sizes = g.met.S.Steps.only_sizes l.steps c.perform-answer.new.steps c.perform-answer.ensures.only ∙ i.sizes;
       same = same_then c.args.self.now c.args.room.now m l.room n.self n.room i.same here;
       later = omega (arith, one, later);
       left = omega (arith, one, left, fewer);
-      fits = λ u ps fits. e.fits z u v w ps (Frame c.in-Some.asked) (i.fits u ps fits) c.in-Some.ensures.asks row;
+      fits = λ u ps fits. e.fits z u v w ps c.in-Some.asked (i.fits u ps fits) c.in-Some.ensures.asks told;
     }

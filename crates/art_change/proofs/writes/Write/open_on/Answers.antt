@@ -1,11 +1,10 @@
 -- The room is as it was but for where searches begin, so the opening goes on in it.
-use Rattle.std.proofs.Common.{◌≡◌, ◌<◌, sym, subst}
+use Rattle.std.proofs.Common.{sym, subst}
 use Rattle.art_erase.specs.ArtAttempt.declared.rooms.Room.{Room}
 use Rattle.art_change.proofs.Frames.{given_opening, given_room}
 use Rattle.art_change.proofs.writes.Write.open_on.Goals as goal
 use Rattle.art_change.specs.Tries.{IsRoom}
-use Rattle.art_change.specs.Writes.{IsOpening, freed_by, left_at, steps_left}
-use Rattle.art_change.specs.declared.writes.Stage.TheVariants.{Opening}
+use Rattle.art_change.specs.Writes.{IsOpening, freed_by}
 use Rattle.art_epoch.specs.Limbo.{places_of}
 use Rattle.art_erase.specs.ArtFrame.Openings.{asks as opening_asks}
 

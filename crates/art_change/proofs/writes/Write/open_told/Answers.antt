@@ -6,7 +6,7 @@ use Rattle.art_change.specs.Writes.{IsOpening, StageFits, left_at}
 use Rattle.art_change.specs.declared.writes.Write.{Write}
 use Rattle.art_change.specs.declared.writes.Stage.{Stage as StageOf}
 use Rattle.art_change.specs.declared.writes.Stage.TheVariants.{Opening}
-use Rattle.art_epoch.proofs.Counting.{answers_count}
+use Rattle.art_change.proofs.FrameSteps.{frame_one, opening_frame}
 use Rattle.art_epoch.specs.Limbo.{places_of}
 use Rattle.art_erase.specs.ArtFrame.Openings.{HasEnded}
 use Rattle.art_erase.specs.ArtFrame.declared.openings.Opened.{Opened}
@@ -19,7 +19,7 @@ returns-in-Some-Pinned-clause-fits c z u v w ps asked room o is row =
     let opened = subst (λ (a : Option Opened). IfSome a (HasEnded z u w ps qs)) c.in-Some-Pinned.is (c.ended.ensures.opened z u w ps qs fits) in
     let frame = subst (HasEnded z u w ps qs) c.in-Some-Pinned.field-0-is opened in
     let m = c.args.self.now in
-    let one = answers_count z asked c.args.word v w row in
+    let one = frame_one z asked c.args.answer v w (opening_frame c.args.self.now.opening (places_of c.args.limbo.now) asked is) row in
     let before = o.later in
     c.begin.ensures.fits o.first z u w w ps qs room (record { frame = frame; later = omega (arith, one, before) })
     (opened_begun z u w ps qs frame o.free m.restarts o.fresh) (opened_has z u w ps qs frame o.free m.job r o.has)
@@ -52,7 +52,7 @@ returns-in-None-clause-fits c z u v w ps asked room o is row =
     let m = c.args.self.now in
     let r = c.args.room.now in
     let qs = places_of c.told.new.limbo in
-    let one = answers_count z asked c.args.word v w row in
+    let one = frame_one z asked c.args.answer v w (opening_frame c.args.self.now.opening (places_of c.args.limbo.now) asked is) row in
     let before = o.later in
     let next : Write = record m { opening = c.told.new.self } in
     let opening : IsOpening z u ps next r qs w = record {

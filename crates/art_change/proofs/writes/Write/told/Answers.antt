@@ -1,29 +1,33 @@
-use Rattle.std.proofs.Common.{◌∙◌, ℕ, ◌<◌, inl, ap, sym, subst}
+use Rattle.std.proofs.Common.{◌∙◌, ◌<◌, inl, ap, sym, subst}
+use Rattle.art_change.proofs.FrameSteps.{closing_frame, frame_plain, opening_frame}
 use Rattle.art_change.proofs.Frames.{given_key}
-use Rattle.art_change.proofs.Parts.{attempt_told, frame_told}
 use Rattle.art_change.proofs.writes.Write.told.Goals as goal
-use Rattle.art_erase.specs.ArtAttempt.Asking.{Answers as AttemptAnswers}
-use Rattle.art_erase.specs.ArtAttempt.declared.rooms.Room.{Room}
-use Rattle.art_change.specs.Tries.{SameKey, asks as attempt_asks}
-use Rattle.art_erase.specs.ArtAttempt.declared.asked.Answer.{Answer as AttemptAnswer}
-use Rattle.art_change.specs.Writes.{OverlapsBy, RestartsBy, StageFits, asks_at, deed_at, freed_by, left_at, steps_left}
+use Rattle.art_change.specs.Tries.{SameKey}
+use Rattle.art_change.specs.Writes.{StageFits, asks_at, deed_at, freed_by, left_at, steps_left}
 use Rattle.art_change.specs.declared.writes.Stage.{Stage as StageOf}
-use Rattle.art_epoch.specs.Asking.{Answers as FrameAnswers}
 use Rattle.art_epoch.specs.Limbo.{places_of}
-use Rattle.art_erase.specs.ArtFrame.Closings.{asks as closing_asks}
+use Rattle.art_erase.proofs.ArtAttempt.Given.{plain_row}
+use Rattle.art_erase.specs.ArtAttempt.declared.rooms.Room.{Room}
 use Rattle.art_erase.specs.ArtFrame.Openings.{asks as opening_asks}
 
-pub try_told-requires-clause-told : goal.try_told-requires-clause-told
-try_told-requires-clause-told c =
+pub open_on-requires-clause-told : goal.open_on-requires-clause-told
+open_on-requires-clause-told c =
     let m = c.args.self.now in
     let r = c.args.room.now in
     let q = c.requires in
-    let d = deed_at m r in
     let qs = places_of c.args.limbo.now in
-    let stage = subst (λ (s : StageOf). StageFits q.0 q.1 q.4 s m r qs q.2) c.in-Trying.is q.6.stage in
-    let at = sym (ap (λ (s : StageOf). asks_at s m r qs) c.in-Trying.is) ∙ q.7 in
-    let k = attempt_told q.0 d r.change q.2 q.3 (attempt_asks m.trying r) q.5 c.args.answer at q.8 in
-    (q.0, q.1, q.2, q.3, q.4, qs, k.0, q.6.room, stage.0, k.1, subst (λ (a : AttemptAnswer). AttemptAnswers q.0 d r.change k.0 a q.2 q.3) (sym c.attempt_in.ensures) k.2)
+    let stage = subst (λ (s : StageOf). StageFits q.0 q.1 q.4 s m r qs q.2) c.in-Opening.is q.6.stage in
+    let at = sym (ap (λ (s : StageOf). asks_at s m r qs) c.in-Opening.is) ∙ q.7 in
+    (q.0, q.1, q.2, q.3, q.4, q.5, q.6.room, stage, at, plain_row q.0 (deed_at m r) r.change q.5 c.args.answer q.2 q.3 (frame_plain q.5 (opening_frame m.opening qs q.5 at)) q.8)
+
+pub returns-in-Opening-clause-fits : goal.returns-in-Opening-clause-fits
+returns-in-Opening-clause-fits c z u v w ps asked fits is row =
+    let m = c.args.self.now in
+    let r = c.args.room.now in
+    let qs = places_of c.args.limbo.now in
+    let stage = subst (λ (s : StageOf). StageFits z u ps s m r qs v) c.in-Opening.is fits.stage in
+    let at = sym (ap (λ (s : StageOf). asks_at s m r qs) c.in-Opening.is) ∙ is in
+    c.open_on.ensures.fits z u v w ps asked fits.room stage at (plain_row z (deed_at m r) r.change asked c.args.answer v w (frame_plain asked (opening_frame m.opening qs asked at)) row)
 
 pub close_told-requires-clause-told : goal.close_told-requires-clause-told
 close_told-requires-clause-told c =
@@ -33,19 +37,7 @@ close_told-requires-clause-told c =
     let qs = places_of c.args.limbo.now in
     let stage = subst (λ (s : StageOf). StageFits q.0 q.1 q.4 s m r qs q.2) c.in-Closing.is q.6.stage in
     let at = sym (ap (λ (s : StageOf). asks_at s m r qs) c.in-Closing.is) ∙ q.7 in
-    let k = frame_told q.0 (deed_at m r) r.change q.2 q.3 (closing_asks m.closing r.stock) q.5 c.args.answer at q.8 in
-    (q.0, q.1, q.2, q.3, q.4, k.0, q.6.room, stage.0, k.1, subst (λ (x : ℕ). FrameAnswers q.0 k.0 x q.2 q.3) (sym c.word_in-in-Closing.ensures) k.2)
-
-pub returns-in-Trying-clause-fits : goal.returns-in-Trying-clause-fits
-returns-in-Trying-clause-fits c z u v w ps asked fits is row =
-    let m = c.args.self.now in
-    let r = c.args.room.now in
-    let d = deed_at m r in
-    let qs = places_of c.args.limbo.now in
-    let stage = subst (λ (s : StageOf). StageFits z u ps s m r qs v) c.in-Trying.is fits.stage in
-    let at = sym (ap (λ (s : StageOf). asks_at s m r qs) c.in-Trying.is) ∙ is in
-    let k = attempt_told z d r.change v w (attempt_asks m.trying r) asked c.args.answer at row in
-    c.try_told.ensures.fits z u v w ps qs k.0 fits.room stage.0 k.1 (subst (λ (a : AttemptAnswer). AttemptAnswers z d r.change k.0 a v w) (sym c.attempt_in.ensures) k.2)
+    (q.0, q.1, q.2, q.3, q.4, q.5, q.6.room, stage.0, at, plain_row q.0 (deed_at m r) r.change q.5 c.args.answer q.2 q.3 (frame_plain q.5 (closing_frame m.closing r.stock q.5 at)) q.8)
 
 pub returns-in-Closing-clause-fits : goal.returns-in-Closing-clause-fits
 returns-in-Closing-clause-fits c z u v w ps asked fits is row =
@@ -54,8 +46,26 @@ returns-in-Closing-clause-fits c z u v w ps asked fits is row =
     let qs = places_of c.args.limbo.now in
     let stage = subst (λ (s : StageOf). StageFits z u ps s m r qs v) c.in-Closing.is fits.stage in
     let at = sym (ap (λ (s : StageOf). asks_at s m r qs) c.in-Closing.is) ∙ is in
-    let k = frame_told z (deed_at m r) r.change v w (closing_asks m.closing r.stock) asked c.args.answer at row in
-    c.close_told.ensures.fits z u v w ps k.0 fits.room stage.0 k.1 (subst (λ (x : ℕ). FrameAnswers z k.0 x v w) (sym c.word_in-in-Closing.ensures) k.2)
+    c.close_told.ensures.fits z u v w ps asked fits.room stage.0 at (plain_row z (deed_at m r) r.change asked c.args.answer v w (frame_plain asked (closing_frame m.closing r.stock asked at)) row)
+
+pub try_told-requires-clause-told : goal.try_told-requires-clause-told
+try_told-requires-clause-told c =
+    let m = c.args.self.now in
+    let r = c.args.room.now in
+    let q = c.requires in
+    let qs = places_of c.args.limbo.now in
+    let stage = subst (λ (s : StageOf). StageFits q.0 q.1 q.4 s m r qs q.2) c.in-Trying.is q.6.stage in
+    let at = sym (ap (λ (s : StageOf). asks_at s m r qs) c.in-Trying.is) ∙ q.7 in
+    (q.0, q.1, q.2, q.3, q.4, qs, q.5, q.6.room, stage.0, at, q.8)
+
+pub returns-in-Trying-clause-fits : goal.returns-in-Trying-clause-fits
+returns-in-Trying-clause-fits c z u v w ps asked fits is row =
+    let m = c.args.self.now in
+    let r = c.args.room.now in
+    let qs = places_of c.args.limbo.now in
+    let stage = subst (λ (s : StageOf). StageFits z u ps s m r qs v) c.in-Trying.is fits.stage in
+    let at = sym (ap (λ (s : StageOf). asks_at s m r qs) c.in-Trying.is) ∙ is in
+    c.try_told.ensures.fits z u v w ps qs asked fits.room stage.0 at row
 
 pub try_told-requires-clause-turn : goal.try_told-requires-clause-turn
 try_told-requires-clause-turn c =
@@ -94,19 +104,11 @@ returns-in-Ended-clause-left c =
 pub returns-in-Opening-clause-restarts : goal.returns-in-Opening-clause-restarts
 returns-in-Opening-clause-restarts c = inl c.open_on.ensures.restarts
 
-pub returns-in-Trying-clause-restarts : goal.returns-in-Trying-clause-restarts
-returns-in-Trying-clause-restarts c =
-    subst (λ (a : AttemptAnswer). RestartsBy c.args.self.now c.try_told.new.self a) c.attempt_in.ensures c.try_told.ensures.restarts
-
 pub returns-in-Closing-clause-restarts : goal.returns-in-Closing-clause-restarts
 returns-in-Closing-clause-restarts c = inl c.close_told.ensures.restarts
 
 pub returns-in-Opening-clause-overlaps : goal.returns-in-Opening-clause-overlaps
 returns-in-Opening-clause-overlaps c is = inl (c.open_on.ensures.overlaps is)
-
-pub returns-in-Trying-clause-overlaps : goal.returns-in-Trying-clause-overlaps
-returns-in-Trying-clause-overlaps c =
-    subst (λ (a : AttemptAnswer). OverlapsBy c.args.self.now c.try_told.new.self a) c.attempt_in.ensures c.try_told.ensures.overlaps
 
 pub returns-in-Closing-clause-overlaps : goal.returns-in-Closing-clause-overlaps
 returns-in-Closing-clause-overlaps c is = inl (sym c.close_told.ensures.outcome ∙ is)

@@ -1,6 +1,6 @@
 use Rattle.std.proofs.Common.{◌≡◌, ◌∙◌, ℕ, ◌+◌, ◌-◌, ◌<◌, ◌≤◌, Some, inl, inr, ap, sym, subst, arith, ⊎_elim}
 use Rattle.art_change.proofs.Frames.{still_counted}
-use Rattle.art_change.proofs.EitherKind.{ended_steps, ends_as, try_counts, try_room}
+use Rattle.art_change.proofs.EitherKind.{ended_steps, ends_as, try_room, try_steps}
 use Rattle.art_change.specs.Tries.{steps_left}
 use Rattle.art_change.specs.declared.tries.Tried.{Tried}
 use Rattle.art_change.specs.declared.tries.Tried.TheVariants.{Anew, Overlaps}
@@ -12,9 +12,9 @@ returns-in-None-clause-fits c z u v w ps qs asked room t is row =
     let m = c.args.self.now in
     let r = c.args.room.now in
     let fits = c.told.ensures.fits z t.began v w m.job asked t.fits is row in
-    let made = try_counts z t.began r v w asked c.args.answer m.job m.trying row t.fits is in
-    let left = c.saturating_sub-self.ensures ∙ ap (λ (n : ℕ). m.left - n) c.steps_in.ensures in
-    let counted = still_counted (t.opened.steps + m.turns) v.steps w.steps m.left _ t.counted made in
+    let made = try_steps z t.began r v w asked c.args.answer m.job m.trying row t.fits is in
+    let left = c.saturating_sub-self.ensures ∙ ap (λ (n : ℕ). m.left - n) c.steps.ensures in
+    let counted = still_counted (t.opened.steps + m.turns) v.steps w.steps m.left _ t.counted (omega (arith, made)) in
     c.turn.ensures.fits z u w ps qs (try_room z t.began c.told.new.room w m.job c.told.new.self fits) (record {
       opened = t.opened;
       began = t.began;
@@ -30,9 +30,9 @@ returns-in-Some-clause-fits c z u v w ps qs asked room t is row =
     let m = c.args.self.now in
     let r = c.args.room.now in
     let fits = c.told.ensures.fits z t.began v w m.job asked t.fits is row in
-    let made = try_counts z t.began r v w asked c.args.answer m.job m.trying row t.fits is in
-    let left = c.saturating_sub-self.ensures ∙ ap (λ (n : ℕ). m.left - n) c.steps_in.ensures in
-    let counted = still_counted (t.opened.steps + m.turns) v.steps w.steps m.left _ t.counted made in
+    let made = try_steps z t.began r v w asked c.args.answer m.job m.trying row t.fits is in
+    let left = c.saturating_sub-self.ensures ∙ ap (λ (n : ℕ). m.left - n) c.steps.ensures in
+    let counted = still_counted (t.opened.steps + m.turns) v.steps w.steps m.left _ t.counted (omega (arith, made)) in
     c.tried.ensures.fits z u t.opened t.began w ps qs (try_room z t.began c.told.new.room w m.job c.told.new.self fits) t.frame t.begun
     (ends_as z t.began c.told.new.room w m.job c.told.new.self c.in-Some.tried fits (sym c.ended.ensures.at ∙ c.in-Some.is))
     (subst (λ (n : ℕ). t.opened.steps + m.turns ≤ w.steps + n) (sym left) counted)
@@ -40,7 +40,7 @@ returns-in-Some-clause-fits c z u v w ps qs asked room t is row =
 pub returns-in-None-clause-left : goal.returns-in-None-clause-left
 returns-in-None-clause-left c qs =
     let m = c.args.self.now in
-    let left = c.saturating_sub-self.ensures ∙ ap (λ (n : ℕ). m.left - n) c.steps_in.ensures in
+    let left = c.saturating_sub-self.ensures ∙ ap (λ (n : ℕ). m.left - n) c.steps.ensures in
     let less = subst (λ (n : ℕ). steps_left n c.told.new.self < steps_left m.left m.trying) (sym left) (c.told.ensures.left m.left c.requires.turn) in
     let few = c.turn.ensures.left qs in
     omega (arith, less, few)
@@ -49,7 +49,7 @@ pub returns-in-Some-clause-left : goal.returns-in-Some-clause-left
 returns-in-Some-clause-left c qs =
     let m = c.args.self.now in
     let t = c.told.new.self in
-    let left = c.saturating_sub-self.ensures ∙ ap (λ (n : ℕ). m.left - n) c.steps_in.ensures in
+    let left = c.saturating_sub-self.ensures ∙ ap (λ (n : ℕ). m.left - n) c.steps.ensures in
     let less = subst (λ (n : ℕ). steps_left n t < steps_left m.left m.trying) (sym left) (c.told.ensures.left m.left c.requires.turn) in
     let same = ended_steps c.saturating_sub-self.result t c.in-Some.tried (sym c.ended.ensures.at ∙ c.in-Some.is) in
     let few = c.tried.ensures.left qs in

@@ -1,11 +1,9 @@
 -- The steps are those of the finding.
-use Rattle.std.proofs.Common.{◌≡◌, ◌∙◌, Bool, true, false, List, ℕ, sym, subst}
+use Rattle.std.proofs.Common.{Bool, List, ℕ, sym, subst}
 use Rattle.art_erase.proofs.Heard.{comes_back, descends_so}
 use Rattle.art_erase.proofs.Stages.{is_finding}
 use Rattle.art_erase.specs.Erasing.{absent_of}
 use Rattle.art_find.specs.Findings.{CameBack, Descends, FindingFits, WentOn}
-use Rattle.art_step.specs.declared.views.Sizes.{Sizes}
-use Rattle.art_step.specs.declared.views.View.{View}
 use Rattle.art_erase.proofs.erasing.Erasing.find_all.Goals as goal
 
 pub descend-on-requires-clause-fits : goal.descend-on-requires-clause-fits

@@ -8,6 +8,7 @@ use Rattle.art_erase.proofs.erasing.Erasing.find_on.Goals as goal
 use Rattle.art_erase.specs.Erasing.{IsFinding, StageFits, absent, absent_of}
 use Rattle.art_erase.specs.declared.erasing.Erasing.{Erasing}
 use Rattle.art_erase.specs.declared.erasing.Stage.{Stage as StageOf}
+use Rattle.art_find.proofs.Counting.{asks_look}
 use Rattle.art_find.proofs.Stages.{still_reading}
 use Rattle.art_find.specs.Descents.{asks}
 use Rattle.art_find.specs.Findings.{FindingFits}
@@ -24,8 +25,8 @@ returns-then-not-on-clause-fits c z u v w asked room f is row =
     let now = c.told-on.new.self.descent in
     let going = zero_going now.depth now.stage (c.told-on.ensures.anew c.if-not-on.true) in
     let reads = still_reading z c.as_slice.result.now what now.depth now.stage f.early w going fits.descent in
-    let so = within_so z u 1201 r w (omega arith) (ends_reading z u m r v w room.key.short f (cell_later z d asked c.args.answer v w row) (cell_step z d asked c.args.answer v w row) reads.only) in
-    let more = cell_fails z d asked c.args.answer v w row (sym c.told-on.ensures.on ∙ c.if-not-on.true) in
+    let so = within_so z u 1201 r w (omega arith) (ends_reading z u m r v w room.key.short f (cell_later z d asked c.args.answer v w (asks_look m.finding.descent.stage asked at) row) (cell_step z d asked c.args.answer v w (asks_look m.finding.descent.stage asked at) row) reads.only) in
+    let more = cell_fails z d asked c.args.answer v w (asks_look m.finding.descent.stage asked at) row (sym c.told-on.ensures.on ∙ c.if-not-on.true) in
     let before = (still_later u f.early f.base v f.later).failures in
     record { room = record { sizes = room.sizes; key = room.key }; stage = (record { still = so.still; spent = so.spent; has = so.has }, omega (arith, more, before)) }
 
@@ -40,8 +41,8 @@ returns-else-not-on-clause-fits c z u v w asked room f is row =
     let slice : c.as_slice.result.now ≡ r.gone.key.items = c.as_slice.ensures.value in
     let fits = c.told-on.ensures.fits z what f.early v w asked (subst (λ (k : List ℕ). FindingFits z k what m.finding r.desk f.early v) (sym slice) f.fits) at row in
     let on = sym c.told-on.ensures.on ∙ c.if-not-on.false in
-    let one = cell_later z d asked c.args.answer v w row in
-    let step = cell_step z d asked c.args.answer v w row in
+    let one = cell_later z d asked c.args.answer v w (asks_look m.finding.descent.stage asked at) row in
+    let step = cell_step z d asked c.args.answer v w (asks_look m.finding.descent.stage asked at) row in
     let further = c.told-on.ensures.steps c.if-not-on.false in
     let next : Erasing = record m { finding = c.told-on.new.self } in
     let then : Room = record r { desk = c.told-on.new.desk } in

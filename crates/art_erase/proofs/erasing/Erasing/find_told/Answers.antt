@@ -2,9 +2,9 @@ use Rattle.std.proofs.Common.{◌∙◌, sym, subst}
 use Rattle.art_erase.proofs.Finds.{at_place}
 use Rattle.art_erase.proofs.erasing.Erasing.find_told.Goals as goal
 use Rattle.art_erase.specs.Erasing.{absent}
-use Rattle.art_find.specs.Asking.{Answers}
+use Rattle.art_machine.specs.Acting.{Answers, telling}
 use Rattle.art_find.specs.Descents.{asks}
-use Rattle.art_find.specs.declared.asked.Asked.{Asked}
+use Rattle.art_machine.specs.declared.actions.Action.{Action}
 
 pub returns-in-Some-clause-fits : goal.returns-in-Some-clause-fits
 returns-in-Some-clause-fits c z u v w asked room f is row =
@@ -12,4 +12,4 @@ returns-in-Some-clause-fits c z u v w asked room f is row =
     let d = absent c.args.room.now.gone in
     let at = sym c.stand.ensures.at ∙ c.in-Some.is in
     let check = at_place m.finding (asks m.finding.descent.stage) asked c.in-Some.stand at is in
-    c.settled.ensures.fits z u v w room f at (subst (λ (a : Asked). Answers z d a c.args.answer v w) (sym check) row)
+    c.settled.ensures.fits z u v w room f at (subst (λ (a : Action). Answers z (telling d) a c.args.answer v w) (sym check) row)

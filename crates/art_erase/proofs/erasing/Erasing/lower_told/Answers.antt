@@ -1,4 +1,5 @@
 use Rattle.std.proofs.Common.{◌∙◌, ap, sym, subst, Some}
+use Rattle.art_attempt.proofs.Given.{lower_asks_look}
 use Rattle.art_attempt.proofs.Steps.{cell_later}
 use Rattle.art_attempt.proofs.Tries.{later_then}
 use Rattle.art_attempt.specs.declared.rooms.Room.{Room}
@@ -19,7 +20,7 @@ plan_lowers-requires c =
     let r = c.args.room.now in
     let k = r.gone.key.items in
     let d = absent r.gone in
-    let one = cell_later q.0 d q.4 c.args.answer q.2 q.3 q.8 in
+    let one = cell_later q.0 d q.4 c.args.answer q.2 q.3 (lower_asks_look m.stand m.lowering q.4 q.7) q.8 in
     let next : Erasing = record m { lowering = c.told.new.self } in
     let then : Room = record r { desk = c.told.new.desk; lower = c.told.new.lower } in
     let lower : HasLower q.0 q.1 next then q.3 = record {
@@ -43,7 +44,7 @@ returns-in-None-clause-fits c z u v w asked room h is row =
     let r = c.args.room.now in
     let k = r.gone.key.items in
     let d = absent r.gone in
-    let one = cell_later z d asked c.args.answer v w row in
+    let one = cell_later z d asked c.args.answer v w (lower_asks_look m.stand m.lowering asked is) row in
     let next : Erasing = record m { lowering = c.told.new.self } in
     let then : Room = record r { desk = c.told.new.desk; lower = c.told.new.lower } in
     let lower : HasLower z u next then w = record {
@@ -70,7 +71,7 @@ returns-in-Some-Changed-clause-fits c z u v w asked room h is row =
     let r = c.args.room.now in
     let k = r.gone.key.items in
     let d = absent r.gone in
-    let one = cell_later z d asked c.args.answer v w row in
+    let one = cell_later z d asked c.args.answer v w (lower_asks_look m.stand m.lowering asked is) row in
     let next : Erasing = record m { lowering = c.told.new.self } in
     let then : Room = record r { desk = c.told.new.desk; lower = c.told.new.lower } in
     let lower : HasLower z u next then w = record {
@@ -95,7 +96,7 @@ returns-in-Some-Unchanged-clause-fits c z u v w asked room h is row =
     let r = c.args.room.now in
     let k = r.gone.key.items in
     let d = absent r.gone in
-    let one = cell_later z d asked c.args.answer v w row in
+    let one = cell_later z d asked c.args.answer v w (lower_asks_look m.stand m.lowering asked is) row in
     let next : Erasing = record m { lowering = c.told.new.self } in
     let then : Room = record r { desk = c.told.new.desk; lower = c.told.new.lower } in
     let lower : HasLower z u next then w = record {

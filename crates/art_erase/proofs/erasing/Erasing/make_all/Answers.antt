@@ -6,12 +6,12 @@ use Rattle.art_erase.specs.Erasing.{Fits, StageFits, erased_at, free_at, left_at
 use Rattle.art_erase.specs.declared.erasing.Erasing.{Erasing}
 use Rattle.art_erase.specs.declared.erasing.Stage.{Stage}
 use Rattle.art_erase.specs.declared.erasing.Stage.TheVariants.{Making}
-use Rattle.art_attempt.proofs.Counts.{change_counts}
 use Rattle.art_attempt.proofs.Written.{some_written, then_commits, writes_later, written_less}
-use Rattle.art_make.proofs.Told.{allowed, counts}
+use Rattle.art_machine.proofs.Counting.{steps_few, steps_made}
+use Rattle.art_machine.specs.Acting.{Answers, IsAllowed}
+use Rattle.art_make.proofs.Told.{allowed}
 use Rattle.art_make.proofs.Written.{writes_steps}
-use Rattle.art_make.specs.Making.{ended_at as made_at}
-use Rattle.art_make.specs.Asking.{IsAllowed}
+use Rattle.art_make.specs.Making.{brings, ended_at as made_at}
 use Rattle.art_step.specs.Deeds.{IsAdmitted}
 use Rattle.art_step.specs.declared.deeds.Deed.{Deed}
 use Rattle.art_step.specs.declared.views.Sizes.{Sizes}
@@ -21,19 +21,19 @@ use Rattle.art_erase.proofs.erasing.Erasing.make_all.Goals as goal
 making_here : (m : Erasing) (left : ℕ) → m.stage ≡ Making → steps_left left m ≡ making_left left m.making
 making_here m left is = ap (λ (s : Stage). left_at left s m.making) is
 
-pub make-answer-requires-clause-allowed : goal.make-answer-requires-clause-allowed
-make-answer-requires-clause-allowed g c =
+pub perform-answer-requires-clause-allowed : goal.perform-answer-requires-clause-allowed
+perform-answer-requires-clause-allowed g c =
     let z = g.S.Steps.sizes c.args.steps.now in
     let v = g.S.Steps.view c.loop-self.steps in
     let i = c.loop-self.invariant in
     let m = c.loop-self.self in
     let r = c.loop-self.room in
     let h = has_made z i.here.0 m r v c.in-Making.is i.here.1 in
-    subst (λ (y : Sizes). IsAllowed y r.change v c.in-Some.asked) (sym i.sizes)
+    subst (λ (y : Sizes). IsAllowed y (brings r.change) v c.in-Some.asked) (sym i.sizes)
     (allowed z h.early v r.change m.making c.in-Some.asked h.fits (sym c.next.ensures.asks ∙ c.in-Some.is))
 
-pub make-answer-requires-clause-admitted : goal.make-answer-requires-clause-admitted
-make-answer-requires-clause-admitted g c =
+pub perform-answer-requires-clause-admitted : goal.perform-answer-requires-clause-admitted
+perform-answer-requires-clause-admitted g c =
     let z = g.S.Steps.sizes c.args.steps.now in
     let t = c.loop-self.steps in
     let v = g.S.Steps.view t in
@@ -48,11 +48,12 @@ pub make_told-requires-clause-told : goal.make_told-requires-clause-told
 make_told-requires-clause-told g c =
     let z = g.S.Steps.sizes c.args.steps.now in
     let v = g.S.Steps.view c.loop-self.steps in
-    let w = g.S.Steps.view c.make-answer.new.steps in
+    let w = g.S.Steps.view c.perform-answer.new.steps in
     let i = c.loop-self.invariant in
     let m = c.loop-self.self in
     let r = c.loop-self.room in
-    (z, i.here.0, v, w, c.in-Some.asked, i.here.1.room, has_made z i.here.0 m r v c.in-Making.is i.here.1, sym c.next.ensures.asks ∙ c.in-Some.is, c.make-answer.ensures.row)
+    let row = subst (λ (y : Sizes). Answers y (brings r.change) c.in-Some.asked c.perform-answer.result v w) i.sizes c.perform-answer.ensures.row in
+    (z, i.here.0, v, w, c.in-Some.asked, i.here.1.room, has_made z i.here.0 m r v c.in-Making.is i.here.1, sym c.next.ensures.asks ∙ c.in-Some.is, row)
 
 pub loop-self-preserved : goal.loop-self-preserved
 loop-self-preserved g c =
@@ -60,36 +61,36 @@ loop-self-preserved g c =
     let t = c.loop-self.steps in
     let z = g.S.Steps.sizes s in
     let v = g.S.Steps.view t in
-    let w = g.S.Steps.view c.make-answer.new.steps in
+    let w = g.S.Steps.view c.perform-answer.new.steps in
     let i = c.loop-self.invariant in
     let m = c.loop-self.self in
     let r = c.loop-self.room in
     let left = c.loop-self.left in
     let is = sym c.next.ensures.asks ∙ c.in-Some.is in
-    let row = c.make-answer.ensures.row in
+    let row : Answers z (brings r.change) c.in-Some.asked c.perform-answer.result v w = subst (λ (y : Sizes). Answers y (brings r.change) c.in-Some.asked c.perform-answer.result v w) i.sizes c.perform-answer.ensures.row in
     let h = has_made z i.here.0 m r v c.in-Making.is i.here.1 in
     let may = allowed z h.early v r.change m.making c.in-Some.asked h.fits is in
-    let few = counts z v w r.change c.in-Some.asked c.make-answer.result may row in
-    let one = change_counts z v w r.change c.in-Some.asked c.make-answer.result may row in
+    let one = steps_made z (brings r.change) c.in-Some.asked c.perform-answer.result v w may row in
+    let few = steps_few c.perform-answer.result in
     let on : (u : View) → Fits z u m r v → Fits z u c.make_told.new.self c.make_told.new.room w = λ u fits.
     c.make_told.ensures.fits z u v w c.in-Some.asked fits.room (has_made z u m r v c.in-Making.is fits) is row in
     let begun : is_begun m.making ≡ true → 0 < left = λ b. i.turn (subst (λ (q : Stage). free_at q m.making ≡ true) (sym c.in-Making.is) b) (ap erased_at c.in-Making.is) in
     let less = c.make_told.ensures.left left begun in
     let here = making_here m left c.in-Making.is in
     let taken = c.saturating_sub-in-loop-self.ensures in
-    let count = c.steps_of.ensures in
+    let count = c.steps.ensures in
     let less-now : steps_left _ c.make_told.new.self < making_left left m.making = subst (λ (n : ℕ). steps_left n c.make_told.new.self < making_left left m.making) (sym (taken ∙ ap (λ (n : ℕ). left - n) count)) less in
     let later = i.later in
     let counted = i.counted in
     let most = i.most in
     record {
-      only = g.met.S.Steps.only_then s t c.make-answer.new.steps i.only c.make-answer.ensures.only;
-      sizes = g.met.S.Steps.only_sizes t c.make-answer.new.steps c.make-answer.ensures.only ∙ i.sizes;
+      only = g.met.S.Steps.only_then s t c.perform-answer.new.steps i.only c.perform-answer.ensures.only;
+      sizes = g.met.S.Steps.only_sizes t c.perform-answer.new.steps c.perform-answer.ensures.only ∙ i.sizes;
       kept = kept_on c.args.room.now r c.make_told.new.room i.kept c.make_told.ensures.kept;
       turn = λ free none. absurd (c.make_told.ensures.over free none);
       later = omega (arith, later, one);
       counted = omega (arith, counted, one, taken, count);
-      most = omega (arith, less-now, few, most, here);
+      most = omega (arith, less-now, one, few, most, here);
       here = (i.here.0, on i.here.0 i.here.1);
       fits = λ u fits. on u (i.fits u fits);
     }

@@ -1,15 +1,21 @@
-use Rattle.std.proofs.Common.{◌≡◌, ◌∙◌, sym, subst, Option, Some, None}
+use Rattle.std.proofs.Common.{◌≡◌, ◌∙◌, sym, refl, Option, Some, None}
 use Rattle.std.specs.Prelude.{IfSome}
+use Rattle.art_attempt.proofs.Given.{made_may, making_asks_made}
+use Rattle.art_attempt.specs.Asking.{IsAllowed}
 use Rattle.art_erase.proofs.erasing.Erasing.make_next.Goals as goal
-use Rattle.art_make.specs.Asking.{IsAllowed as MayChange}
-use Rattle.art_make.specs.declared.asked.Asked.{Asked as ChangeAskedStep}
-
-pub returns-in_err-next-clause-going : goal.returns-in_err-next-clause-going
-returns-in_err-next-clause-going c z u v h going =
-    let k = c.next.ensures.going z h.early v h.fits going in
-    let no : None ≡ Some k.0 = sym c.in_err-next.was ∙ k.1 in
-    absurd (cc)
+use Rattle.art_machine.specs.declared.actions.Action.{Action}
+use Rattle.art_make.proofs.Told.{allowed}
 
 pub returns-clause-allowed : goal.returns-clause-allowed
-returns-clause-allowed c z u v d h =
-    subst (λ (o : Option ChangeAskedStep). IfSome o (MayChange z c.args.room.now.change v)) c.in_ok-next.was (c.next.ensures.allowed z h.early v h.fits)
+returns-clause-allowed c z u v d h = by_answer c.next.result refl
+  where
+    by_answer : (o : Option Action) → c.next.result ≡ o → IfSome o (IsAllowed z d c.args.room.now.change v)
+    by_answer None is = tt
+    by_answer (Some a) is =
+        let change = c.args.room.now.change in
+        let making = c.args.self.now.making in
+        let asks = sym c.next.ensures.asks ∙ is in
+        made_may z d change v a (making_asks_made change making a asks) (allowed z h.early v change making a h.fits asks)
+
+pub returns-clause-going : goal.returns-clause-going
+returns-clause-going c z u v h going = c.next.ensures.going z h.early v h.fits going

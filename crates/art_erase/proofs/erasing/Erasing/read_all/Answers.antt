@@ -3,8 +3,10 @@ use Rattle.std.proofs.Common.{◌∙◌, sym, subst, arith}
 use Rattle.std.specs.Prelude.{⊤}
 use Rattle.art_erase.proofs.Stages.{reads_on, kept_on}
 use Rattle.art_erase.specs.Erasing.{Fits, absent}
-use Rattle.art_find.proofs.Counting.{answers_count}
-use Rattle.art_find.specs.Asking.{Answers, IsAllowed}
+use Rattle.art_attempt.proofs.Given.{reads_look}
+use Rattle.art_find.specs.Asking.{MayLook}
+use Rattle.art_machine.proofs.Counting.{look_counts}
+use Rattle.art_machine.specs.Acting.{Answers, telling}
 use Rattle.art_step.specs.declared.views.Sizes.{Sizes}
 use Rattle.art_step.specs.declared.views.View.{View}
 use Rattle.art_erase.proofs.erasing.Erasing.read_all.Goals as goal
@@ -18,7 +20,7 @@ look-requires g c =
     let r = c.loop-left.room in
     let h = (reads_on z i.here.0 m r v c.in-Reading.rereading c.in-Reading.is i.here.1).0 in
     record {
-      allowed = subst (λ (y : Sizes). IsAllowed y (λ s. ⊤) v c.in-Some.asked) (sym i.sizes)
+      allowed = subst (λ (y : Sizes). MayLook y (λ s. ⊤) v c.in-Some.asked) (sym i.sizes)
           (c.in-Some.ensures.allowed z v _ h.fits);
     }
 
@@ -32,7 +34,7 @@ read_told-requires-clause-told g c =
     let r = c.loop-left.room in
     let d = absent r.gone in
     let a = c.in-Some.asked in
-    let row : Answers z d a c.in-Some-look.answer v w = subst (λ (y : Sizes). Answers y d a c.in-Some-look.answer v w) i.sizes (c.in-Some-look.ensures.row d) in
+    let row : Answers z (telling d) a c.in-Some-look.answer v w = subst (λ (y : Sizes). Answers y (telling d) a c.in-Some-look.answer v w) i.sizes (c.in-Some-look.ensures.row d) in
     (z, i.here.0, v, w, a, i.here.1.room, (reads_on z i.here.0 m r v c.in-Reading.rereading c.in-Reading.is i.here.1).0, sym c.next.ensures.asks ∙ c.in-Some.is, row)
 
 pub read_told-requires-clause-more : goal.read_told-requires-clause-more
@@ -52,9 +54,9 @@ loop-left-preserved g c =
     let r = c.loop-left.room in
     let d = absent r.gone in
     let a = c.in-Some.asked in
-    let row : Answers z d a c.in-Some-look.answer v w = subst (λ (y : Sizes). Answers y d a c.in-Some-look.answer v w) i.sizes (c.in-Some-look.ensures.row d) in
+    let row : Answers z (telling d) a c.in-Some-look.answer v w = subst (λ (y : Sizes). Answers y (telling d) a c.in-Some-look.answer v w) i.sizes (c.in-Some-look.ensures.row d) in
     let is = sym c.next.ensures.asks ∙ c.in-Some.is in
-    let one = (answers_count z d a c.in-Some-look.answer v w row).steps in
+    let one = (look_counts z d a c.in-Some-look.answer v w (reads_look m.stand.stamp c.in-Reading.rereading a is) row).steps in
     let on : (u : View) → Fits z u m r v → Fits z u c.read_told.new.self c.read_told.new.room w = λ u fits.
     c.read_told.ensures.fits z u v w a fits.room ((reads_on z u m r v c.in-Reading.rereading c.in-Reading.is fits).0) is row in
     let made = i.made in

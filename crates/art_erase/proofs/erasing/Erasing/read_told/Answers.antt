@@ -8,8 +8,8 @@ supply-requires c =
     let m = c.args.self.now in
     let r = c.args.room.now in
     let desk = c.reread_node.new.self in
-    let noted : IsNotedBy m r c.args.rereading c.read_in.result c.reread_node.new.rereading desk = record { steps = c.reread_node.ensures.steps; above = c.reread_node.ensures.above; stays = c.reread_node.ensures.stays; fits = λ z v w. c.reread_node.ensures.fits z v w m.stand.stamp } in
-    let so = reread_shrinks p.0 p.1 m c.args.rereading c.reread_node.new.rereading r p.2 p.3 desk c.read_in.result p.4 c.args.answer p.6 c.requires.more p.7 p.8 c.read_in.ensures noted
+    let noted : IsNotedBy m r c.args.rereading c.found.result c.reread_node.new.rereading desk = record { steps = c.reread_node.ensures.steps; above = c.reread_node.ensures.above; stays = c.reread_node.ensures.stays; fits = λ z v w. c.reread_node.ensures.fits z v w m.stand.stamp } in
+    let so = reread_shrinks p.0 p.1 m c.args.rereading c.reread_node.new.rereading r p.2 p.3 desk c.found.result p.4 c.args.answer p.6 c.requires.more p.7 p.8 c.found.ensures noted
     c.in-Shrinks.layout (sym c.loss.ensures ∙ c.in-Shrinks.is) in
     (p.0, p.1, p.3, record { sizes = p.5.sizes; key = p.5.key }, record { still = so.still; spent = so.spent; has = so.has })
 
@@ -18,10 +18,10 @@ returns-in-Shrinks-clause-fits c z u v w asked room h is row =
     let m = c.args.self.now in
     let r = c.args.room.now in
     let desk = c.reread_node.new.self in
-    let noted : IsNotedBy m r c.args.rereading c.read_in.result c.reread_node.new.rereading desk = record { steps = c.reread_node.ensures.steps; above = c.reread_node.ensures.above; stays = c.reread_node.ensures.stays; fits = λ z v w. c.reread_node.ensures.fits z v w m.stand.stamp } in
+    let noted : IsNotedBy m r c.args.rereading c.found.result c.reread_node.new.rereading desk = record { steps = c.reread_node.ensures.steps; above = c.reread_node.ensures.above; stays = c.reread_node.ensures.stays; fits = λ z v w. c.reread_node.ensures.fits z v w m.stand.stamp } in
     let shrinks = sym c.loss.ensures ∙ c.in-Shrinks.is in
-    let so = reread_shrinks z u m c.args.rereading c.reread_node.new.rereading r v w desk c.read_in.result asked c.args.answer h c.requires.more is row c.read_in.ensures noted c.in-Shrinks.layout shrinks in
-    let lost = reread_lost z u m c.args.rereading c.reread_node.new.rereading r v w desk c.read_in.result asked c.args.answer h c.requires.more is row c.read_in.ensures noted in
+    let so = reread_shrinks z u m c.args.rereading c.reread_node.new.rereading r v w desk c.found.result asked c.args.answer h c.requires.more is row c.found.ensures noted c.in-Shrinks.layout shrinks in
+    let lost = reread_lost z u m c.args.rereading c.reread_node.new.rereading r v w desk c.found.result asked c.args.answer h c.requires.more is row c.found.ensures noted in
     c.supply.ensures.fits z u w (record { sizes = room.sizes; key = room.key }) (record { still = so.still; spent = so.spent; has = so.has })
     (record { standing = lost.standing; found = lost.found }) shrinks
 
@@ -30,9 +30,9 @@ returns-in-Leaf-clause-fits c z u v w asked room h is row =
     let m = c.args.self.now in
     let r = c.args.room.now in
     let desk = c.reread_node.new.self in
-    let noted : IsNotedBy m r c.args.rereading c.read_in.result c.reread_node.new.rereading desk = record { steps = c.reread_node.ensures.steps; above = c.reread_node.ensures.above; stays = c.reread_node.ensures.stays; fits = λ z v w. c.reread_node.ensures.fits z v w m.stand.stamp } in
-    let so = reread_so z u m c.args.rereading c.reread_node.new.rereading r v w desk c.read_in.result asked c.args.answer h c.requires.more is row c.read_in.ensures noted in
-    let lost = reread_lost z u m c.args.rereading c.reread_node.new.rereading r v w desk c.read_in.result asked c.args.answer h c.requires.more is row c.read_in.ensures noted in
+    let noted : IsNotedBy m r c.args.rereading c.found.result c.reread_node.new.rereading desk = record { steps = c.reread_node.ensures.steps; above = c.reread_node.ensures.above; stays = c.reread_node.ensures.stays; fits = λ z v w. c.reread_node.ensures.fits z v w m.stand.stamp } in
+    let so = reread_so z u m c.args.rereading c.reread_node.new.rereading r v w desk c.found.result asked c.args.answer h c.requires.more is row c.found.ensures noted in
+    let lost = reread_lost z u m c.args.rereading c.reread_node.new.rereading r v w desk c.found.result asked c.args.answer h c.requires.more is row c.found.ensures noted in
     c.vouch.ensures.fits z u w (record { sizes = room.sizes; key = room.key }) (record { still = so.still; spent = so.spent; has = so.has })
     (record { standing = lost.standing; found = lost.found }) (inl (sym c.loss.ensures ∙ c.in-Leaf.is))
 
@@ -41,8 +41,8 @@ returns-in-Merges-clause-fits c z u v w asked room h is row =
     let m = c.args.self.now in
     let r = c.args.room.now in
     let desk = c.reread_node.new.self in
-    let noted : IsNotedBy m r c.args.rereading c.read_in.result c.reread_node.new.rereading desk = record { steps = c.reread_node.ensures.steps; above = c.reread_node.ensures.above; stays = c.reread_node.ensures.stays; fits = λ z v w. c.reread_node.ensures.fits z v w m.stand.stamp } in
-    let on = reread_on z u m c.args.rereading c.reread_node.new.rereading r v w desk c.read_in.result asked c.args.answer h c.requires.more is row c.read_in.ensures noted (sym c.loss.ensures ∙ c.in-Merges.is) in
+    let noted : IsNotedBy m r c.args.rereading c.found.result c.reread_node.new.rereading desk = record { steps = c.reread_node.ensures.steps; above = c.reread_node.ensures.above; stays = c.reread_node.ensures.stays; fits = λ z v w. c.reread_node.ensures.fits z v w m.stand.stamp } in
+    let on = reread_on z u m c.args.rereading c.reread_node.new.rereading r v w desk c.found.result asked c.args.answer h c.requires.more is row c.found.ensures noted (sym c.loss.ensures ∙ c.in-Merges.is) in
     c.read_on.ensures.fits z u w (record { sizes = room.sizes; key = room.key }) (record {
       early = on.early;
       base = on.base;

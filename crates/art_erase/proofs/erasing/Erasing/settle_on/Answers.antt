@@ -2,15 +2,15 @@
 use Rattle.std.proofs.Common.{◌≡◌, ◌∙◌, Some, sym, ap, subst, arith}
 use Rattle.art_attempt.proofs.Finds.{may_look}
 use Rattle.art_attempt.specs.declared.rooms.Room.{Room}
-use Rattle.art_erase.proofs.Finds.{finding_allowed}
-use Rattle.art_erase.specs.Erasing.{Fits, IsFinding, StageFits, absent, asks_place, check_of, finding_asks}
+use Rattle.art_erase.proofs.Finds.{check_look, finding_allowed}
+use Rattle.art_erase.specs.Erasing.{Fits, IsFinding, StageFits, absent, asks_place, finding_asks}
 use Rattle.art_erase.specs.declared.erasing.Erasing.{Erasing}
 use Rattle.art_erase.specs.declared.erasing.Stage.{Stage}
 use Rattle.art_erase.specs.declared.erasing.Stage.TheVariants.{Finding}
-use Rattle.art_find.proofs.Counting.{answers_count}
-use Rattle.art_find.specs.Asking.{Answers}
+use Rattle.art_machine.proofs.Counting.{look_counts}
+use Rattle.art_machine.specs.Acting.{Answers, IsLook, telling}
 use Rattle.art_find.specs.Descents.{asks}
-use Rattle.art_find.specs.declared.asked.Asked.{Asked}
+use Rattle.art_machine.specs.declared.actions.Action.{Action}
 use Rattle.art_find.specs.declared.findings.Stand.{Stand}
 use Rattle.art_step.specs.declared.views.Sizes.{Sizes}
 use Rattle.art_step.specs.declared.views.View.{View}
@@ -44,7 +44,7 @@ settled-requires g c =
     let q = c.requires.fits in
     let f = is_finding z q.0 m r v c.in-Finding.is q.1 in
     let at = sym c.stand.ensures.at ∙ c.in-Some.is in
-    let row = subst (λ (a : Asked). Answers z (absent r.gone) a c.in-Some-look.answer v w) c.check_of.ensures (c.in-Some-look.ensures.row (absent r.gone)) in
+    let row = subst (λ (a : Action). Answers z (telling (absent r.gone)) a c.in-Some-look.answer v w) c.check_of.ensures (c.in-Some-look.ensures.row (absent r.gone)) in
     (z, q.0, v, w, q.1.room, f, at, row)
 
 pub returns-clause-fits : goal.returns-clause-fits
@@ -56,7 +56,7 @@ returns-clause-fits g c = λ u fits.
     let r = c.args.room.now in
     let f = is_finding z u m r v c.in-Finding.is fits in
     let at = sym c.stand.ensures.at ∙ c.in-Some.is in
-    let row = subst (λ (a : Asked). Answers z (absent r.gone) a c.in-Some-look.answer v w) c.check_of.ensures (c.in-Some-look.ensures.row (absent r.gone)) in
+    let row = subst (λ (a : Action). Answers z (telling (absent r.gone)) a c.in-Some-look.answer v w) c.check_of.ensures (c.in-Some-look.ensures.row (absent r.gone)) in
     c.settled.ensures.fits z u v w fits.room f at row
 
 pub returns-clause-made : goal.returns-clause-made
@@ -65,6 +65,6 @@ returns-clause-made g c =
     let v = g.S.Steps.view c.args.steps.now in
     let w = g.S.Steps.view c.look.new.steps in
     let d = absent c.args.room.now.gone in
-    let one = (answers_count z d c.check_of.result c.in-Some-look.answer v w (c.in-Some-look.ensures.row d)).steps in
+    let one = (look_counts z d c.check_of.result c.in-Some-look.answer v w (subst IsLook (sym c.check_of.ensures) (check_look c.in-Some.stand.verdict c.in-Some.stand)) (c.in-Some-look.ensures.row d)).steps in
     let more = c.if-left-le1.false in
     omega (arith, one, more)

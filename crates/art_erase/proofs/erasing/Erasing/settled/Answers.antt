@@ -1,7 +1,7 @@
 use Rattle.std.proofs.Common.{◌≡◌, ◌∙◌, None, refl, ap, sym}
 use Rattle.art_attempt.proofs.Finds.{stands_there}
 use Rattle.art_attempt.proofs.Steps.{cell_later, cell_step}
-use Rattle.art_erase.proofs.Finds.{absent_there, fails_there, found_there, not_on, stands_still, told_by, told_other}
+use Rattle.art_erase.proofs.Finds.{absent_there, check_look, fails_there, found_there, not_on, stands_still, told_by, told_other}
 use Rattle.art_erase.proofs.erasing.Erasing.settled.Goals as goal
 use Rattle.art_erase.specs.Erasing.{absent, absent_of, check_of}
 use Rattle.art_find.specs.declared.verdicts.Verdict.{Verdict}
@@ -13,8 +13,8 @@ choose-requires c =
     let r = c.args.room.now in
     let t = c.args.stand in
     let f = q.5 in
-    let later = cell_later q.0 (absent r.gone) (check_of t) c.args.answer q.2 q.3 q.7 in
-    let step = cell_step q.0 (absent r.gone) (check_of t) c.args.answer q.2 q.3 q.7 in
+    let later = cell_later q.0 (absent r.gone) (check_of t) c.args.answer q.2 q.3 (check_look t.verdict t) q.7 in
+    let step = cell_step q.0 (absent r.gone) (check_of t) c.args.answer q.2 q.3 (check_look t.verdict t) q.7 in
     let s = stands_there q.0 r.gone.key.items (absent_of r.gone) m.finding r.desk f.early q.2 f.fits f.exact t q.6 in
     let on = sym c.passed.ensures ∙ c.if-not-passed.false in
     let none : told_by t.verdict (absent r.gone) ≡ None = ap (λ (found : Verdict). told_by found (absent r.gone)) c.in-Found.is in
@@ -32,8 +32,8 @@ returns-then-not-passed-clause-fits c z u v w room f at row =
     let m = c.args.self.now in
     let r = c.args.room.now in
     let t = c.args.stand in
-    let later = cell_later z (absent r.gone) (check_of t) c.args.answer v w row in
-    let step = cell_step z (absent r.gone) (check_of t) c.args.answer v w row in
+    let later = cell_later z (absent r.gone) (check_of t) c.args.answer v w (check_look t.verdict t) row in
+    let step = cell_step z (absent r.gone) (check_of t) c.args.answer v w (check_look t.verdict t) row in
     let s = stands_there z r.gone.key.items (absent_of r.gone) m.finding r.desk f.early v f.fits f.exact t at in
     record {
       room = room;
@@ -45,8 +45,8 @@ returns-in-Found-clause-fits c z u v w room f at row =
     let m = c.args.self.now in
     let r = c.args.room.now in
     let t = c.args.stand in
-    let later = cell_later z (absent r.gone) (check_of t) c.args.answer v w row in
-    let step = cell_step z (absent r.gone) (check_of t) c.args.answer v w row in
+    let later = cell_later z (absent r.gone) (check_of t) c.args.answer v w (check_look t.verdict t) row in
+    let step = cell_step z (absent r.gone) (check_of t) c.args.answer v w (check_look t.verdict t) row in
     let s = stands_there z r.gone.key.items (absent_of r.gone) m.finding r.desk f.early v f.fits f.exact t at in
     let on = sym c.passed.ensures ∙ c.if-not-passed.false in
     let none : told_by t.verdict (absent r.gone) ≡ None = ap (λ (found : Verdict). told_by found (absent r.gone)) c.in-Found.is in
@@ -63,8 +63,8 @@ returns-in_default c = record {
       let m = c.args.self.now in
       let r = c.args.room.now in
       let t = c.args.stand in
-      let later = cell_later z (absent r.gone) (check_of t) c.args.answer v w row in
-      let step = cell_step z (absent r.gone) (check_of t) c.args.answer v w row in
+      let later = cell_later z (absent r.gone) (check_of t) c.args.answer v w (check_look t.verdict t) row in
+      let step = cell_step z (absent r.gone) (check_of t) c.args.answer v w (check_look t.verdict t) row in
       let s = stands_there z r.gone.key.items (absent_of r.gone) m.finding r.desk f.early v f.fits f.exact t at in
       let on = sym c.passed.ensures ∙ c.if-not-passed.false in
       record {
@@ -80,7 +80,7 @@ returns-then-not-passed-clause-anew c is =
     let r = c.args.room.now in
     let t = c.args.stand in
     let f = q.5 in
-    let later = cell_later q.0 (absent r.gone) (check_of t) c.args.answer q.2 q.3 q.7 in
-    let step = cell_step q.0 (absent r.gone) (check_of t) c.args.answer q.2 q.3 q.7 in
+    let later = cell_later q.0 (absent r.gone) (check_of t) c.args.answer q.2 q.3 (check_look t.verdict t) q.7 in
+    let step = cell_step q.0 (absent r.gone) (check_of t) c.args.answer q.2 q.3 (check_look t.verdict t) q.7 in
     let s = stands_there q.0 r.gone.key.items (absent_of r.gone) m.finding r.desk f.early q.2 f.fits f.exact t q.6 in
     not_on q.0 q.1 m r q.2 q.3 q.4.key.short f later step t s c.args.answer q.7 (sym c.passed.ensures ∙ c.if-not-passed.true)

@@ -1,4 +1,4 @@
-use Rattle.std.proofs.Common.{◌∙◌, ap, inl, inr, refl, sym, subst, Some}
+use Rattle.std.proofs.Common.{◌∙◌, ap, inr, refl, sym, subst, Some}
 use Rattle.art_attempt.proofs.Enters.{supplied_at}
 use Rattle.art_erase.proofs.Chosen.{no_smaller}
 use Rattle.art_erase.proofs.Vouched.{supplies_lost, supplies_so}

@@ -3,8 +3,10 @@ use Rattle.std.proofs.Common.{◌∙◌, sym, subst, arith}
 use Rattle.std.specs.Prelude.{⊤}
 use Rattle.art_erase.proofs.Stages.{has_vouched, kept_on}
 use Rattle.art_erase.specs.Erasing.{Fits, absent, goes}
-use Rattle.art_find.proofs.Counting.{answers_count}
-use Rattle.art_find.specs.Asking.{Answers, IsAllowed}
+use Rattle.art_attempt.proofs.Given.{vouch_asks_look}
+use Rattle.art_find.specs.Asking.{MayLook}
+use Rattle.art_machine.proofs.Counting.{look_counts}
+use Rattle.art_machine.specs.Acting.{Answers, telling}
 use Rattle.art_step.specs.declared.views.Sizes.{Sizes}
 use Rattle.art_step.specs.declared.views.View.{View}
 use Rattle.art_erase.proofs.erasing.Erasing.vouch_all.Goals as goal
@@ -18,7 +20,7 @@ look-requires g c =
     let r = c.loop-left.room in
     let h = has_vouched z i.here.0 m r v c.in-Vouching.is i.here.1 in
     record {
-      allowed = subst (λ (y : Sizes). IsAllowed y (λ s. ⊤) v c.in-Some.asked) (sym i.sizes)
+      allowed = subst (λ (y : Sizes). MayLook y (λ s. ⊤) v c.in-Some.asked) (sym i.sizes)
           (c.in-Some.ensures.allowed z r.gone.key.items (goes m.way) r.desk h.early v h.fits);
     }
 
@@ -31,7 +33,7 @@ vouch_told-requires-clause-told g c =
     let m = c.loop-left.self in
     let r = c.loop-left.room in
     let d = absent r.gone in
-    let row = subst (λ (y : Sizes). Answers y d c.in-Some.asked c.in-Some-look.answer v w) i.sizes (c.in-Some-look.ensures.row d) in
+    let row = subst (λ (y : Sizes). Answers y (telling d) c.in-Some.asked c.in-Some-look.answer v w) i.sizes (c.in-Some-look.ensures.row d) in
     (z, i.here.0, v, w, c.in-Some.asked, i.here.1.room, has_vouched z i.here.0 m r v c.in-Vouching.is i.here.1, sym c.next.ensures.asks ∙ c.in-Some.is, row)
 
 pub loop-left-preserved : goal.loop-left-preserved
@@ -46,9 +48,9 @@ loop-left-preserved g c =
     let r = c.loop-left.room in
     let d = absent r.gone in
     let a = c.in-Some.asked in
-    let row : Answers z d a c.in-Some-look.answer v w = subst (λ (y : Sizes). Answers y d a c.in-Some-look.answer v w) i.sizes (c.in-Some-look.ensures.row d) in
+    let row : Answers z (telling d) a c.in-Some-look.answer v w = subst (λ (y : Sizes). Answers y (telling d) a c.in-Some-look.answer v w) i.sizes (c.in-Some-look.ensures.row d) in
     let is = sym c.next.ensures.asks ∙ c.in-Some.is in
-    let one = (answers_count z d a c.in-Some-look.answer v w row).steps in
+    let one = (look_counts z d a c.in-Some-look.answer v w (vouch_asks_look m.stand m.vouching a is) row).steps in
     let on : (u : View) → Fits z u m r v → Fits z u c.vouch_told.new.self c.vouch_told.new.room w = λ u fits.
     c.vouch_told.ensures.fits z u v w a fits.room (has_vouched z u m r v c.in-Vouching.is fits) is row in
     let made = i.made in

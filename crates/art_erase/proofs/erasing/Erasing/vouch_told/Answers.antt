@@ -1,5 +1,6 @@
 use Rattle.std.proofs.Common.{◌∙◌, Bool, ap, sym, subst, Some}
 use Rattle.art_attempt.proofs.Enters.{changed_by}
+use Rattle.art_attempt.proofs.Given.{vouch_asks_look}
 use Rattle.art_attempt.proofs.Steps.{cell_later}
 use Rattle.art_attempt.proofs.Tries.{later_then}
 use Rattle.art_attempt.specs.declared.rooms.Room.{Room}
@@ -20,7 +21,7 @@ plan-requires c =
     let r = c.args.room.now in
     let k = r.gone.key.items in
     let d = absent r.gone in
-    let one = cell_later q.0 d q.4 c.args.answer q.2 q.3 q.8 in
+    let one = cell_later q.0 d q.4 c.args.answer q.2 q.3 (vouch_asks_look m.stand m.vouching q.4 q.7) q.8 in
     let next : Erasing = record m { vouching = c.told.new.self } in
     let then : Room = record r { desk = c.told.new.desk } in
     let fits = c.told.ensures.fits q.0 k d h.early q.2 q.3 q.4 (subst (λ (b : Bool). VouchFits q.0 k b m.stand m.vouching r.desk h.early q.2) (sym c.goes.ensures) h.fits) q.7 q.8 in
@@ -42,7 +43,7 @@ returns-in-None-clause-fits c z u v w asked room h is row =
     let r = c.args.room.now in
     let k = r.gone.key.items in
     let d = absent r.gone in
-    let one = cell_later z d asked c.args.answer v w row in
+    let one = cell_later z d asked c.args.answer v w (vouch_asks_look m.stand m.vouching asked is) row in
     let next : Erasing = record m { vouching = c.told.new.self } in
     let then : Room = record r { desk = c.told.new.desk } in
     let fits = c.told.ensures.fits z k d h.early v w asked (subst (λ (b : Bool). VouchFits z k b m.stand m.vouching r.desk h.early v) (sym c.goes.ensures) h.fits) is row in
@@ -67,7 +68,7 @@ returns-in-Some-Changed-clause-fits c z u v w asked room h is row =
     let r = c.args.room.now in
     let k = r.gone.key.items in
     let d = absent r.gone in
-    let one = cell_later z d asked c.args.answer v w row in
+    let one = cell_later z d asked c.args.answer v w (vouch_asks_look m.stand m.vouching asked is) row in
     let next : Erasing = record m { vouching = c.told.new.self } in
     let then : Room = record r { desk = c.told.new.desk } in
     let fits = c.told.ensures.fits z k d h.early v w asked (subst (λ (b : Bool). VouchFits z k b m.stand m.vouching r.desk h.early v) (sym c.goes.ensures) h.fits) is row in
@@ -90,7 +91,7 @@ returns-in-Some-Unchanged-clause-fits c z u v w asked room h is row =
     let r = c.args.room.now in
     let k = r.gone.key.items in
     let d = absent r.gone in
-    let one = cell_later z d asked c.args.answer v w row in
+    let one = cell_later z d asked c.args.answer v w (vouch_asks_look m.stand m.vouching asked is) row in
     let next : Erasing = record m { vouching = c.told.new.self } in
     let then : Room = record r { desk = c.told.new.desk } in
     let fits = c.told.ensures.fits z k d h.early v w asked (subst (λ (b : Bool). VouchFits z k b m.stand m.vouching r.desk h.early v) (sym c.goes.ensures) h.fits) is row in

@@ -1,9 +1,9 @@
 use Rattle.std.proofs.Common.{ℕ, ◌+◌, sym, subst}
 use Rattle.std.specs.Prelude.{IfSome}
 use Rattle.art_find.proofs.Allowed.{allowed}
-use Rattle.art_find.specs.Asking.{IsAllowed}
+use Rattle.art_find.specs.Asking.{MayLook}
 use Rattle.art_find.specs.Descents.{answer_at, asks}
-use Rattle.art_find.specs.declared.asked.Asked.TheVariants.{ReadLeaf}
+use Rattle.art_machine.specs.declared.actions.Action.TheVariants.{ReadLeaf}
 use Rattle.art_find.specs.declared.descents.Stage.{Stage}
 use Rattle.art_step.specs.Shows.{HasValue}
 use Rattle.art_find.proofs.descents.Descent.next.Goals as goal
@@ -11,26 +11,26 @@ use Rattle.art_find.proofs.descents.Descent.next.Goals as goal
 pub returns-in-Below-clause-allowed : goal.returns-in-Below-clause-allowed
 returns-in-Below-clause-allowed c = λ z k what u v fits.
     let m = c.args.self.now in
-    subst (λ (t : Stage). IfSome (asks t) (IsAllowed z (λ s. HasValue s k (answer_at m.stage)) v)) c.in-Below.is (allowed z k what m.depth m.stage u v fits)
+    subst (λ (t : Stage). IfSome (asks t) (MayLook z (λ s. HasValue s k (answer_at m.stage)) v)) c.in-Below.is (allowed z k what m.depth m.stage u v fits)
 
 pub returns-in-Value-clause-allowed : goal.returns-in-Value-clause-allowed
 returns-in-Value-clause-allowed c = λ z k what u v fits.
     let m = c.args.self.now in
-    subst (λ (t : Stage). IfSome (asks t) (IsAllowed z (λ s. HasValue s k (answer_at m.stage)) v)) c.in-Value.is (allowed z k what m.depth m.stage u v fits)
+    subst (λ (t : Stage). IfSome (asks t) (MayLook z (λ s. HasValue s k (answer_at m.stage)) v)) c.in-Value.is (allowed z k what m.depth m.stage u v fits)
 
 pub returns-in-Length-clause-allowed : goal.returns-in-Length-clause-allowed
 returns-in-Length-clause-allowed c = λ z k what u v fits.
     let m = c.args.self.now in
-    subst (λ (t : Stage). IfSome (asks t) (IsAllowed z (λ s. HasValue s k (answer_at m.stage)) v)) c.in-Length.is (allowed z k what m.depth m.stage u v fits)
+    subst (λ (t : Stage). IfSome (asks t) (MayLook z (λ s. HasValue s k (answer_at m.stage)) v)) c.in-Length.is (allowed z k what m.depth m.stage u v fits)
 
 pub returns-in-Bytes-clause-allowed : goal.returns-in-Bytes-clause-allowed
 returns-in-Bytes-clause-allowed c = λ z k what u v fits.
     let m = c.args.self.now in
     let x = c.in-Bytes.seen in
-    subst (λ (i : ℕ). IsAllowed z (λ s. HasValue s k (answer_at m.stage)) v (ReadLeaf x.stamp x.leaf (2 + i))) (sym c.from-in-Bytes.ensures)
-    (subst (λ (t : Stage). IfSome (asks t) (IsAllowed z (λ s. HasValue s k (answer_at m.stage)) v)) c.in-Bytes.is (allowed z k what m.depth m.stage u v fits))
+    subst (λ (i : ℕ). MayLook z (λ s. HasValue s k (answer_at m.stage)) v (ReadLeaf x.stamp x.leaf (2 + i))) (sym c.from-in-Bytes.ensures)
+    (subst (λ (t : Stage). IfSome (asks t) (MayLook z (λ s. HasValue s k (answer_at m.stage)) v)) c.in-Bytes.is (allowed z k what m.depth m.stage u v fits))
 
 pub returns-in-Decided-clause-allowed : goal.returns-in-Decided-clause-allowed
 returns-in-Decided-clause-allowed c = λ z k what u v fits.
     let m = c.args.self.now in
-    subst (λ (t : Stage). IfSome (asks t) (IsAllowed z (λ s. HasValue s k (answer_at m.stage)) v)) c.in-Decided.is (allowed z k what m.depth m.stage u v fits)
+    subst (λ (t : Stage). IfSome (asks t) (MayLook z (λ s. HasValue s k (answer_at m.stage)) v)) c.in-Decided.is (allowed z k what m.depth m.stage u v fits)

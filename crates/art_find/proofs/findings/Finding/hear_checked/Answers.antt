@@ -1,9 +1,9 @@
 use Rattle.std.proofs.Common.{◌∙◌, Option, None, true, false, Some, refl, sym, ap, subst}
 use Rattle.std.specs.Prelude.{Result, Ok, Err}
 use Rattle.art_find.specs.Descents.{asks, ended_at}
-use Rattle.art_find.specs.declared.asked.Answer.TheVariants.{Checked}
-use Rattle.art_find.specs.declared.asked.Asked.{Asked}
-use Rattle.art_find.specs.declared.asked.Asked.TheVariants.{Begin, Check}
+use Rattle.art_machine.specs.declared.actions.Answer.TheVariants.{Checked}
+use Rattle.art_machine.specs.declared.actions.Action.{Action}
+use Rattle.art_machine.specs.declared.actions.Action.TheVariants.{Begin, Check}
 use Rattle.art_find.specs.declared.descents.Descent.{Descent}
 use Rattle.art_find.specs.declared.descents.Stage.{Stage}
 use Rattle.art_cell.specs.declared.cells.Cell.TheVariants as cell
@@ -31,7 +31,7 @@ returns-in-Ok c = record {
         fits = λ what u before. c.checked_at.ensures.fits z k what u v w asked before is row;
       } in
       let keeps : Keeps (Checked (Ok tt)) (asks m.descent.stage) (asks n.stage) n.depth m.above c.args.desk.now c.enter.new.self.above c.enter.new.desk =
-      subst (λ (o : Option Asked). Enters o (asks n.stage) n.depth m.above c.args.desk.now c.enter.new.self.above c.enter.new.desk) (sym is) c.enter.ensures.enters in
+      subst (λ (o : Option Action). Enters o (asks n.stage) n.depth m.above c.args.desk.now c.enter.new.self.above c.enter.new.desk) (sym is) c.enter.ensures.enters in
       looked_on z k true m c.enter.new.self c.args.desk.now c.enter.new.desk v w asked (Checked (Ok tt)) is (λ d. row) refl
       (heard z k true m c.enter.new.self c.args.desk.now c.enter.new.desk v w asked (Checked (Ok tt)) is (λ d. row) n c.enter.ensures.descent came keeps);
 }
@@ -56,7 +56,7 @@ returns-in-Err c = record {
       } in
       let keeps : Keeps (Checked (Err e)) (asks m.descent.stage) (asks n.stage) n.depth m.above c.args.desk.now m.above c.args.desk.now =
       subst (λ (d : Descent). Enters (asks m.descent.stage) (asks d.stage) d.depth m.above c.args.desk.now m.above c.args.desk.now) (sym c.failed.ensures.start)
-      (subst (λ (o : Option Asked). Enters o (Some (Begin cell.Anchor)) m.descent.depth m.above c.args.desk.now m.above c.args.desk.now) (sym is) (refl, refl)) in
+      (subst (λ (o : Option Action). Enters o (Some (Begin cell.Anchor)) m.descent.depth m.above c.args.desk.now m.above c.args.desk.now) (sym is) (refl, refl)) in
       looked_on z k false m next c.args.desk.now c.args.desk.now v w asked (Checked (Err e)) is (λ d. row) refl
       (heard z k false m next c.args.desk.now c.args.desk.now v w asked (Checked (Err e)) is (λ d. row) n refl came keeps);
 }

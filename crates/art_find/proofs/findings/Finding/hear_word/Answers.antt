@@ -1,8 +1,8 @@
 use Rattle.std.proofs.Common.{◌∙◌, Option, true, refl, sym, ap, subst}
 use Rattle.art_find.specs.Descents.{asks}
-use Rattle.art_find.specs.declared.asked.Answer.TheVariants.{Word}
-use Rattle.art_find.specs.declared.asked.Asked.{Asked}
-use Rattle.art_find.specs.declared.asked.Asked.TheVariants.{Read}
+use Rattle.art_machine.specs.declared.actions.Answer.TheVariants.{Word}
+use Rattle.art_machine.specs.declared.actions.Action.{Action}
+use Rattle.art_machine.specs.declared.actions.Action.TheVariants.{Read}
 use Rattle.art_find.specs.declared.descents.Stage.{Stage}
 use Rattle.art_find.proofs.Hearing.{heard, looked_on, word_came}
 use Rattle.art_find.specs.Findings.{IsHeard}
@@ -26,7 +26,7 @@ returns c = record {
       let word = c.args.word in
       let is = ap (λ (s : Stage). asks s) c.requires.at ∙ c.requires.asked in
       let came = word_came z k v w m.descent n asked word is (λ d. row) e.steps e.stays e.going e.exact e.fits in
-      let kept : IsHeard (asks m.descent.stage) word c.args.desk.now c.note.new.self = subst (λ (o : Option Asked). IsHeard o word c.args.desk.now c.note.new.self) (sym is)
+      let kept : IsHeard (asks m.descent.stage) word c.args.desk.now c.note.new.self = subst (λ (o : Option Action). IsHeard o word c.args.desk.now c.note.new.self) (sym is)
       (record { node = c.note.ensures.node; above = c.note.ensures.above }) in
       looked_on z k true m next c.args.desk.now c.note.new.self v w asked (Word word) is (λ d. row) refl
       (heard z k true m next c.args.desk.now c.note.new.self v w asked (Word word) is (λ d. row) n refl came (refl, kept));

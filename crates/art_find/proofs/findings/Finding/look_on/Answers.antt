@@ -1,7 +1,7 @@
 use Rattle.std.proofs.Common.{◌∙◌, ap, refl, sym}
 use Rattle.art_cell.specs.declared.cells.Cell.TheVariants as cell
 use Rattle.art_find.specs.Descents.{asks}
-use Rattle.art_find.specs.declared.asked.Asked.TheVariants.{Begin, Check}
+use Rattle.art_machine.specs.declared.actions.Action.TheVariants.{Begin, Check}
 use Rattle.art_find.specs.declared.descents.Stage.{Stage}
 use Rattle.art_find.proofs.Hearing.{may_look}
 use Rattle.art_find.proofs.findings.Finding.look_on.Goals as goal

@@ -1,7 +1,7 @@
 -- Each word is the next of the leaf.
 use Rattle.std.proofs.Common.{ℕ, ◌+◌, ◌∙◌, sym, ap, subst}
 use Rattle.art_find.specs.Descents.{asks}
-use Rattle.art_find.specs.declared.asked.Asked.TheVariants.{ReadLeaf}
+use Rattle.art_machine.specs.declared.actions.Action.TheVariants.{ReadLeaf}
 use Rattle.art_find.specs.declared.descents.Stage.{Stage}
 use Rattle.art_find.proofs.Hearing.{leaf_heard, may_look, word_came}
 use Rattle.art_step.specs.Steps.Read as read

@@ -1,6 +1,6 @@
 use Rattle.std.proofs.Common.{◌≡◌, ◌+◌, ◌<◌, ◌∙◌, ℕ, List, Option, Some, ap, refl, sym, arith}
 use Rattle.art_find.specs.Descents.{asks}
-use Rattle.art_find.specs.declared.asked.Asked.TheVariants.{Read}
+use Rattle.art_machine.specs.declared.actions.Action.TheVariants.{Read}
 use Rattle.art_find.proofs.Hearing.{may_look}
 use Rattle.art_find.proofs.Keeping.{cell_fits}
 use Rattle.art_find.specs.Findings.{FindingFits}

@@ -1,7 +1,7 @@
 -- The first number in hand may go back, and the pass may go idle where there is none.
-use Rattle.std.proofs.Common.{refl, subst, sym}
-use Rattle.art_epoch.specs.Asking.{IsAllowed}
-use Rattle.art_epoch.specs.declared.asked.Asked.{Asked}
+use Rattle.std.proofs.Common.{None, refl, subst, sym}
+use Rattle.art_machine.specs.Acting.{IsAllowed}
+use Rattle.art_machine.specs.declared.actions.Action.{Action}
 use Rattle.art_frame.specs.Closings.{ClosingFits}
 use Rattle.art_frame.specs.Stocks.{first_in}
 use Rattle.art_frame.specs.declared.closings.Closing.{Closing}
@@ -12,4 +12,4 @@ pub returns-in-Giving-clause-allowed : goal.returns-in-Giving-clause-allowed
 returns-in-Giving-clause-allowed c z k value u v ps qs us fits =
     let s = c.args.stock.now in
     let g = subst (λ (m : Closing). ClosingFits z k value u ps us m qs s v) c.in-Giving.is fits in
-    subst (λ (a : Asked). IsAllowed z v a) (sym c.gives.ensures) (may_give z k value u v ps qs us s g (first_in s) refl)
+    subst (λ (a : Action). IsAllowed z None v a) (sym c.gives.ensures) (may_give z k value u v ps qs us s g (first_in s) refl)

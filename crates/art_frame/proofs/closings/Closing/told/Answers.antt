@@ -1,12 +1,14 @@
 -- The machine goes on as the word says.
-use Rattle.std.proofs.Common.{◌≡◌, ◌+◌, ◌<◌, List, refl, subst, sym}
+use Rattle.std.proofs.Common.{◌≡◌, ◌+◌, ◌<◌, ℕ, List, refl, subst, subst₂, sym}
 use Rattle.std.proofs.lemmas.Option.{same_Some}
-use Rattle.std.specs.Prelude.{Some}
-use Rattle.art_epoch.specs.Asking.{Answers}
+use Rattle.std.specs.Prelude.{None, Some}
+use Rattle.art_machine.proofs.Words.{is_word, word_row}
+use Rattle.art_machine.specs.Acting.{Answers}
+use Rattle.art_machine.specs.declared.actions.Answer.TheVariants.{Word}
 use Rattle.art_epoch.specs.Limbo.{IsLimbo, places_of}
 use Rattle.art_epoch.specs.Reclaiming.{Retires}
-use Rattle.art_epoch.specs.declared.asked.Asked.{Asked}
-use Rattle.art_epoch.specs.declared.asked.Asked.TheVariants.{Note}
+use Rattle.art_machine.specs.declared.actions.Action.{Action}
+use Rattle.art_machine.specs.declared.actions.Action.TheVariants.{ReadEpoch}
 use Rattle.art_epoch.specs.declared.limbo.Place.{Place}
 use Rattle.art_frame.specs.Closings.{ClosingFits, asks, gives, stage_given, steps_left}
 use Rattle.art_frame.specs.Stocks.{count_in, first_in}
@@ -25,7 +27,8 @@ returns-in-Labelling-clause-fits c z k value u v w ps a fits asked row =
     let rs = places_of c.labelled.new.limbo in
     let l = subst (λ (m : Closing). ClosingFits z k value u ps us m qs s v) c.in-Labelling.is fits in
     let e = subst (λ (m : Closing). asks m s ≡ Some a) c.in-Labelling.is asked in
-    let step = subst (λ (t : View). Answers z Note c.args.word t w) l.is (subst (λ (b : Asked). Answers z b c.args.word v w) (sym (same_Some Note a e)) row) in
+    let heard = word_row z None ReadEpoch c.args.answer v w tt (subst (λ (b : Action). Answers z None b c.args.answer v w) (sym (same_Some ReadEpoch a e)) row) in
+    let step = subst₂ (λ (x : ℕ) (t : View). Answers z None ReadEpoch (Word x) t w) (sym c.word.ensures) l.is heard in
     let waits = subst (λ (xs : List Place). IsLimbo xs us u.limbo) (sym l.waiting) l.may.limbo in
     let retires = c.labelled.ensures.retires z u w waits step in
     subst (λ (m : Closing). ClosingFits z k value u ps us m rs s w) (sym c.labelled.ensures.next)
@@ -40,7 +43,7 @@ returns-in-Giving-clause-fits c z k value u v w ps a fits asked row =
     let e = subst (λ (m : Closing). asks m s ≡ Some a) c.in-Giving.is asked in
     subst (λ (m : Closing). ClosingFits z k value u ps us m qs c.given.new.stock w) (sym c.given.ensures.next)
     (subst (λ (t : Stock). ClosingFits z k value u ps us (stage_given s) qs t w) (sym c.given.ensures.stock)
-    (told_giving z k value u v ps qs us s g (first_in s) a c.args.word w refl (same_Some (gives s) a e) row))
+    (told_giving z k value u v ps qs us s g (first_in s) a c.args.answer w refl (same_Some (gives s) a e) row))
 
 pub returns-in-Giving-clause-left : goal.returns-in-Giving-clause-left
 returns-in-Giving-clause-left c =
@@ -48,3 +51,10 @@ returns-in-Giving-clause-left c =
     subst (λ (m : Closing). steps_left c.given.result c.given.new.stock < steps_left m s) (sym c.in-Giving.is)
     (subst (λ (m : Closing). steps_left m c.given.new.stock < 1 + count_in s) (sym c.given.ensures.next)
     (subst (λ (t : Stock). steps_left (stage_given s) t < 1 + count_in s) (sym c.given.ensures.stock) (fewer_given s (first_in s) refl)))
+
+pub word-requires : goal.word-requires
+word-requires c =
+    let k = c.requires.fits in
+    let s = c.args.stock.now in
+    let e = subst (λ (m : Closing). asks m s ≡ Some k.7) c.in-Labelling.is k.9 in
+    is_word k.0 None ReadEpoch c.args.answer k.4 k.5 tt (subst (λ (b : Action). Answers k.0 None b c.args.answer k.4 k.5) (sym (same_Some ReadEpoch k.7 e)) k.10)

@@ -3,7 +3,7 @@ use Rattle.std.proofs.Common.{⊎_elim, refl, arith, ◌<◌, ◌≤◌}
 use Rattle.std.proofs.lemmas.Bool.{cases_lt}
 use Rattle.std.specs.Prelude.{[], length}
 use Rattle.art_epoch.specs.Limbo.{places_of}
-use Rattle.art_epoch.specs.declared.asked.Asked.TheVariants.{Note}
+use Rattle.art_machine.specs.declared.actions.Action.TheVariants.{ReadEpoch}
 use Rattle.art_frame.proofs.Blocking.{none_stays}
 use Rattle.art_frame.proofs.Opens.{noting_left}
 use Rattle.art_frame.proofs.openings.Opening.new.Goals as goal
@@ -19,7 +19,7 @@ returns-clause-fits c z u may =
           (λ (none : length ps ≤ 0). absurd (c.if-room-eq-PLACES.false (omega (arith, room, none))))
           (cases_lt 0 (length ps));
       fits = c.new-2.ensures.fits z u ps may.own_is may.inside may.passes_are may.may.idle (omega (arith, room)) may.limbo;
-      going = (Note, c.new-2.ensures.asks ps);
+      going = (ReadEpoch, c.new-2.ensures.asks ps);
       blocked = record { looks = []; found = refl; blocker = λ label is. absurd (none_stays c.new-2.result.stage ps label (c.new-2.ensures.asks []) is) };
     }
 

@@ -5,6 +5,7 @@ use Rattle.art_epoch.specs.Limbo.{places_of}
 use Rattle.art_epoch.specs.declared.limbo.Place.{Place}
 use Rattle.art_epoch.specs.Reclaiming as reclaims
 use Rattle.art_epoch.proofs.Reclaimed.{steps_fewer}
+use Rattle.art_machine.specs.Acting.{word_in}
 use Rattle.art_frame.specs.Openings.{OpeningFits, asks, reclaimed, steps_left}
 use Rattle.art_frame.specs.declared.openings.Opening.{Opening}
 use Rattle.art_frame.proofs.Opens.{fewer_reclaiming, told_pinning, told_reclaiming}
@@ -18,7 +19,7 @@ returns-in-Reclaiming-clause-fits c z u v w ps a fits asked row =
     let k = subst (λ (m : Opening). OpeningFits z u ps m qs v) c.in-Reclaiming.is fits in
     let e = subst (λ (m : Opening). asks m qs ≡ Some a) c.in-Reclaiming.is asked in
     subst (λ (m : Opening). OpeningFits z u ps m (places_of c.reclaimed.new.limbo) w) (sym c.reclaimed.ensures.next)
-    (subst (λ (rs : List Place). OpeningFits z u ps (reclaimed r b c.args.word qs) rs w) (sym c.reclaimed.ensures.places) (told_reclaiming z u v w ps qs r b a c.args.word k e row))
+    (subst (λ (rs : List Place). OpeningFits z u ps (reclaimed r b (word_in c.args.answer) qs) rs w) (sym c.reclaimed.ensures.places) (told_reclaiming z u v w ps qs r b a c.args.answer k e row))
 
 pub returns-in-Pinning-clause-fits : goal.returns-in-Pinning-clause-fits
 returns-in-Pinning-clause-fits c z u v w ps a fits asked row =
@@ -35,10 +36,10 @@ returns-in-Reclaiming-clause-left c =
     let rs = places_of c.reclaimed.new.limbo in
     let r = c.in-Reclaiming.reclaiming in
     let b = c.in-Reclaiming.blocker in
-    let k = subst (λ (m : Opening). OpeningFits o.0 o.1 o.3 m qs o.2) c.in-Reclaiming.is o.5 in
-    let e = subst (λ (m : Opening). asks m qs ≡ Some o.4) c.in-Reclaiming.is o.6 in
-    let fewer = steps_fewer o.0 o.1 o.3 qs r o.2 k.fits o.4 c.args.word e in
+    let k = subst (λ (m : Opening). OpeningFits o.0 o.1 o.4 m qs o.2) c.in-Reclaiming.is o.6 in
+    let e = subst (λ (m : Opening). asks m qs ≡ Some o.5) c.in-Reclaiming.is o.7 in
+    let fewer = steps_fewer o.0 o.1 o.4 qs r o.2 k.fits o.5 (word_in c.args.answer) e in
     subst (λ (m : Opening). steps_left c.reclaimed.result rs < steps_left m qs) (sym c.in-Reclaiming.is)
     (subst (λ (m : Opening). steps_left m rs < 2 + reclaims.steps_left r.passes r.stage qs) (sym c.reclaimed.ensures.next)
-    (subst (λ (ps : List Place). steps_left (reclaimed r b c.args.word qs) ps < 2 + reclaims.steps_left r.passes r.stage qs) (sym c.reclaimed.ensures.places)
-    (fewer_reclaiming r b c.args.word qs fewer)))
+    (subst (λ (ps : List Place). steps_left (reclaimed r b (word_in c.args.answer) qs) ps < 2 + reclaims.steps_left r.passes r.stage qs) (sym c.reclaimed.ensures.places)
+    (fewer_reclaiming r b (word_in c.args.answer) qs fewer)))

@@ -3,9 +3,9 @@ use Rattle.std.specs.Option.{option_and_then, option_map}
 use Rattle.std.specs.Prelude.{IfSome, ⊤}
 use Rattle.art_cell.specs.declared.cells.Cell.TheVariants as cell
 use Rattle.art_cell.specs.declared.cells.Node.{Node}
-use Rattle.art_find.specs.Asking.{IsAllowed}
-use Rattle.art_find.specs.declared.asked.Asked.{Asked}
-use Rattle.art_find.specs.declared.asked.Asked.TheVariants.{Begin, Read, Check}
+use Rattle.art_find.specs.Asking.{MayLook}
+use Rattle.art_machine.specs.declared.actions.Action.{Action}
+use Rattle.art_machine.specs.declared.actions.Action.TheVariants.{Begin, Read, Check}
 use Rattle.art_gather.specs.Vouching.{above_checks, above_reads}
 use Rattle.art_gather.specs.Lowering.{StageFits, asks, ended_at}
 use Rattle.art_gather.specs.declared.lowering.Lowering.{Lowering}
@@ -21,7 +21,7 @@ use Rattle.art_gather.proofs.lowering.Lowering.next.Goals as goal
 
 -- until it has ended it asks for a step
 module _ (z : Sizes) (k : List ℕ) (t : Stand) (n : Node) (desk : Desk) (lower : List (Option ℕ)) (u v : View) where
-  asks_some : (m : Lowering) → StageFits z k t n m desk lower u v → ended_at m ≡ None → (a : Asked) × (asks t m ≡ Some a)
+  asks_some : (m : Lowering) → StageFits z k t n m desk lower u v → ended_at m ≡ None → (a : Action) × (asks t m ≡ Some a)
   asks_some (Beginning m) fits going = (Begin (cell.Node m), refl)
   asks_some (Named x) fits going = (Check t.stamp, refl)
   asks_some (Above x r) fits going =
@@ -37,7 +37,7 @@ module _ (z : Sizes) (k : List ℕ) (t : Stand) (n : Node) (desk : Desk) (lower 
 
 pub returns-clause-allowed : goal.returns-clause-allowed
 returns-clause-allowed c z k n desk lower u v fits =
-    subst (λ (o : Option Asked). IfSome o (IsAllowed z (λ s. ⊤) v)) (sym c.asked.ensures) (allowed z k c.args.stand.now n desk lower u v c.args.self.now fits.stage)
+    subst (λ (o : Option Action). IfSome o (MayLook z (λ s. ⊤) v)) (sym c.asked.ensures) (allowed z k c.args.stand.now n desk lower u v c.args.self.now fits.stage)
 
 pub returns-clause-going : goal.returns-clause-going
 returns-clause-going c z k n desk lower u v fits going =

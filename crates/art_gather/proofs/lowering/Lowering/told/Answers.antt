@@ -1,8 +1,8 @@
 use Rattle.std.proofs.Common.{◌≡◌, ◌∙◌, ap, arith, subst, sym, Some}
 use Rattle.std.proofs.lemmas.Option.{same_Some}
 use Rattle.std.specs.Option.{option_map}
-use Rattle.art_find.specs.declared.asked.Asked.{Asked}
-use Rattle.art_find.specs.declared.asked.Asked.TheVariants.{Check}
+use Rattle.art_machine.specs.declared.actions.Action.{Action}
+use Rattle.art_machine.specs.declared.actions.Action.TheVariants.{Check}
 use Rattle.art_gather.specs.Vouching.{above_checks}
 use Rattle.art_gather.proofs.LowerNames.{has_over}
 use Rattle.art_gather.proofs.Lowers.{above_checked, here_checked, lower_checked}
@@ -21,7 +21,7 @@ returns-in-CheckAbove-clause-fits c z k n deed u v w asked fits is row =
     let s = now.stage in
     let over = has_over z k t n desk u v s.0 in
     let at : asks t m ≡ Some asked = sym (ap (asks t) c.in-CheckAbove.is) ∙ is in
-    let one : Check over.0.stamp ≡ asked = same_Some {A = Asked} (Check over.0.stamp) asked (sym (ap (option_map above_checks) over.1) ∙ at) in
+    let one : Check over.0.stamp ≡ asked = same_Some {A = Action} (Check over.0.stamp) asked (sym (ap (option_map above_checks) over.1) ∙ at) in
     subst (λ (m' : Lowering). Fits z k t n m' desk reads u w) (sym c.checked.ensures)
     (above_checked z k t n desk reads u v w s.0 3 (omega arith) (record { failures = now.failures; steps = now.steps }) deed c.in-CheckAbove.stamp asked c.args.answer s.1 s.4 over.0 (omega arith) over.1 s.2 s.3 one row)
 
@@ -34,7 +34,7 @@ returns-in-CheckHere-clause-fits c z k n deed u v w asked fits is row =
     let now : Fits z k t n m desk reads u v = subst (λ (m' : Lowering). Fits z k t n m' desk reads u v) c.in-CheckHere.is fits in
     let s = now.stage in
     let at : asks t m ≡ Some asked = sym (ap (asks t) c.in-CheckHere.is) ∙ is in
-    let one : Check t.stamp ≡ asked = same_Some {A = Asked} (Check t.stamp) asked at in
+    let one : Check t.stamp ≡ asked = same_Some {A = Action} (Check t.stamp) asked at in
     subst (λ (m' : Lowering). Fits z k t n m' desk reads u w) (sym c.checked-in-CheckHere.ensures)
     (here_checked z k t n desk reads u v w s.0 2 (omega arith) (record { failures = now.failures; steps = now.steps }) deed c.in-CheckHere.stamp asked c.args.answer s.1 s.4 s.2 (omega arith) s.3 s.5 one row)
 
@@ -48,7 +48,7 @@ returns-in-CheckLower-clause-fits c z k n deed u v w asked fits is row =
     let now : Fits z k t n m desk reads u v = subst (λ (m' : Lowering). Fits z k t n m' desk reads u v) c.in-CheckLower.is fits in
     let s = now.stage in
     let at : asks t m ≡ Some asked = sym (ap (asks t) c.in-CheckLower.is) ∙ is in
-    let one : Check x ≡ asked = same_Some {A = Asked} (Check x) asked at in
+    let one : Check x ≡ asked = same_Some {A = Action} (Check x) asked at in
     subst (λ (m' : Lowering). Fits z k t n m' desk reads u w) (sym c.checked-in-CheckLower.ensures)
     (lower_checked z k t n desk reads u v w s.0 1 (omega arith) (record { failures = now.failures; steps = now.steps }) deed x asked c.args.answer s.1 s.3 s.2 s.4 one row)
 

@@ -1,11 +1,11 @@
 use Rattle.std.proofs.Common.{Option, subst, sym}
-use Rattle.std.specs.Prelude.{IfSome}
+use Rattle.std.specs.Prelude.{IfSome, None}
 use Rattle.art_gather.proofs.Supplies.{allowed}
 use Rattle.art_gather.proofs.supplying.Supplying.next.Goals as goal
-use Rattle.art_gather.specs.Asking.{IsAllowed}
-use Rattle.art_gather.specs.declared.asked.Asked.{Asked}
+use Rattle.art_machine.specs.Acting.{IsAllowed}
+use Rattle.art_machine.specs.declared.actions.Action.{Action}
 
 pub returns-clause-allowed : goal.returns-clause-allowed
 returns-clause-allowed c z u v wants fits =
-    subst (λ (o : Option Asked). IfSome o (IsAllowed z v)) (sym c.asked.ensures)
+    subst (λ (o : Option Action). IfSome o (IsAllowed z None v)) (sym c.asked.ensures)
     (allowed z wants c.args.key.now c.args.value c.args.self.now c.args.stock.now u v c.requires.few fits.stage)

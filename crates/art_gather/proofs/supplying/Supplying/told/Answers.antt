@@ -14,7 +14,7 @@ pub returns-in-Packing-clause-fits : goal.returns-in-Packing-clause-fits
 returns-in-Packing-clause-fits c z k value u v w asked fits is row =
     let wants = c.args.wants.now in
     let s = c.args.stock.now in
-    c.leaf_packed.ensures.fits z k value u v w asked c.args.word (subst (λ (m : Supplying). Fits z wants k value m s u v) c.in-Packing.is fits)
+    c.leaf_packed.ensures.fits z k value u v w asked c.args.answer (subst (λ (m : Supplying). Fits z wants k value m s u v) c.in-Packing.is fits)
     (sym (ap (asks k value s) c.in-Packing.is) ∙ is) row
 
 pub returns-in-Node-clause-fits : goal.returns-in-Node-clause-fits

@@ -1,8 +1,8 @@
 use Rattle.std.proofs.Common.{◌≡◌, ◌∙◌, ap, arith, subst, sym, Some}
 use Rattle.std.proofs.lemmas.Option.{same_Some}
 use Rattle.std.specs.Option.{option_map}
-use Rattle.art_find.specs.declared.asked.Asked.{Asked}
-use Rattle.art_find.specs.declared.asked.Asked.TheVariants.{Check}
+use Rattle.art_machine.specs.declared.actions.Action.{Action}
+use Rattle.art_machine.specs.declared.actions.Action.TheVariants.{Check}
 use Rattle.art_gather.proofs.Vouches.{above_checked, here_checked, is_above}
 use Rattle.art_gather.specs.Vouching.{Fits, above_checks, asks}
 use Rattle.art_gather.specs.declared.vouching.Vouching.{Vouching}
@@ -17,7 +17,7 @@ returns-in-CheckAbove-clause-fits c z k deed u v w asked fits is row =
     let now : Fits z k both t CheckAbove desk u v = subst (λ (m : Vouching). Fits z k both t m desk u v) c.in-CheckAbove.is fits in
     let a = now.stage.3 in
     let at : asks t CheckAbove ≡ Some asked = sym (ap (asks t) c.in-CheckAbove.is) ∙ is in
-    let one : Check a.0.stamp ≡ asked = same_Some {A = Asked} (Check a.0.stamp) asked (sym (ap (option_map above_checks) (is_above both t a.0 a.1)) ∙ at) in
+    let one : Check a.0.stamp ≡ asked = same_Some {A = Action} (Check a.0.stamp) asked (sym (ap (option_map above_checks) (is_above both t a.0 a.1)) ∙ at) in
     subst (λ (m : Vouching). Fits z k both t m desk u w) (sym c.checked.ensures)
     (above_checked z k both t desk u v w now.stage.0 2 (omega arith) (record { failures = now.failures; steps = now.steps }) deed a.0 asked c.args.answer (omega arith) a.1 now.stage.1 now.stage.2 one row)
 
@@ -28,7 +28,7 @@ returns-in-CheckHere-clause-fits c z k deed u v w asked fits is row =
     let desk = c.args.desk.now in
     let now : Fits z k both t CheckHere desk u v = subst (λ (m : Vouching). Fits z k both t m desk u v) c.in-CheckHere.is fits in
     let at : asks t CheckHere ≡ Some asked = sym (ap (asks t) c.in-CheckHere.is) ∙ is in
-    let one : Check t.stamp ≡ asked = same_Some {A = Asked} (Check t.stamp) asked at in
+    let one : Check t.stamp ≡ asked = same_Some {A = Action} (Check t.stamp) asked at in
     subst (λ (m : Vouching). Fits z k both t m desk u w) (sym c.checked-in-CheckHere.ensures)
     (here_checked z k both t desk u v w now.stage.0 1 (omega arith) (record { failures = now.failures; steps = now.steps }) deed asked c.args.answer now.stage.1 now.stage.2 now.stage.3 one row)
 

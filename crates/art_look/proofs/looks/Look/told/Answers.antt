@@ -1,8 +1,8 @@
 use Rattle.std.proofs.Common.{subst}
 use Rattle.std.specs.Prelude.{Result}
-use Rattle.art_find.specs.Asking.{Answers}
-use Rattle.art_find.specs.declared.asked.Answer.{Answer}
-use Rattle.art_find.specs.declared.asked.Answer.TheVariants.{Checked}
+use Rattle.art_machine.specs.Acting.{Answers, telling}
+use Rattle.art_machine.specs.declared.actions.Answer.{Answer}
+use Rattle.art_machine.specs.declared.actions.Answer.TheVariants.{Checked}
 use Rattle.art_look.specs.Looks.{deed_at}
 use Rattle.art_step.specs.declared.faults.Changed.{Changed}
 use Rattle.art_look.proofs.looks.Look.told.Goals as goal
@@ -13,5 +13,5 @@ returns-in-Ok-clause-fits c = λ z hi u v w asked fits is row.
     let lo = c.args.lo.now in
     let t = c.args.trail.now in
     c.checked.ensures.fits z lo hi t u v w asked fits is
-    (subst (λ (r : Result (Unit {0}) Changed). Answers z (deed_at lo hi t m.stage) asked (Checked r) v w) c.in-Ok.is
-    (subst (λ (a : Answer). Answers z (deed_at lo hi t m.stage) asked a v w) c.in-Checked.is row))
+    (subst (λ (r : Result (Unit {0}) Changed). Answers z (telling (deed_at lo hi t m.stage)) asked (Checked r) v w) c.in-Ok.is
+    (subst (λ (a : Answer). Answers z (telling (deed_at lo hi t m.stage)) asked a v w) c.in-Checked.is row))

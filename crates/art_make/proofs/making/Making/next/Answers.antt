@@ -1,9 +1,9 @@
 -- What is asked may be done, and something is asked until the end.
 use Rattle.std.proofs.Common.{sym, ◌≡◌, ◌∙◌, Some, None}
 use Rattle.std.specs.Prelude.{Option, IfSome}
-use Rattle.art_make.specs.Asking.{IsAllowed}
-use Rattle.art_make.specs.Making.{Fits, asks}
-use Rattle.art_make.specs.declared.asked.Asked.{Asked}
+use Rattle.art_machine.specs.Acting.{IsAllowed}
+use Rattle.art_make.specs.Making.{Fits, asks, brings}
+use Rattle.art_machine.specs.declared.actions.Action.{Action}
 use Rattle.art_make.specs.declared.making.Making.{Making}
 use Rattle.art_make.proofs.Told.{allowed, going}
 use Rattle.art_plan.specs.declared.changes.Change.{Change}
@@ -11,7 +11,7 @@ use Rattle.art_step.specs.declared.views.Sizes.{Sizes}
 use Rattle.art_step.specs.declared.views.View.{View}
 use Rattle.art_make.proofs.making.Making.next.Goals as goal
 
-each : (z : Sizes) (u v : View) (c : Change) (m : Making) (o : Option Asked) → o ≡ asks c m → Fits z c m u v → IfSome o (IsAllowed z c v)
+each : (z : Sizes) (u v : View) (c : Change) (m : Making) (o : Option Action) → o ≡ asks c m → Fits z c m u v → IfSome o (IsAllowed z (brings c) v)
 each z u v c m None is fits = tt
 each z u v c m (Some a) is fits = allowed z u v c m a fits (sym is)
 

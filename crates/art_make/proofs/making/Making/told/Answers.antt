@@ -1,13 +1,13 @@
 -- Stage by stage.
 use Rattle.std.proofs.Common.{ap, sym, subst, ◌≡◌, ◌∙◌, ◌+◌, ◌<◌, ◌≤◌, ℕ, Bool, true, false, Some, arith}
 use Rattle.std.specs.Prelude.{Err}
-use Rattle.art_make.specs.Asking.{Answers}
-use Rattle.art_make.specs.declared.asked.Answer.{Answer}
-use Rattle.art_make.specs.declared.asked.Asked.{Asked}
-use Rattle.art_make.specs.declared.asked.Asked.TheVariants.{Upgrade}
+use Rattle.art_machine.specs.Acting.{Answers}
+use Rattle.art_machine.specs.declared.actions.Answer.{Answer}
+use Rattle.art_machine.specs.declared.actions.Action.{Action}
+use Rattle.art_machine.specs.declared.actions.Action.TheVariants.{Upgrade}
 use Rattle.art_plan.specs.Changes.{target_at}
 use Rattle.art_plan.specs.declared.changes.Target.{Target}
-use Rattle.art_make.specs.Making.{Fits, asks}
+use Rattle.art_make.specs.Making.{Fits, asks, brings}
 use Rattle.art_make.specs.declared.making.Making.{Making}
 use Rattle.art_make.specs.declared.making.Making.TheVariants.{Upgrading, Claiming, Filling, Writing, Committing, Releasing, ReleasingNode, GivingUp}
 use Rattle.art_make.proofs.Told.{fits_on, map_some, refused_upgrade, told_claim, told_commit, told_fill, told_give, told_release, told_release_new, told_write}
@@ -27,7 +27,7 @@ returns-in-Upgrading-clause-fits c z u v w a fits is row =
     let asked : asks ch (Upgrading b.index) ≡ Some a = sym (ap (asks ch) b.is) ∙ is in
     let k = map_some (λ (y : Target). Upgrade y.stamp) (target_at ch b.index) a asked in
     fits_on z u v w ch a c.args.answer (Upgrading b.index) c.upgraded.result now asked row c.upgraded.ensures.steps
-    (c.upgraded.ensures.fits z u v w k.0 fits.planned k.1 now.stage.1 (subst (λ (d : Asked). Answers ch d c.args.answer v w) (sym k.2) row))
+    (c.upgraded.ensures.fits z u v w k.0 fits.planned k.1 now.stage.1 (subst (λ (d : Action). Answers z (brings ch) d c.args.answer v w) (sym k.2) row))
 
 pub returns-in-Claiming-clause-fits : goal.returns-in-Claiming-clause-fits
 returns-in-Claiming-clause-fits c z u v w a fits is row =
@@ -95,48 +95,48 @@ returns-in-GivingUp-clause-fits c z u v w a fits is row =
 pub returns-in-Claiming-clause-refused : goal.returns-in-Claiming-clause-refused
 returns-in-Claiming-clause-refused c e is =
     let q = c.requires.fits in
-    let at = refused_upgrade c.args.change.now c.args.self.now q.4 (Err e) q.2 q.3 q.6 (subst (λ (r : Answer). Answers c.args.change.now q.4 r q.2 q.3) is q.7) in
+    let at = refused_upgrade q.0 c.args.change.now c.args.self.now q.4 (Err e) q.2 q.3 q.6 (subst (λ (r : Answer). Answers q.0 (brings c.args.change.now) q.4 r q.2 q.3) is q.7) in
     let now = c.in-Claiming.is in
     absurd (cc)
 
 pub returns-in-Filling-clause-refused : goal.returns-in-Filling-clause-refused
 returns-in-Filling-clause-refused c e is =
     let q = c.requires.fits in
-    let at = refused_upgrade c.args.change.now c.args.self.now q.4 (Err e) q.2 q.3 q.6 (subst (λ (r : Answer). Answers c.args.change.now q.4 r q.2 q.3) is q.7) in
+    let at = refused_upgrade q.0 c.args.change.now c.args.self.now q.4 (Err e) q.2 q.3 q.6 (subst (λ (r : Answer). Answers q.0 (brings c.args.change.now) q.4 r q.2 q.3) is q.7) in
     let now = c.in-Filling.is in
     absurd (cc)
 
 pub returns-in-Writing-clause-refused : goal.returns-in-Writing-clause-refused
 returns-in-Writing-clause-refused c e is =
     let q = c.requires.fits in
-    let at = refused_upgrade c.args.change.now c.args.self.now q.4 (Err e) q.2 q.3 q.6 (subst (λ (r : Answer). Answers c.args.change.now q.4 r q.2 q.3) is q.7) in
+    let at = refused_upgrade q.0 c.args.change.now c.args.self.now q.4 (Err e) q.2 q.3 q.6 (subst (λ (r : Answer). Answers q.0 (brings c.args.change.now) q.4 r q.2 q.3) is q.7) in
     let now = c.in-Writing.is in
     absurd (cc)
 
 pub returns-in-Committing-clause-refused : goal.returns-in-Committing-clause-refused
 returns-in-Committing-clause-refused c e is =
     let q = c.requires.fits in
-    let at = refused_upgrade c.args.change.now c.args.self.now q.4 (Err e) q.2 q.3 q.6 (subst (λ (r : Answer). Answers c.args.change.now q.4 r q.2 q.3) is q.7) in
+    let at = refused_upgrade q.0 c.args.change.now c.args.self.now q.4 (Err e) q.2 q.3 q.6 (subst (λ (r : Answer). Answers q.0 (brings c.args.change.now) q.4 r q.2 q.3) is q.7) in
     let now = c.in-Committing.is in
     absurd (cc)
 
 pub returns-in-Releasing-clause-refused : goal.returns-in-Releasing-clause-refused
 returns-in-Releasing-clause-refused c e is =
     let q = c.requires.fits in
-    let at = refused_upgrade c.args.change.now c.args.self.now q.4 (Err e) q.2 q.3 q.6 (subst (λ (r : Answer). Answers c.args.change.now q.4 r q.2 q.3) is q.7) in
+    let at = refused_upgrade q.0 c.args.change.now c.args.self.now q.4 (Err e) q.2 q.3 q.6 (subst (λ (r : Answer). Answers q.0 (brings c.args.change.now) q.4 r q.2 q.3) is q.7) in
     let now = c.in-Releasing.is in
     absurd (cc)
 
 pub returns-in-ReleasingNode-clause-refused : goal.returns-in-ReleasingNode-clause-refused
 returns-in-ReleasingNode-clause-refused c e is =
     let q = c.requires.fits in
-    let at = refused_upgrade c.args.change.now c.args.self.now q.4 (Err e) q.2 q.3 q.6 (subst (λ (r : Answer). Answers c.args.change.now q.4 r q.2 q.3) is q.7) in
+    let at = refused_upgrade q.0 c.args.change.now c.args.self.now q.4 (Err e) q.2 q.3 q.6 (subst (λ (r : Answer). Answers q.0 (brings c.args.change.now) q.4 r q.2 q.3) is q.7) in
     let now = c.in-ReleasingNode.is in
     absurd (cc)
 
 pub returns-in-GivingUp-clause-refused : goal.returns-in-GivingUp-clause-refused
 returns-in-GivingUp-clause-refused c e is =
     let q = c.requires.fits in
-    let at = refused_upgrade c.args.change.now c.args.self.now q.4 (Err e) q.2 q.3 q.6 (subst (λ (r : Answer). Answers c.args.change.now q.4 r q.2 q.3) is q.7) in
+    let at = refused_upgrade q.0 c.args.change.now c.args.self.now q.4 (Err e) q.2 q.3 q.6 (subst (λ (r : Answer). Answers q.0 (brings c.args.change.now) q.4 r q.2 q.3) is q.7) in
     let now = c.in-GivingUp.is in
     absurd (cc)

@@ -5,7 +5,8 @@ use Rattle.art_make.proofs.PackedLeaves.{packed_leaf}
 use Rattle.art_make.proofs.packing.Packing.next.Goals as goal
 
 pub returns-else-self-lt10-clause-ended : goal.returns-else-self-lt10-clause-ended
-returns-else-self-lt10-clause-ended c z l u v fits none =
+returns-else-self-lt10-clause-ended c z u v fits none =
+    let l = c.args.leaf in
     let k = c.args.key.now in
     let high = c.if-self-lt10.false in
     let low = fits.low in

@@ -42,10 +42,10 @@ returns-clause-planned c = λ z u knows.
     c.requires.inside (omega (arith, c.ranges.other.fits)) (omega (arith, c.ranges.byte.fits)) c.requires.apart c.fork.ensures.layout forked (taken_meaning site c.requires.taken))
 
 pub returns-clause-deed : goal.returns-clause-deed
-returns-clause-deed c = ap (λ (ch : Change). ch.deed) (c.put.ensures ∙ ap (with_puts_of 0) (filled (goal.at.returns-clause-deed c).After-make))
+returns-clause-deed c = ap (λ (ch : Change). ch.effects.deed) (c.put.ensures ∙ ap (with_puts_of 0) (filled (goal.at.returns-clause-deed c).After-make))
 
 pub returns-clause-leaf : goal.returns-clause-leaf
-returns-clause-leaf c = ap (λ (ch : Change). ch.leaf) (c.put.ensures ∙ ap (with_puts_of 0) (filled (goal.at.returns-clause-leaf c).After-make))
+returns-clause-leaf c = ap (λ (ch : Change). ch.effects.leaf) (c.put.ensures ∙ ap (with_puts_of 0) (filled (goal.at.returns-clause-leaf c).After-make))
 
 pub returns-clause-locks : goal.returns-clause-locks
 returns-clause-locks c = ap (λ (ch : Change). ch.targets.items) (c.put.ensures ∙ ap (with_puts_of 0) (filled (goal.at.returns-clause-locks c).After-make))

@@ -1,10 +1,9 @@
-use Rattle.std.proofs.Common.{◌≡◌, ◌+◌, ◌≤◌, ◌<◌, ℕ, List, Some, sym, ap, subst, arith}
-use Rattle.art_epoch.proofs.Counting.{answers_count}
+use Rattle.std.proofs.Common.{◌≡◌, ◌+◌, ◌≤◌, ◌<◌, ℕ, List, sym, ap, ◌∙◌, subst, arith}
 use Rattle.art_epoch.proofs.Pinned.{may_store}
-use Rattle.art_epoch.specs.Asking.{Answers as FrameAnswers}
+use Rattle.art_machine.proofs.Counting.{pinning_counts}
 use Rattle.art_epoch.specs.Pins as pins
-use Rattle.art_epoch.specs.declared.asked.Asked.{Asked as FrameAsked}
-use Rattle.art_epoch.specs.declared.asked.Asked.TheVariants.{Note, Store}
+use Rattle.art_machine.specs.declared.actions.Action.{Action}
+use Rattle.art_machine.specs.declared.actions.Action.TheVariants.{ReadEpoch, StorePin}
 use Rattle.art_epoch.specs.declared.pins.Pinning.{Pinning as PinningOf}
 use Rattle.art_key.specs.declared.bounds.Bound.{Bound as KeyBound}
 use Rattle.art_look.specs.declared.trails.Trail.{Trail as Trailed}
@@ -21,11 +20,10 @@ pinning_at : (z : Sizes) (k : List ℕ) (hi : KeyBound) (u : View) (m : Seek) (t
 pinning_at z k hi u m t v at fits = subst (λ (s : SeekStage). StageFits z k hi u s m t v) at fits
 
 -- where it heard the answer of the step that it asked for, it goes on
-goes_on : (z : Sizes) (k : List ℕ) (hi : KeyBound) (m n : Seek) (t : Trailed) (v w : View) (asked : FrameAsked) (word : ℕ) → m.stage ≡ Pinning → pins.asks m.pinning ≡ Some asked → FrameAnswers z asked word v w
+goes_on : (z : Sizes) (k : List ℕ) (hi : KeyBound) (m n : Seek) (t : Trailed) (v w : View) → m.stage ≡ Pinning → w.steps ≡ v.steps + 1
     → n.walk ≡ m.walk → n.turns ≡ m.turns → (m.left ≡ 0 → WillBeBusy n) → steps_left n < left_at Pinning m
     → ((u : View) → IsPinning z k hi u m t v → Fits z k hi u n t w) → GoesTo z k hi m t v n t w
-goes_on z k hi m n t v w asked word stage asks row walk turns refuses left fits =
-    let one = answers_count z asked word v w row in
+goes_on z k hi m n t v w stage one walk turns refuses left fits =
     record {
       aim = ap aim_of walk;
       turns = turns;
@@ -40,11 +38,12 @@ returns-in-Noting-clause-goes g c = λ k hi t.
     let m = c.args.self.now in
     let z = g.S.Steps.sizes c.args.steps.now in
     let v = g.S.Steps.view c.args.steps.now in
-    let w = g.S.Steps.view c.epoch-epoch.new.self in
-    let row = c.epoch-epoch.ensures.row in
+    let w = g.S.Steps.view c.epoch-found.new.self in
+    let row = c.epoch-found.ensures.row in
     let told = c.pin_told.ensures in
     let asks = ap pins.asks c.in-Noting.is in
-    goes_on z k hi m c.pin_told.new.self t v w Note c.epoch-epoch.result c.requires.stage asks row told.walk told.turns told.refuses told.left (λ u fits. told.fits z k hi u v w t Note fits asks row)
+    let one = ap (λ (a : View). a.steps) row.is in
+    goes_on z k hi m c.pin_told.new.self t v w c.requires.stage one told.walk told.turns told.refuses told.left (λ u fits. told.fits z k hi u v w t ReadEpoch fits asks row)
 
 pub pass_store-requires : goal.pass_store-requires
 pass_store-requires g c =
@@ -63,6 +62,25 @@ returns-in-Storing-clause-goes g c = λ k hi t.
     let w = g.S.Steps.view c.pass_store.new.self in
     let row = c.pass_store.ensures.row in
     let told = c.pin_told-in-Storing.ensures in
-    let asked = Store c.in-Storing.epoch in
+    let asked = StorePin c.in-Storing.epoch in
     let asks = ap pins.asks c.in-Storing.is in
-    goes_on z k hi m c.pin_told-in-Storing.new.self t v w asked 0 c.requires.stage asks row told.walk told.turns told.refuses told.left (λ u fits. told.fits z k hi u v w t asked fits asks row)
+    let one = ap (λ (a : View). a.steps) row ∙ pinning_counts v c.in-Storing.epoch in
+    goes_on z k hi m c.pin_told-in-Storing.new.self t v w c.requires.stage one told.walk told.turns told.refuses told.left (λ u fits. told.fits z k hi u v w t asked fits asks row)
+
+pub pin_told-requires-clause-told : goal.pin_told-requires-clause-told
+pin_told-requires-clause-told g c =
+    let q = c.requires.fits in
+    let m = c.args.self.now in
+    let z = g.S.Steps.sizes c.args.steps.now in
+    let v = g.S.Steps.view c.args.steps.now in
+    let on = pinning_at z q.0 q.1 q.3.0 m q.2 v c.requires.stage q.3.1 in
+    (z, q.3.0, v, g.S.Steps.view c.epoch-found.new.self, ReadEpoch, on.pinning, ap pins.asks c.in-Noting.is, c.epoch-found.ensures.row)
+
+pub pin_told-requires-in-Storing-clause-told : goal.pin_told-requires-in-Storing-clause-told
+pin_told-requires-in-Storing-clause-told g c =
+    let q = c.requires.fits in
+    let m = c.args.self.now in
+    let z = g.S.Steps.sizes c.args.steps.now in
+    let v = g.S.Steps.view c.args.steps.now in
+    let on = pinning_at z q.0 q.1 q.3.0 m q.2 v c.requires.stage q.3.1 in
+    (z, q.3.0, v, g.S.Steps.view c.pass_store.new.self, StorePin c.in-Storing.epoch, on.pinning, ap pins.asks c.in-Storing.is, c.pass_store.ensures.row)

@@ -1,8 +1,9 @@
-use Rattle.std.proofs.Common.{◌≡◌, ◌+◌, ◌≤◌, ◌<◌, ◌∙◌, ℕ, List, sym, subst, arith}
+use Rattle.std.proofs.Common.{◌≡◌, ◌+◌, ◌≤◌, ◌<◌, ◌∙◌, ℕ, List, inl, sym, subst, arith}
 use Rattle.std.specs.Prelude.{IfSome, Option}
-use Rattle.art_find.proofs.Counting.{answers_count}
-use Rattle.art_find.specs.Asking.{IsAllowed}
-use Rattle.art_find.specs.declared.asked.Asked.{Asked}
+use Rattle.art_machine.proofs.Counting.{look_counts}
+use Rattle.art_seek.proofs.Parts.{walk_looks}
+use Rattle.art_find.specs.Asking.{MayLook}
+use Rattle.art_machine.specs.declared.actions.Action.{Action}
 use Rattle.art_key.specs.declared.bounds.Bound.{Bound as KeyBound}
 use Rattle.art_look.specs.declared.trails.Trail.{Trail as Trailed}
 use Rattle.art_seek.specs.Seeks.{Fits, GoesOn, StageFits, busy_at, left_at, steps_left}
@@ -17,11 +18,11 @@ use Rattle.art_seek.proofs.seeks.Seek.walk_by.Goals as goal
 goes_at : (z : Sizes) (k : List ℕ) (hi : KeyBound) (u : View) (m : Seek) (t : Trailed) (v : View) → m.stage ≡ Walking → Fits z k hi u m t v → GoesOn z k hi u m t v
 goes_at z k hi u m t v at fits = subst (λ (s : SeekStage). StageFits z k hi u s m t v) at fits
 
-pub look_at-answer-requires-clause-asked : goal.look_at-answer-requires-clause-asked
-look_at-answer-requires-clause-asked g c = sym c.next.ensures.asks ∙ c.in-Some.is
+pub make-answer-requires-clause-asked : goal.make-answer-requires-clause-asked
+make-answer-requires-clause-asked g c settles = sym c.next.ensures.asks ∙ c.in-Some.is
 
-pub look_at-answer-requires-clause-allowed : goal.look_at-answer-requires-clause-allowed
-look_at-answer-requires-clause-allowed g c =
+pub make-answer-requires-clause-allowed : goal.make-answer-requires-clause-allowed
+make-answer-requires-clause-allowed g c =
     let z = g.S.Steps.sizes c.args.steps.now in
     let v = g.S.Steps.view c.args.steps.now in
     let k = c.args.key.now in
@@ -29,13 +30,13 @@ look_at-answer-requires-clause-allowed g c =
     let t = c.args.trail.now in
     let q = c.requires.fits in
     let walk = (goes_at z k c.args.hi.now q.0 m t v c.requires.stage q.1).walking in
-    subst (λ (o : Option Asked). IfSome o (IsAllowed z (Settles m.walk k t) v)) c.in-Some.is (c.next.ensures.allowed z k c.args.hi.now t walk.opened v m.restarts walk.walk)
+    inl (subst (λ (o : Option Action). IfSome o (MayLook z (Settles m.walk k t) v)) c.in-Some.is (c.next.ensures.allowed z k c.args.hi.now t walk.opened v m.restarts walk.walk))
 
 pub walk_told-requires : goal.walk_told-requires
 walk_told-requires g c =
     let z = g.S.Steps.sizes c.args.steps.now in
     let v = g.S.Steps.view c.args.steps.now in
-    let w = g.S.Steps.view c.look_at-answer.new.steps in
+    let w = g.S.Steps.view c.make-answer.new.steps in
     let hi = c.args.hi.now in
     let q = c.requires.fits in
     let on = goes_at z c.args.key.now hi q.0 c.args.self.now c.args.trail.now v c.requires.stage q.1 in
@@ -43,7 +44,7 @@ walk_told-requires g c =
       short = c.requires.short;
       turn = on.turn;
       few = on.walking.few;
-      told = (z, hi, q.0, v, w, c.in-Some.asked, on.walking, sym c.next.ensures.asks ∙ c.in-Some.is, c.look_at-answer.ensures.row);
+      told = (z, hi, q.0, v, w, c.in-Some.action, on.walking, sym c.next.ensures.asks ∙ c.in-Some.is, c.make-answer.ensures.row);
     }
 
 pub returns-clause-less : goal.returns-clause-less
@@ -55,15 +56,15 @@ pub returns-clause-goes : goal.returns-clause-goes
 returns-clause-goes g c =
     let z = g.S.Steps.sizes c.args.steps.now in
     let v = g.S.Steps.view c.args.steps.now in
-    let w = g.S.Steps.view c.look_at-answer.new.steps in
+    let w = g.S.Steps.view c.make-answer.new.steps in
     let k = c.args.key.now in
     let hi = c.args.hi.now in
     let m = c.args.self.now in
     let t = c.args.trail.now in
     let n = c.walk_told.new.self in
     let at = c.requires.stage in
-    let row = c.look_at-answer.ensures.row in
-    let one = (answers_count z (deed_at m.walk k hi t) c.in-Some.asked c.look_at-answer.result v w row).steps in
+    let row = c.make-answer.ensures.row in
+    let one = (look_counts z (deed_at m.walk k hi t) c.in-Some.action c.make-answer.result v w (walk_looks m.walk c.in-Some.action (sym c.next.ensures.asks ∙ c.in-Some.is)) row).steps in
     let told = c.walk_told.ensures in
     let left = told.left in
     record {
@@ -72,5 +73,5 @@ returns-clause-goes g c =
       refuses = λ busy. absurd (subst (λ (s : SeekStage). busy_at s m) at busy);
       less = subst (λ (s : SeekStage). steps_left n ≤ left_at s m) (sym at) (omega (arith, left));
       left = subst (λ (s : SeekStage). w.steps + steps_left n ≤ v.steps + left_at s m) (sym at) (omega (arith, left, one));
-      fits = λ u fits. told.fits z hi u v w c.in-Some.asked (goes_at z k hi u m t v at fits).walking (sym c.next.ensures.asks ∙ c.in-Some.is) row;
+      fits = λ u fits. told.fits z hi u v w c.in-Some.action (goes_at z k hi u m t v at fits).walking (sym c.next.ensures.asks ∙ c.in-Some.is) row;
     }

@@ -2,6 +2,7 @@ use Rattle.std.proofs.Common.{◌≡◌, ◌∙◌, ◌-◌, refl, sym}
 use Rattle.art_find.specs.Driven.{restarts_after}
 use Rattle.art_seek.proofs.Counted.{walks_on}
 use Rattle.art_seek.proofs.Ends.{ends_as}
+use Rattle.art_seek.proofs.Parts.{walk_looks}
 use Rattle.art_seek.proofs.seeks.Seek.walk_told.Goals as goal
 use Rattle.art_seek.proofs.seeks.Seek.walk_told.Goals.{then-not-told, else-not-told}
 use Rattle.art_seek.specs.Walks.{deed_at}
@@ -18,7 +19,7 @@ returns-in-Some-clause-fits c z hi u v w asked b is row =
       | else-not-told b ↦ b.self-is ∙ rw b.if-not-told.false refl
     ] in
     c.close.ensures.fits z k hi u w c.told.new.trail
-    (walks_on z k hi u m t v (deed_at m.walk k hi t) asked c.args.answer w c.requires.turn row b c.told.new.self c.told.new.trail fits c.told.result s c.told.ensures.on same)
+    (walks_on z k hi u m t v (deed_at m.walk k hi t) asked c.args.answer w c.requires.turn (walk_looks m.walk asked is) row b c.told.new.self c.told.new.trail fits c.told.result s c.told.ensures.on same)
     (ends_as s.walk s.left c.in-Some.outcome (sym c.ended.ensures ∙ c.in-Some.is))
 
 pub returns-in-None-clause-fits : goal.returns-in-None-clause-fits
@@ -33,5 +34,5 @@ returns-in-None-clause-fits c z hi u v w asked b is row =
       | else-not-told b ↦ b.self-is ∙ rw b.if-not-told.false refl
     ] in
     c.turn.ensures.fits z k hi u w c.told.new.trail
-    (walks_on z k hi u m t v (deed_at m.walk k hi t) asked c.args.answer w c.requires.turn row b c.told.new.self c.told.new.trail fits c.told.result s c.told.ensures.on same)
+    (walks_on z k hi u m t v (deed_at m.walk k hi t) asked c.args.answer w c.requires.turn (walk_looks m.walk asked is) row b c.told.new.self c.told.new.trail fits c.told.result s c.told.ensures.on same)
     (sym c.ended.ensures ∙ c.in-None.is)

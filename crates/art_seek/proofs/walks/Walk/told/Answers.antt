@@ -1,5 +1,5 @@
 use Rattle.std.proofs.Common.{◌≡◌, ◌∙◌, Some, subst}
-use Rattle.art_find.specs.Asking.{Answers}
+use Rattle.art_machine.specs.Acting.{Answers, telling}
 use Rattle.art_find.specs.Driven.{get_done}
 use Rattle.art_seek.proofs.Walking.{key_on, range_on}
 use Rattle.art_seek.proofs.walks.Walk.told.Goals as goal
@@ -12,7 +12,7 @@ returns-in-Key-clause-fits c z hi u v w n asked fits is row =
     let t = c.args.trail.now in
     let f = subst (λ (a : WalkOf). Fits z k hi u a t n v) c.in-Key.is fits in
     let i = subst (λ (a : WalkOf). asks a ≡ Some asked) c.in-Key.is is in
-    let r = subst (λ (a : WalkOf). Answers z (deed_at a k hi t) asked c.args.answer v w) c.in-Key.is row in
+    let r = subst (λ (a : WalkOf). Answers z (telling (deed_at a k hi t)) asked c.args.answer v w) c.in-Key.is row in
     key_on z k u v w n asked c.args.answer c.in-Key.descent c.told.new.self c.requires.short i r (λ on. c.told.ensures.steps (c.told.ensures.on ∙ on))
     (c.told.ensures.fits z (get_done k) u v w asked f.fits i r) f
 
@@ -22,6 +22,6 @@ returns-in-Range-clause-fits c z hi u v w n asked fits is row =
     let t = c.args.trail.now in
     let f = subst (λ (a : WalkOf). Fits z k hi u a t n v) c.in-Range.is fits in
     let i = subst (λ (a : WalkOf). asks a ≡ Some asked) c.in-Range.is is in
-    let r = subst (λ (a : WalkOf). Answers z (deed_at a k hi t) asked c.args.answer v w) c.in-Range.is row in
+    let r = subst (λ (a : WalkOf). Answers z (telling (deed_at a k hi t)) asked c.args.answer v w) c.in-Range.is row in
     range_on z k u v w n asked c.args.answer hi c.in-Range.look c.told-in-Range.new.self t c.told-in-Range.new.trail i r (λ on. c.told-in-Range.ensures.steps (c.told-in-Range.ensures.on ∙ on))
     (c.told-in-Range.ensures.fits z hi u v w asked f.fits i r) c.told-in-Range.ensures.least f

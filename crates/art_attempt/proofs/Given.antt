@@ -1,0 +1,394 @@
+-- What the parts of an attempt ask for, and what each of them is told of the effects.
+use Rattle.std.proofs.Common.{◌≡◌, ◌∙◌, ◌+◌, ℕ, Bool, true, false, if◌then◌else◌, nat_lt, List, Option, Some, None, refl, ap, subst}
+use Rattle.std.proofs.lemmas.Option.{same_Some}
+use Rattle.std.specs.Option.{option_and_then}
+use Rattle.std.specs.Prelude.{⊤}
+use Rattle.art_attempt.specs.Asking.{Answers, IsAllowed, MayAsk, given}
+use Rattle.art_attempt.specs.Inserting.{check_by}
+use Rattle.art_epoch.specs.Taking as taking
+use Rattle.art_epoch.specs.declared.taking.Search.{Search}
+use Rattle.art_epoch.specs.declared.taking.Search.TheVariants.{Looking, Clearing, Took}
+use Rattle.art_epoch.specs.declared.taking.Taking.{Taking}
+use Rattle.art_find.specs.Rereadings.{reads_next}
+use Rattle.art_find.specs.declared.findings.Above.{Above as CellAbove}
+use Rattle.art_find.specs.declared.findings.Stand.{Stand}
+use Rattle.art_find.specs.declared.rereadings.Rereading.{Rereading}
+use Rattle.art_find.specs.declared.verdicts.Verdict.{Verdict}
+use Rattle.art_find.specs.declared.verdicts.Verdict.TheVariants as verdict
+use Rattle.art_frame.specs.declared.stocks.Stock.{Stock}
+use Rattle.art_gather.specs.Lowering as lowering
+use Rattle.art_gather.specs.Supplying as supplying
+use Rattle.art_gather.specs.Supplying.{leaf_asked}
+use Rattle.art_gather.specs.Vouching as vouching
+use Rattle.art_gather.specs.Vouching.{above_checks, above_reads}
+use Rattle.art_gather.specs.declared.lowering.Lowering.{Lowering}
+use Rattle.art_gather.specs.declared.lowering.Lowering.TheVariants as lower
+use Rattle.art_gather.specs.declared.supplying.Supplying.{Supplying}
+use Rattle.art_gather.specs.declared.supplying.Supplying.TheVariants as supply
+use Rattle.art_gather.specs.declared.vouching.Vouching.{Vouching}
+use Rattle.art_gather.specs.declared.vouching.Vouching.TheVariants as vouch
+use Rattle.art_machine.proofs.AnswerKinds.{answers_any}
+use Rattle.art_machine.proofs.Counting.{steps_made}
+use Rattle.art_machine.specs.Acting as acting
+use Rattle.art_machine.specs.Acting.{IsLook, IsPlain, steps_in, telling}
+use Rattle.art_machine.specs.declared.actions.Action.{Action}
+use Rattle.art_machine.specs.declared.actions.Action.TheVariants.{Begin, Read, ReadLeaf, Check, Settle, Upgrade, Claim, Write, WriteLeaf, Commit, Release, ClearBit, GiveBack, Free, ReadEpoch, StorePin, RaiseEpoch, ReadPin}
+use Rattle.art_machine.specs.declared.actions.Answer.{Answer}
+use Rattle.art_machine.specs.declared.actions.Answer.TheVariants.{Begun, Word, Checked, Upgraded, Done}
+use Rattle.art_machine.specs.declared.actions.Effects.{Effects}
+use Rattle.art_make.proofs.Told.{map_some}
+use Rattle.art_make.specs.Making as making
+use Rattle.art_make.specs.Making.{put_into, releases}
+use Rattle.art_make.specs.declared.making.Making.{Making}
+use Rattle.art_make.specs.declared.making.Making.TheVariants as make
+use Rattle.art_cell.specs.Leaves.{leaf_word}
+use Rattle.art_cell.specs.declared.cells.Cell.TheVariants as cell
+use Rattle.art_cell.specs.declared.cells.Node.{Node}
+use Rattle.art_plan.specs.Changes.{put_at, target_at}
+use Rattle.art_plan.specs.Whole.{made_at, made_word}
+use Rattle.art_plan.specs.declared.changes.Change.{Change as ChangeOf}
+use Rattle.art_plan.specs.declared.changes.Put.{Put}
+use Rattle.art_plan.specs.declared.changes.Target.{Target}
+use Rattle.std.specs.Option.{option_map}
+use Rattle.art_step.specs.Views.{size_of}
+use Rattle.art_step.specs.declared.deeds.Deed.{Deed}
+use Rattle.art_step.specs.declared.views.Sizes.{Sizes}
+use Rattle.art_step.specs.declared.views.Stamp.{Stamp}
+use Rattle.art_step.specs.declared.views.View.{View}
+
+-- ---- what is asked for
+
+-- a step by which numbers or the words of a leaf come
+abbrev pub IsSupply : Action → Type 0
+IsSupply (ClearBit p i o) = ⊤
+IsSupply (WriteLeaf l i word) = ⊤
+IsSupply a = ⊥
+
+-- a step by which a change is made
+abbrev pub IsMade : Action → Type 0
+IsMade (Upgrade x) = ⊤
+IsMade (Claim n) = ⊤
+IsMade (Write b i word) = ⊤
+IsMade (Commit b o) = ⊤
+IsMade (Release b o) = ⊤
+IsMade a = ⊥
+
+then_some : {A B : Type 0} (f : A → Option B) (o : Option A) (y : B) → option_and_then f o ≡ Some y → (x : A) × (o ≡ Some x) × (f x ≡ Some y)
+then_some f None y e = absurd (cc)
+then_some f (Some x) y e = (x, refl, e)
+
+pub if_some : {A : Type 0} (b : Bool) (x y : A) → (if b then Some x else None) ≡ Some y → x ≡ y
+if_some true x y e = same_Some x y e
+if_some false x y e = absurd (cc)
+
+taking_supply : (t : Taking) (a : Action) → taking.asks t ≡ Some a → IsSupply a
+taking_supply t a is = by_search t.search is
+  where
+    by_search : (s : Search) → taking.asks_at t.pool t.words t.first s ≡ Some a → IsSupply a
+    by_search (Looking n) e = subst IsSupply (if_some (nat_lt n t.words) (ClearBit t.pool (taking.around t.words t.first n) None) a e) tt
+    by_search (Clearing n k) e = subst IsSupply (same_Some (ClearBit t.pool (taking.around t.words t.first n) (Some k)) a e) tt
+    by_search (Took n k) e = absurd (cc)
+
+pub supply_asks_supply : (k : List ℕ) (value : ℕ) (s : Stock) (m : Supplying) (a : Action) → supplying.asks k value s m ≡ Some a → IsSupply a
+supply_asks_supply k value s (supply.Leaf t) a is = taking_supply t a is
+supply_asks_supply k value s (supply.Packing p) a is =
+    let l = then_some (leaf_asked k value p) s.leaf a is in
+    subst IsSupply (if_some (nat_lt p.place 10) (WriteLeaf l.0 p.place (leaf_word k value p.place)) a l.2) tt
+supply_asks_supply k value s (supply.Node t) a is = taking_supply t a is
+supply_asks_supply k value s (supply.Ended r) a is = absurd (cc)
+
+pub reads_look : (x : Stamp) (r : Rereading) (a : Action) → reads_next x r ≡ Some a → IsLook a
+reads_look x r a is = subst IsLook (if_some (nat_lt r.place (size_of x.cell)) (Read x r.place) a is) tt
+
+above_look : (r : Rereading) (o : Option CellAbove) (a : Action) → option_and_then (above_reads r) o ≡ Some a → IsLook a
+above_look r o a is = let k = then_some (above_reads r) o a is in reads_look k.0.stamp r a k.2
+
+above_check : (o : Option CellAbove) (a : Action) → option_map above_checks o ≡ Some a → IsLook a
+above_check o a is = let k = map_some above_checks o a is in subst IsLook k.2 tt
+
+pub vouch_asks_look : (t : Stand) (m : Vouching) (a : Action) → vouching.asks t m ≡ Some a → IsLook a
+vouch_asks_look t (vouch.Above r) a is = above_look r t.above a is
+vouch_asks_look t (vouch.Here r) a is = reads_look t.stamp r a is
+vouch_asks_look t vouch.CheckAbove a is = above_check t.above a is
+vouch_asks_look t vouch.CheckHere a is = subst IsLook (same_Some (Check t.stamp) a is) tt
+vouch_asks_look t (vouch.Ended r) a is = absurd (cc)
+
+pub lower_asks_look : (t : Stand) (m : Lowering) (a : Action) → lowering.asks t m ≡ Some a → IsLook a
+lower_asks_look t (lower.Beginning n) a is = subst IsLook (same_Some (Begin (cell.Node n)) a is) tt
+lower_asks_look t (lower.Named x) a is = subst IsLook (same_Some (Check t.stamp) a is) tt
+lower_asks_look t (lower.Above x r) a is = above_look r t.above a is
+lower_asks_look t (lower.Lower x r) a is = reads_look x r a is
+lower_asks_look t (lower.CheckAbove x) a is = above_check t.above a is
+lower_asks_look t (lower.CheckHere x) a is = subst IsLook (same_Some (Check t.stamp) a is) tt
+lower_asks_look t (lower.CheckLower x) a is = subst IsLook (same_Some (Check x) a is) tt
+lower_asks_look t (lower.Ended r) a is = absurd (cc)
+
+pub making_asks_made : (c : ChangeOf) (m : Making) (a : Action) → making.asks c m ≡ Some a → IsMade a
+making_asks_made c (make.Upgrading i) a is = let k = map_some (λ (x : Target). Upgrade x.stamp) (target_at c i) a is in subst IsMade k.2 tt
+making_asks_made c (make.Claiming b) a is = let k = map_some Claim (made_at b c) a is in subst IsMade k.2 tt
+making_asks_made c (make.Filling b place) a is = let k = map_some (λ (n : Node). Write (cell.Node n) place (made_word b c place)) (made_at b c) a is in subst IsMade k.2 tt
+making_asks_made c (make.Writing j) a is =
+    let p = then_some (λ (q : Put). option_map (put_into q) (target_at c q.target)) (put_at c j) a is in
+    let x = map_some (put_into p.0) (target_at c p.0.target) a p.2 in
+    subst IsMade x.2 tt
+making_asks_made c make.Committing a is = let k = map_some (λ (x : Target). Commit x.stamp.cell x.obsolete) (target_at c 0) a is in subst IsMade k.2 tt
+making_asks_made c (make.Releasing i) a is = let k = map_some releases (target_at c i) a is in subst IsMade k.2 tt
+making_asks_made c (make.ReleasingNode b) a is = let k = map_some (λ (n : Node). Release (cell.Node n) false) (made_at b c) a is in subst IsMade k.2 tt
+making_asks_made c (make.GivingUp locked released e) a is = let k = map_some (λ (x : Target). Release x.stamp.cell false) (target_at c released) a is in subst IsMade k.2 tt
+making_asks_made c (make.Ended r) a is = absurd (cc)
+
+-- so is the check of a place
+pub check_look : (found : Verdict) (t : Stand) → IsLook (check_by found t)
+check_look (verdict.Found l value) t = tt
+check_look verdict.Empty t = tt
+check_look (verdict.OtherLeaf l at byte) t = tt
+check_look (verdict.OtherPrefix n header at) t = tt
+check_look (verdict.Free n header) t = tt
+check_look verdict.Overlaps t = tt
+check_look verdict.Torn t = tt
+check_look verdict.Absent t = tt
+
+pub ask_looks : (z : Sizes) (d : Deed) (v : View) (a : Action) → MayAsk z d v a → IsLook a
+ask_looks z d v (Begin x) may = tt
+ask_looks z d v (Read x i) may = tt
+ask_looks z d v (ReadLeaf x l i) may = tt
+ask_looks z d v (Check x) may = tt
+ask_looks z d v (Settle x) may = tt
+ask_looks z d v (Upgrade x) may = absurd may
+ask_looks z d v (Claim n) may = absurd may
+ask_looks z d v (Write b i word) may = absurd may
+ask_looks z d v (WriteLeaf l i word) may = absurd may
+ask_looks z d v (Commit b o) may = absurd may
+ask_looks z d v (Release b o) may = absurd may
+ask_looks z d v (ClearBit p i o) may = absurd may
+ask_looks z d v (GiveBack e) may = absurd may
+ask_looks z d v (Free e) may = absurd may
+ask_looks z d v ReadEpoch may = absurd may
+ask_looks z d v (StorePin word) may = absurd may
+ask_looks z d v RaiseEpoch may = absurd may
+ask_looks z d v (ReadPin q) may = absurd may
+
+pub supply_plain : (a : Action) → IsSupply a → IsPlain a
+supply_plain (Begin x) is = absurd is
+supply_plain (Read x i) is = absurd is
+supply_plain (ReadLeaf x l i) is = absurd is
+supply_plain (Check x) is = absurd is
+supply_plain (Settle x) is = absurd is
+supply_plain (Upgrade x) is = absurd is
+supply_plain (Claim n) is = absurd is
+supply_plain (Write b i word) is = absurd is
+supply_plain (WriteLeaf l i word) is = tt
+supply_plain (Commit b o) is = absurd is
+supply_plain (Release b o) is = absurd is
+supply_plain (ClearBit p i o) is = tt
+supply_plain (GiveBack e) is = absurd is
+supply_plain (Free e) is = absurd is
+supply_plain ReadEpoch is = absurd is
+supply_plain (StorePin word) is = absurd is
+supply_plain RaiseEpoch is = absurd is
+supply_plain (ReadPin q) is = absurd is
+
+-- ---- what may be made
+
+pub look_may : (z : Sizes) (d : Deed) (c : ChangeOf) (v : View) (a : Action) → MayAsk z d v a → IsAllowed z d c v a
+look_may z d c v (Begin x) may = may
+look_may z d c v (Read x i) may = may
+look_may z d c v (ReadLeaf x l i) may = (may.0, may.1)
+look_may z d c v (Check x) may = may
+look_may z d c v (Settle x) may = may
+look_may z d c v (Upgrade x) may = absurd may
+look_may z d c v (Claim n) may = absurd may
+look_may z d c v (Write b i word) may = absurd may
+look_may z d c v (WriteLeaf l i word) may = absurd may
+look_may z d c v (Commit b o) may = absurd may
+look_may z d c v (Release b o) may = absurd may
+look_may z d c v (ClearBit p i o) may = absurd may
+look_may z d c v (GiveBack e) may = absurd may
+look_may z d c v (Free e) may = absurd may
+look_may z d c v ReadEpoch may = absurd may
+look_may z d c v (StorePin word) may = absurd may
+look_may z d c v RaiseEpoch may = absurd may
+look_may z d c v (ReadPin q) may = absurd may
+
+pub plain_may : (z : Sizes) (d : Deed) (c : ChangeOf) (v : View) (a : Action) → IsPlain a → acting.IsAllowed z None v a → IsAllowed z d c v a
+plain_may z d c v (Begin x) plain may = may
+plain_may z d c v (Read x i) plain may = may
+plain_may z d c v (ReadLeaf x l i) plain may = may
+plain_may z d c v (Check x) plain may = may
+plain_may z d c v (Settle x) plain may = absurd plain
+plain_may z d c v (Upgrade x) plain may = may
+plain_may z d c v (Claim n) plain may = may
+plain_may z d c v (Write b i word) plain may = may
+plain_may z d c v (WriteLeaf l i word) plain may = may
+plain_may z d c v (Commit b o) plain may = absurd plain
+plain_may z d c v (Release b o) plain may = may
+plain_may z d c v (ClearBit p i o) plain may = may
+plain_may z d c v (GiveBack e) plain may = may
+plain_may z d c v (Free e) plain may = may
+plain_may z d c v ReadEpoch plain may = may
+plain_may z d c v (StorePin word) plain may = may
+plain_may z d c v RaiseEpoch plain may = may
+plain_may z d c v (ReadPin q) plain may = may
+
+pub made_may : (z : Sizes) (d : Deed) (c : ChangeOf) (v : View) (a : Action) → IsMade a → acting.IsAllowed z (making.brings c) v a → IsAllowed z d c v a
+made_may z d c v (Begin x) made may = absurd made
+made_may z d c v (Read x i) made may = absurd made
+made_may z d c v (ReadLeaf x l i) made may = absurd made
+made_may z d c v (Check x) made may = absurd made
+made_may z d c v (Settle x) made may = absurd made
+made_may z d c v (Upgrade x) made may = may
+made_may z d c v (Claim n) made may = may
+made_may z d c v (Write b i word) made may = may
+made_may z d c v (WriteLeaf l i word) made may = absurd made
+made_may z d c v (Commit b o) made may = may
+made_may z d c v (Release b o) made may = may
+made_may z d c v (ClearBit p i o) made may = absurd made
+made_may z d c v (GiveBack e) made may = absurd made
+made_may z d c v (Free e) made may = absurd made
+made_may z d c v ReadEpoch made may = absurd made
+made_may z d c v (StorePin word) made may = absurd made
+made_may z d c v RaiseEpoch made may = absurd made
+made_may z d c v (ReadPin q) made may = absurd made
+
+-- ---- what a part is told
+
+pub plain_given : (d : Deed) (c : ChangeOf) (a : Action) → IsPlain a → given d c a ≡ None
+plain_given d c (Begin x) plain = refl
+plain_given d c (Read x i) plain = refl
+plain_given d c (ReadLeaf x l i) plain = refl
+plain_given d c (Check x) plain = refl
+plain_given d c (Settle x) plain = absurd plain
+plain_given d c (Upgrade x) plain = refl
+plain_given d c (Claim n) plain = refl
+plain_given d c (Write b i word) plain = refl
+plain_given d c (WriteLeaf l i word) plain = refl
+plain_given d c (Commit b o) plain = absurd plain
+plain_given d c (Release b o) plain = refl
+plain_given d c (ClearBit p i o) plain = refl
+plain_given d c (GiveBack e) plain = refl
+plain_given d c (Free e) plain = refl
+plain_given d c ReadEpoch plain = refl
+plain_given d c (StorePin word) plain = refl
+plain_given d c RaiseEpoch plain = refl
+plain_given d c (ReadPin q) plain = refl
+
+pub plain_row : (z : Sizes) (d : Deed) (c : ChangeOf) (a : Action) (r : Answer) (v w : View) → IsPlain a → Answers z d c a r v w → acting.Answers z None a r v w
+plain_row z d c a r v w plain row = subst (λ (o : Option Effects). acting.Answers z o a r v w) (plain_given d c a plain) row
+
+pub look_row : (z : Sizes) (d : Deed) (c : ChangeOf) (a : Action) (r : Answer) (v w : View) → IsLook a → Answers z d c a r v w → acting.Answers z (telling d) a r v w
+look_row z d c (Begin x) r v w is row = answers_any z (telling d) (Begin x) r v w row
+look_row z d c (Read x i) r v w is row = answers_any z (telling d) (Read x i) r v w row
+look_row z d c (ReadLeaf x l i) r v w is row = answers_any z (telling d) (ReadLeaf x l i) r v w row
+look_row z d c (Check x) r v w is row = answers_any z (telling d) (Check x) r v w row
+look_row z d c (Settle x) r v w is row = row
+look_row z d c (Upgrade x) r v w is row = absurd is
+look_row z d c (Claim n) r v w is row = absurd is
+look_row z d c (Write b i word) r v w is row = absurd is
+look_row z d c (WriteLeaf l i word) r v w is row = absurd is
+look_row z d c (Commit b o) r v w is row = absurd is
+look_row z d c (Release b o) r v w is row = absurd is
+look_row z d c (ClearBit p i o) r v w is row = absurd is
+look_row z d c (GiveBack e) r v w is row = absurd is
+look_row z d c (Free e) r v w is row = absurd is
+look_row z d c ReadEpoch r v w is row = absurd is
+look_row z d c (StorePin word) r v w is row = absurd is
+look_row z d c RaiseEpoch r v w is row = absurd is
+look_row z d c (ReadPin q) r v w is row = absurd is
+
+pub made_row : (z : Sizes) (d : Deed) (c : ChangeOf) (a : Action) (r : Answer) (v w : View) → IsMade a → Answers z d c a r v w → acting.Answers z (making.brings c) a r v w
+made_row z d c (Begin x) r v w is row = absurd is
+made_row z d c (Read x i) r v w is row = absurd is
+made_row z d c (ReadLeaf x l i) r v w is row = absurd is
+made_row z d c (Check x) r v w is row = absurd is
+made_row z d c (Settle x) r v w is row = absurd is
+made_row z d c (Upgrade x) r v w is row = answers_any z (making.brings c) (Upgrade x) r v w row
+made_row z d c (Claim n) r v w is row = answers_any z (making.brings c) (Claim n) r v w row
+made_row z d c (Write b i word) r v w is row = answers_any z (making.brings c) (Write b i word) r v w row
+made_row z d c (WriteLeaf l i word) r v w is row = absurd is
+made_row z d c (Commit b o) r v w is row = row
+made_row z d c (Release b o) r v w is row = answers_any z (making.brings c) (Release b o) r v w row
+made_row z d c (ClearBit p i o) r v w is row = absurd is
+made_row z d c (GiveBack e) r v w is row = absurd is
+made_row z d c (Free e) r v w is row = absurd is
+made_row z d c ReadEpoch r v w is row = absurd is
+made_row z d c (StorePin word) r v w is row = absurd is
+made_row z d c RaiseEpoch r v w is row = absurd is
+made_row z d c (ReadPin q) r v w is row = absurd is
+
+-- ---- each of these but an upgrade is one step
+
+settle_once : (z : Sizes) (f : Option Effects) (x : Stamp) (r : Answer) (v w : View) → acting.Answers z f (Settle x) r v w → steps_in r ≡ 1
+settle_once z None x r v w row = absurd row
+settle_once z (Some e) x (Begun s) v w row = absurd row
+settle_once z (Some e) x (Word y) v w row = absurd row
+settle_once z (Some e) x (Checked s) v w row = refl
+settle_once z (Some e) x (Upgraded s) v w row = absurd row
+settle_once z (Some e) x Done v w row = absurd row
+
+pub look_once : (z : Sizes) (f : Option Effects) (a : Action) (r : Answer) (v w : View) → IsLook a → acting.Answers z f a r v w → steps_in r ≡ 1
+look_once z f (Begin x) (Begun s) v w is row = refl
+look_once z f (Begin x) (Word y) v w is row = absurd row
+look_once z f (Begin x) (Checked s) v w is row = absurd row
+look_once z f (Begin x) (Upgraded s) v w is row = absurd row
+look_once z f (Begin x) Done v w is row = absurd row
+look_once z f (Read x i) (Begun s) v w is row = absurd row
+look_once z f (Read x i) (Word y) v w is row = refl
+look_once z f (Read x i) (Checked s) v w is row = absurd row
+look_once z f (Read x i) (Upgraded s) v w is row = absurd row
+look_once z f (Read x i) Done v w is row = absurd row
+look_once z f (ReadLeaf x l i) (Begun s) v w is row = absurd row
+look_once z f (ReadLeaf x l i) (Word y) v w is row = refl
+look_once z f (ReadLeaf x l i) (Checked s) v w is row = absurd row
+look_once z f (ReadLeaf x l i) (Upgraded s) v w is row = absurd row
+look_once z f (ReadLeaf x l i) Done v w is row = absurd row
+look_once z f (Check x) (Begun s) v w is row = absurd row
+look_once z f (Check x) (Word y) v w is row = absurd row
+look_once z f (Check x) (Checked s) v w is row = refl
+look_once z f (Check x) (Upgraded s) v w is row = absurd row
+look_once z f (Check x) Done v w is row = absurd row
+look_once z f (Settle x) r v w is row = settle_once z f x r v w row
+look_once z f (Upgrade x) r v w is row = absurd is
+look_once z f (Claim n) r v w is row = absurd is
+look_once z f (Write b i word) r v w is row = absurd is
+look_once z f (WriteLeaf l i word) r v w is row = absurd is
+look_once z f (Commit b o) r v w is row = absurd is
+look_once z f (Release b o) r v w is row = absurd is
+look_once z f (ClearBit p i o) r v w is row = absurd is
+look_once z f (GiveBack e) r v w is row = absurd is
+look_once z f (Free e) r v w is row = absurd is
+look_once z f ReadEpoch r v w is row = absurd is
+look_once z f (StorePin word) r v w is row = absurd is
+look_once z f RaiseEpoch r v w is row = absurd is
+look_once z f (ReadPin q) r v w is row = absurd is
+
+pub supply_once : (z : Sizes) (f : Option Effects) (a : Action) (r : Answer) (v w : View) → IsSupply a → acting.Answers z f a r v w → steps_in r ≡ 1
+supply_once z f (Begin x) r v w is row = absurd is
+supply_once z f (Read x i) r v w is row = absurd is
+supply_once z f (ReadLeaf x l i) r v w is row = absurd is
+supply_once z f (Check x) r v w is row = absurd is
+supply_once z f (Settle x) r v w is row = absurd is
+supply_once z f (Upgrade x) r v w is row = absurd is
+supply_once z f (Claim n) r v w is row = absurd is
+supply_once z f (Write b i word) r v w is row = absurd is
+supply_once z f (WriteLeaf l i word) (Begun s) v w is row = absurd row
+supply_once z f (WriteLeaf l i word) (Word y) v w is row = absurd row
+supply_once z f (WriteLeaf l i word) (Checked s) v w is row = absurd row
+supply_once z f (WriteLeaf l i word) (Upgraded s) v w is row = absurd row
+supply_once z f (WriteLeaf l i word) Done v w is row = refl
+supply_once z f (Commit b o) r v w is row = absurd is
+supply_once z f (Release b o) r v w is row = absurd is
+supply_once z f (ClearBit p i o) (Begun s) v w is row = absurd row
+supply_once z f (ClearBit p i o) (Word y) v w is row = refl
+supply_once z f (ClearBit p i o) (Checked s) v w is row = absurd row
+supply_once z f (ClearBit p i o) (Upgraded s) v w is row = absurd row
+supply_once z f (ClearBit p i o) Done v w is row = absurd row
+supply_once z f (GiveBack e) r v w is row = absurd is
+supply_once z f (Free e) r v w is row = absurd is
+supply_once z f ReadEpoch r v w is row = absurd is
+supply_once z f (StorePin word) r v w is row = absurd is
+supply_once z f RaiseEpoch r v w is row = absurd is
+supply_once z f (ReadPin q) r v w is row = absurd is
+
+-- so of a supplying one is made
+pub supply_steps : (z : Sizes) (a : Action) (r : Answer) (v w : View) → IsSupply a → acting.IsAllowed z None v a → acting.Answers z None a r v w → w.steps ≡ v.steps + 1
+supply_steps z a r v w is may row = steps_made z None a r v w may row ∙ ap (λ (n : ℕ). v.steps + n) (supply_once z None a r v w is row)

@@ -1,0 +1,4 @@
+pub mod AnswerKinds
+pub mod Counting
+pub mod Silence
+pub mod Words
